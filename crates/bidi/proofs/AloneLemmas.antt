@@ -1,4 +1,5 @@
--- A level run that continues in no other run, and in which no other continues, is an isolating run sequence by itself.
+-- A level run is an isolating run sequence by itself if it does not continue in another run and no other run
+-- continues in it.
 use Rattle.std.proofs.Common.{◌≡◌, ℕ, zero, suc, ◌+◌, ◌-◌, ◌<◌, ◌≤◌, max, List, [], ◌∷◌, ◌++◌, length, get_or, set, take, drop, map, slice_index, None, Option, refl, sym, ap, ◌∙◌, arith, append_assoc}
 use Rattle.std.specs.List.{range_with_len}
 use Rattle.std.proofs.lemmas.List.{append-nil, drop-set-lt, drop_more, length-set, take-append-drop, take_more_set}
@@ -25,7 +26,7 @@ put-within (value ∷ values) levels a e =
     ∙ append_assoc (take a levels) (value ∷ []) (values ++ rest)
     ∙ ap (λ n. take a levels ++ ((value ∷ values) ++ drop n levels)) (sym next)
 
--- the items at consecutive indices are a part of the list
+-- reading the items at consecutive indices gives that part of the list
 pub range-part : {X : Type 0} (xs : List X) (d : X) (start n : ℕ) → start + n ≤ length xs → map (λ k. get_or xs k d) (range_with_len start n) ≡ take n (drop start xs)
 range-part xs d start zero within = refl
 range-part xs d start (suc n) within =
@@ -43,7 +44,7 @@ alone classes levels matches start end e size run none =
     ∙ ap (λ o. range_with_len start (end - start) ++ rest_of classes levels size o) (sym (none ∙ ap (next_start levels) found))
     ∙ append-nil (range_with_len start (end - start))
 
--- the levels of a run that is a whole sequence
+-- the levels of a run, from `start` up to `end`, that is a whole sequence
 module _ (bracket : ℕ → Option Bracket) (base : ℕ) (characters : List ℕ) (classes : List BidiClass) (levels : List ℕ) (types : List BidiClass)
     (start end : ℕ) (above : start < end) (within : end ≤ length levels) (characters_size : length characters ≡ length levels) (types_size : length types ≡ length levels) where
   abbrev n : ℕ

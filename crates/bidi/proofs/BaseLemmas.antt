@@ -14,7 +14,7 @@ is_some-level class level e =
       | inr weak ↦ ap is_some (e ∙ cond-false (is_strong class) (Some (strong_level class)) None weak) ∙ sym weak
     ]
 
--- a strong character at depth 0 gives the first strong level
+-- if the search reaches a strong character at depth 0, the level of that character is the first strong level
 pub settled : (classes : List BidiClass) (k d : ℕ) (class : BidiClass) (level : Option ℕ) → k < length classes → Reached classes k d → d ≡ 0
     → class ≡ class_at classes k → level ≡ (if is_strong class then Some (strong_level class) else None) → is_some level ≡ true → level ≡ first_strong_level classes
 settled classes k d class level within reached flat there e some =
@@ -22,7 +22,7 @@ settled classes k d class level within reached flat there e some =
     e ∙ cond-true (is_strong class) (Some (strong_level class)) None strong ∙ ap (λ x. Some (strong_level x)) there
     ∙ sym (Reached-strong classes k within (rw flat at reached) (rw there at strong))
 
--- after a character that is not strong, or is inside an isolate, no strong character outside isolates has been found yet
+-- if the character at k is not strong or is inside an isolate, the search continues at k + 1
 pub stepped : (classes : List BidiClass) (k d : ℕ) (class : BidiClass) (depth : ℕ) → k < length classes → Reached classes k d → (is_strong class ≡ true → 0 < d)
     → class ≡ class_at classes k → depth ≡ (if is_initiator class then d + 1 else (if is_pdi class then d - 1 else d)) → Reached classes (k + 1) depth
 stepped classes k d class depth within reached deep there e =

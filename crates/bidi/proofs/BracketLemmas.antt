@@ -1,4 +1,5 @@
--- The pass of N0: the indices that a set bracket changes, the strong types inside a pair, and the changes so far.
+-- The pass of N0: which types change when a bracket is set, which strong types are inside a pair, and what
+-- has changed so far.
 use Rattle.std.proofs.Common.{◌≡◌, ℕ, zero, suc, ◌+◌, ◌-◌, ◌<◌, ◌≤◌, ◌==◌, ◌⊎◌, nat_lt, Bool, true, false, ◌&&◌, not, if◌then◌else◌, List, [], ◌∷◌, length, get_or, set, take, drop, map, fold, reverse, slice_range, slice_index, Option, Some, None, refl, sym, ap, subst, ◌∙◌, inl, inr, arith, length-drop}
 use Rattle.std.specs.List.{list_any, list_all, range_with_len}
 use Rattle.std.proofs.lemmas.Bool.{cond-true, cond-false, cases_Bool, cases_eq, cases_lt, cases_order, eq-eqb, ne_eqb, lt-ltb, le-ltb, both_ways, or_left, or_right, or_from, or_cases, and_parts, and_from, and_left}
@@ -58,7 +59,7 @@ module _ {T : Type 0} where
       list_any_none p (slice_range xs a b) (All-from_get_or (λ x. p x ≡ false) (slice_range xs a b) d (λ i h.
       ap p (range_item xs a b i d (omega arith)) ∙ none (a + i) (omega arith) (omega arith)))
 
--- a bracket at p, and marks from there up to q
+-- all characters after the bracket at p, up to and including q, are marks
 pub record Row (marks : List Bool) (p q : ℕ) : Type 0 where
   pub order : p ≤ q
   pub marked : (m : ℕ) → p < m → m ≤ q → get_or marks m false ≡ true
@@ -94,7 +95,8 @@ pub no_Row : (marks : List Bool) (p q : ℕ) → q < length marks → (Row marks
 no_Row marks p q within none =
     elim (cases_Bool (is_set_with marks p q)) [ inl set ↦ absurd (none (set-Row marks p q within set)) | inr free ↦ free ]
 
--- the type at each index after a bracket has been set
+-- Setting the bracket at p gives the new direction to the bracket and the marks directly after it. All other
+-- types stay the same.
 pub set_with-at : (marks : List Bool) (d : BidiClass) (types : List BidiClass) (p q : ℕ) (e : BidiClass) → q < length types
     → get_or (set_with marks d types p) q e ≡ (if is_set_with marks p q then d else class_at types q)
 set_with-at marks d types p q e within =
@@ -113,7 +115,8 @@ pub set_with-kept : (marks : List Bool) (d : BidiClass) (types : List BidiClass)
 set_with-kept marks d types p q e within free =
     set_with-at marks d types p q e within ∙ cond-false (is_set_with marks p q) d (class_at types q) free
 
--- The state of the pass over the marks after a bracket at `place`: those before k have been set.
+-- The state of the pass over the marks after the bracket at `place`. The bracket and the marks before k have
+-- been set.
 pub record Marked (explicit old current : List BidiClass) (d : BidiClass) (place k : ℕ) : Type 0 where
   pub sizes : length current ≡ length old
   pub reached : place < k
@@ -177,7 +180,8 @@ Marked-end explicit old current d place k w sizes stops =
       ]
     ])
 
--- if no item before k passes, and the item at k does not, no item before k + 1 passes
+-- if no item from `from` to k - 1 passes the test, and the item at k fails it, no item from `from` to k
+-- passes it
 pub none_more : {T : Type 0} (p : T → Bool) (xs : List T) (from k : ℕ) (d e : T) → ((m : ℕ) → from ≤ m → m < k → p (get_or xs m d) ≡ false)
     → k < length xs → p (get_or xs k e) ≡ false → (m : ℕ) → from ≤ m → m < k + 1 → p (get_or xs m d) ≡ false
 none_more p xs from k d e passed within here m above below =
@@ -186,7 +190,8 @@ none_more p xs from k d e passed within here m above below =
       | inr ne ↦ passed m above (omega arith)
     ]
 
--- whether a strong type of a direction is inside the pair: whether the next one is before the closer
+-- a strong type of a direction is inside a pair if and only if the next such type after the opener is before
+-- the closer
 pub stands_is : (left : Bool) (types : List BidiClass) (place closer next : ℕ) → closer ≤ length types → place < next
     → ((m : ℕ) → place < m → m < next → m < closer → is_toward left (class_at types m) ≡ false)
     → (next < closer → is_toward left (class_at types next) ≡ true)
@@ -214,7 +219,7 @@ stands_as_before left types before place closer old from next within sizes clear
     ])
     (λ inside. ap (is_toward left) (kept next (omega arith) inside) ∙ stops inside)
 
--- an index that an earlier pair may have set: from a bracket of that pair up to the index, no type is ON now
+-- An earlier pair may have set the type at q. From a bracket of that pair up to q, no type is ON now.
 pub record Touched (closers : List ℕ) (current : List BidiClass) (k q : ℕ) : Type 0 where
   pub opener : ℕ
   pub place : ℕ
@@ -224,7 +229,7 @@ pub record Touched (closers : List ℕ) (current : List BidiClass) (k q : ℕ) :
   pub order : place ≤ q
   pub row : (m : ℕ) → place ≤ m → m ≤ q → is_other (class_at current m) ≡ false
 
--- the pairs whose openers are before k have changed only the indices that they set
+-- the pairs whose openers are before k have changed types only at the indices that they set
 pub record Changed (closers : List ℕ) (old current : List BidiClass) (k : ℕ) : Type 0 where
   pub sizes : length current ≡ length old
   pub cases : (q : ℕ) → q < length old → (class_at current q ≡ class_at old q) ⊎ Touched closers current k q
@@ -246,7 +251,7 @@ kept_sided marks d types p m sided within here =
       | inr free ↦ ap is_other (set_with-kept marks d types p m ON within free) ∙ here
     ]
 
--- setting one bracket of a pair whose opener is before k
+-- `Changed` still holds after one bracket of a pair has been set whose opener is before k
 pub Changed-set : (marks : List Bool) (closers : List ℕ) (old current : List BidiClass) (k opener p : ℕ) (d : BidiClass) → Changed closers old current k
     → length marks ≡ length old → opener < k → slice_index closers opener < length closers → (p ≡ opener) ⊎ (p ≡ slice_index closers opener) → is_other d ≡ false
     → Changed closers old (set_with marks d current p) k
@@ -284,7 +289,8 @@ sided : (left : Bool) → is_other (side left) ≡ false
 sided true = refl
 sided false = refl
 
--- setting both brackets of a pair, if it gets a direction
+-- `Changed` holds for k + 1 after both brackets of the pair that opens at k have been set, if it gets a
+-- direction
 pub Changed-pair : (marks : List Bool) (closers : List ℕ) (old current : List BidiClass) (k : ℕ) (same other x y : Bool) → Changed closers old current k
     → length marks ≡ length old → slice_index closers k < length closers
     → Changed closers old (set_pair marks current k (slice_index closers k) (if same then Some (side x) else (if other then Some (side y) else None))) (k + 1)
@@ -336,8 +342,8 @@ take-set_pair marks types a b (Some d) front within sizes =
     take-set_with marks d (set_with marks d types a) b a front (omega arith) (omega arith) ∙ take-set_with marks d types a a (omega arith) within sizes
 take-set_pair marks types a b None front within sizes = refl
 
--- The state of the pass over the indices of openers. Resolving the pairs from k on in the current types gives the
--- result of N0. The strong type carried along is the nearest one before k.
+-- The state of the pass over the indices of openers. Resolving the pairs from k on in the current types gives
+-- the result of N0.
 pub record Resolved (embedding sos : BidiClass) (explicit : List BidiClass) (closers : List ℕ) (old current : List BidiClass) (k : ℕ) : Type 0 where
   pub changed : Changed closers old current k
   pub so_far : fold (λ types a. pair_step embedding sos (map is_mark explicit) types a (closer_in closers a)) current (range_with_len k (length old - k))
@@ -367,7 +373,7 @@ Resolved-step embedding sos explicit closers old current next k r within step ch
           ∙ r.so_far;
     }
 
--- the step for an index at which a pair opens
+-- if a pair opens at k, the pass sets that pair and moves on to k + 1
 pub Resolved-pair : (embedding sos : BidiClass) (explicit : List BidiClass) (closers : List ℕ) (old current : List BidiClass) (k : ℕ)
     → Resolved embedding sos explicit closers old current k → k < length old → length explicit ≡ length old
     → slice_index closers k < length closers → k < slice_index closers k
@@ -383,7 +389,7 @@ Resolved-pair embedding sos explicit closers old current k r within sizes paired
     subst P (sym made) (Changed-pair marks closers old current k (stands (is_left embedding) current k b) (stands (not (is_left embedding)) current k b)
     (is_left embedding) (if agree (is_left embedding) (is_left (context sos current k)) then is_left embedding else not (is_left embedding)) r.changed size paired))
 
--- the step for an index at which no pair opens
+-- if no pair opens at k, the pass moves on to k + 1 without a change
 pub Resolved-none : (embedding sos : BidiClass) (explicit : List BidiClass) (closers : List ℕ) (old current : List BidiClass) (k : ℕ)
     → Resolved embedding sos explicit closers old current k → k < length old → length closers ≤ slice_index closers k
     → (next : List BidiClass) → next ≡ current
@@ -396,7 +402,7 @@ Resolved-none embedding sos explicit closers old current k r within free next sa
     (ap (pair_step embedding sos marks current k) (cond-false (nat_lt b (length closers)) (Some b) None (le-ltb b (length closers) free)) ∙ sym same)
     (subst P (sym same) (Changed-next closers old current k r.changed))
 
--- the steps for several indices at which no pair opens
+-- if no pair opens from k up to j, the pass moves on to j without a change
 pub Resolved-skip : (embedding sos : BidiClass) (explicit : List BidiClass) (closers : List ℕ) (old current : List BidiClass) (n k j : ℕ) → j ≡ n + k → j ≤ length old
     → ((m : ℕ) → k ≤ m → m < j → length closers ≤ slice_index closers m) → Resolved embedding sos explicit closers old current k → Resolved embedding sos explicit closers old current j
 Resolved-skip embedding sos explicit closers old current zero k j e within free r =
@@ -411,12 +417,13 @@ IsClear-skip left before place next further order clear = record {
   passed = λ m above below. clear.passed m (omega arith) below;
 }
 
--- the nearest strong type before k + 1, from that before k
+-- the nearest strong type before k + 1 is the type at k if it is strong, and otherwise the nearest one before
+-- k
 pub context-more : (sos : BidiClass) (types : List BidiClass) (k : ℕ) (e : BidiClass) → k < length types
     → context sos types (k + 1) ≡ (if is_direction (get_or types k e) then get_or types k e else context sos types k)
 context-more sos types k e within = ap (nearest is_direction sos) (ap reverse (take_more types k e within) ∙ reverse-append (take k types) (get_or types k e ∷ []))
 
--- the direction of a pair, from the flags that the pass has found
+-- the flags that the pass computes give the direction of a pair
 pub direction_is : (sos : BidiClass) (types : List BidiClass) (a b : ℕ) (left embedding same other : Bool) (strong : BidiClass)
     → left ≡ embedding → strong ≡ context sos types a → same ≡ stands left types a b → other ≡ stands (not left) types a b
     → (if same then Some (side left) else (if other then Some (side (if agree left (is_left strong) then left else not left)) else None)) ≡ pair_direction embedding sos types a b

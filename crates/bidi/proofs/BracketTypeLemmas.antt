@@ -1,4 +1,5 @@
--- Any list of bracket types is that of some text with some lookup, and its parts are those of parts of the text.
+-- Every list of bracket types belongs to some text and lookup, and each part of the list belongs to the same
+-- part of the text.
 use Rattle.std.proofs.Common.{◌≡◌, ℕ, zero, suc, ◌+◌, ◌-◌, ◌<◌, ◌≤◌, nat_lt, ◌==◌, Bool, true, false, if◌then◌else◌, List, [], ◌∷◌, length, take, drop, map, filter, replicate, slice_index, Option, Some, None, Result, Ok, Err, OnOk, refl, sym, ap, subst, ◌∙◌, inl, inr, arith}
 use Rattle.std.specs.List.{range_with_len}
 use Rattle.std.proofs.lemmas.Bool.{cond-true, cond-false, cases_Bool, both_ways, eq-eqb, ne_eqb, le-ltb, lt-ltb}
@@ -11,7 +12,7 @@ use Rattle.bidi.specs.BracketTypes.{bracket_at, bracket_types, type_by}
 use Rattle.bidi.specs.Paragraphs.{AreBracketsOf, AreFor}
 use Rattle.ucd.specs.Within.{AreWithin}
 
--- if a result is `Ok`, a consequence of what holds of its value holds too
+-- if A holds for an `Ok` result and implies B, then B holds for it too
 pub ok_then : {T E A B : Type 0} (r : Result T E) → OnOk r A → (A → B) → OnOk r B
 ok_then (Ok x) a f = f a
 ok_then (Err e) a f = a
@@ -70,7 +71,7 @@ text_for brackets = map (number_by (bound brackets)) brackets
 pub told : (brackets : List BracketType) → brackets ≡ bracket_types (look_for brackets) (text_for brackets)
 told brackets = sym (all-are (bound brackets) brackets (omega arith))
 
--- the bracket types of a paragraph are those of some text
+-- the bracket types of a paragraph are the bracket types of some text
 pub some_text : (b : Brackets) (n : ℕ) → AreFor b n → (look : ℕ → Option Bracket) × (text : List ℕ) × AreBracketsOf b n look text
 some_text b n size =
     elim (cases_Bool b.has_any) [
@@ -98,13 +99,13 @@ module _ (look : ℕ → Option Bracket) (text : List ℕ) where
   one-at : (k : ℕ) → k < length text → type_by (look (slice_index text k)) (slice_index text k) ≡ bracket_at (bracket_types look text) k
   one-at k within = sym (get_or-map (λ c. type_by (look c) c) text k 0 Other within)
 
-  -- the bracket types of the characters at some indices
+  -- the characters at some indices have the bracket types at these indices
   pub types-places : (places : List ℕ) → AreWithin (length text) places → bracket_types look (map (slice_index text) places) ≡ map (bracket_at (bracket_types look text)) places
   types-places [] within = refl
   types-places (place ∷ places) within =
       both _ _ _ _ (one-at place (within 0 (omega arith))) (types-places places (λ k below. within (suc k) (omega arith)))
 
-  -- the bracket types of the characters at the indices that pass a test
+  -- the same holds for the indices of a range that pass a test
   pub types-kept : (test : ℕ → Bool) (a n : ℕ) → a + n ≤ length text
       → bracket_types look (map (slice_index text) (filter test (range_with_len a n))) ≡ map (bracket_at (bracket_types look text)) (filter test (range_with_len a n))
   types-kept test a zero within = refl
@@ -117,7 +118,7 @@ module _ (look : ℕ → Option Bracket) (text : List ℕ) where
         | inr gone ↦ subst P (sym (cond-false (test a) (a ∷ filter test rest) (filter test rest) gone)) later
       ]
 
-  -- the bracket types of a part of a text
+  -- the bracket types of a part of a text are the same part of the text's bracket types
   pub types-part : (start n : ℕ) → bracket_types look (take n (drop start text)) ≡ take n (drop start (bracket_types look text))
   types-part start n =
       let f : ℕ → BracketType = λ c. type_by (look c) c in

@@ -1,4 +1,5 @@
--- The pass over a paragraph's classes (X1 to X9): its state after k characters, and its step.
+-- The pass over the classes of a paragraph (X1 to X9): its state after k characters, and how each character
+-- changes the state.
 use Rattle.std.proofs.Common.{◌≡◌, ℕ, ◌+◌, ◌^◌, ◌<◌, ◌≤◌, Bool, true, false, cond, not, List, [], ◌∷◌, ◌++◌, length, take, drop, map, filter, fold, unwrap_or, if◌then◌else◌, refl, sym, ap, subst, ◌∙◌, inl, inr, arith, zero-add, length-drop, length-take, Option}
 use Rattle.std.specs.List.{list_any, prefix_len, range_with_len}
 use Rattle.std.proofs.lemmas.Bool.{cond-true, cond-false, cases_Bool}
@@ -26,12 +27,12 @@ level_at-bound base classes k low =
           (level-le base (omega arith) (open_chain classes (if is_pdi (class_at classes k) then k + 1 else k)))
     ]
 
--- the numbers below k + 1 are those below k, and k
+-- the numbers below k + 1 are the numbers below k, and k itself
 numbers-more : (k : ℕ) → range_with_len 0 (k + 1) ≡ range_with_len 0 k ++ k ∷ []
 numbers-more k =
     sym (map-id (range_with_len 0 (k + 1))) ∙ map-range_with_len_more (λ x. x) 0 k k (zero-add k) ∙ ap (λ (l : List ℕ). l ++ k ∷ []) (map-id (range_with_len 0 k))
 
--- the indices before k of characters that X9 keeps
+-- the indices below k of characters that X9 keeps
 abbrev pub stayed_to : List BidiClass → ℕ → List ℕ
 stayed_to classes k = filter (λ i. not (is_removed (class_at classes i))) (range_with_len 0 k)
 
@@ -114,7 +115,7 @@ module _ (classes : List BidiClass) (k : ℕ) (within : k < length classes) (cla
             ∙ ap (λ (c : List BidiClass). open_after c class) (chain_at-other other) ∙ ap (open_after (open_chain classes k)) at ∙ sym (fold_more open_after [] classes k ON within)
       ]
 
-  -- the explicit level and type that are appended for a character
+  -- the level and type that the pass appends for a character are its explicit level and type
   level_is : (base : ℕ) (status : Status) → status ≡ innermost base (chain_at classes k) → (if is_separator class then base else status.level) ≡ level_at base classes k
   level_is base status inner =
       ap (λ (n : ℕ). if is_separator class then base else n) (ap (λ (s : Status). s.level) inner ∙ innermost-level base (chain_at classes k))
@@ -125,7 +126,8 @@ module _ (classes : List BidiClass) (k : ℕ) (within : k < length classes) (cla
       ap (λ (o : Option BidiClass). if is_separator class then class else unwrap_or o class) (ap (λ (s : Status). s.overriding) inner ∙ innermost-override base (chain_at classes k))
       ∙ ap (λ (c : BidiClass). if is_separator c then c else unwrap_or (inside_at base classes k).override c) at
 
--- the state after k characters: the openers that are open, and the data of the kept characters before k
+-- The state of the pass after k characters: the openers that are open, and the data of the kept characters
+-- among the first k.
 pub record IsWalked (classes : List BidiClass) (base : ℕ) (k : ℕ) (openers : Openers) (left : Stayed) : Type 0 where
   pub holds : Holds base openers (open_chain classes k)
   pub classes_are : left.classes.items ≡ map (class_at classes) (stayed_to classes k)
@@ -137,7 +139,7 @@ module _ {classes : List BidiClass} {base k : ℕ} {openers : Openers} {left : S
   pub IsWalked-reached : (reached : Openers) → Follows openers reached (λ chain. if is_pdi class then close_isolate chain else chain) → Holds base reached (chain_at classes k)
   IsWalked-reached reached follows = subst (Holds base reached) (chain_at-is classes k within class at) (follows base (open_chain classes k) walked.holds)
 
-  -- the step for a character that X9 removes
+  -- for a character that X9 removes, the pass updates the openers and appends nothing
   pub IsWalked-removed : (reached passed : Openers) → Holds base reached (chain_at classes k) → Follows reached passed (λ chain. if is_pdi class then chain else open_after chain class)
       → is_removed class ≡ true → IsWalked classes base (k + 1) passed left
   IsWalked-removed reached passed holds follows removed =
@@ -149,7 +151,8 @@ module _ {classes : List BidiClass} {base k : ℕ} {openers : Openers} {left : S
         types_are = walked.types_are ∙ sym (goes (type_at base classes) classes k here);
       }
 
-  -- the step for a character that X9 keeps
+  -- for a character that X9 keeps, the pass updates the openers and appends the character's class, level and
+  -- type
   pub IsWalked-stayed : (reached passed : Openers) → Holds base reached (chain_at classes k) → Follows reached passed (λ chain. if is_pdi class then chain else open_after chain class)
       → is_removed class ≡ false → (status : Status) → status ≡ innermost base (chain_at classes k)
       → (next : Stayed) → next.classes.items ≡ left.classes.items ++ class ∷ []

@@ -1,4 +1,4 @@
--- A paragraph at level 0 in which no character raises a level has level 0 throughout.
+-- If the paragraph level is 0 and no character raises a level, all levels are 0.
 use Rattle.std.proofs.Common.{◌≡◌, ℕ, zero, suc, ◌+◌, ◌-◌, ◌<◌, Bool, true, false, ◌&&◌, ◌||◌, not, if◌then◌else◌, List, [], ◌∷◌, ◌++◌, length, get_or, drop, map, fold, replicate, slice_index, slice_range, Option, Some, None, refl, sym, ap, subst, ◌∙◌, inl, inr, arith, add-zero, zero-add}
 use Rattle.std.specs.List.{range_with_len, All}
 use Rattle.std.proofs.lemmas.Bool.{cond-true, cond-false, cases_Bool, cases_lt}
@@ -26,11 +26,11 @@ use Rattle.bidi.proofs.NeutralLemmas.{levels_after-is}
 use Rattle.bidi.proofs.PlainLemmas.{directed-none, level_at-base, map-agree, map-same, resolved-one, type_at-class}
 use Rattle.bidi.proofs.WeakLemmas.{any, ends_row, left_type, separator_type, terminator_type, weak-later}
 
--- all types of a list pass a test
+-- whether all types of a list pass a test
 abbrev Passes : (BidiClass → Bool) → List BidiClass → Type 0
 Passes test types = All (λ type. test type ≡ true) types
 
--- the types that can occur in such a paragraph before W1, after W1, after W6, and after W7
+-- the types that can occur in a paragraph of flat characters before W1, after W1, after W6, and after W7
 abbrev is_first : BidiClass → Bool
 is_first type = is_flat type && not (is_removed type)
 
@@ -63,7 +63,8 @@ is_calm WS = true
 is_calm ON = true
 is_calm type = false
 
--- if a rule maps each type that passes one test to a type that passes another, so it does for a list
+-- if a rule maps every type that passes one test to a type that passes another, it also does so for each type
+-- of a list
 carry-passes : (rule : BidiClass → BidiClass → List BidiClass → BidiClass) (test kept passes makes : BidiClass → Bool)
     → ((before type : BidiClass) (after : List BidiClass) → kept before ≡ true → passes type ≡ true → makes (rule before type after) ≡ true)
     → ((before type : BidiClass) → kept before ≡ true → passes type ≡ true → kept (if test type then type else before) ≡ true)
@@ -151,7 +152,7 @@ left-next strong R k p = absurd (cc)
 left-next strong AL k p = absurd (cc)
 left-next strong _ k p = k
 
--- after W1 to W7 all types are L or neutral
+-- in a paragraph of flat characters, all types after W1 to W7 are L or neutral
 weak-calm : (types : List BidiClass) → Passes is_first types → Passes is_calm (weak L types)
 weak-calm types first =
     let mark = λ (b type : BidiClass) (after : List BidiClass). mark_type b type in
@@ -187,7 +188,7 @@ length-weak types =
     ∙ length-carry terminator_type ends_row ON separated ∙ length-carry separator_type any ON read ∙ length-map digits w3_type
     ∙ length-carry digit is_strong L unmarked ∙ length-carry mark (λ type. not (is_mark type)) L types
 
--- N0 keeps the property that all types are L or neutral
+-- if all types are L or neutral, they still are after N0
 calm_at : (types : List BidiClass) → Passes is_calm types → (k : ℕ) → is_calm (class_at types k) ≡ true
 calm_at types calm k =
     elim (cases_lt k (length types)) [
@@ -284,7 +285,7 @@ put_back-zero (class ∷ classes) (suc m) =
           ∙ ap (λ xs. 0 ∷ xs) (put_back-zero classes m)
     ]
 
--- a class that raises no level opens nothing, and it is not FSI
+-- a flat class opens nothing and is not FSI
 flat-closed : (class : BidiClass) → is_flat class ≡ true → open_after [] class ≡ []
 flat-closed LRE e = absurd (cc)
 flat-closed LRO e = absurd (cc)

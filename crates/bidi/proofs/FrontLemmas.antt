@@ -1,4 +1,4 @@
--- The first paragraph of a text, independent of the text after it.
+-- How the first paragraph of a text changes when text is added before or after it.
 use Rattle.std.proofs.Common.{◌≡◌, ◌⊎◌, inl, inr, ℕ, zero, suc, min, ◌+◌, ◌-◌, ◌<◌, ◌≤◌, Bool, true, false, List, [], ◌∷◌, ◌++◌, length, take, drop, Some, None, refl, sym, subst, ap, ap₂, ◌∙◌, arith, if◌then◌else◌}
 use Rattle.std.specs.List.{onto_first}
 use Rattle.std.proofs.lemmas.List.{length-take-le, length-drop, take-append-drop, take_all}
@@ -11,7 +11,8 @@ first_of_two true a ps = ([], ps, refl)
 first_of_two false a [] = ([], [], refl)
 first_of_two false a (p ∷ ps) = (p, ps, refl)
 
--- if a character and a text form one paragraph, there is no boundary between them, and the text is one paragraph
+-- If the first paragraph continues after x, there is no boundary after x. Without x, it is the first
+-- paragraph of the text after x.
 not_cut : (t : Bool) (x b : ℕ) (q : List ℕ) (qs : List (List ℕ)) (w : List ℕ) (ws : List (List ℕ)) (y : ℕ) → (if t then (x ∷ []) ∷ ((b ∷ q) ∷ qs) else onto_first x ((b ∷ q) ∷ qs)) ≡ (x ∷ y ∷ w) ∷ ws
     → (t ≡ false) × ((b ∷ q) ∷ qs ≡ (y ∷ w) ∷ ws)
 not_cut true x b q qs w ws y is = absurd cc
@@ -22,12 +23,12 @@ is_cut_there true x b q qs ws is = refl
 is_cut_there false x b q qs ws is = absurd cc
 
 module _ (is_cut : ℕ → ℕ → Bool) where
-  -- a text that is not empty has a first paragraph, with the same first character
+  -- a text that is not empty has a first paragraph, which begins with the text's first character
   pub first_paragraph : (a : ℕ) (text : List ℕ) → (p : List ℕ) × (ps : List (List ℕ)) × (paragraphs is_cut (a ∷ text) ≡ (a ∷ p) ∷ ps)
   first_paragraph a [] = ([], [], refl)
   first_paragraph a (b ∷ text) = first_of_two (is_cut a b) a (paragraphs is_cut (b ∷ text))
 
-  -- if x and the text after it form one paragraph, that text is one paragraph
+  -- if the first paragraph of a text is x, y and w, the first paragraph of the text without x is y and w
   later_is : (x y : ℕ) (w text : List ℕ) (ws : List (List ℕ)) → paragraphs is_cut (x ∷ y ∷ text) ≡ (x ∷ y ∷ w) ∷ ws → (is_cut x y ≡ false) × (paragraphs is_cut (y ∷ text) ≡ (y ∷ w) ∷ ws)
   later_is x y w text ws is =
       let some = first_paragraph y text in
@@ -38,7 +39,8 @@ module _ (is_cut : ℕ → ℕ → Bool) where
   onto x y text p ps uncut is =
       ap (λ (t : Bool). if t then (x ∷ []) ∷ paragraphs is_cut (y ∷ text) else onto_first x (paragraphs is_cut (y ∷ text))) uncut ∙ ap (onto_first x) is
 
-  -- a text without a paragraph boundary, before a text with the same last character, extends that text's first paragraph
+  -- if `xs` and a are a single paragraph, putting `xs` before a text that begins with a extends the text's
+  -- first paragraph
   pub join : (xs : List ℕ) (a : ℕ) (after p : List ℕ) (ps : List (List ℕ)) → paragraphs is_cut (xs ++ a ∷ []) ≡ (xs ++ a ∷ []) ∷ []
       → paragraphs is_cut (a ∷ after) ≡ p ∷ ps → paragraphs is_cut (xs ++ a ∷ after) ≡ (xs ++ p) ∷ ps
   join [] a after p ps whole splits = splits
@@ -47,7 +49,7 @@ module _ (is_cut : ℕ → ℕ → Bool) where
       let later = later_is x y (xs ++ a ∷ []) (xs ++ a ∷ []) [] whole in
       onto x y (xs ++ a ∷ after) (y ∷ xs ++ p) ps later.0 (join (y ∷ xs) a after p ps later.1 splits)
 
-  -- a first paragraph that ends at a boundary stays the same when the text is extended
+  -- a first paragraph that ends at a boundary stays the same when more text is appended
   pub grow : (p : List ℕ) (r : ℕ) (rest more : List ℕ) → 0 < length p → paragraphs is_cut (p ++ r ∷ rest) ≡ p ∷ paragraphs is_cut (r ∷ rest)
       → paragraphs is_cut (p ++ r ∷ (rest ++ more)) ≡ p ∷ paragraphs is_cut (r ∷ (rest ++ more))
   grow [] r rest more some splits = absurd (omega arith)
@@ -59,7 +61,7 @@ module _ (is_cut : ℕ → ℕ → Bool) where
       let later = later_is x y xs (xs ++ r ∷ rest) (paragraphs is_cut (r ∷ rest)) splits in
       onto x y (xs ++ r ∷ (rest ++ more)) (y ∷ xs) _ later.0 (grow (y ∷ xs) r rest more (omega arith) later.1)
 
-  -- a text is split at an index inside it
+  -- a text can be split at any index inside it
   pub place : (text : List ℕ) (n : ℕ) → n < length text
       → (a : ℕ) × (after : List ℕ) × (drop n text ≡ a ∷ after) × (text ≡ take n text ++ a ∷ after) × (take (n + 1) text ≡ take n text ++ a ∷ [])
   place text n within = go (drop n text) refl
@@ -71,7 +73,8 @@ module _ (is_cut : ℕ → ℕ → Bool) where
           let len : length (take n text) + 1 ≡ n + 1 = omega (arith, length-take-le n text (omega arith)) in
           (a, after, is, parts, ap (λ k. take k text) (sym len) ∙ ap (take (length (take n text) + 1)) parts ∙ take-append-add (take n text) (a ∷ after) 1)
 
-  -- the first boundary of the rest of a text is the first boundary of the text, if the part before has none
+  -- if the first n + 1 characters of a text are one paragraph, the first boundary after index n is the text's
+  -- first boundary
   pub skip_some : (text : List ℕ) (n k : ℕ) → n < length text → paragraphs is_cut (take (n + 1) text)
       ≡ take (n + 1) text ∷ [] → SplitsAt is_cut (drop n text) (Some k) → SplitsAt is_cut text (Some (n + k))
   skip_some text n k within whole splits =
@@ -101,7 +104,7 @@ module _ (is_cut : ℕ → ℕ → Bool) where
       ∙ join xs at.0 at.1 rest [] (ap (paragraphs is_cut) (sym at.4) ∙ whole ∙ ap (λ p. p ∷ []) at.4) (subst (λ (t : List ℕ). paragraphs is_cut t ≡ t ∷ []) at.2 uncut)
       ∙ ap (λ p. p ∷ []) (sym at.3)
 
-  -- the characters before `seen`, if they have no boundary, are one paragraph
+  -- if the first `seen` characters of a text have no boundary between them, they are one paragraph
   uncut_up_to : (text : List ℕ) (seen n : ℕ) → suc n ≡ min (length text) seen - 1 → SplitsAt is_cut (take seen text) None → paragraphs is_cut (take (suc n + 1) text) ≡ take (suc n + 1) text ∷ []
   uncut_up_to text seen n is uncut = go (cases_lt seen (length text))
     where

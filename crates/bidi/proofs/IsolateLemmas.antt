@@ -12,8 +12,8 @@ use Rattle.ucd.specs.Classes.{class_at, is_initiator, is_pdi, is_strong}
 use Rattle.bidi.specs.Base.{is_balanced, match_of, is_before, is_in_span, is_outside, strong_level, first_strong_level}
 use Rattle.bidi.proofs.LeastLemmas.{least_found, least_none, least_reaches, least_misses}
 
--- The height of an index is `o` minus `s`, and may be negative. The last index up to k with the least height is d
--- below k.
+-- The height of an index is its value of `o` minus its value of `s`, and may be negative. The height of the
+-- last lowest index up to k is d less than that of k.
 pub record Lowest (o s : ℕ → ℕ) (k d : ℕ) : Type 0 where
   pub place : ℕ
   pub reached : place ≤ k
@@ -21,7 +21,7 @@ pub record Lowest (o s : ℕ → ℕ) (k d : ℕ) : Type 0 where
   pub lowest : (m : ℕ) → m ≤ place → o place + s m ≤ o m + s place
   pub above : (m : ℕ) → place < m → m ≤ k → o place + s m < o m + s place
 
--- no index up to k has less height than the last lowest one
+-- no index up to k is lower than the last lowest index
 pub Lowest-all : (o s : ℕ → ℕ) (k d : ℕ) (low : Lowest o s k d) (m : ℕ) → m ≤ k → o low.place + s m ≤ o m + s low.place
 Lowest-all o s k d low m h =
     elim (cases_lt low.place m) [ inl up ↦ omega (arith, low.above m up h) | inr down ↦ low.lowest m down ]
@@ -46,7 +46,7 @@ Lowest-kept o s k d e low next some = record {
   above = λ m h l. elim (cases_eq m (k + 1)) [ inl last ↦ rw last (omega arith) | inr ne ↦ low.above m h (omega arith) ];
 }
 
--- at depth 0, no index up to k is lower than k
+-- if the depth at k is 0, no index up to k is lower than k
 pub Lowest-here : (o s : ℕ → ℕ) (k : ℕ) (low : Lowest o s k 0) (m : ℕ) → m ≤ k → o k + s m ≤ o m + s k
 Lowest-here o s k low m h = omega (arith, Lowest-all o s k 0 low m h, low.depth)
 
@@ -64,12 +64,13 @@ returns_to o s i (suc k) steps before up down =
       ]
     ]
 
--- at a depth above 0, the last lowest index is before k
+-- if the depth at k is above 0, the last lowest index is before k
 pub Lowest-below : (o s : ℕ → ℕ) (k d : ℕ) (low : Lowest o s k d) → 0 < d → low.place < k
 Lowest-below o s k d low deep =
     elim (cases_eq low.place k) [ inl e ↦ absurd (omega (arith, rw e at low.depth)) | inr ne ↦ omega (arith, low.reached) ]
 
--- the depth after an initiator, a PDI or another class
+-- an initiator raises the depth by 1, a PDI lowers it by 1 unless it is 0, and other classes leave it
+-- unchanged
 Lowest-next : (o s : ℕ → ℕ) (k d : ℕ) (opens shuts : Bool) → (opens && shuts) ≡ false
     → o (k + 1) ≡ o k + cond opens 1 0 → s (k + 1) ≡ s k + cond shuts 1 0 → Lowest o s k d
     → Lowest o s (k + 1) (cond opens (d + 1) (cond shuts (d - 1) d))
@@ -86,7 +87,7 @@ Lowest-next o s k d false false one up down low =
       | inr flat ↦ let e : d ≡ 0 = omega arith in rw e (Lowest-fresh o s k (λ m h. omega (arith, Lowest-all o s k d low m h, low.depth)))
     ]
 
--- the number of initiators before an index, and the number of PDIs
+-- the number of initiators before an index, and the number of PDIs before it
 pub opened : List BidiClass → ℕ → ℕ
 opened classes k = count_by is_initiator (take k classes)
 
@@ -101,7 +102,7 @@ pub closed-next : (classes : List BidiClass) (k : ℕ) → k < length classes �
 unfolding closed
 closed-next classes k h = sum_by_more (λ x. cond (is_pdi x) 1 0) classes k ON h
 
--- an initiator is not a PDI, and neither is strong
+-- an initiator is not a PDI, and neither of them is strong
 pub opens_or_shuts : (class : BidiClass) → (is_initiator class && is_pdi class) ≡ false
 opens_or_shuts PDI = refl
 opens_or_shuts LRI = refl
@@ -123,7 +124,7 @@ pub strong_shuts_none : (class : BidiClass) → is_strong class ≡ true → is_
 strong_shuts_none PDI h = sym h
 strong_shuts_none _ h = refl
 
--- the count in a range is the difference of the counts before its ends
+-- the count in a range is the difference between the counts before its end and before its start
 pub count-slice_range : (p : BidiClass → Bool) (xs : List BidiClass) (i j : ℕ) → i ≤ j
     → count_by p (take j xs) ≡ count_by p (take i xs) + count_by p (slice_range xs i j)
 count-slice_range p xs i j h =
@@ -144,28 +145,29 @@ unfolding opened closed
 unbalanced classes i j h l =
     ne_eqb _ _ (λ e. omega (arith, e, l, count-slice_range is_initiator classes i (j + 1) h, count-slice_range is_pdi classes i (j + 1) h))
 
--- a balanced range ends at the height at which it begins
+-- a balanced range begins and ends at the same height
 pub level_at_match : (s : List BidiClass) (j k : ℕ) → j ≤ k + 1 → is_balanced s j k ≡ true → opened s (k + 1) + closed s j ≡ opened s j + closed s (k + 1)
 unfolding opened closed
 level_at_match s j k order here =
     let e : count_by is_initiator (slice_range s j (k + 1)) ≡ count_by is_pdi (slice_range s j (k + 1)) = eqb-true _ _ here in
     omega (arith, e, count-slice_range is_initiator s j (k + 1) order, count-slice_range is_pdi s j (k + 1) order)
 
--- a test that each number of a range passes holds for the whole range
+-- if each number of a range passes a test, `list_all` is true for the range
 list_all-range : (p : ℕ → Bool) (low count : ℕ) → ((i : ℕ) → low ≤ i → i < low + count → p i ≡ true) → list_all p (range_with_len low count) ≡ true
 list_all-range p low zero each = refl
 list_all-range p low (suc count) each =
     and_from (p low) (list_all p (range_with_len (low + 1) count)) (each low (omega arith) (omega arith))
     (list_all-range p (low + 1) count (λ i above below. each i (omega arith) (omega arith)))
 
--- the count of initiators does not fall, and that of PDIs rises by at most one
+-- from one index to the next, the count of initiators does not fall, and the count of PDIs rises by at most
+-- one
 pub steps : (classes : List BidiClass) (k : ℕ) → k < length classes → (opened classes k ≤ opened classes (k + 1)) × (closed classes (k + 1) ≤ closed classes k + 1)
 steps classes k h = (
   omega (arith, opened-next classes k h),
   omega (arith, closed-next classes k h, cond_both (is_pdi (class_at classes k)) 1 0 (λ n. n ≤ 1) (λ e. omega arith) (λ e. omega arith)),
 )
 
--- at depth 0, each initiator before k has its match before k
+-- if the depth at k is 0, each initiator before k has its match before k
 matched : (classes : List BidiClass) (k : ℕ) → k ≤ length classes → Lowest (opened classes) (closed classes) k 0
     → (i : ℕ) → i < k → is_initiator (class_at classes i) ≡ true → is_before k (match_of classes i) ≡ false
 matched classes k within low i below opens =
@@ -176,7 +178,7 @@ matched classes k within low i below opens =
     least_reaches (is_balanced classes i) (i + 1) (length classes - (i + 1)) found.0 k (omega (arith, found.1)) (omega (arith, found.1, found.2))
     (balanced classes i found.0 (omega (arith, found.1)) found.3) (omega (arith, found.2))
 
--- at depth 0, an index is outside all isolates
+-- an index at depth 0 is outside all isolates
 outside_at_none : (classes : List BidiClass) (k : ℕ) → k ≤ length classes → Lowest (opened classes) (closed classes) k 0 → is_outside classes k ≡ true
 outside_at_none classes k within low =
     list_all-range (λ i. not (is_in_span classes k i)) 0 k
@@ -188,7 +190,7 @@ outside_at_none classes k within low =
     ]
     ))
 
--- at a depth above 0, a strong character is inside the isolate of the initiator at the last lowest index
+-- a strong character at a depth above 0 is inside the isolate of the initiator at the last lowest index
 inside_at_some : (classes : List BidiClass) (k d : ℕ) → k < length classes → Lowest (opened classes) (closed classes) k d → 0 < d
     → is_strong (class_at classes k) ≡ true → is_outside classes k ≡ false
 inside_at_some classes k d within low deep strong =
@@ -234,7 +236,7 @@ Reached-start classes = record {
   none = λ m h. absurd (omega arith);
 }
 
--- the step for a character that is not strong, or that is inside an isolate
+-- the search moves on to k + 1 if the character at k is not strong or is inside an isolate
 pub Reached-next : (classes : List BidiClass) (k d : ℕ) → k < length classes → Reached classes k d → (is_strong (class_at classes k) ≡ true → 0 < d)
     → Reached classes (k + 1) (cond (is_initiator (class_at classes k)) (d + 1) (cond (is_pdi (class_at classes k)) (d - 1) d))
 Reached-next classes k d within reached deep = record {

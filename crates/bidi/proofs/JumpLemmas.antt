@@ -1,4 +1,4 @@
--- A search inside the isolate of an initiator that skips each nested isolate in one step.
+-- The search inside the isolate of an initiator. It skips each nested isolate in one step.
 use Rattle.std.proofs.Common.{◌≡◌, nat_lt, option_map, zero-add, ℕ, ◌+◌, ◌-◌, ◌<◌, ◌≤◌, true, false, cond, ◌&&◌, ◌==◌, count_by, not, List, length, take, drop, get_or, slice_range, Some, None, is_none, unwrap_or, refl, sym, ap, ◌∙◌, inl, inr, arith}
 use Rattle.std.specs.List.{range_with_len}
 use Rattle.std.proofs.lemmas.Bool.{cond-true, cond-false, cond_both, cases_Bool, cases_eq, cases_lt, and_from, and_left, and_right, not_from_true, false_from_ne_true, both_ways, lt-ltb}
@@ -47,7 +47,7 @@ class_at-span xs b e j within = let lt : j < e - b = omega arith in rw get_or-ta
 pub length-span : (xs : List BidiClass) (b e : ℕ) → b ≤ e → e ≤ length xs → length (slice_range xs b e) ≡ e - b
 length-span xs b e order within = length-take-le (e - b) (drop b xs) (omega (arith, length-drop b xs))
 
--- an initiator has no match if and only if the list of matches has the length there
+-- an initiator has no match if and only if its entry in the list of matches is the length of the list
 pub open-match_at : (classes : List BidiClass) (i : ℕ) → i < length classes
     → (is_initiator (class_at classes i) && is_none (match_of classes i)) ≡ (is_initiator (class_at classes i) && (match_at classes i == length classes))
 open-match_at classes i within =
@@ -60,7 +60,7 @@ open-match_at classes i within =
           ∙ ap (λ m. is_initiator (class_at classes i) && (m == length classes)) (sym e)
     ]
 
--- no range from an initiator to an index before its match is balanced, and the range to its match is
+-- the range from an initiator to its match is balanced, and the range to any index before the match is not
 module _ (classes : List BidiClass) (i : ℕ) (within : i < length classes) (opens : is_initiator (class_at classes i) ≡ true) where
   found : match_at classes i ≡ unwrap_or (match_of classes i) (length classes)
   found = cond-true (is_initiator (class_at classes i)) (unwrap_or (match_of classes i) (length classes)) (length classes) opens
@@ -77,7 +77,7 @@ module _ (classes : List BidiClass) (i : ℕ) (within : i < length classes) (ope
   match_at-within : match_at classes i ≤ length classes
   match_at-within = rw found (least_within (is_balanced classes i) (i + 1) (length classes - (i + 1)) (length classes) (omega arith))
 
--- the list of matches has indices in the list, or its length
+-- each entry in the list of matches is at most the length of the list
 pub match_at-le : (classes : List BidiClass) (i : ℕ) → i < length classes → match_at classes i ≤ length classes
 match_at-le classes i within =
     elim (cases_Bool (is_initiator (class_at classes i))) [
@@ -88,7 +88,7 @@ match_at-le classes i within =
 pub get_or-matches_of : (classes : List BidiClass) (i d : ℕ) → i < length classes → get_or (matches_of classes) i d ≡ match_at classes i
 get_or-matches_of classes i d within = get_or-map-range_with_len (match_at classes) 0 (length classes) i i d within (omega arith)
 
--- if no strong character is outside isolates, no level is given
+-- if no strong character is outside all isolates, there is no first strong level
 first_strong_level-none : (s : List BidiClass) → ((m : ℕ) → m < length s → (is_strong (class_at s m) && is_outside s m) ≡ false) → first_strong_level s ≡ None
 first_strong_level-none s none =
     ap (option_map (λ m. strong_level (class_at s m)))
@@ -109,7 +109,8 @@ module _ (s : List BidiClass) (j : ℕ) (within : j < length s) (opens : is_init
       let shuts : is_pdi (class_at s j) ≡ false = opens_shuts_none (class_at s j) opens in
       omega (arith, rw opens at (opened-next s j within), rw shuts at (closed-next s j within))
 
-  -- the isolate depth at each index after the initiator, up to its match, is greater than at the initiator
+  -- the isolate depth at each index after an initiator, up to its match, is greater than the depth at the
+  -- initiator
   higher : (k : ℕ) → k ≤ length s → ((m : ℕ) → j < m → m < k → is_balanced s j m ≡ false) → (m : ℕ) → j < m → m ≤ k → opened s j + closed s m < opened s m + closed s j
   higher k inside none m after upto =
       elim (cases_lt (opened s j + closed s m) (opened s m + closed s j)) [
@@ -131,7 +132,7 @@ module _ (s : List BidiClass) (j : ℕ) (within : j < length s) (opens : is_init
         ]
       ]
 
-  -- if no range from the initiator is balanced, no strong character is outside isolates
+  -- if no range from the initiator is balanced, no strong character is outside all isolates
   pub none_after : Reached s j 0 → ((m : ℕ) → j < m → m < length s → is_balanced s j m ≡ false) → first_strong_level s ≡ None
   none_after reached none = first_strong_level-none s (none_outside (length s) reached none)
 
@@ -157,8 +158,8 @@ module _ (s : List BidiClass) (j : ℕ) (within : j < length s) (opens : is_init
         ];
       }
 
--- The state of the search inside the isolate of an initiator. Up to its end: no strong character before `at` is outside
--- the nested isolates. Past its end: there is no such character in the isolate.
+-- The state of the search inside the isolate of an initiator. Up to the end of the isolate, no strong
+-- character before `at` is outside the nested isolates. Past the end, the isolate has no such character.
 pub record Walks (classes : List BidiClass) (initiator at : ℕ) : Type 0 where
   pub after : initiator < at
   pub bounded : at ≤ length classes + 1
@@ -207,7 +208,7 @@ module _ (classes : List BidiClass) (i : ℕ) (within : i < length classes) (ope
       let after = walk.after in
       Reached-strong (span_of classes i) (at - (i + 1)) (omega (arith, length-is)) (walk.inside (omega arith)) (ap is_strong here ∙ strong) ∙ ap (λ class. Some (strong_level class)) here
 
-  -- the step for a character that is neither strong nor an initiator
+  -- the search moves on by one character if the character at `at` is neither strong nor an initiator
   pub Walks-step : (at : ℕ) → at < match_at classes i → Walks classes i at → is_strong (class_at classes at) ≡ false → is_initiator (class_at classes at) ≡ false → Walks classes i (at + 1)
   Walks-step at before walk weak other =
       let after = walk.after in
@@ -226,7 +227,7 @@ module _ (classes : List BidiClass) (i : ℕ) (within : i < length classes) (ope
         past = λ h. absurd (omega arith);
       }
 
-  -- the step over a nested isolate
+  -- the search moves on past the match of a nested initiator
   pub Walks-jump : (at : ℕ) → at < match_at classes i → Walks classes i at → is_initiator (class_at classes at) ≡ true → Walks classes i (match_at classes at + 1)
   Walks-jump at before walk inner =
       let after = walk.after in

@@ -4,7 +4,7 @@ use Rattle.std.proofs.lemmas.Bool.{cond-true, cond-false, cases_Bool, cases_eq, 
 use Rattle.ucd.specs.Least.{least}
 use Rattle.bidi.specs.Base.{is_before}
 
--- the result is the first number of the range that passes
+-- if k is the first number of the range that passes, the result is k
 pub least_found : (p : ℕ → Bool) (low count k : ℕ) → low ≤ k → k < low + count → p k ≡ true → ((m : ℕ) → low ≤ m → m < k → p m ≡ false) → least p low count ≡ Some k
 least_found p low zero k from to here before = absurd (omega arith)
 least_found p low (suc count) k from to here before =
@@ -21,7 +21,7 @@ least_none p low (suc count) fails =
     cond-false (p low) (Some low) (least p (suc low) count) (fails low (omega arith) (omega arith))
     ∙ least_none p (suc low) count (λ m above below. fails m (omega arith) (omega arith))
 
--- if a number that passes is not above k, neither is the least one
+-- if a number that is at most k passes, the least number that passes is at most k
 pub least_reaches : (p : ℕ → Bool) (low count j k : ℕ) → low ≤ j → j < low + count → p j ≡ true → j ≤ k → is_before k (least p low count) ≡ false
 least_reaches p low zero j k from to here below = absurd (omega arith)
 least_reaches p low (suc count) j k from to here below =
@@ -34,7 +34,7 @@ least_reaches p low (suc count) j k from to here below =
       ]
     ]
 
--- if no number of the range up to k passes, the least one is above k
+-- if no number of the range up to k passes, the least number that passes, if any, is above k
 pub least_misses : (p : ℕ → Bool) (low count k : ℕ) → ((m : ℕ) → low ≤ m → m ≤ k → p m ≡ false) → is_before k (least p low count) ≡ true
 least_misses p low zero k fails = refl
 least_misses p low (suc count) k fails =
@@ -48,7 +48,7 @@ least_misses p low (suc count) k fails =
           ]
     ]
 
--- no number below the least one passes; without a least one, no number of the range passes
+-- No number below the least one passes. If there is no least one, no number of the range passes.
 pub least_before : (p : ℕ → Bool) (low count end m : ℕ) → low + count ≡ end → low ≤ m → m < unwrap_or (least p low count) end → p m ≡ false
 least_before p low zero end m e from to = absurd (omega arith)
 least_before p low (suc count) end m e from to =
@@ -79,7 +79,7 @@ least_within p low (suc count) end e =
       | inr failed ↦ rw (cond-false (p low) (Some low) (least p (suc low) count) failed) (least_within p (suc low) count end (omega arith))
     ]
 
--- there is no least number if and only if the result, with the end as its default, is the end
+-- the result is `None` if and only if `unwrap_or`, with the end of the range as the default, gives that end
 pub least_is_none : (p : ℕ → Bool) (low count end : ℕ) → low + count ≡ end → is_none (least p low count) ≡ (unwrap_or (least p low count) end == end)
 least_is_none p low zero end e = sym (eq-eqb end end refl)
 least_is_none p low (suc count) end e =

@@ -32,7 +32,7 @@ base_level_of-low classes Ltr = omega arith
 base_level_of-low classes WeakRtl = weak_level-low classes (first_strong classes) 1 (omega arith)
 base_level_of-low classes WeakLtr = weak_level-low classes (first_strong classes) 0 (omega arith)
 
--- replacing each FSI keeps the number of classes
+-- replacing each FSI does not change the number of classes
 pub length-directed : (classes : List BidiClass) → length (directed classes) ≡ length classes
 length-directed classes = length-map-range_with_len (λ k. directed_at classes k (class_at classes k)) 0 (length classes)
 

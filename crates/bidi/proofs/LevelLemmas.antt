@@ -25,12 +25,13 @@ abbrev pub continued_at : List BidiClass → List (List ℕ) → ℕ → Bool
 continued_at classes earlier j = list_any (λ run. is_initiator (class_at classes (last_of run)) && is_match (match_of classes (last_of run)) j) earlier
 
 module _ (bracket_of : ℕ → Option Bracket) (base : ℕ) (characters : List ℕ) (classes : List BidiClass) (levels : List ℕ) (types : List BidiClass) where
-  -- the levels after those of one more sequence have been written
+  -- the levels `done`, after the levels of one more sequence have been written into them
   abbrev pub write : List ℕ → List ℕ → List ℕ
   write done sequence = put done sequence (levels_in bracket_of base characters classes levels types sequence)
 
-  -- The state of the pass over the runs at the start of one. `flags` marks the indices at which an earlier run
-  -- continues. Writing the levels of the sequences that begin here or later completes `done`.
+  -- The state of the pass over the level runs, at the run that begins at `start`. `flags` marks the start of
+  -- each run in which an earlier run continues. Writing the levels of the sequences that begin at `start` or
+  -- later completes `done`.
   pub record Resolves (start : ℕ) (flags : List Bool) (done : List ℕ) : Type 0 where
     pub earlier : List (List ℕ)
     pub edge : 0 < start → start < length levels → slice_index levels (start - 1) ≢ slice_index levels start
@@ -50,8 +51,8 @@ module _ (bracket_of : ℕ → Option Bracket) (base : ℕ) (characters : List �
         ap (λ n. fold write levels (sequences_from classes [] (paragraphs (changes levels) (range_with_len 0 n)))) size;
   }
 
-  -- the step for a run: its sequence is written unless an earlier run continues in it; a run that continues it is
-  -- flagged
+  -- The pass moves on by one run. It writes the sequence that begins with the run, unless an earlier run
+  -- continues in it. It flags the run in which the run continues, if there is one.
   pub Resolves-next : (sizes : length classes ≡ length levels) (start end : ℕ) (flags after : List Bool) (done next : List ℕ) → IsRunEnd levels start end → (now : Resolves start flags done)
       → next ≡ (if get_or flags start false then done else write done (sequence_at classes levels start)) → length after ≡ length levels
       → ((j : ℕ) → j < length levels → (0 < j → slice_index levels (j - 1) ≢ slice_index levels j) → get_or after j false ≡ ((match_at classes (end - 1) == j) || get_or flags j false))
@@ -100,7 +101,8 @@ module _ (bracket_of : ℕ → Option Bracket) (base : ℕ) (characters : List �
   pub Resolves-end : (start : ℕ) (flags : List Bool) (done : List ℕ) → length levels ≤ start → Resolves start flags done → done ≡ resolved bracket_of base characters classes levels types
   Resolves-end start flags done past now = ap (λ runs. fold write done (sequences_from classes now.earlier runs)) (sym (runs_from-end levels start past)) ∙ now.whole
 
--- the flag of the run that a run continues in is set; no flag is set if the run ends its sequence
+-- The pass flags the run in which a run continues. If the run is the last of its sequence, the pass sets no
+-- flag.
 marked_some : (levels : List ℕ) (m next j : ℕ) (flags : List Bool) → next_start levels m ≡ Some next → length flags ≡ length levels → j < length levels
     → get_or (set flags next true) j false ≡ ((m == j) || get_or flags j false)
 marked_some levels m next j flags e size within =

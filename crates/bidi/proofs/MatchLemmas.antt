@@ -1,4 +1,4 @@
--- The pass that finds the matches of initiators with a stack of the open ones, the innermost last.
+-- The pass that finds the matches of initiators. Its stack has the open initiators, the innermost last.
 use Rattle.std.proofs.Common.{◌≡◌, ◌≢◌, ℕ, ◌+◌, ◌-◌, ◌<◌, ◌≤◌, ◌⊎◌, true, false, List, ◌++◌, ◌∷◌, [], length, take, set, get_or, replicate, unwrap_or, refl, sym, ap, ◌∙◌, inl, inr, arith}
 use Rattle.std.proofs.lemmas.Bool.{cond-true, cond-false, cases_eq}
 use Rattle.std.proofs.lemmas.List.{get_or-set_same, get_or-set_other, get_or-take, get_or_append_left, get_or_push, length_push, length-take-le, get_or-replicate, length-replicate, length-set}
@@ -10,13 +10,15 @@ use Rattle.bidi.specs.Isolates.{match_at, matches_of}
 use Rattle.bidi.proofs.IsolateLemmas.{opened, closed, opened-next, closed-next, opens_shuts_none, balanced, unbalanced}
 use Rattle.bidi.proofs.LeastLemmas.{least_found, least_none}
 
--- an initiator before k that is open: each index after it, up to k, is higher than it
+-- The initiator at i is open at k: each index after i, up to k, is higher than i. The height of an index is
+-- the number of initiators before it minus the number of PDIs.
 pub record IsOpen (classes : List BidiClass) (k i : ℕ) : Type 0 where
   pub below : i < k
   pub opens : is_initiator (class_at classes i) ≡ true
   pub above : (p : ℕ) → i < p → p ≤ k → opened classes i + closed classes p < opened classes p + closed classes i
 
--- the stack before k: its items are open initiators, each one lower than the next, and the last one lower than k
+-- The stack has the initiators that are open at k. Each one is lower than the next, and the last one is lower
+-- than k.
 pub record Opens (classes : List BidiClass) (k : ℕ) (stack found : List ℕ) : Type 0 where
   pub size : length found ≡ length classes
   pub item : (m : ℕ) → m < length stack → IsOpen classes k (get_or stack m 0)
@@ -25,7 +27,7 @@ pub record Opens (classes : List BidiClass) (k : ℕ) (stack found : List ℕ) :
   pub ahead : (i : ℕ) → k ≤ i → i < length classes → get_or found i 0 ≡ length classes
   pub passed : (i : ℕ) → i < k → ((m : ℕ) × (m < length stack) × (get_or stack m 0 ≡ i)) ⊎ (get_or found i 0 ≡ match_at classes i)
 
--- the counts of initiators and PDIs after a character
+-- how one character changes the counts of initiators and PDIs
 up : (classes : List BidiClass) (k : ℕ) → k < length classes → is_initiator (class_at classes k) ≡ true
     → (opened classes (k + 1) ≡ opened classes k + 1) × (closed classes (k + 1) ≡ closed classes k)
 up classes k within opens =
@@ -56,7 +58,7 @@ IsOpen-next classes k i now higher = record {
   above = λ p after upto. elim (cases_eq p (k + 1)) [ inl e ↦ rw e higher | inr ne ↦ now.above p after (omega arith) ];
 }
 
--- the list of matches has the length at an index without an initiator
+-- for an index without an initiator, the entry in the list of matches is the length of the list
 match_at-other : (classes : List BidiClass) (k : ℕ) → is_initiator (class_at classes k) ≡ false → match_at classes k ≡ length classes
 match_at-other classes k opens = cond-false (is_initiator (class_at classes k)) (unwrap_or (match_of classes k) (length classes)) (length classes) opens
 
@@ -70,7 +72,7 @@ Opens-start classes = record {
   passed = λ i h. absurd (omega arith);
 }
 
--- the step for an initiator: it is pushed on the stack
+-- the pass pushes an initiator on the stack
 pub Opens-up : (classes : List BidiClass) (k : ℕ) (stack found : List ℕ) → k < length classes → is_initiator (class_at classes k) ≡ true
     → Opens classes k stack found → Opens classes (k + 1) (stack ++ k ∷ []) found
 Opens-up classes k stack found within opens now =
@@ -107,7 +109,7 @@ Opens-up classes k stack found within opens now =
       ];
     }
 
--- a PDI with an empty stack changes nothing
+-- if the stack is empty, a character that is not an initiator changes nothing
 pub Opens-down_none : (classes : List BidiClass) (k : ℕ) (found : List ℕ) → k < length classes → is_initiator (class_at classes k) ≡ false
     → Opens classes k [] found → Opens classes (k + 1) [] found
 Opens-down_none classes k found within opens now = record {
@@ -122,7 +124,7 @@ Opens-down_none classes k found within opens now = record {
   ];
 }
 
--- an open initiator has its match at k if k + 1 has the height of the initiator
+-- if k + 1 has the same height as an open initiator, the match of the initiator is at k
 match_of-found : (classes : List BidiClass) (k i : ℕ) → k < length classes → IsOpen classes k i
     → opened classes (k + 1) + closed classes i ≡ opened classes i + closed classes (k + 1) → match_at classes i ≡ k
 match_of-found classes k i within now level =
@@ -140,7 +142,7 @@ match_at-open classes i now =
     ∙ ap (λ o. unwrap_or o (length classes)) (least_none (is_balanced classes i) (i + 1) (length classes - (i + 1))
     (λ m from to. unbalanced classes i m (omega arith) (now.above (m + 1) (omega arith) (omega arith))))
 
--- a PDI with a stack that is not empty pops the last item, and is its match
+-- if the stack is not empty, a PDI pops the last initiator and becomes its match
 pub Opens-down : (classes : List BidiClass) (k : ℕ) (stack found : List ℕ) → k < length classes → is_initiator (class_at classes k) ≡ false → is_pdi (class_at classes k) ≡ true
     → 0 < length stack → Opens classes k stack found
     → Opens classes (k + 1) (take (length stack - 1) stack) (set found (get_or stack (length stack - 1) 0) k)
@@ -177,7 +179,7 @@ Opens-down classes k stack found within opens shuts some now =
       ];
     }
 
--- the step for a character that is neither an initiator nor a PDI: the stack and the matches stay the same
+-- a character that is neither an initiator nor a PDI changes neither the stack nor the matches
 pub Opens-flat : (classes : List BidiClass) (k : ℕ) (stack found : List ℕ) → k < length classes → is_initiator (class_at classes k) ≡ false → is_pdi (class_at classes k) ≡ false
     → Opens classes k stack found → Opens classes (k + 1) stack found
 Opens-flat classes k stack found within opens shuts now =
@@ -196,7 +198,7 @@ Opens-flat classes k stack found within opens shuts now =
       ];
     }
 
--- at the end, the matches found are all matches
+-- at the end of the text, all matches have been found
 pub Opens-end : (classes : List BidiClass) (k : ℕ) (stack found : List ℕ) → length classes ≤ k → k ≤ length classes → Opens classes k stack found → found ≡ matches_of classes
 Opens-end classes k stack found from to now =
     let whole : k ≡ length classes = omega arith in

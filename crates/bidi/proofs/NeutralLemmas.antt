@@ -1,4 +1,4 @@
--- N1, N2, I1 and I2 in one pass, in which a run of neutrals waits for the type after it.
+-- N1, N2, I1 and I2 in one pass. A run of neutrals waits for the type after it.
 use Rattle.std.proofs.Common.{◌≡◌, ℕ, ◌+◌, ◌-◌, ◌<◌, ◌≤◌, true, false, not, List, [], ◌∷◌, ◌++◌, length, get_or, set, take, drop, map, replicate, refl, sym, ap, subst, ◌∙◌, inl, inr, arith, append_assoc}
 use Rattle.std.proofs.lemmas.Bool.{cond-true, cond-false, cases_Bool, not_from_true, not_from_false}
 use Rattle.std.proofs.lemmas.List.{append-nil, length-set, drop_more, drop_all, take_all, take_more_set, replicate_more}
@@ -24,7 +24,7 @@ module _ (level : ℕ) (sos eos : BidiClass) where
   side-other : (other type : BidiClass) (types : List BidiClass) → is_neutral type ≡ false → side_of other (type ∷ types) ≡ type
   side-other other type types e = cond-true (not (is_neutral type)) type (side_of other types) (not_from_false (is_neutral type) e)
 
-  -- the levels that the pass gives a run and the types after it are those of the rules
+  -- the pass gives a run of neutrals and the types after it the same levels as the rules
   after-is : (n : ℕ) (before : BidiClass) (front types : List BidiClass) → before ≡ side_of sos front
       → levels_after level eos n before types ≡ replicate n (row_level level before (side_of eos types)) ++ rules front types
   after-is n before front [] e = sym (append-nil (replicate n (row_level level before eos)))
@@ -56,7 +56,7 @@ module _ (level : ℕ) (sos eos : BidiClass) where
   levels_after-is types = after-is 0 sos [] types refl
 
   module _ {types : List BidiClass} {levels : List ℕ} {before : BidiClass} {start at : ℕ} (so_far : AreLevelsSoFar level sos eos types levels before start at) (d : BidiClass) where
-    -- the step for a neutral: no level is written
+    -- at a neutral, the pass writes no level
     pub levels-row : at < length types → is_neutral (get_or types at d) ≡ true → AreLevelsSoFar level sos eos types levels before start (at + 1)
     levels-row within row =
         let order : start ≤ at = so_far.order in
@@ -72,7 +72,8 @@ module _ (level : ℕ) (sos eos : BidiClass) where
               ∙ so_far.whole;
         }
 
-    -- the step for another type: the levels of the run before it and its own level are written
+    -- at a type that is not neutral, the pass writes the levels of the run before it and the level of the
+    -- type
     pub levels-other : (written : List ℕ) (value : ℕ) → at < length types → is_neutral (get_or types at d) ≡ false → length written ≡ length levels
         → take at written ≡ take start levels ++ replicate (at - start) (row_level level before (get_or types at d)) → value ≡ implicit_level level (get_or types at d)
         → AreLevelsSoFar level sos eos types (set written at value) (get_or types at d) (at + 1) (at + 1)
@@ -96,7 +97,7 @@ module _ (level : ℕ) (sos eos : BidiClass) where
               ∙ so_far.whole;
         }
 
-    -- at the end, the levels of the last run are written
+    -- at the end, the pass writes the levels of the last run, and all levels agree with the rules
     pub levels-end : (written : List ℕ) → length types ≤ at → at ≡ length types → length written ≡ length levels
         → take (length types) written ≡ take start levels ++ replicate (length types - start) (row_level level before eos)
         → written ≡ map (implicit_level level) (neutral (direction level) sos eos types)
@@ -107,7 +108,7 @@ module _ (level : ℕ) (sos eos : BidiClass) where
         ∙ ap (λ xs. take start levels ++ levels_after level eos (at - start) before xs) (sym (drop_all at types past))
         ∙ so_far.whole ∙ levels_after-is types
 
--- a run of equal types that are not neutral: the level of its first type is written
+-- in a run of equal types that are not neutral, the pass writes the level of the first type
 pub levels-row-first : (level : ℕ) (types : List BidiClass) (levels : List ℕ) (at : ℕ) (class : BidiClass) (value : ℕ) → at < length types → class_at types at ≡ class
     → is_neutral class ≡ false → value ≡ implicit_level level class → PutsRow level types levels at class (set levels at value) (at + 1)
 levels-row-first level types levels at class value within here other is sos eos before old start so_far size front =
@@ -115,7 +116,7 @@ levels-row-first level types levels at class value within here other is sos eos 
     subst P here (levels-other level sos eos so_far ON levels value within (ap is_neutral here ∙ other) size
     (front ∙ ap (λ c. take start old ++ replicate (at - start) (row_level level before c)) (sym here)) (is ∙ ap (implicit_level level) (sym here)))
 
--- a run of equal types that are not neutral: the level of one more type is written
+-- in a run of equal types that are not neutral, the pass writes the level of one more type
 pub levels-row-next : (level : ℕ) (types : List BidiClass) (first : List ℕ) (start : ℕ) (class : BidiClass) (value : ℕ) (levels : List ℕ) (at : ℕ) → at < length types → get_or types at L ≡ class
     → is_neutral class ≡ false → value ≡ implicit_level level class → PutsRow level types first start class levels at → PutsRow level types first start class (set levels at value) (at + 1)
 levels-row-next level types first start class value levels at within here other is put sos eos before old begins so_far size front =

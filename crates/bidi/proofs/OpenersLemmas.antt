@@ -26,7 +26,7 @@ take-last items front last e =
     let size : length items - 1 ≡ length front = omega (arith, ap length e, length-append front (last ∷ [])) in
     rw (size, e) (take-append_seam front (last ∷ []))
 
--- the last item of a list
+-- the item at the last index is the last item of the list
 pub item-last : (items front : List Status) (last d : Status) → items ≡ front ++ last ∷ [] → get_or items (length items - 1) d ≡ last
 item-last items front last d e =
     let size : length items - 1 ≡ length front = omega (arith, ap length e, length-append front (last ∷ [])) in
@@ -55,7 +55,7 @@ popped_isolate front entries rest status h popped isolate =
           (sym (ap (λ (s : Status). s.is_isolate) same) ∙ isolate))
     ]
 
--- if the popped entry is not an isolate, the last isolate and the entries below it stay
+-- if the popped entry is not an isolate, the last isolate and the entries below it stay on the stack
 pub popped_other : (front entries rest : List Status) (status : Status) → AreBeforeIsolate front entries → entries ≡ rest ++ status ∷ [] → status.is_isolate ≡ false → AreBeforeIsolate front rest
 popped_other front entries rest status h popped other =
     elim (cases_last h.inner) [
@@ -89,7 +89,8 @@ AreBeforeIsolate-more front entries status h other = record {
       (or_from status.is_isolate false other refl);
 }
 
--- closing an isolate removes the innermost opener if that is an isolate, and else closes an isolate outside it
+-- closing an isolate removes the innermost opener if it is an isolate, and otherwise closes the innermost
+-- isolate outside it
 close_isolate-here : (opener : BidiClass) (outer : List BidiClass) → is_initiator opener ≡ true → close_isolate (opener ∷ outer) ≡ outer
 close_isolate-here opener outer isolate =
     ap (λ (x : Bool). cond (x || list_any is_initiator outer) (drop (cond (not x) (1 + prefix_len (λ o. not (is_initiator o)) outer) 0 + 1) (opener ∷ outer)) (opener ∷ outer)) isolate
@@ -104,7 +105,8 @@ close_isolate-outside opener outer embedding some =
     ∙ sym (cond-true (list_any is_initiator outer) (drop (p + 1) outer) outer some)
 
 module _ (base : ℕ) where
-  -- the entries and counts that an opener adds, by whether it is void and whether it is an isolate initiator
+  -- the entries and counts that an opener adds, depending on whether it overflows (`void`) and whether it is
+  -- an isolate initiator
   pub record Adds (void isolate : Bool) (opener : BidiClass) (outer : List BidiClass) : Type 0 where
     pub statuses_are : statuses base (opener ∷ outer) ≡ cond void (statuses base outer) (statuses base outer ++ innermost base (opener ∷ outer) ∷ [])
     pub isolates_are : isolates base (opener ∷ outer) ≡ cond (isolate && not void) (isolates base outer + 1) (isolates base outer)
@@ -127,7 +129,7 @@ module _ (base : ℕ) where
         ∙ ap (λ (x : Bool). cond void (innermost base outer) (entry_of (inside base (opener ∷ outer)) x)) i;
   }
 
-  -- an opener that has a level of its own, and one that is void
+  -- an opener that gets its own level, and an opener that overflows
   pub record IsEntered (opener : BidiClass) (outer : List BidiClass) : Type 0 where
     pub not_void : (inside base outer).is_void ≡ false
     pub fits : level_above opener (inside base outer).level ≤ 125
@@ -194,7 +196,7 @@ module _ (base : ℕ) where
         | inr v ↦ rw v.is (level-le low outer)
       ]
 
-  -- the stack is not empty, and its last entry is the innermost one
+  -- the stack is not empty, and its last entry is `innermost`
   pub statuses-last : (chain : List BidiClass) → (front : List Status) × (statuses base chain ≡ front ++ innermost base chain ∷ [])
   statuses-last [] = ([], refl)
   statuses-last (opener ∷ outer) =
@@ -205,7 +207,7 @@ module _ (base : ℕ) where
             (before.0, a.statuses_are ∙ before.1 ∙ ap (λ (s : Status). before.0 ++ s ∷ []) (sym a.innermost_is))
       ]
 
-  -- the stack has at most as many entries as its innermost level plus one
+  -- the number of stack entries is at most the innermost level plus one
   pub statuses-length : (chain : List BidiClass) → length (statuses base chain) ≤ (inside base chain).level + 1
   statuses-length [] = omega arith
   statuses-length (opener ∷ outer) =
@@ -215,7 +217,7 @@ module _ (base : ℕ) where
         | inr v ↦ rw ((adds true (is_initiator opener) opener outer (ap (λ (i : Inside). i.is_void) v.is) refl).statuses_are, v.is) (statuses-length outer)
       ]
 
-  -- if the innermost opener is not void, both overflow counts are 0
+  -- if the innermost opener does not overflow, both overflow counts are 0
   pub none_void : (chain : List BidiClass) → (inside base chain).is_void ≡ false → (overflowed_isolates base chain ≡ 0) × (overflowed_embeddings base chain ≡ 0)
   none_void [] live = (refl, refl)
   none_void (opener ∷ outer) live =
@@ -228,7 +230,7 @@ module _ (base : ℕ) where
         | inr v ↦ absurd (both_ways ((inside base (opener ∷ outer)).is_void) live (ap (λ (i : Inside). i.is_void) v.is))
       ]
 
-  -- a void embedding is counted if no void isolate is open
+  -- an overflow embedding is counted if no overflow isolate is open
   pub embedding_counted : (opener : BidiClass) (outer : List BidiClass) → Adds true false opener outer
       → overflowed_isolates base outer ≡ 0 → overflowed_embeddings base (opener ∷ outer)
       ≡ overflowed_embeddings base outer + 1
@@ -241,7 +243,7 @@ module _ (base : ℕ) where
   embedding_passed opener outer a some = a.overflowed_embeddings_are
       ∙ cond-false (overflowed_isolates base outer == 0) (overflowed_embeddings base outer + 1) (overflowed_embeddings base outer) (ne_eqb (overflowed_isolates base outer) 0 (omega arith))
 
-  -- if the innermost opener is void, an overflow count is above 0
+  -- if the innermost opener overflows, one of the overflow counts is above 0
   pub some_void : (chain : List BidiClass) → (inside base chain).is_void ≡ true → 0 < overflowed_isolates base chain + overflowed_embeddings base chain
   some_void [] void = absurd (cc)
   some_void (opener ∷ outer) void =
@@ -281,7 +283,7 @@ module _ (base : ℕ) where
   counts-entered true opener outer a = (a.isolates_are, a.overflowed_isolates_are, a.overflowed_embeddings_are)
   counts-entered false opener outer a = (a.isolates_are, a.overflowed_isolates_are, a.overflowed_embeddings_are)
 
-  -- the properties of a state that belongs to a chain
+  -- what holds if `openers` belongs to the chain
   module _ (openers : Openers) (chain : List BidiClass) (holds : Holds base openers chain) where
     pub is_live : openers.overflowed_isolates ≡ 0 → openers.overflowed_embeddings ≡ 0 → (inside base chain).is_void ≡ false
     is_live no_isolate no_embedding =
@@ -297,7 +299,7 @@ module _ (base : ℕ) where
           | inr live ↦ let none = none_void chain live in absurd (omega (arith, none.0, none.1, holds.overflowed_isolates_are, holds.overflowed_embeddings_are))
         ]
 
-    -- the step for an opener with a level of its own
+    -- an opener that gets its own level is pushed on the stack
     pub Holds-entered : (opener : BidiClass) (status : Status) (level : ℕ) (overriding : Option BidiClass) (isolate : Bool) (entries : List Status)
         → openers.overflowed_isolates ≡ 0 → openers.overflowed_embeddings ≡ 0 → status ≡ innermost base chain
         → level ≡ level_above opener status.level → level ≤ 125 → overriding ≡ override_of opener → isolate ≡ is_initiator opener
@@ -317,7 +319,7 @@ module _ (base : ℕ) where
           overflowed_embeddings_are = holds.overflowed_embeddings_are ∙ sym (counts-entered b opener chain a).2;
         }
 
-    -- the step for a void isolate initiator
+    -- an opener that overflows raises an overflow count, unless it is an embedding inside an overflow isolate
     pub Holds-void_isolate : (opener : BidiClass) → ((inside base chain).is_void ≡ true) ⊎ (125 < level_above opener (inside base chain).level) → is_initiator opener ≡ true
         → Holds base (record openers { overflowed_isolates = openers.overflowed_isolates + 1 }) (opener ∷ chain)
     Holds-void_isolate opener cause isolate =
@@ -351,7 +353,7 @@ module _ (base : ℕ) where
           overflowed_embeddings_are = holds.overflowed_embeddings_are ∙ sym (embedding_passed opener chain a (omega (arith, holds.overflowed_isolates_are)));
         }
 
-  -- PDF inside a void isolate changes nothing
+  -- PDF inside an overflow isolate changes nothing
   pub Holds-passed : (openers : Openers) (chain : List BidiClass) → Holds base openers chain → 0 < openers.overflowed_isolates → Holds base openers (close_embedding chain)
   Holds-passed openers [] holds some = absurd (omega (arith, holds.overflowed_isolates_are))
   Holds-passed openers (opener ∷ outer) holds some =
@@ -368,7 +370,7 @@ module _ (base : ℕ) where
             })
       ]
 
-  -- PDF closes a void embedding
+  -- PDF closes an overflow embedding
   pub Holds-void_closed : (openers : Openers) (chain : List BidiClass) → Holds base openers chain → openers.overflowed_isolates ≡ 0 → 0 < openers.overflowed_embeddings
       → Holds base (record openers { overflowed_embeddings = openers.overflowed_embeddings - 1 }) (close_embedding chain)
   Holds-void_closed openers [] holds none some = absurd (omega (arith, holds.overflowed_embeddings_are))
@@ -387,7 +389,7 @@ module _ (base : ℕ) where
             })
       ]
 
-  -- PDF closes an embedding that is not void
+  -- PDF closes an embedding that does not overflow
   pub Holds-closed : (openers : Openers) (chain : List BidiClass) → Holds base openers chain → openers.overflowed_isolates ≡ 0 → openers.overflowed_embeddings ≡ 0
       → (status : Status) (entries : List Status) → status ≡ innermost base chain → 1 < length openers.statuses.items → status.is_isolate ≡ false
       → entries ≡ take (length openers.statuses.items - 1) openers.statuses.items
@@ -426,7 +428,7 @@ module _ (base : ℕ) where
         | inr w ↦ rw (cond-true (is_initiator opener) (opener ∷ outer) outer (sym (ap (λ (s : Status). s.is_isolate) (w.1 ∙ a.innermost_is)) ∙ w.2)) holds
       ]
 
-  -- if an isolate is counted, the chain contains one
+  -- if a count of isolates is above 0, the chain contains an isolate
   some_isolate : (chain : List BidiClass) → 0 < isolates base chain + overflowed_isolates base chain → list_any is_initiator chain ≡ true
   some_isolate [] some = absurd (omega arith)
   some_isolate (opener ∷ outer) some =
@@ -448,7 +450,7 @@ module _ (base : ℕ) where
             or_from (is_initiator opener) (list_any is_initiator outer) embedding (no_isolate outer (omega (arith, a.isolates_are)) (omega (arith, a.overflowed_isolates_are)))
       ]
 
-  -- PDI closes a void isolate
+  -- PDI closes an overflow isolate
   pub Holds-void_isolate_closed : (openers : Openers) (chain : List BidiClass) → Holds base openers chain → 0 < openers.overflowed_isolates
       → Holds base (record openers { overflowed_isolates = openers.overflowed_isolates - 1 }) (close_isolate chain)
   Holds-void_isolate_closed openers [] holds some = absurd (omega (arith, holds.overflowed_isolates_are))
@@ -475,7 +477,7 @@ module _ (base : ℕ) where
             } some)
       ]
 
-  -- the state after the innermost isolate of a chain, which is not void, has been closed
+  -- the state after PDI has closed the innermost isolate of a chain, which does not overflow
   pub record IsIsolateClosed (chain : List BidiClass) : Type 0 where
     pub before : AreBeforeIsolate (statuses base (close_isolate chain)) (statuses base chain)
     pub isolates_are : isolates base (close_isolate chain) + 1 ≡ isolates base chain
@@ -521,7 +523,7 @@ module _ (base : ℕ) where
             }
       ]
 
-  -- PDI closes an isolate that is not void
+  -- PDI closes an isolate that does not overflow
   pub Holds-isolate_closed : (openers : Openers) (chain : List BidiClass) → Holds base openers chain → openers.overflowed_isolates ≡ 0 → 0 < openers.isolates
       → (entries : List Status) → ClosesIsolate openers.statuses.items entries
       → Holds base (record openers { statuses = record { items = entries }; isolates = openers.isolates - 1; overflowed_embeddings = 0 }) (close_isolate chain)

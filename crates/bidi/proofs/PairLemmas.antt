@@ -1,4 +1,4 @@
--- The pass that finds bracket pairs with a list of the live openers, the newest last.
+-- The pass that finds bracket pairs. It keeps a list of the live openers, the newest last.
 use Rattle.std.proofs.Common.{◌≡◌, ◌≢◌, ℕ, zero, suc, ◌+◌, ◌<◌, ◌≤◌, ◌⊎◌, ◌==◌, nat_lt, nat_le, Bool, true, false, ◌&&◌, ◌||◌, not, List, ◌++◌, ◌∷◌, [], map, length, take, get_or, fold, Option, Some, None, unwrap_or, if◌then◌else◌, count_by, refl, sym, ap, subst, ◌∙◌, inl, inr, arith}
 use Rattle.std.specs.List.{list_any, range_with_len}
 use Rattle.std.proofs.lemmas.Bool.{cond-true, cond-false, false≢true, cases_Bool, cases_eq, cases_lt, and_left, and_right, and_from, and_parts, both_ways, eq-eqb, ne_eqb, le-leb, lt-leb, le-ltb, or_left, or_right, or_from, not-true, not_from_true, not_from_false, false_from_ne_true}
@@ -20,7 +20,7 @@ use Rattle.ucd.specs.Least.{least}
 use Rattle.bidi.specs.Closers.{AreNested, closer_in, closed_by, closers_of, left_by, newest, pair_of, place_of}
 use Rattle.bidi.proofs.LeastLemmas.{least_found, least_none, least_within}
 
--- the result of `greatest`: the greatest number below n that passes the test
+-- `greatest` finds the greatest number below n that passes the test
 pub greatest_here : (test : ℕ → Bool) (k n : ℕ) → n ≡ k + 1 → test k ≡ true → greatest test n ≡ Some k
 greatest_here test k n e here =
     let f : n ≡ suc k = omega arith in
@@ -98,7 +98,7 @@ length-lives live (suc k) =
       | inr failed ↦ omega (arith, step, cond-false {A = ℕ} (live k) 1 0 failed, length-lives live k, ap length (lives-no live k failed))
     ]
 
--- the item at an index, if there is an index
+-- the item at the given index, if an index is given
 abbrev pub item_of : List ℕ → Option ℕ → Option ℕ
 item_of items (Some m) = Some (get_or items m 0)
 item_of items None = None
@@ -107,7 +107,8 @@ item_of-push : (items : List ℕ) (k : ℕ) (found : Option ℕ) → ((m : ℕ) 
 item_of-push items k None within = refl
 item_of-push items k (Some m) within = let h : m < length items = within m refl in ap Some (get_or_append_left items (k ∷ []) 0 m h)
 
--- the greatest number below k that passes both tests, from the indices of those that pass the first
+-- the greatest number below k that passes both tests can be found by searching the list of the numbers that
+-- pass the first one
 pub lives-greatest : (live fit test : ℕ → Bool) (k : ℕ) → ((m : ℕ) → m < length (lives live k) → fit (get_or (lives live k) m 0) ≡ test m)
     → greatest (λ i. live i && fit i) k ≡ item_of (lives live k) (greatest test (length (lives live k)))
 lives-greatest live fit test zero same = refl
@@ -141,7 +142,8 @@ lives-greatest live fit test (suc k) same =
           ∙ ap (λ (l : List ℕ). item_of l (greatest test (length l))) (sym e)
     ]
 
--- the numbers that pass before a given one are a prefix of the list
+-- Let x be item m of the list of `live`. If `other` agrees with `live` below x and passes no number from x
+-- on, its list is the first m items of that list.
 pub lives-cut : (live other : ℕ → Bool) (k m : ℕ) → m < length (lives live k)
     → ((i : ℕ) → i < get_or (lives live k) m 0 → other i ≡ live i) → ((i : ℕ) → get_or (lives live k) m 0 ≤ i → i < k → other i ≡ false)
     → lives other k ≡ take m (lives live k)
@@ -182,14 +184,14 @@ or-no : (x y : Bool) → y ≡ false → (x || y) ≡ x
 or-no true y e = refl
 or-no false y e = e
 
--- whether a pair of the list contains an index: it opens at or before it, and closes after it
+-- whether a pair in the list covers the index i: it opens at or before i, and closes after i
 abbrev pub covers : List Pair → ℕ → Bool
 covers pairs i = list_any (λ (pair : Pair). nat_le pair.opener i && nat_lt i pair.closer) pairs
 
 abbrev pub with_pair : List Pair → ℕ → ℕ → List Pair
 with_pair pairs i j = pairs ++ record { opener = i; closer = j } ∷ []
 
--- the closer of an opener after a pair has been added
+-- after a pair has been added, its opener has its closer, and other openers keep theirs
 closer_of-at : (pairs : List Pair) (i j : ℕ) → closer_of pairs i ≡ None → closer_of (with_pair pairs i j) i ≡ Some j
 closer_of-at [] i j none = cond-true (i == i) (Some j) None (eq-eqb i i refl)
 closer_of-at (p ∷ pairs) i j none =
@@ -219,7 +221,8 @@ covers-from (p ∷ pairs) a j i e from to =
           (covers-from pairs a j i (sym (cond-false (p.opener == a) (Some p.closer) (closer_of pairs a) other) ∙ e) from to)
     ]
 
--- an index is covered after a pair has been added if it was covered before, or is in the new pair
+-- after a pair has been added, an index is covered if and only if it was covered before or the new pair
+-- covers it
 covers-with : (pairs : List Pair) (i j x : ℕ) → covers (with_pair pairs i j) x ≡ (covers pairs x || ((nat_le i x && nat_lt x j) || false))
 covers-with pairs i j x = list_any-append (λ (pair : Pair). nat_le pair.opener x && nat_lt x pair.closer) pairs (record { opener = i; closer = j } ∷ [])
 
@@ -247,7 +250,7 @@ other_is_on : (type : BidiClass) → is_other type ≡ true → type ≡ ON
 other_is_on ON e = refl
 other_is_on type e = absurd (false≢true e)
 
--- the list of closers has the closer of each opener, and the length at other indices
+-- the list of closers has the index of the closer of each opener, and the length of the list at other indices
 closers_of-at : (pairs : List Pair) (len i d : ℕ) → i < len → get_or (closers_of pairs len) i d ≡ unwrap_or (closer_of pairs i) len
 closers_of-at pairs len i d within = get_or-map-range_with_len (λ i. unwrap_or (closer_of pairs i) len) 0 len i i d within (omega arith)
 
@@ -290,7 +293,7 @@ module _ (bracket_of : ℕ → Option Bracket) (characters : List ℕ) (types : 
   live_parts : (pairs : List Pair) (i : ℕ) → live pairs i ≡ true → (opens i ≡ true) × (covers pairs i ≡ false)
   live_parts pairs i e = let parts = and_parts (opens i) (not (covers pairs i)) e in (parts.0, not-true (covers pairs i) parts.1)
 
-  -- the pairs after one more character: a character that is no closer, or has no opener, adds none
+  -- a character adds no pair if it is not a closing bracket or matches no opener
   pairs-no : (k : ℕ) → closes k ≡ false → before (suc k) ≡ before k
   pairs-no k e = ap (λ l. before k ++ l) (cond-false (closes k) (paired_with bracket_of characters types (match_for k) k) [] e) ∙ append-nil (before k)
 
@@ -303,7 +306,7 @@ module _ (bracket_of : ℕ → Option Bracket) (characters : List ℕ) (types : 
       ap (λ l. before k ++ l) (cond-true (closes k) (paired_with bracket_of characters types (match_for k) k) [] e ∙ ap (λ o. paired_with bracket_of characters types o k) found)
       ∙ append-nil (before k)
 
-  -- one more character adds no pair, or a pair with the opener that it matches
+  -- each character adds either no pair or a pair with the opener that it matches
   cases_step : (k : ℕ) → (before (suc k) ≡ before k) ⊎ ((i : ℕ) × (closes k ≡ true) × (match_for k ≡ Some i))
   cases_step k =
       elim (cases_Bool (closes k)) [
@@ -388,7 +391,7 @@ module _ (bracket_of : ℕ → Option Bracket) (characters : List ℕ) (types : 
         | inr w ↦ let parts = match_parts k w.0 w.2 in rw (pairs-some k w.0 w.1 w.2) (ArePaired-with (before k) k w.0 now parts.1 parts.0 w.1)
       ]
 
-  -- the list of closers has properly nested pairs
+  -- the pairs in the list of closers are properly nested
   pub nested : (k : ℕ) → k ≤ length types → AreNested types (closers_of (before k) (length types))
   nested k within =
       let len = length types in
@@ -415,8 +418,8 @@ module _ (bracket_of : ℕ → Option Bracket) (characters : List ℕ) (types : 
             rw (v.2, w.2) (now.apart a b v.0 w.0 lt v.1 w.1);
       }
 
-  -- the state of the pass: the openers on the list are the live ones, in order; the closers are those of the pairs
-  -- so far
+  -- The state of the pass after k characters. `openers` has the live openers, in order. `closers` has the
+  -- closers of the pairs found so far.
   pub record Walks (k : ℕ) (openers : List Opener) (closers : List ℕ) : Type 0 where
     pub held : map (λ (o : Opener). o.place) openers ≡ lives (live (before k)) k
     pub fit : (m : ℕ) → m < length openers → (c : ℕ) → is_pair_of (bracket_of (get_or characters (place_of openers m) 0)) c ≡ (canonical (pair_of openers m) == canonical c)
@@ -452,7 +455,7 @@ module _ (bracket_of : ℕ → Option Bracket) (characters : List ℕ) (types : 
         | inr ne ↦ room j (omega arith)
       ]
 
-  -- the step for a character that changes nothing
+  -- a character that adds no pair and is not an opening bracket leaves both lists unchanged
   Walks-stay : (k : ℕ) (openers : List Opener) (closers : List ℕ) → before (suc k) ≡ before k → opens k ≡ false → Walks k openers closers → Walks (suc k) openers closers
   Walks-stay k openers closers same other now =
       record {
@@ -465,7 +468,7 @@ module _ (bracket_of : ℕ → Option Bracket) (characters : List ℕ) (types : 
   pub Walks-other : (k : ℕ) (openers : List Opener) (closers : List ℕ) → opens k ≡ false → closes k ≡ false → Walks k openers closers → Walks (suc k) openers closers
   Walks-other k openers closers other none now = Walks-stay k openers closers (pairs-no k none) other now
 
-  -- the steps for several characters that are not brackets
+  -- several characters that are not brackets leave both lists unchanged
   pub Walks-skip : (n k j : ℕ) (openers : List Opener) (closers : List ℕ) → j ≡ n + k → ((m : ℕ) → k ≤ m → m < j → opens m ≡ false)
       → ((m : ℕ) → k ≤ m → m < j → closes m ≡ false) → Walks k openers closers → Walks j openers closers
   Walks-skip zero k j openers closers e other none now = let same : k ≡ j = omega arith in subst (λ x. Walks x openers closers) same now
@@ -473,7 +476,7 @@ module _ (bracket_of : ℕ → Option Bracket) (characters : List ℕ) (types : 
       Walks-skip n (suc k) j openers closers (omega arith) (λ m above below. other m (omega arith) below) (λ m above below. none m (omega arith) below)
       (Walks-other k openers closers (other k (omega arith) (omega arith)) (none k (omega arith) (omega arith)) now)
 
-  -- the step for an opening bracket
+  -- the pass appends an opening bracket to the list of openers
   pub Walks-open : (k : ℕ) (openers : List Opener) (closers : List ℕ) (bracket : Bracket) → opens k ≡ true → bracket_of (get_or characters k 0) ≡ Some bracket → length openers < 63
       → Walks k openers closers → Walks (suc k) (openers ++ record { place = k; pair = bracket.pair } ∷ []) closers
   Walks-open k openers closers bracket opening is room now =
@@ -555,7 +558,8 @@ module _ (bracket_of : ℕ → Option Bracket) (characters : List ℕ) (types : 
         room = room-next k now.room (full k openers closers now ∙ and_left (opens k) (nat_le 63 (length openers)) other);
       }
 
-  -- the step for a closing bracket
+  -- at a closing bracket, the pass records the closer of the opener that it matches, and removes that opener
+  -- and the newer ones
   pub Walks-close : (k : ℕ) (openers : List Opener) (closers : List ℕ) → k < length types → closes k ≡ true → Walks k openers closers
       → Walks (suc k) (left_by (newest openers (get_or characters k 0)) openers) (closed_by (newest openers (get_or characters k 0)) openers closers k)
   Walks-close k openers closers within closing now = Walks-close_by k openers closers (newest openers (get_or characters k 0)) refl within closing now
@@ -569,14 +573,14 @@ module _ (bracket_of : ℕ → Option Bracket) (characters : List ℕ) (types : 
       (full k openers closers now ∙ and_from (opens k) (nat_le 63 (length openers)) opening (le-leb 63 (length openers) (omega arith)))
       (λ j from to. now.room j to))
 
-  -- pairing stops at the end
+  -- if the pass reaches the end, it has found all pairs
   pub all-end : (k : ℕ) (openers : List Opener) (closers : List ℕ) → k ≡ length types → Walks k openers closers → pairs_of bracket_of characters types ≡ before k
   all-end k openers closers whole now =
       ap (λ o. before (unwrap_or o (length types)))
       (least_none (is_full bracket_of characters types) 0 (length types) (λ j from to. now.room j (omega arith)))
       ∙ ap before (sym whole)
 
-  -- the closer of an opener, read from the list of closers
+  -- the list of closers gives the closer of each opener
   closer_in-before : (k a : ℕ) → k ≤ length types → a < length types → closer_in (closers_of (before k) (length types)) a ≡ closer_of (before k) a
   closer_in-before k a within below =
       let len = length types in
@@ -596,7 +600,8 @@ module _ (bracket_of : ℕ → Option Bracket) (characters : List ℕ) (types : 
       closer_in-before (unwrap_or (least (is_full bracket_of characters types) 0 (length types)) (length types)) a
       (least_within (is_full bracket_of characters types) 0 (length types) (length types) (omega arith)) below
 
--- a fold over consecutive numbers, with two step functions that agree on them
+-- folding two functions over consecutive numbers gives the same result if the functions agree on these
+-- numbers
 pub fold-same : (f g : List BidiClass → ℕ → List BidiClass) (a n : ℕ) (types : List BidiClass) → ((k : ℕ) (current : List BidiClass) → a ≤ k → k < a + n → f current k ≡ g current k)
     → fold f types (range_with_len a n) ≡ fold g types (range_with_len a n)
 fold-same f g a zero types same = refl

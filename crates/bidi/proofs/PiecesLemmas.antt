@@ -15,7 +15,8 @@ concat-onto_first a [] = refl
 concat-onto_first a (part ∷ parts) = refl
 
 module _ (is_cut : ℕ → ℕ → Bool) where
-  -- the paragraphs of a text with a character put before it, with and without a boundary after that character
+  -- how putting a character before a text changes its paragraphs, with and without a boundary after the
+  -- character
   paragraphs-cut : (a b : ℕ) (text : List ℕ) → is_cut a b ≡ true → paragraphs is_cut (a ∷ b ∷ text) ≡ (a ∷ []) ∷ paragraphs is_cut (b ∷ text)
   paragraphs-cut a b text = cond-true (is_cut a b) ((a ∷ []) ∷ paragraphs is_cut (b ∷ text)) (onto_first a (paragraphs is_cut (b ∷ text)))
 

@@ -41,7 +41,7 @@ filter-range p a (suc n) passes =
     cond-true (p a) (a ∷ filter p (range_with_len (a + 1) n)) (filter p (range_with_len (a + 1) n)) (passes a (omega arith))
     ∙ ap (λ xs. a ∷ xs) (filter-range p (a + 1) n (λ k below. passes k (omega arith)))
 
--- writing values to all indices from one on replaces the rest of the list
+-- writing values to all indices from a on replaces the rest of the list
 put-range : (values levels : List ℕ) (a : ℕ) → a + length values ≡ length levels → put levels (range_with_len a (length values)) values ≡ take a levels ++ values
 put-range [] levels a e = sym (append-nil (take a levels) ∙ take_all a levels (omega arith))
 put-range (value ∷ values) levels a e =
@@ -71,7 +71,7 @@ module _ (classes : List BidiClass) (closed : All (λ class. open_after [] class
       ap (λ chain. if is_separator class then class else unwrap_or (inside base chain).override class) (none_open classes closed place)
       ∙ elim (is_separator class) as (λ b. (if b then class else class) ≡ class) [ true ↦ refl | false ↦ refl ]
 
--- a class other than FSI stays the same
+-- replacing each FSI does not change other classes
 directed_other : (classes : List BidiClass) (k : ℕ) (class : BidiClass) → is_first_strong class ≡ false → directed_at classes k class ≡ class
 directed_other classes k FSI e = absurd (cc)
 directed_other classes k class e = refl
@@ -172,7 +172,7 @@ module _ (bracket : ℕ → Option Bracket) (base : ℕ) (characters : List ℕ)
       ∙ ap (λ m. put levels (range_with_len 0 m) values) (sym whole)
       ∙ put-range values levels 0 all
 
--- if X9 removed nothing, putting back changes nothing
+-- if X9 removed nothing, `put_back` changes nothing
 put_back-all : (before : ℕ) (classes : List BidiClass) (values : List ℕ) → All (λ class. is_removed class ≡ false) classes → length values ≡ length classes → put_back before classes values ≡ values
 put_back-all before [] [] stays size = refl
 put_back-all before [] (value ∷ values) stays size = absurd (omega arith)
@@ -181,7 +181,7 @@ put_back-all before (class ∷ classes) (value ∷ values) stays size =
     cond-false (is_removed class) (before ∷ put_back before classes (value ∷ values)) (value ∷ put_back value classes values) (All-head (λ c. is_removed c ≡ false) class classes stays)
     ∙ ap (λ xs. value ∷ xs) (put_back-all value classes values (All-tail (λ c. is_removed c ≡ false) class classes stays) (omega arith))
 
--- a plain class is not an opener, and it is kept
+-- a plain class is not an opener, and X9 keeps it
 plain-closed : (class : BidiClass) → is_plain class ≡ true → open_after [] class ≡ []
 plain-closed LRE e = absurd (cc)
 plain-closed LRO e = absurd (cc)
@@ -210,7 +210,7 @@ plain-other RLI e = absurd (cc)
 plain-other FSI e = absurd (cc)
 plain-other class e = refl
 
--- the levels of a paragraph of plain characters
+-- a paragraph of plain characters has the levels of a single sequence at the paragraph level
 pub plain_levels : (bracket : ℕ → Option Bracket) (text : List ℕ) (classes : List BidiClass) (base : ℕ) → All (λ class. is_plain class ≡ true) classes → length text ≡ length classes
     → length (sequence_levels bracket base (direction base) (direction base) text classes) ≡ length classes
     → paragraph_levels bracket text classes base ≡ sequence_levels bracket base (direction base) (direction base) text classes

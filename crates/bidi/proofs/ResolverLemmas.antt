@@ -54,7 +54,7 @@ no_bracket_at tables text properties k e are within none =
     sym (ap has_bracket_in (ap (λ xs. get_or xs k e) are ∙ get_or-map (properties_of tables) text k 0 e within)) ∙ none in
     get_or-map (λ b. type_by (bracket_of tables b) b) text k 0 Other within ∙ ap (λ o. type_by o c) (is_none-from (bracket_of tables c) there)
 
--- if no bracket type in a list is a bracket, no character is one
+-- if all bracket types of a text are `Other`, no character of the text is a bracket
 is_none-by : (bracket : Option Bracket) (c : ℕ) → is_bracket (type_by bracket c) ≡ false → bracket ≡ None
 is_none-by None c e = refl
 is_none-by (Some bracket) c e =

@@ -1,4 +1,5 @@
--- Matches depend on initiators and PDIs alone, so replacing an FSI and removing characters in X9 leave them unchanged.
+-- Matches depend only on initiators and PDIs, so neither replacing an FSI nor removing characters in X9
+-- changes them.
 use Rattle.std.proofs.Common.{◌≡◌, ℕ, zero, suc, ◌+◌, ◌-◌, ◌==◌, Bool, true, false, cond, not, if◌then◌else◌, List, [], ◌∷◌, length, map, filter, take, drop, get_or, count_by, slice_range, fold, unwrap_or, Some, refl, sym, ap, ap₂, ◌∙◌, inl, inr, arith}
 use Rattle.std.specs.List.{range_with_len}
 use Rattle.std.proofs.Math.ListN.{get_or-map}
@@ -29,7 +30,7 @@ least_same : (p q : ℕ → Bool) → ((k : ℕ) → p k ≡ q k) → (low count
 least_same p q same low zero = refl
 least_same p q same low (suc count) = ap₂ (λ b rest. if b then Some low else rest) (same low) (least_same p q same (suc low) count)
 
--- counting the items that pass a test equals counting the results `true`
+-- counting the items that pass a test is the same as counting the results that are `true`
 count_from : {X : Type 0} (p : X → Bool) (n : ℕ) (xs : List X) → fold (λ k x. k + cond (p x) 1 0) n xs ≡ fold (λ k b. k + cond b 1 0) n (map p xs)
 count_from p n [] = refl
 count_from p n (x ∷ xs) = count_from p (n + cond (p x) 1 0) xs
@@ -97,7 +98,7 @@ filter_all p (x ∷ xs) size =
           absurd (omega (arith, less, length-filter p xs, count_by-le-length p xs))
     ]
 
--- if X9 keeps as many classes as there are, it keeps all
+-- if X9 keeps as many classes as there are, it keeps all of them
 pub all_stay : (classes left : List BidiClass) → left ≡ map (class_at classes) (stayed classes) → length left ≡ length classes → left ≡ classes
 all_stay classes left are size =
     let n : ℕ = length classes in

@@ -1,4 +1,4 @@
--- Level runs from an index on, and the sequence that begins with the first of them.
+-- The level runs from an index on, and the sequence that begins with the first of these runs.
 use Rattle.std.proofs.Common.{◌≡◌, ◌≢◌, ℕ, zero, suc, ◌+◌, ◌-◌, ◌<◌, ◌≤◌, nat_lt, ◌==◌, true, false, ◌&&◌, not, List, [], ◌∷◌, ◌++◌, length, take, drop, get_or, slice_index, Option, Some, None, unwrap_or, refl, sym, ap, subst, ◌∙◌, inl, inr, arith}
 use Rattle.std.specs.List.{range_with_len}
 use Rattle.std.proofs.lemmas.Bool.{cond-true, cond-false, cases_Bool, cases_eq, cases_lt, eq-eqb, ne_eqb, ltb-true, and_parts, and_from, and_left, and_right, not_from_true, not_from_false, lt-ltb, le-ltb}
@@ -15,7 +15,7 @@ use Rattle.bidi.specs.Sequences.{changes, first_of, last_of, is_match, continues
 use Rattle.bidi.proofs.JumpLemmas.{end-above, get_or-matches_of}
 use Rattle.bidi.proofs.PiecesLemmas.{paragraphs-at_cut, paragraphs-no_cut}
 
--- consecutive numbers, split in two parts
+-- a range of n + m numbers is a range of n numbers followed by one of m numbers
 pub range-append : (a n m : ℕ) → range_with_len a (n + m) ≡ range_with_len a n ++ range_with_len (a + n) m
 range-append a zero m = let e : 0 + m ≡ m = omega arith in let f : a + 0 ≡ a = omega arith in rw (e, f) refl
 range-append a (suc n) m =
@@ -45,7 +45,7 @@ module _ (levels : List ℕ) where
   pub runs_from-end : (start : ℕ) → length levels ≤ start → runs_from levels start ≡ []
   runs_from-end start h = let e : length levels - start ≡ 0 = omega arith in rw e refl
 
-  -- the first level run from an index on
+  -- the level runs from `start` on are the run from `start` up to `end`, and the level runs from `end` on
   pub runs_from-run : (start end : ℕ) → IsRunEnd levels start end → runs_from levels start ≡ range_with_len start (end - start) ∷ runs_from levels end
   runs_from-run start end run =
       let above = run.above in
@@ -92,7 +92,7 @@ module _ (levels : List ℕ) where
   run_end : (start : ℕ) → start < length levels → (end : ℕ) × IsRunEnd levels start end
   run_end start h = find_end (length levels - (start + 1)) (start + 1) start (omega arith) (omega arith) (λ m from to. absurd (omega arith))
 
--- whether a run continues in the run that begins at j, from the list of matches
+-- the list of matches shows whether a run continues in the run that begins at j
 is_match-unwrap : (o : Option ℕ) (j n : ℕ) → j ≢ n → is_match o j ≡ (unwrap_or o n == j)
 is_match-unwrap None j n ne = sym (ne_eqb n j (λ e. ne (sym e)))
 is_match-unwrap (Some m) j n ne = refl
@@ -113,7 +113,7 @@ match_at-above classes l within =
       | inr other ↦ rw (cond-false (is_initiator (class_at classes l)) (unwrap_or (match_of classes l) (length classes)) (length classes) other) within
     ]
 
--- the match of the last character of a run, from the list of matches
+-- the list of matches has the match of the last character of a run
 pub last_match : (classes : List BidiClass) (matches : List ℕ) (end len : ℕ) → matches ≡ matches_of classes
     → length classes ≡ len → 0 < end → end ≤ len → get_or matches (end - 1) 0 ≡ match_at classes (end - 1)
 last_match classes matches end len e size some within = ap (λ found. get_or found (end - 1) 0) e ∙ get_or-matches_of classes (end - 1) 0 (omega arith)
@@ -124,7 +124,7 @@ module _ (classes : List BidiClass) (levels : List ℕ) (sizes : length classes 
       ap (λ m. is_initiator (class_at classes m) && is_match (match_of classes m) (first_of next)) e ∙ ap (λ m. is_initiator (class_at classes l) && is_match (match_of classes l) m) f
       ∙ continues-match_at classes l j (omega arith)
 
-  -- a run at whose match no run begins is not continued
+  -- if no run begins at the match of a run's last character, the run continues in no other run
   joined-none : (fuel e l : ℕ) (run : List ℕ) → length levels ≤ e + fuel → last_of run ≡ l → ((j : ℕ) → j < length levels → match_at classes l ≡ j → slice_index levels j ≡ slice_index levels (j - 1))
       → (e < length levels → slice_index levels (e - 1) ≢ slice_index levels e) → joined classes run (runs_from levels e) ≡ run
   joined-none zero e l run within last none edge = ap (joined classes run) (runs_from-end levels e (omega arith))
@@ -142,7 +142,7 @@ module _ (classes : List BidiClass) (levels : List ℕ) (sizes : length classes 
             ∙ joined-none fuel end.0 l run (omega arith) last none end.1.other
       ]
 
-  -- a run at whose match a run begins continues in that run
+  -- if a run begins at the match of a run's last character, the run continues in that run
   joined-some : (fuel e l j : ℕ) (run : List ℕ) → length levels ≤ e + fuel → last_of run ≡ l → match_at classes l ≡ j → e ≤ j → j < length levels → slice_index levels j ≢ slice_index levels (j - 1)
       → joined classes run (runs_from levels e) ≡ run ++ joined_first classes (runs_from levels j)
   joined-some zero e l j run within last found order inside start = absurd (omega arith)
@@ -202,7 +202,7 @@ module _ (classes : List BidiClass) (levels : List ℕ) (sizes : length classes 
         ]
       ]
 
--- indices of a range are below its end
+-- appending a range that ends at or before `len` keeps all indices below `len`
 pub AreWithin-range : (len start end : ℕ) (places : List ℕ) → end ≤ len → start ≤ end → AreWithin len places → AreWithin len (places ++ range_with_len start (end - start))
 AreWithin-range len start end places inside order within k h =
     elim (cases_lt k (length places)) [
@@ -215,7 +215,7 @@ AreWithin-range len start end places inside order within k h =
           rw at (omega arith)
     ]
 
--- an index at which a run begins is below the length
+-- the start of a level run is below the length of the list
 pub next_start-within : (levels : List ℕ) (j k : ℕ) → next_start levels j ≡ Some k → (k ≡ j) × (k < length levels)
 next_start-within levels j k e =
     let test = nat_lt j (length levels) && not (slice_index levels j == slice_index levels (j - 1)) in

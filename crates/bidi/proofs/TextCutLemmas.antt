@@ -25,7 +25,7 @@ past_two c h = ⊎_elim (λ l. absurd (omega (arith, ap length (two c (past_one 
 past_three : (c : ℕ) → 3 < length (encode c) → 65536 ≤ c
 past_three c h = ⊎_elim (λ l. absurd (omega (arith, ap length (three c (past_two c (omega arith)) l)))) (λ l. l) (cases_lt c 65536)
 
--- bytes that may begin a separator
+-- ---- the bytes that may begin a separator
 
 -- whether a separator may begin in the second part of a text depends on that part alone
 leads_later : (xs ys : List ℕ) (k : ℕ) → leads_at (xs ++ ys) (length xs + k) ≡ leads_at ys k
@@ -46,7 +46,7 @@ leads_within bytes at n k lt =
     ∙ ap (λ c. may_lead (get_or bytes (at + k) 0) (get_or bytes (at + k + 1) 0) c)
     (get_or-take n (drop at bytes) (k + 2) 0 lt ∙ get_or-drop at bytes (k + 2) 0 ∙ ap (λ i. get_or bytes i 0) two)
 
--- if the bytes of a character cannot begin a separator, the character is not one
+-- if the bytes of a character cannot begin a separator, the character is not a separator
 lead_by : (c : ℕ) (rest : List ℕ) → Shape c → leads_at (encode c ++ rest) 0 ≡ false → may_separate c ≡ false
 lead_by c rest (of1 l e) plain =
     let first : may_lead c (get_or rest 0 0) (get_or rest 1 0) ≡ false = subst (λ (t : List ℕ). leads_at (t ++ rest) 0 ≡ false) e plain in
@@ -121,7 +121,7 @@ module _ (is_cut : ℕ → ℕ → Bool) where
   not_before c [] no_cut = tt
   not_before c (d ∷ text) no_cut = no_cut d text refl
 
-  -- if no byte of some characters may begin a separator, there is no boundary after any of them
+  -- if no byte of the characters may begin a separator, there is no boundary after any of these characters
   plain_uncut : AreUsual is_cut → (cs ys : List ℕ) (after : List ℕ) → scalars cs ≡ true → ((k : ℕ) → k < length (encodes cs) → leads_at (encodes cs ++ after) k ≡ false) → Uncut cs ys
   plain_uncut usual [] ys after valid plain = tt
   plain_uncut usual (c ∷ cs) ys after valid plain =
@@ -152,7 +152,7 @@ module _ (is_cut : ℕ → ℕ → Bool) where
     uncut = subst (λ (cs : List ℕ). Uncut cs (chars text)) (sym chars-nil) tt;
   }
 
-  -- bytes that cannot begin a separator are skipped
+  -- the search can skip n bytes if there is no boundary after any of their characters
   passed_by : (text rest : List ℕ) (n : ℕ) → Passed text rest → IsCharBoundary rest n → ((ys : List ℕ) → Uncut (chars (take n rest)) ys) → Passed text (drop n rest)
   passed_by text rest n p boundary plain =
       let front = take n rest in
@@ -182,7 +182,7 @@ module _ (is_cut : ℕ → ℕ → Bool) where
   passed_plain text rest n false usual p boundary plain unknown =
       passed_by text rest n p boundary (λ ys. subst (λ (cs : List ℕ). Uncut cs ys) (sym (ap (λ k. chars (take k rest)) (unknown refl) ∙ chars-nil)) tt)
 
-  -- a character without a boundary after it is skipped
+  -- the search can skip a character that has no boundary after it
   pub passed_char : (text rest more : List ℕ) (c : ℕ) → Passed text rest → rest ≡ encode c ++ more → NotAfter c (chars more) → Passed text more
   passed_char text rest more c p is no_cut =
       let valid : scalar c ≡ true = scalar_of rest more c p.rest_utf8 is in
@@ -233,9 +233,10 @@ module _ (is_cut : ℕ → ℕ → Bool) where
             ∙ ap₂ (λ x y. x ∷ paragraphs is_cut y) (sym (ap chars front_is ∙ front_chars)) (sym (ap chars back_is ∙ more_chars));
       }
 
-  -- ---- a text after held characters
+  -- ---- a text that follows held characters
 
-  -- there is no boundary between the held characters and the first character of the text
+  -- if there is no boundary between the held characters and the text, the held characters and the first
+  -- character of the text are a single paragraph
   uncut_first : (held cs : List ℕ) (last : Option ℕ) → last ≡ slice_get held (length held - 1) → SplitsAt is_cut held None
       → cuts_before is_cut last cs ≡ false → SplitsAt is_cut (take (length held + 1) (held ++ cs)) None
   uncut_first held [] last at_end uncut none =
@@ -312,7 +313,8 @@ module _ (is_cut : ℕ → ℕ → Bool) where
           skip_none_seen is_cut (held ++ c ∷ cs) (length held + 1) (length held) there first
           (subst (λ (t : List ℕ). SplitsAt is_cut t None) (sym (after_held held (c ∷ cs))) ends)
 
--- the first paragraph of held characters and the text after them, and the rest
+-- the held characters and the first n bytes of the text are a prefix of the held characters and the text, and
+-- the other bytes are the rest
 pub ends_parts : (held text : List ℕ) (n : ℕ) → IsUtf8 (take n text)
     → (held ++ chars (take n text) ≡ take (length (held ++ chars (take n text))) (held ++ chars text))
     × (chars (drop n text) ≡ drop (length (held ++ chars (take n text))) (held ++ chars text))

@@ -1,4 +1,4 @@
--- One step of the pass over the weak rules W1 to W7.
+-- One step of the pass for the weak rules, W1 to W7.
 use Rattle.std.proofs.Common.{◌≡◌, ℕ, ◌+◌, ◌-◌, ◌<◌, ◌≤◌, Bool, true, false, not, if◌then◌else◌, List, [], ◌∷◌, ◌++◌, length, get_or, set, take, drop, replicate, refl, sym, ap, subst, ◌∙◌, inl, inr, arith, append_assoc}
 use Rattle.std.proofs.lemmas.Bool.{cond-true, cond-false, cases_Bool, not_from_false}
 use Rattle.std.proofs.lemmas.List.{append-nil, length-set, length-take-le, drop-drop, drop-set-lt, drop_more, drop_all, take-take, take-append-le, take-set, take-set-le, take_all, take_more_set, replicate_more}
@@ -12,7 +12,7 @@ use Rattle.bidi.specs.Weak.{is_left, w3_type, weak}
 use Rattle.bidi.specs.Waiting.{is_settled, is_weak, mark_type, digit_type, read_types, waits, lengthens, completes, written, row_after, start_after, types_after, AreTypesSoFar, SettlesRow}
 use Rattle.bidi.proofs.WeakLemmas.{left-w3, weak-is}
 
--- the strong type before a type, with AL replaced by R (W3) before or after the type is read
+-- the nearest strong type is the same whether AL is replaced by R (W3) before or after the next type is read
 strong-read : (marked strong : BidiClass)
     → w3_type (if is_strong marked then marked else strong) ≡ (if is_strong (w3_type (digit_type strong marked)) then w3_type (digit_type strong marked) else w3_type strong)
 strong-read EN AL = refl
@@ -78,7 +78,8 @@ module _ (sos : BidiClass) (old current : List BidiClass) (before strong : BidiC
   beyond : drop (at + 1) current ≡ drop (at + 1) old
   beyond = sym (drop-drop 1 at current) ∙ ap (drop 1) so_far.rest ∙ drop-drop 1 at old
 
-  -- the types written so far and those that the pass will write, including the type that has been read
+  -- the types written so far, followed by those that the pass gives for the type just read and the later
+  -- types, are the final types
   opened : take start current ++ types_after row (at - start) (w3_type strong) (type ∷ later) ≡ whole
   opened =
       let item : drop at old ≡ get_or current at d ∷ drop (at + 1) old =
@@ -147,7 +148,8 @@ module _ (sos : BidiClass) (old current : List BidiClass) (before strong : BidiC
             ∙ opened;
       }
 
-  -- the types that waited, and those that the pass will write after them
+  -- the types written so far, including those that waited, followed by those that the pass gives for the
+  -- later types, are the final types
   passed : lengthens row type ≡ false
       → take at filled ++ (if waits (row_after row type) then types_after (row_after row type) 1 (w3_type nearest_strong) later
       else value ∷ types_after (row_after row type) 0 (w3_type nearest_strong) later) ≡ whole
@@ -267,7 +269,7 @@ twice : {X : Type 0} (b : Bool) (x y : X) → (if b then x else (if b then x els
 twice true x y = refl
 twice false x y = refl
 
--- the step for a type that only W3 can change
+-- for a type that only W3 can change, the pass writes the type after W3, and no type waits
 not_mark : (class : BidiClass) → is_settled class ≡ true → is_mark class ≡ false
 not_mark NSM e = absurd (cc)
 not_mark _ e = refl
@@ -298,7 +300,7 @@ types-settled sos old current before strong row start at so_far d within e =
     subst P (cond-true (not (is_mark class)) class before (not_from_false (is_mark class) (not_mark class e))) (
     types-other sos old current before strong row start at so_far d within class type (settled-mark before class e) (settled-type strong class e) (settled-other class e))
 
--- a run of equal types that only W3 can change: its first type is written
+-- in a run of equal types that only W3 can change, the pass writes the first type
 pub types-row-first : (current : List BidiClass) (at : ℕ) (class type : BidiClass) → at < length current → class_at current at ≡ class → is_settled class ≡ true → type ≡ w3_type class
     → SettlesRow current at class (set current at type) (at + 1)
 types-row-first current at class type within here e is sos old before strong row start so_far =
@@ -306,7 +308,7 @@ types-row-first current at class type within here e is sos old before strong row
     let there : is_settled (class_at current at) ≡ true = ap is_settled here ∙ e in
     subst (λ t. P class t) (sym is) (subst (λ c. P c (w3_type c)) here (types-settled sos old current before strong row start at so_far ON within there))
 
--- a run of equal types that only W3 can change: one more type is written
+-- in a run of equal types that only W3 can change, the pass writes one more type
 pub types-row-next : (first : List BidiClass) (start : ℕ) (class type : BidiClass) (current : List BidiClass) (at : ℕ)
     → at < length current → get_or current at L ≡ class → is_settled class ≡ true → type ≡ w3_type class → SettlesRow first start class current at
     → SettlesRow first start class (set current at type) (at + 1)
@@ -318,7 +320,7 @@ types-row-next first start class type current at within here e is settled sos ol
     let next = subst (λ t. P class t) (sym is) (subst (λ c. P c (w3_type c)) here (types-settled sos old current class s Nothing at at now L within there)) in
     subst (λ x. AreTypesSoFar sos old (set current at type) class x Nothing (at + 1) (at + 1)) (twice (is_strong class) class strong) next
 
--- at the end of the types, those that wait stay ON
+-- at the end of the sequence, the types that still wait stay ON, and the list has the types after W7
 pub types-end : (sos : BidiClass) (old current : List BidiClass) (before strong : BidiClass) (row : Row) (start at : ℕ) → AreTypesSoFar sos old current before strong row start at
     → length current ≤ at → current ≡ weak sos old
 types-end sos old current before strong row start at so_far past =

@@ -67,7 +67,7 @@ w7-by : (sos : BidiClass) (front : List BidiClass) (type : BidiClass) (after : L
 w7-by sos front EN after = refl
 w7-by sos front _ after = refl
 
--- W4 to W7 on a list, from the types before it that they look back at
+-- W4 to W7 on a list, given the earlier types that they look back at
 abbrev pub later : BidiClass → BidiClass → BidiClass → List BidiClass → List BidiClass
 later before number strong types =
     carry left_type is_strong strong (map w6_type (carry terminator_type ends_row number (carry separator_type any before types)))
@@ -86,7 +86,7 @@ weak-later sos types =
     ∙ ap (carry terminator_type ends_row ON) (
     carry-is w4_at separator_type any ON w4-by [] (w3 second) ∙ ap (carry separator_type any ON) read))
 
--- of the type before a separator, only whether it is a number, and which, matters (W4)
+-- W4 depends only on whether the type before a separator is EN, AN or neither
 
 abbrev joint : BidiClass → Bool
 joint EN = true
@@ -102,7 +102,7 @@ apart : (before : BidiClass) (types : List BidiClass) → joint before ≡ false
 apart before [] e = refl
 apart before (type ∷ types) e = ap (λ x. x ∷ carry separator_type any type types) (apart_first before type types e)
 
--- of the type before terminators, only whether it is a European number matters (W5)
+-- W5 depends only on whether the type before the terminators is a European number
 plain : (number : BidiClass) (types : List BidiClass) → is_number number ≡ false → carry terminator_type ends_row number types ≡ carry terminator_type ends_row ON types
 plain number [] e = refl
 plain number (ET ∷ types) e =
@@ -111,7 +111,7 @@ plain number (ET ∷ types) e =
     ∙ ap (λ xs. (if after then EN else ET) ∷ xs) (plain number types e)
 plain number (_ ∷ types) e = refl
 
--- of the strong type before numbers, only whether it is L matters (W7)
+-- W7 depends only on whether the strong type before a number is L
 same_left : (strong other : BidiClass) (types : List BidiClass) → is_left strong ≡ is_left other → carry left_type is_strong strong types ≡ carry left_type is_strong other types
 same_left strong other [] e = refl
 same_left strong other (EN ∷ types) e =
@@ -135,7 +135,8 @@ later-plain before number strong types e = ap (λ xs. carry left_type is_strong 
 later-other : (before number strong : BidiClass) (types : List BidiClass) → joint before ≡ false → is_number number ≡ false → later before number strong types ≡ later ON ON strong types
 later-other before number strong types e f = later-apart before number strong types e ∙ later-plain ON number strong types f
 
--- W4 to W7 on a run of terminators
+-- if no European number is before a run of terminators, W4 to W7 change all of them in the same way,
+-- depending on what follows
 separators-row : (n : ℕ) (types : List BidiClass) → carry separator_type any ON (replicate n ET ++ types) ≡ replicate n ET ++ carry separator_type any ON types
 separators-row zero types = refl
 separators-row (suc n) types = ap (λ xs. ET ∷ xs) (apart ET (replicate n ET ++ types) refl ∙ separators-row n types)
@@ -226,7 +227,7 @@ module _ (types : List BidiClass) (walked : IsWalked types) where
   european_terminators-step CS strong = other-more CS CS ON strong refl refl
   european_terminators-step type strong = other-more type type type (strong_after strong type) refl refl
 
-  -- after a separator that becomes ON, W4 to W7 continue as if there were no number before
+  -- after a separator that becomes ON, W4 to W7 continue as if there were no number before it
   lone : (separator type strong : BidiClass) → joint separator ≡ false → is_number separator ≡ false
       → ON ∷ types_after Nothing 0 strong (type ∷ types) ≡ ON ∷ later separator separator strong (type ∷ types)
   lone separator type strong e f = ap (λ xs. ON ∷ xs) (nothing-step type strong ∙ sym (later-other separator separator strong (type ∷ types) e f))

@@ -7,7 +7,8 @@ use Rattle.bidi.specs.Base.{match_of, base_level_of}
 use Rattle.bidi.specs.Cuts.{cut, paragraphs, first_cut}
 use Rattle.bidi.specs.declared.explicit.TheConstants.{MAX_ENTRIES}
 
--- the first strong character gives the base level; a weak option counts only if there is none
+-- the first strong character gives the base level; the default of `WeakLtr` and `WeakRtl` counts only if
+-- there is none
 strong_right : base_level_of (R ∷ B ∷ []) WeakLtr ≡ 1
 strong_right = refl
 
@@ -62,7 +63,7 @@ lone_pdi_between = refl
 embedding_counts : base_level_of (RLE ∷ L ∷ PDF ∷ R ∷ []) WeakRtl ≡ 0
 embedding_counts = refl
 
--- a separator ends a paragraph, and U+000D with U+000A after it is one separator
+-- a separator ends a paragraph, and U+000D followed by U+000A is one separator
 abbrev class_of_code : ℕ → BidiClass
 class_of_code c = cond (c == 10 || c == 13) B L
 

@@ -8,7 +8,7 @@ use Rattle.bidi.specs.declared.base.Base.TheVariants.{Rtl, Ltr, WeakRtl, WeakLtr
 use Rattle.ucd.specs.Classes.{class_at, is_initiator, is_pdi, is_strong}
 use Rattle.ucd.specs.Least.{least}
 
--- whether the range from i to j, both included, has as many initiators as PDIs
+-- whether the range from i to j, inclusive, has as many isolate initiators as PDIs
 abbrev pub is_balanced : List BidiClass → ℕ → ℕ → Bool
 is_balanced classes i j =
     let part = slice_range classes i (j + 1) in count_by is_initiator part == count_by is_pdi part
@@ -17,7 +17,8 @@ is_balanced classes i j =
 abbrev pub match_of : List BidiClass → ℕ → Option ℕ
 match_of classes i = least (is_balanced classes i) (i + 1) (length classes - (i + 1))
 
--- k is inside the isolate of the initiator at i: between it and its match, or after it if it has none
+-- whether k is inside the isolate of the initiator at i: after the initiator, and before its match if it has
+-- one
 abbrev pub is_before : ℕ → Option ℕ → Bool
 is_before k (Some j) = nat_lt k j
 is_before k None = true
@@ -25,11 +26,11 @@ is_before k None = true
 abbrev pub is_in_span : List BidiClass → ℕ → ℕ → Bool
 is_in_span classes k i = is_initiator (class_at classes i) && (nat_lt i k && is_before k (match_of classes i))
 
--- k is inside no isolate
+-- whether k is outside all isolates
 abbrev pub is_outside : List BidiClass → ℕ → Bool
 is_outside classes k = list_all (λ i. not (is_in_span classes k i)) (range_with_len 0 k)
 
--- P2: the first strong character that is inside no isolate
+-- P2: the index of the first strong character outside all isolates
 abbrev pub first_strong : List BidiClass → Option ℕ
 first_strong classes = least (λ k. is_strong (class_at classes k) && is_outside classes k) 0 (length classes)
 

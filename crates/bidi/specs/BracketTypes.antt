@@ -1,10 +1,11 @@
--- The characters of a text as brackets, independent of the characters themselves (UAX #9, BD14 and BD15).
+-- Bracket types: what bracket pairing needs to know about each character (UAX #9, BD14 and BD15).
 use Rattle.std.specs.Prelude.{ℕ, Bool, true, false, List, map, slice_index_or, Option, Some, None, if◌then◌else◌}
 use Rattle.ucd.specs.declared.bracket.Bracket.{Bracket}
 use Rattle.bidi.specs.declared.bracket_type.BracketType.{BracketType}
 use Rattle.bidi.specs.declared.bracket_type.BracketType.TheVariants.{Other, Opening, Closing}
 
--- an opening bracket is identified by the closing one of its pair, and a closing one by itself
+-- The bracket type of c. An opening bracket is represented by the closing bracket of its pair, and a closing
+-- bracket by itself.
 abbrev pub type_by : Option Bracket → ℕ → BracketType
 type_by (Some bracket) c = if bracket.opens then Opening bracket.pair else Closing c
 type_by None c = Other

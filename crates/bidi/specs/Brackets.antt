@@ -1,4 +1,4 @@
--- Bracket pairs and their directions (UAX #9, BD14 to BD16 and N0), in one isolating run sequence, by indices into it.
+-- Bracket pairs and their directions in one isolating run sequence, by index (UAX #9, BD14 to BD16 and N0).
 use Rattle.std.specs.Prelude.{ℕ, zero, suc, ◌+◌, ◌==◌, nat_lt, nat_le, Bool, true, false, ◌&&◌, ◌||◌, not, List, [], ◌∷◌, ◌++◌, length, map, fold, reverse, take, slice_index, slice_range, Option, Some, None, unwrap_or, count_by, if◌then◌else◌}
 use Rattle.std.specs.List.{list_any, list_all, range_with_len}
 use Rattle.ucd.specs.declared.bidi_class.BidiClass.{BidiClass}
@@ -27,7 +27,7 @@ abbrev pub is_closing : Option Bracket → Bool
 is_closing (Some bracket) = not bracket.opens
 is_closing None = false
 
--- a closing bracket matches an opening one if it is the pair of that one
+-- whether c is the paired bracket of `bracket`, up to canonical equivalence
 abbrev pub is_pair_of : Option Bracket → ℕ → Bool
 is_pair_of (Some bracket) c = canonical bracket.pair == canonical c
 is_pair_of None c = false
@@ -37,14 +37,14 @@ abbrev pub greatest : (ℕ → Bool) → ℕ → Option ℕ
 greatest test zero = None
 greatest test (suc k) = if test k then Some k else greatest test k
 
--- an opening bracket and its closing bracket
+-- the indices of an opening bracket and of its closing bracket
 pub record Pair : Type 0 where
   pub opener : ℕ
   pub closer : ℕ
 
 -- the brackets of a sequence, from its characters and their current types
 module _ (bracket_of : ℕ → Option Bracket) (characters : List ℕ) (types : List BidiClass) where
-  -- BD14 and BD15: only characters whose current type is ON count
+  -- BD14 and BD15: only a character whose current type is ON can be an opening or closing bracket
   abbrev pub is_opener : ℕ → Bool
   is_opener i = is_other (class_at types i) && is_opening (bracket_of (slice_index characters i))
 
@@ -54,35 +54,38 @@ module _ (bracket_of : ℕ → Option Bracket) (characters : List ℕ) (types : 
   abbrev pub fits : ℕ → ℕ → Bool
   fits i j = is_pair_of (bracket_of (slice_index characters i)) (slice_index characters j)
 
-  -- the opening bracket at i is live if no pair found so far has opener ≤ i < closer
+  -- whether i is a live opening bracket: no pair found so far has opener ≤ i < closer
   abbrev pub is_live : List Pair → ℕ → Bool
   is_live pairs i = is_opener i && not (list_any (λ pair. nat_le pair.opener i && nat_lt i pair.closer) pairs)
 
-  -- a closing bracket makes a pair with the last live opening bracket that it matches
+  -- a list with the pair of the opening bracket at i and the closing bracket at j, or an empty list if there
+  -- is no i
   abbrev pub paired_with : Option ℕ → ℕ → List Pair
   paired_with (Some i) j = record { opener = i; closer = j } ∷ []
   paired_with None j = []
 
-  -- the pairs whose closing bracket is before j
+  -- The pairs whose closing bracket is before j. Each closing bracket is paired with the last live opening
+  -- bracket that it matches.
   abbrev pub pairs_before : ℕ → List Pair
   pairs_before zero = []
   pairs_before (suc j) =
       let pairs = pairs_before j in
       pairs ++ (if is_closer j then paired_with (greatest (λ i. is_live pairs i && fits i j) j) j else [])
 
-  -- BD16: at the first opening bracket at which 63 are live, pairing stops
+  -- BD16: whether j is an opening bracket with at least 63 live ones before it. Pairing stops at the first
+  -- such bracket.
   abbrev pub is_full : ℕ → Bool
   is_full j = is_opener j && nat_le 63 (count_by (is_live (pairs_before j)) (range_with_len 0 j))
 
   abbrev pub pairs_of : List Pair
   pairs_of = pairs_before (unwrap_or (least is_full 0 (length types)) (length types))
 
--- the closing bracket of an opening one that has one
+-- the index of the closing bracket that is paired with the opening bracket at i, if any
 abbrev pub closer_of : List Pair → ℕ → Option ℕ
 closer_of [] i = None
 closer_of (pair ∷ pairs) i = if pair.opener == i then Some pair.closer else closer_of pairs i
 
--- the direction of a strong type; numbers count as R
+-- whether a type counts as strong in N0: the strong types, and numbers, which count as R
 abbrev pub is_direction : BidiClass → Bool
 is_direction L = true
 is_direction R = true
@@ -91,11 +94,11 @@ is_direction EN = true
 is_direction AN = true
 is_direction type = false
 
--- whether a type is strong and of direction L, or of direction R
+-- whether a type counts as strong in N0 and has the given direction: L if `left` is true, and R if not
 abbrev pub is_toward : Bool → BidiClass → Bool
 is_toward left type = is_direction type && agree left (is_left type)
 
--- whether a strong type of a direction is between two indices
+-- whether a strong type of the given direction is between two indices
 abbrev pub stands : Bool → List BidiClass → ℕ → ℕ → Bool
 stands left types a b = list_any (is_toward left) (slice_range types (a + 1) b)
 
@@ -103,22 +106,23 @@ stands left types a b = list_any (is_toward left) (slice_range types (a + 1) b)
 abbrev pub context : BidiClass → List BidiClass → ℕ → BidiClass
 context sos types a = nearest is_direction sos (reverse (take a types))
 
--- N0: the direction of a pair, if it gets one. A strong type of the embedding direction inside gives that direction.
--- Otherwise one of the opposite direction inside gives that direction if the nearest strong type before the pair
--- has it too, and else the embedding direction.
+-- N0: the direction of a pair, if it gets one. If a strong type inside the pair has the embedding direction,
+-- the pair gets that direction. Otherwise, if a strong type inside has the opposite direction, the nearest
+-- strong type before the pair decides. If that type has the opposite direction, so has the pair; if not, the
+-- pair gets the embedding direction. A pair with no strong type inside gets no direction.
 abbrev pub pair_direction : Bool → BidiClass → List BidiClass → ℕ → ℕ → Option BidiClass
 pair_direction left sos types a b =
     if stands left types a b then Some (side left)
     else (if stands (not left) types a b then Some (side (if agree left (is_left (context sos types a)) then left else not left)) else None)
 
--- whether an index is that of a set bracket, or of a mark directly after it (NSM before W1)
+-- whether k is the bracket at p, or one of the marks directly after it (NSM before W1)
 abbrev pub is_set_with : List Bool → ℕ → ℕ → Bool
 is_set_with marks p k = (p == k) || (nat_lt p k && list_all (λ mark. mark) (slice_range marks (p + 1) (k + 1)))
 
 abbrev pub set_with : List Bool → BidiClass → List BidiClass → ℕ → List BidiClass
 set_with marks direction types p = map (λ k. if is_set_with marks p k then direction else class_at types k) (range_with_len 0 (length types))
 
--- the types after one pair
+-- the types after both brackets of a pair have been set to its direction, if it has one
 abbrev pub set_pair : List Bool → List BidiClass → ℕ → ℕ → Option BidiClass → List BidiClass
 set_pair marks types a b (Some direction) = set_with marks direction (set_with marks direction types a) b
 set_pair marks types a b None = types
@@ -128,7 +132,8 @@ module _ (embedding : BidiClass) (sos : BidiClass) (marks : List Bool) where
   pair_step types a (Some b) = set_pair marks types a b (pair_direction (is_left embedding) sos types a b)
   pair_step types a None = types
 
-  -- the pairs in the order of their opening brackets, each resolved with the types that the earlier ones left
+  -- resolves the pairs in the order of their opening brackets, each in the types that result from the earlier
+  -- pairs
   abbrev pub resolve_pairs : (ℕ → Option ℕ) → List BidiClass → List BidiClass
   resolve_pairs closer types = fold (λ current a. pair_step current a (closer a)) types (range_with_len 0 (length types))
 

@@ -1,4 +1,5 @@
--- Bracket pairs as a list: for each index, that of its closing bracket, or the length if no pair opens there.
+-- Bracket pairs as a list: for each index, the index of its closing bracket, or the length of the list if no
+-- pair opens there.
 use Rattle.std.specs.Prelude.{◌≡◌, ℕ, ◌<◌, ◌⊎◌, ◌==◌, nat_lt, List, length, map, take, slice_index, slice_set, Option, Some, None, unwrap_or, if◌then◌else◌}
 use Rattle.std.specs.List.{range_with_len}
 use Rattle.ucd.specs.declared.bidi_class.BidiClass.{BidiClass}
@@ -13,8 +14,8 @@ closers_of pairs len = map (λ i. unwrap_or (closer_of pairs i) len) (range_with
 abbrev pub closer_in : List ℕ → ℕ → Option ℕ
 closer_in closers i = if nat_lt (slice_index closers i) (length closers) then Some (slice_index closers i) else None
 
--- brackets of pairs have type ON, each closing bracket is after its opening one, and of two pairs one is before the
--- other or inside it
+-- The opening bracket of each pair has type ON, and its closing bracket comes after it. Of two pairs, one is
+-- before the other or inside it.
 pub record AreNested (types : List BidiClass) (closers : List ℕ) : Type 0 where
   pub other : (a : ℕ) → a < length closers → slice_index closers a < length closers → class_at types a ≡ ON
   pub after : (a : ℕ) → a < length closers → a < slice_index closers a
@@ -29,16 +30,16 @@ place_of openers m = slice_index (map (λ (o : Opener). o.place) openers) m
 abbrev pub pair_of : List Opener → ℕ → ℕ
 pair_of openers m = slice_index (map (λ (o : Opener). o.pair) openers) m
 
--- the newest opener that a closing bracket matches
+-- the list index of the newest opener that the closing bracket c matches
 abbrev pub newest : List Opener → ℕ → Option ℕ
 newest openers c = greatest (λ m. canonical (pair_of openers m) == canonical c) (length openers)
 
--- the openers that remain after a closing bracket
+-- the openers that remain after a closing bracket that matches the opener at m, if it matches any
 abbrev pub left_by : Option ℕ → List Opener → List Opener
 left_by (Some m) openers = take m openers
 left_by None openers = openers
 
--- the list of closers after a closing bracket at an index
+-- the list of closers, updated for the closing bracket at `place`
 abbrev pub closed_by : Option ℕ → List Opener → List ℕ → ℕ → List ℕ
 closed_by (Some m) openers closers place = slice_set closers (place_of openers m) place
 closed_by None openers closers place = closers

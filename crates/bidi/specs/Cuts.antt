@@ -10,20 +10,20 @@ abbrev pub cut : (ℕ → BidiClass) → ℕ → ℕ → Bool
 cut class_of before after =
     is_separator (class_of before) && not (before == 13 && (after == 10 && is_separator (class_of after)))
 
--- The parts of a text between its boundaries. A character belongs to the first part of the text after it, unless there
--- is a boundary after the character.
+-- The parts of a text between its boundaries. The first character is joined to the first part of the text
+-- after it, unless there is a boundary between them.
 abbrev pub paragraphs : (ℕ → ℕ → Bool) → List ℕ → List (List ℕ)
 paragraphs is_cut [] = []
 paragraphs is_cut (a ∷ []) = (a ∷ []) ∷ []
 paragraphs is_cut (a ∷ b ∷ text) =
     if is_cut a b then (a ∷ []) ∷ paragraphs is_cut (b ∷ text) else onto_first a (paragraphs is_cut (b ∷ text))
 
--- the least index before which there is a boundary
+-- the first index with a boundary before it
 abbrev pub first_cut : (ℕ → ℕ → Bool) → List ℕ → Option ℕ
 first_cut is_cut text = least (λ k. is_cut (slice_index text (k - 1)) (slice_index text k)) 1 (length text - 1)
 
--- The first paragraph of a text ends at k, and its other paragraphs are those of the rest. Without k, the text is one
--- paragraph, or empty.
+-- For `Some k`, the first paragraph of a text ends at k, and the other paragraphs are the paragraphs of the
+-- text from k on. For `None`, the text is a single paragraph or empty.
 abbrev pub SplitsAt : (ℕ → ℕ → Bool) → List ℕ → Option ℕ → Type 0
 SplitsAt is_cut text (Some k) =
     (0 < k) × (k < length text) × (paragraphs is_cut text ≡ take k text ∷ paragraphs is_cut (drop k text))

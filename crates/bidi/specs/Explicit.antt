@@ -1,4 +1,5 @@
--- Explicit levels and types of a paragraph's characters (UAX #9, X1 to X8), by the openers that are open at each.
+-- The explicit level and type of each character of a paragraph, from the openers that are open at the
+-- character (UAX #9, X1 to X8). An opener is an embedding, an override or an isolate initiator.
 use Rattle.std.specs.Prelude.{ℕ, ◌+◌, ◌-◌, ◌%◌, ◌==◌, nat_lt, Bool, true, false, ◌||◌, not, List, [], ◌∷◌, length, take, drop, fold, map, slice_range, Option, Some, None, unwrap_or, if◌then◌else◌}
 use Rattle.std.specs.List.{list_any, prefix_len, range_with_len}
 use Rattle.ucd.specs.declared.bidi_class.BidiClass.{BidiClass}
@@ -6,11 +7,11 @@ use Rattle.ucd.specs.declared.bidi_class.BidiClass.TheVariants.{L, R, RLE, LRE, 
 use Rattle.ucd.specs.Classes.{class_at, is_initiator, is_pdi, is_separator}
 use Rattle.bidi.specs.Base.{match_of, first_strong_level}
 
--- the classes between the initiator at k and its match, or after it if it has none
+-- the classes between the initiator at k and its match, or all classes after it if it has no match
 abbrev pub span_of : List BidiClass → ℕ → List BidiClass
 span_of classes k = slice_range classes (k + 1) (unwrap_or (match_of classes k) (length classes))
 
--- X5c: an FSI acts as RLI if P2 and P3 give level 1 for the characters inside it, and else as LRI
+-- X5c: an FSI acts as RLI if P2 and P3 give level 1 for the characters inside it, and otherwise as LRI
 abbrev pub is_first_strong : BidiClass → Bool
 is_first_strong FSI = true
 is_first_strong class = false
@@ -23,8 +24,8 @@ directed_at classes k class = class
 abbrev pub directed : List BidiClass → List BidiClass
 directed classes = map (λ k. directed_at classes k (class_at classes k)) (range_with_len 0 (length classes))
 
--- The openers that are open, the innermost first: embeddings, overrides and isolate initiators. PDF closes the
--- innermost one if it is not an isolate. PDI closes the innermost isolate and all openers inside it.
+-- A chain lists the openers that are open, the innermost first. PDF closes the innermost opener if it is not
+-- an isolate initiator. PDI closes the innermost isolate and all openers inside it.
 abbrev pub close_embedding : List BidiClass → List BidiClass
 close_embedding [] = []
 close_embedding (opener ∷ outer) = if is_initiator opener then opener ∷ outer else outer
@@ -48,7 +49,8 @@ open_after openers class = openers
 abbrev pub open_chain : List BidiClass → ℕ → List BidiClass
 open_chain classes k = fold open_after [] (take k classes)
 
--- X2 to X5b: the least odd level above a level, or the least even one
+-- X2 to X5b: whether an opener opens an odd level, and the level that it opens: the least odd or even level
+-- above `level`
 abbrev pub opens_odd : BidiClass → Bool
 opens_odd RLE = true
 opens_odd RLO = true
@@ -64,8 +66,9 @@ override_of RLO = Some R
 override_of LRO = Some L
 override_of opener = None
 
--- The state inside a chain of openers: the level and override of the innermost one that does not overflow. An opener overflows (`is_void`)
--- if its level would be above 125, or if it is inside one that overflows.
+-- The state inside a chain of openers: the level and override of the innermost opener that does not overflow.
+-- An opener overflows (`is_void`) if its level would be above 125, or if it is inside an opener that
+-- overflows.
 pub record Inside : Type 0 where
   pub level : ℕ
   pub override : Option BidiClass
@@ -80,11 +83,12 @@ abbrev pub inside : ℕ → List BidiClass → Inside
 inside base [] = record { level = base; override = None; is_void = false }
 inside base (opener ∷ outer) = enter (inside base outer) opener
 
--- the state that applies to a character; a PDI is outside the openers that it closes
+-- The state that applies to the character at k. A PDI is outside the openers that it closes.
 abbrev pub inside_at : ℕ → List BidiClass → ℕ → Inside
 inside_at base classes k = inside base (open_chain classes (if is_pdi (class_at classes k) then k + 1 else k))
 
--- a separator has the paragraph level and keeps its type
+-- The explicit level and explicit type of the character at k. A separator has the paragraph level and keeps
+-- its type.
 abbrev pub level_at : ℕ → List BidiClass → ℕ → ℕ
 level_at base classes k = if is_separator (class_at classes k) then base else (inside_at base classes k).level
 

@@ -5,7 +5,8 @@ use Rattle.ucd.specs.declared.bidi_class.BidiClass.{BidiClass}
 use Rattle.ucd.specs.Classes.{class_at, is_initiator}
 use Rattle.bidi.specs.Base.{match_of}
 
--- the match of the initiator at an index, or the length if there is none
+-- the match of the initiator at k, or the length of the list if k has no initiator or the initiator has no
+-- match
 abbrev pub match_at : List BidiClass → ℕ → ℕ
 match_at classes k = if is_initiator (class_at classes k) then unwrap_or (match_of classes k) (length classes) else length classes
 

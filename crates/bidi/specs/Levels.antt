@@ -14,19 +14,19 @@ use Rattle.bidi.specs.Sequences.{stayed, sequences, first_of, sos, eos, directio
 use Rattle.bidi.specs.Weak.{weak}
 use Rattle.bidi.specs.Neutral.{neutral, implicit_level}
 
--- the levels of one sequence after the weak rules, bracket pairs, and the neutral and implicit rules, at the level
--- of its first character
+-- the levels of one sequence at the given level, after the weak rules, bracket pairs, and the neutral and
+-- implicit rules
 abbrev pub sequence_levels : (ℕ → Option Bracket) → ℕ → BidiClass → BidiClass → List ℕ → List BidiClass → List ℕ
 sequence_levels bracket_of level sos eos characters types =
     map (implicit_level level) (neutral (direction level) sos eos (brackets bracket_of (direction level) sos characters types (weak sos types)))
 
--- writes the values at their indices in a list
+-- writes each value to the list `levels`, at the corresponding index in the list of places
 abbrev pub put : List ℕ → List ℕ → List ℕ → List ℕ
 put levels (place ∷ places) (value ∷ values) = put (slice_set levels place value) places values
 put levels places values = levels
 
--- The levels of all sequences, written at their indices. Each list has an item for each character that X9 keeps: its
--- code point, class, explicit level and explicit type.
+-- The levels of all sequences, written at their indices. The lists have one item for each character that X9
+-- keeps: its code point, class, explicit level and explicit type.
 module _ (bracket_of : ℕ → Option Bracket) (base : ℕ) (characters : List ℕ) (classes : List BidiClass) (levels : List ℕ) (types : List BidiClass) where
   abbrev pub levels_in : List ℕ → List ℕ
   levels_in sequence = sequence_levels bracket_of (slice_index levels (first_of sequence))
@@ -35,15 +35,16 @@ module _ (bracket_of : ℕ → Option Bracket) (base : ℕ) (characters : List �
   abbrev pub resolved : List ℕ
   resolved = fold (λ done sequence. put done sequence (levels_in sequence)) levels (sequences classes levels)
 
--- a character that X9 removed has the level of the nearest kept one before it, else the paragraph level
+-- inserts a level for each character that X9 removed: the level of the nearest kept character before it, or
+-- the paragraph level if there is none
 abbrev pub put_back : ℕ → List BidiClass → List ℕ → List ℕ
 put_back before [] levels = []
 put_back before (class ∷ classes) [] = before ∷ put_back before classes []
 put_back before (class ∷ classes) (level ∷ levels) =
     if is_removed class then before ∷ put_back before classes (level ∷ levels) else level ∷ put_back level classes levels
 
--- the levels of a paragraph, from its characters, their classes and the paragraph level; the classes have each FSI
--- replaced by LRI or RLI
+-- The levels of a paragraph, from its characters, their classes and the paragraph level. In the classes, each
+-- FSI has been replaced by LRI or RLI.
 abbrev pub levels_by : (ℕ → Option Bracket) → List ℕ → List BidiClass → ℕ → List ℕ
 levels_by bracket_of text classes base =
     let places = stayed classes in

@@ -5,7 +5,7 @@ use Rattle.ucd.specs.declared.bidi_class.BidiClass.TheVariants.{L, R, EN, AN, B,
 use Rattle.bidi.specs.Neighbours.{each_by, nearest}
 use Rattle.bidi.specs.Weak.{is_left}
 
--- NI: the neutral types, and isolate initiators and PDI
+-- NI: the neutral types, the isolate initiators and PDI
 abbrev pub is_neutral : BidiClass → Bool
 is_neutral B = true
 is_neutral S = true
@@ -17,7 +17,8 @@ is_neutral FSI = true
 is_neutral PDI = true
 is_neutral type = false
 
--- N1: whether two sides have the same direction, and the direction of a side; `true` is L, and numbers count as R
+-- N1: whether two sides have the same direction, and the type for a direction. `true` stands for L; numbers
+-- count as R.
 abbrev pub agree : Bool → Bool → Bool
 agree true other = other
 agree false other = not other
@@ -26,7 +27,8 @@ abbrev pub side : Bool → BidiClass
 side true = L
 side false = R
 
--- N1 and N2: a run of neutrals gets the direction of both sides if they agree, and else the embedding direction
+-- N1 and N2: a run of neutrals gets the direction of both sides if they agree, and otherwise the embedding
+-- direction
 abbrev pub between : BidiClass → BidiClass → BidiClass → BidiClass
 between embedding before after = if agree (is_left before) (is_left after) then side (is_left before) else embedding
 
@@ -39,7 +41,7 @@ neutral_at embedding sos eos before type after =
 abbrev pub neutral : BidiClass → BidiClass → BidiClass → List BidiClass → List BidiClass
 neutral embedding sos eos types = each_by (neutral_at embedding sos eos) [] types
 
--- I1 and I2: the increase of an even level, and that of an odd one
+-- I1 and I2: by how much a type raises an even level, and by how much it raises an odd level
 abbrev pub rise_even : BidiClass → ℕ
 rise_even R = 1
 rise_even AN = 2

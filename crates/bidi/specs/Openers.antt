@@ -1,5 +1,5 @@
--- The open openers, as the pass of X1 to X8 keeps them: a stack and counts. The stack has an entry for the paragraph
--- and one for each opener that is not void.
+-- The openers that are open during the pass of X1 to X8, kept as a stack and counts. The stack has an entry
+-- for the paragraph and one for each opener that does not overflow.
 use Rattle.std.specs.Prelude.{◌≡◌, ℕ, ◌+◌, ◌==◌, ◌≤◌, ◌<◌, ◌^◌, Bool, true, false, ◌&&◌, not, List, [], ◌∷◌, ◌++◌, length, if◌then◌else◌}
 use Rattle.std.specs.List.{list_any}
 use Rattle.ucd.specs.declared.bidi_class.BidiClass.{BidiClass}
@@ -8,12 +8,12 @@ use Rattle.bidi.specs.declared.explicit.Status.{Status}
 use Rattle.ucd.specs.Classes.{is_initiator}
 use Rattle.bidi.specs.Explicit.{Inside, inside}
 
--- the stack entry for a state
+-- the stack entry for the state inside an opener
 abbrev pub entry_of : Inside → Bool → Status
 entry_of inside is_isolate = record { level = inside.level; overriding = inside.override; is_isolate = is_isolate }
 
 module _ (base : ℕ) where
-  -- the entry of the innermost opener that is not void
+  -- the entry of the innermost opener that does not overflow, or of the paragraph if there is none
   abbrev pub innermost : List BidiClass → Status
   innermost [] = entry_of (inside base []) false
   innermost (opener ∷ outer) =
@@ -25,7 +25,7 @@ module _ (base : ℕ) where
   statuses (opener ∷ outer) =
       if (inside base (opener ∷ outer)).is_void then statuses outer else statuses outer ++ innermost (opener ∷ outer) ∷ []
 
-  -- the number of isolates that are not void, and the number of void ones
+  -- the number of isolates that do not overflow, and the number of isolates that do
   abbrev pub isolates : List BidiClass → ℕ
   isolates [] = 0
   isolates (opener ∷ outer) =
@@ -36,29 +36,29 @@ module _ (base : ℕ) where
   overflowed_isolates (opener ∷ outer) =
       if is_initiator opener && (inside base (opener ∷ outer)).is_void then overflowed_isolates outer + 1 else overflowed_isolates outer
 
-  -- the number of void embeddings that are outside all void isolates
+  -- the number of overflow embeddings outside all overflow isolates
   abbrev pub overflowed_embeddings : List BidiClass → ℕ
   overflowed_embeddings [] = 0
   overflowed_embeddings (opener ∷ outer) =
       if not (is_initiator opener) && ((inside base (opener ∷ outer)).is_void && overflowed_isolates outer == 0) then overflowed_embeddings outer + 1
       else overflowed_embeddings outer
 
-  -- the state of the pass for a chain of openers
+  -- `openers` has the stack entries and counts of the chain
   pub record Holds (openers : Openers) (chain : List BidiClass) : Type 0 where
     pub statuses_are : openers.statuses.items ≡ statuses chain
     pub isolates_are : openers.isolates ≡ isolates chain
     pub overflowed_isolates_are : openers.overflowed_isolates ≡ overflowed_isolates chain
     pub overflowed_embeddings_are : openers.overflowed_embeddings ≡ overflowed_embeddings chain
 
--- `status` is the innermost entry of any chain that the state belongs to
+-- for every chain that `openers` belongs to, `status` is the innermost entry
 abbrev pub IsInnermost : Openers → Status → Type 0
 IsInnermost openers status = (base : ℕ) (chain : List BidiClass) → Holds base openers chain → status ≡ innermost base chain
 
--- the new state belongs to the chain after the step, for any chain that the old state belongs to
+-- if the old state belongs to a chain, the new state belongs to that chain after the step
 abbrev pub Follows : Openers → Openers → (List BidiClass → List BidiClass) → Type 0
 Follows old new step = (base : ℕ) (chain : List BidiClass) → Holds base old chain → Holds base new (step chain)
 
--- the state belongs to some chain
+-- `openers` belongs to some chain
 pub record AreOpeners (openers : Openers) : Type 0 where
   pub base : ℕ
   pub chain : List BidiClass

@@ -1,4 +1,5 @@
--- The data of the characters that X9 keeps, as input for resolving their sequences, and the levels that are written.
+-- The input for resolving the sequences of a paragraph, with data on each character that X9 keeps, and the
+-- levels that result.
 use Rattle.std.specs.Prelude.{◌≡◌, ℕ, ◌<◌, max, true, false, Option, None, All, List, length, map, slice_index}
 use Rattle.ucd.specs.declared.bracket.Bracket.{Bracket}
 use Rattle.bidi.specs.BracketTypes.{bracket_at, bracket_types}
@@ -14,7 +15,7 @@ use Rattle.bidi.specs.declared.sequence_levels.Sequence.{Sequence}
 use Rattle.bidi.specs.declared.sequence_levels.Sides.{Sides}
 use Rattle.bidi.specs.declared.sequence_levels.Brackets.{Brackets}
 
--- if there are brackets, the list has an item for each character
+-- if there are brackets, `brackets` has a bracket type for each of the n characters
 abbrev pub AreFor : Brackets → ℕ → Type 0
 AreFor brackets n = brackets.has_any ≡ true → length brackets.types.now ≡ n
 
@@ -24,11 +25,11 @@ pub record AreBracketsOf (brackets : Brackets) (n : ℕ) (look : ℕ → Option 
   pub types : brackets.has_any ≡ true → brackets.types.now ≡ bracket_types look text
   pub none : brackets.has_any ≡ false → All (λ c. look c ≡ None) text
 
--- a statement holds for each text and lookup with these bracket types
+-- the statement `holds` is true for every text and lookup with these bracket types
 abbrev pub OfAllTexts : Brackets → ℕ → ((ℕ → Option Bracket) → List ℕ → Type 0) → Type 0
 OfAllTexts brackets n holds = (look : ℕ → Option Bracket) (text : List ℕ) → AreBracketsOf brackets n look text → holds look text
 
--- the data of each kept character are complete, and so are the matches of the initiators
+-- the paragraph has all data on each kept character, and the matches of all initiators
 pub record IsReady (p : Paragraph) : Type 0 where
   pub stayed : HasAll p.stayed.now
   pub matches : p.matches.now ≡ matches_of p.stayed.now.classes.items
@@ -38,7 +39,7 @@ pub record IsReady (p : Paragraph) : Type 0 where
 abbrev pub sequence_in : Paragraph → ℕ → List ℕ
 sequence_in p start = sequence_at p.stayed.now.classes.items p.stayed.now.levels.items start
 
--- the levels after those of the sequence that begins at `start` have been written
+-- the levels `done`, after the levels of the sequence that begins at `start` have been written into them
 abbrev pub write_by : (ℕ → Option Bracket) → List ℕ → Paragraph → List ℕ → ℕ → List ℕ
 write_by look text p done start =
     put done (sequence_in p start)
@@ -48,7 +49,8 @@ write_by look text p done start =
 abbrev pub resolved_by : (ℕ → Option Bracket) → List ℕ → Paragraph → List ℕ
 resolved_by look text p = resolved look p.base text p.stayed.now.classes.items p.stayed.now.levels.items p.stayed.now.types.items
 
--- the level of the sequence between two indices, with its sos and eos
+-- `sides` has the level, sos and eos of the sequence whose first and last characters are at `first` and
+-- `last`
 pub record AreSidesBetween (p : Paragraph) (first last : ℕ) (sides : Sides) : Type 0 where
   pub level_is : sides.level ≡ slice_index p.stayed.now.levels.items first
   pub sos_is : sides.sos ≡ direction (max (slice_index p.stayed.now.levels.items first) (level_before p.base p.stayed.now.levels.items first))
@@ -57,7 +59,8 @@ pub record AreSidesBetween (p : Paragraph) (first last : ℕ) (sides : Sides) : 
 abbrev pub AreSides : Paragraph → List ℕ → Sides → Type 0
 AreSides p places sides = AreSidesBetween p (first_of places) (last_of places) sides
 
--- the sequence that begins at `start`: its indices, bracket types and explicit types; the types are the explicit ones
+-- `sequence` is the one that begins at `start`, with its indices, bracket types and explicit types. Its
+-- current types are still the explicit types.
 pub record Takes (p : Paragraph) (start : ℕ) (sequence : Sequence) : Type 0 where
   pub places_are : sequence.places.items ≡ sequence_in p start
   pub within : AreWithin (length p.stayed.now.levels.items) sequence.places.items

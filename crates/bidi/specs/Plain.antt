@@ -4,8 +4,8 @@ use Rattle.ucd.specs.declared.bidi_class.BidiClass.{BidiClass}
 use Rattle.ucd.specs.declared.properties.Properties.{Properties}
 use Rattle.ucd.specs.declared.bidi_class.BidiClass.TheVariants.{R, AL, AN, BN, LRE, LRO, RLE, RLO, PDF, LRI, RLI, FSI, PDI}
 
--- A character that is not an opener or a closer, and that X9 keeps. A paragraph of such characters is one isolating run
--- sequence.
+-- Whether a character is plain: neither an opener nor a closer, and kept by X9. A paragraph of plain
+-- characters is one isolating run sequence.
 abbrev pub is_plain : BidiClass → Bool
 is_plain BN = false
 is_plain LRE = false
@@ -19,7 +19,8 @@ is_plain FSI = false
 is_plain PDI = false
 is_plain class = true
 
--- A character that raises no level above 0. In a paragraph of such characters, at paragraph level 0, all levels are 0.
+-- Whether a character is flat: it raises no level above 0. In a paragraph of flat characters at paragraph
+-- level 0, all levels are 0.
 abbrev pub is_flat : BidiClass → Bool
 is_flat R = false
 is_flat AL = false
@@ -35,6 +36,6 @@ is_flat FSI = false
 is_flat PDI = false
 is_flat class = true
 
--- whether a character is a bracket, by its properties
+-- whether a character is a bracket, according to its properties
 abbrev pub has_bracket_in : Properties → Bool
 has_bracket_in properties = properties.has_bracket

@@ -1,5 +1,6 @@
--- Level runs and isolating run sequences (UAX #9, X9, X10, BD7 and BD13). An index refers to the list of characters that
--- X9 keeps. This list has all initiators and PDIs of the paragraph, so their matches are the paragraph's.
+-- Level runs and isolating run sequences (UAX #9, X9, X10, BD7 and BD13). An index refers to the list of
+-- characters that X9 keeps. This list has all isolate initiators and PDIs of the paragraph, so they match in
+-- the same way as in the paragraph.
 use Rattle.std.specs.Prelude.{ℕ, ◌+◌, ◌-◌, ◌%◌, ◌==◌, max, Bool, true, false, ◌&&◌, not, List, [], ◌∷◌, ◌++◌, length, filter, slice_index, Option, Some, None, is_none, if◌then◌else◌}
 use Rattle.std.specs.List.{list_any, range_with_len}
 use Rattle.ucd.specs.declared.bidi_class.BidiClass.{BidiClass}
@@ -8,11 +9,11 @@ use Rattle.ucd.specs.Classes.{class_at, is_initiator, is_removed}
 use Rattle.bidi.specs.Base.{match_of}
 use Rattle.bidi.specs.Cuts.{paragraphs}
 
--- the indices of a paragraph's characters that X9 keeps
+-- the indices of the characters of a paragraph that X9 keeps
 abbrev pub stayed : List BidiClass → List ℕ
 stayed classes = filter (λ k. not (is_removed (class_at classes k))) (range_with_len 0 (length classes))
 
--- BD7: level runs are the parts of the list between changes of the level
+-- BD7: level runs are the parts of the list between changes of level
 abbrev pub changes : List ℕ → ℕ → ℕ → Bool
 changes levels j k = not (slice_index levels j == slice_index levels k)
 
@@ -30,11 +31,12 @@ is_match (Some j) k = j == k
 is_match None k = false
 
 module _ (classes : List BidiClass) where
-  -- BD13: a run continues in the one that begins with the match of its last character
+  -- BD13: whether a run continues in `next`: its last character is an isolate initiator, and `next` begins
+  -- with the matching PDI
   abbrev pub continues_in : List ℕ → List ℕ → Bool
   continues_in run next = is_initiator (class_at classes (last_of run)) && is_match (match_of classes (last_of run)) (first_of next)
 
-  -- a run joined with those later runs in which it continues
+  -- a run joined with the later runs in which it continues
   abbrev pub joined : List ℕ → List (List ℕ) → List ℕ
   joined run [] = run
   joined run (next ∷ later) = if continues_in run next then run ++ joined next later else joined run later
@@ -62,7 +64,8 @@ module _ (base : ℕ) (levels : List ℕ) where
   sos sequence = direction (max (slice_index levels (first_of sequence)) (level_before (first_of sequence)))
 
 module _ (base : ℕ) (classes : List BidiClass) (levels : List ℕ) where
-  -- after an initiator without a match, the paragraph level counts
+  -- The level after index k: the level of the next character. At the end of the list, and after an initiator
+  -- without a match, it is the paragraph level.
   abbrev pub level_after : ℕ → ℕ
   level_after k =
       if is_initiator (class_at classes k) && is_none (match_of classes k) then base

@@ -1,5 +1,5 @@
--- The data that the pass over a paragraph keeps (UAX #9, X1 to X9): the class, explicit level and explicit type of each
--- kept character.
+-- The data that the pass of X1 to X9 collects: the class, explicit level and explicit type of each character
+-- that X9 keeps (UAX #9).
 use Rattle.std.specs.Prelude.{◌≡◌, ◌≤◌, ℕ, List, length, map, slice_index}
 use Rattle.ucd.specs.declared.bidi_class.BidiClass.{BidiClass}
 use Rattle.bidi.specs.declared.explicit.Stayed.{Stayed}

@@ -4,19 +4,19 @@ use Rattle.std.specs.Str.{chars}
 use Rattle.ucd.specs.Separators.{may_separate}
 use Rattle.bidi.specs.Cuts.{SplitsAt, paragraphs}
 
--- whether a byte and the two after it may begin a character of class B in Unicode's files
+-- whether a character of class B in Unicode's files may begin with the bytes a, b and c
 abbrev pub may_lead : ℕ → ℕ → ℕ → Bool
 may_lead a b c = nat_lt a 32 || ((a == 194 && b == 133) || (a == 226 && (b == 128 && c == 169)))
 
--- whether a character of class B in Unicode's files may begin at index k of some bytes
+-- whether a character of class B in Unicode's files may begin at index k of `bytes`
 abbrev pub leads_at : List ℕ → ℕ → Bool
 leads_at bytes k = may_lead (slice_index bytes k) (slice_index bytes (k + 1)) (slice_index bytes (k + 2))
 
--- there is no boundary after a character that is not a separator in Unicode's files
+-- there is a boundary only after characters that may be separators in Unicode's files
 abbrev pub AreUsual : (ℕ → ℕ → Bool) → Type 0
 AreUsual is_cut = (a b : ℕ) → a < 1114112 → may_separate a ≡ false → is_cut a b ≡ false
 
--- the first paragraph of a text is its first n bytes, and the text is longer
+-- the first paragraph of a text is its first n bytes, and more characters follow
 pub record EndsFirst (is_cut : ℕ → ℕ → Bool) (text : List ℕ) (n : ℕ) : Type 0 where
   pub within : n < length text
   pub front : IsUtf8 (take n text)
@@ -29,7 +29,7 @@ abbrev pub FindsEnd : (ℕ → ℕ → Bool) → List ℕ → Option ℕ → Typ
 FindsEnd is_cut text (Some n) = EndsFirst is_cut text n
 FindsEnd is_cut text None = SplitsAt is_cut (chars text) None
 
--- there is a boundary between the last character before a text and the text
+-- whether there is a boundary between the character before a text, if there is one, and the text
 abbrev pub cuts_before : (ℕ → ℕ → Bool) → Option ℕ → List ℕ → Bool
 cuts_before is_cut (Some a) (c ∷ text) = is_cut a c
 cuts_before is_cut _ _ = false
@@ -37,7 +37,8 @@ cuts_before is_cut _ _ = false
 abbrev pub BeginsAfter : (ℕ → ℕ → Bool) → Option ℕ → List ℕ → Bool → Type 0
 BeginsAfter is_cut last text begins = begins ≡ cuts_before is_cut last (chars text)
 
--- the first paragraph of held characters and a text is the held characters and the first n bytes of the text
+-- if `text` follows the characters `held`, the first paragraph of both together is `held` and the first n
+-- bytes of `text`
 pub record EndsAfter (is_cut : ℕ → ℕ → Bool) (held text : List ℕ) (n : ℕ) : Type 0 where
   pub within : n ≤ length text
   pub front : IsUtf8 (take n text)

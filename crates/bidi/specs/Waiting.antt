@@ -1,5 +1,5 @@
--- The state of the single pass for the weak rules: the types that wait for later ones, and the earlier types that
--- W1 to W3 and W7 need.
+-- The state of the single pass for the weak rules. It has the types that wait for a later type, and the
+-- earlier types that W1 to W3 and W7 look back at.
 use Rattle.std.specs.Prelude.{◌≡◌, ℕ, ◌+◌, ◌-◌, ◌≤◌, Bool, true, false, ◌&&◌, not, List, [], ◌∷◌, ◌++◌, length, map, take, drop, replicate, if◌then◌else◌}
 use Rattle.ucd.specs.declared.bidi_class.BidiClass.{BidiClass}
 use Rattle.ucd.specs.declared.bidi_class.BidiClass.TheVariants.{L, EN, ES, ET, AN, CS, NSM, ON}
@@ -9,19 +9,20 @@ use Rattle.ucd.specs.Classes.{is_strong}
 use Rattle.ucd.specs.Classes.{is_mark}
 use Rattle.bidi.specs.Weak.{mark_after, is_number, is_arabic, is_left, w3_type}
 
--- the list that a rule makes if it looks back only at the nearest item that passes a test, `before` at the start
+-- Applies a rule to each item of a list. The rule looks back only at the nearest item that passes the test,
+-- or at `before` if there is none.
 abbrev pub carry : {T : Type 0} → (T → T → List T → T) → (T → Bool) → T → List T → List T
 carry rule test before [] = []
 carry rule test before (item ∷ after) = rule before item after ∷ carry rule test (if test item then item else before) after
 
--- W1 and W2 for one type
+-- W1 and W2 for one type, from the earlier type that each rule looks back at
 abbrev pub mark_type : BidiClass → BidiClass → BidiClass
 mark_type before type = if is_mark type then mark_after before else type
 
 abbrev pub digit_type : BidiClass → BidiClass → BidiClass
 digit_type strong type = if is_number type && is_arabic strong then AN else type
 
--- W1 to W3 for a list, from the last type before it that is not NSM, and the last strong type before it
+-- W1 to W3 for a list, given the last type before it that is not NSM, and the last strong type before it
 abbrev pub read_types : BidiClass → BidiClass → List BidiClass → List BidiClass
 read_types before strong types =
     map w3_type (carry (λ s type after. digit_type s type) is_strong strong (carry (λ b type after. mark_type b type) (λ type. not (is_mark type)) before types))
@@ -44,20 +45,20 @@ abbrev pub is_settled : BidiClass → Bool
 is_settled NSM = false
 is_settled type = not (is_weak type)
 
--- whether a run of ET that begins here is after a European number
+-- whether an ET that comes next is in a run of ET that follows a European number
 abbrev pub is_after_number : Row → Bool
 is_after_number European = true
 is_after_number EuropeanTerminators = true
 is_after_number row = false
 
--- whether the types of a run wait
+-- whether the types of a run wait for a later type
 abbrev pub waits : Row → Bool
 waits EuropeanSeparator = true
 waits ArabicSeparator = true
 waits Terminators = true
 waits row = false
 
--- whether a type joins the run that waits
+-- whether a type joins the waiting run
 abbrev pub lengthens : Row → BidiClass → Bool
 lengthens Terminators ET = true
 lengthens row type = false
@@ -69,7 +70,7 @@ completes ArabicSeparator AN = true
 completes Terminators EN = true
 completes row type = false
 
--- what is written for a type: ON for one that waits (W6)
+-- what the pass writes for a type; for a type that waits, it writes ON (W6)
 abbrev pub written : Row → Bool → BidiClass → BidiClass
 written row left EN = number_type left
 written row left ET = if is_after_number row then number_type left else ON
@@ -95,11 +96,11 @@ row_after row ES = after_sign row
 row_after row CS = after_comma row
 row_after row type = Nothing
 
--- the index at which the waiting run begins after a type
+-- the index at which the waiting run begins, after the type at `at` has been read
 abbrev pub start_after : Row → BidiClass → ℕ → ℕ → ℕ
 start_after row type start at = if lengthens row type then start else (if waits (row_after row type) then at else at + 1)
 
--- W4 to W7 for n waiting types and the types after them, from the strong type before them
+-- W4 to W7 for n waiting types and the types after them, given the strong type before them
 abbrev pub types_after : Row → ℕ → BidiClass → List BidiClass → List BidiClass
 types_after row n strong [] = replicate n ON
 types_after row n strong (type ∷ types) =
@@ -108,8 +109,8 @@ types_after row n strong (type ∷ types) =
     ++ (if waits (row_after row type) then types_after (row_after row type) 1 (if is_strong type then type else strong) types
     else written row (is_left strong) type ∷ types_after (row_after row type) 0 (if is_strong type then type else strong) types)
 
--- The state of the pass at an index: the types before `start` are final, those from there to `at` wait and are ON, and
--- the others are unchanged.
+-- The state of the pass at the index `at`. The types before `start` are final, the types from `start` up to
+-- `at` wait and are ON, and the others are unchanged.
 pub record AreTypesSoFar (sos : BidiClass) (old current : List BidiClass) (before strong : BidiClass) (row : Row) (start at : ℕ) : Type 0 where
   pub sizes : length current ≡ length old
   pub order : start ≤ at
@@ -118,7 +119,8 @@ pub record AreTypesSoFar (sos : BidiClass) (old current : List BidiClass) (befor
   pub whole : take start current ++ types_after row (at - start) (w3_type strong) (read_types before strong (drop at old))
       ≡ types_after Nothing 0 (w3_type sos) (read_types sos sos old)
 
--- after a run of equal types has been settled, the state of the pass holds at the end of the run
+-- if `current` has the types of the pass at the index `at`, `settled` has them at `next`, the end of a run of
+-- equal types
 abbrev pub SettlesRow : List BidiClass → ℕ → BidiClass → List BidiClass → ℕ → Type 0
 SettlesRow current at class settled next =
     (sos : BidiClass) (old : List BidiClass) (before strong : BidiClass) (row : Row) (start : ℕ) → AreTypesSoFar sos old current before strong row start at

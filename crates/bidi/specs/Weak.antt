@@ -1,5 +1,5 @@
--- The weak rules (UAX #9, W1 to W7). Each rule maps a list of types to a list of types, and reads only the list that it
--- is given.
+-- The weak rules (UAX #9, W1 to W7). Each rule maps a list of types to a new list, and depends only on its
+-- input.
 use Rattle.std.specs.Prelude.{Bool, true, false, ◌||◌, not, List, [], ◌∷◌, map, if◌then◌else◌}
 use Rattle.ucd.specs.declared.bidi_class.BidiClass.{BidiClass}
 use Rattle.ucd.specs.declared.bidi_class.BidiClass.TheVariants.{L, R, AL, EN, ES, ET, AN, CS, NSM, ON, LRI, RLI, FSI, PDI}
@@ -22,8 +22,8 @@ abbrev pub is_left : BidiClass → Bool
 is_left L = true
 is_left type = false
 
--- W1: NSM gets the type before it, which is that of the nearest character that is not NSM; after the ends of an isolate
--- it becomes ON
+-- W1: NSM gets the type of the nearest character before it that is not NSM. After an isolate initiator or
+-- PDI, it becomes ON.
 abbrev pub mark_after : BidiClass → BidiClass
 mark_after LRI = ON
 mark_after RLI = ON
@@ -38,7 +38,7 @@ w1_at sos before type after = type
 abbrev pub w1 : BidiClass → List BidiClass → List BidiClass
 w1 sos types = each_by (w1_at sos) [] types
 
--- W2: a European number whose nearest strong type before it is AL becomes an Arabic number
+-- W2: a European number becomes an Arabic number if the nearest strong type before it is AL
 abbrev pub w2_at : BidiClass → List BidiClass → BidiClass → List BidiClass → BidiClass
 w2_at sos before EN after = if is_arabic (nearest is_strong sos before) then AN else EN
 w2_at sos before type after = type
@@ -54,7 +54,8 @@ w3_type type = type
 abbrev pub w3 : List BidiClass → List BidiClass
 w3 types = map w3_type types
 
--- W4: a single separator between two numbers of one kind becomes such a number
+-- W4: a single ES or CS between two European numbers becomes a European number, and a single CS between two
+-- Arabic numbers becomes an Arabic number
 abbrev pub w4_at : List BidiClass → BidiClass → List BidiClass → BidiClass
 w4_at (EN ∷ before) ES (EN ∷ after) = EN
 w4_at (EN ∷ before) CS (EN ∷ after) = EN
@@ -83,7 +84,7 @@ w6_type type = type
 abbrev pub w6 : List BidiClass → List BidiClass
 w6 types = map w6_type types
 
--- W7: a European number whose nearest strong type before it is L becomes L
+-- W7: a European number becomes L if the nearest strong type before it is L
 abbrev pub w7_at : BidiClass → List BidiClass → BidiClass → List BidiClass → BidiClass
 w7_at sos before EN after = if is_left (nearest is_strong sos before) then L else EN
 w7_at sos before type after = type

@@ -1,4 +1,4 @@
--- Tests that compute, and the statements that they decide.
+-- Boolean tests that can be computed, and the statements that they decide.
 use Rattle.std.proofs.Common.{◌≡◌, ℕ, zero, suc, ◌<◌, ◌≤◌, ◌==◌, nat_lt, nat_le, Bool, true, false, not, ◌&&◌, List, [], ◌∷◌, refl, arith}
 use Rattle.std.proofs.lemmas.Bool.Decides.{nat_tests}
 use borrow.Author.Count.{below_more}
@@ -43,7 +43,7 @@ below (suc n) test all k lt =
     let parts = both (test n) (all_below n test) all in
     below_more (λ k. test k ≡ true) n (below n test parts.1) parts.0 k (omega arith)
 
--- a comparison of numbers that computes to true holds
+-- if the Boolean comparison of two numbers is true, the numbers compare in that way
 pub is_below : (a b : ℕ) → nat_lt a b ≡ true → a < b
 is_below a b h = grind (arith, nat_tests)
 

@@ -1,4 +1,4 @@
--- The entries of the break table are those of the rules, computed for each entry.
+-- Each entry of the break table agrees with the rules, which is checked by computation.
 use Rattle.std.proofs.Common.{◌≡◌, ℕ, ◌+◌, ◌*◌, ◌/◌, ◌%◌, ◌==◌, nat_lt, nat_le, Bool, true, false, not, ◌&&◌, ◌||◌, List, [], ◌∷◌, map, get_or, refl, if◌then◌else◌}
 use Rattle.std.proofs.Math.ListN.{set}
 use Rattle.ucd.specs.declared.line_class.LineClass.TheVariants.{CM, NU, OP, ZWJ}
@@ -15,7 +15,7 @@ use Rattle.breaks.specs.declared.table.TheConstants.{ENTRY_COUNT, LAST_ROW, PART
 use Rattle.breaks.proofs.BoolLemmas.{same, all_same, all_below}
 use Rattle.ucd.specs.declared.properties.TheConstants.{LINE_INDEX_COUNT}
 
--- the mark of the first row whose conditions before and after both hold, and LB31 if there is none
+-- the mark of the first row whose conditions before and after both hold, or `May` (LB31) if there is none
 abbrev pub decide : List Mark → List Bool → List Bool → Mark
 decide (mark ∷ marks) (before ∷ befores) (after ∷ afters) = if before && after then mark else decide marks befores afters
 decide _ _ _ = May
@@ -23,7 +23,8 @@ decide _ _ _ = May
 abbrev pub marks_by_row : Bool → List Mark
 marks_by_row whole_numbers = map (λ row. row.mark) (rows whole_numbers)
 
--- the results of all conditions on the bases after a position: a base that begins with c, and then NU or nothing
+-- the bases after a position, a base that begins with c and then NU or nothing, and the results of all
+-- conditions on them
 abbrev pub bases_after : Character → Bool → List Base
 bases_after c true = alone c ∷ base NU ∷ []
 bases_after c false = alone c ∷ []
@@ -31,7 +32,8 @@ bases_after c false = alone c ∷ []
 abbrev pub answers_after : Bool → Character → Bool → List Bool
 answers_after whole_numbers c before_digit = map (λ row. row.after (bases_after c before_digit)) (rows whole_numbers)
 
--- the results of all conditions before a position, with LB8a (index 7) and LB30b for pictographs (the last) set
+-- the results of all conditions before a position, with those of LB8a (index 7) and LB30b for pictographs
+-- (the last) replaced
 abbrev pub last_row : Bool → ℕ
 last_row true = 48
 last_row false = 47
@@ -50,12 +52,13 @@ is_mark _ _ = false
 abbrev pub stays : ℕ → ℕ → Bool
 stays state symbol = is_one_of (CM ∷ ZWJ ∷ []) (shown symbol).class && not (is unattached (bases_at state))
 
--- two lists of bases give all conditions the same results, and carry the same results
+-- whether two lists of bases have the same `answers` and the same `carried`
 abbrev pub is_as : Bool → List Base → List Base → Bool
 is_as whole_numbers bases others =
     all_same (answers whole_numbers bases) (answers whole_numbers others) && all_same (carried bases) (carried others)
 
--- the outcome of an entry gives the same mark as the rules, from the results of their conditions before and after
+-- whether the outcome of an entry gives the same mark as the rules, given the results of their conditions
+-- before and after
 module _ (whole_numbers : Bool) (answered : List Bool) (after digit_after : List Bool) (outcome : ℕ) where
   abbrev pub gives : List Bool → Bool → Bool → Bool → Bool
   gives after is_joined is_pictograph before_digit =
@@ -75,7 +78,7 @@ gives_each whole_numbers state symbol outcome =
     gives_all whole_numbers (answers whole_numbers (bases_at state)) (answers_after whole_numbers (shown symbol) false)
     (answers_after whole_numbers (shown symbol) true) outcome (is unattached (bases_at state))
 
--- only before OP can the outcome wait for the base after next
+-- the outcome can wait for the base after next only before OP
 abbrev pub waits_for_base : ℕ → ℕ → Bool
 waits_for_base symbol outcome = not (outcome == WAITS) || is_one_of (OP ∷ []) (shown symbol).class
 
@@ -102,7 +105,7 @@ abbrev pub all_right : Bool → ℕ → Bool
 all_right whole_numbers state =
     all_below SYMBOL_COUNT (λ symbol. is_right whole_numbers state symbol (get_or TABLE (state * SYMBOL_COUNT + symbol) 0))
 
--- A type that has a proof if the test is true. A test that is false is refused at once.
+-- A type that has a proof if and only if the test is true. A false test is rejected at once.
 abbrev Holds : Bool → Type 0
 Holds true = Unit {0}
 Holds false = ⊥

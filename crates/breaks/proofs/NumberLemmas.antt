@@ -14,7 +14,8 @@ use Rattle.breaks.specs.Walk.{ends_in_digits, ends_in_closed_digits, begins_unaf
 abbrev classes_of : List Base → List LineClass
 classes_of bases = map class_of bases
 
--- the four places of the expression: after an affix, after an opening, after digits, and after closed digits
+-- Whether a position is at one of the four places of the expression, and `back` matches the rest of it. The
+-- places are after an affix, an opening, digits or closed digits.
 abbrev at_place : Bool → Bool → Bool → Bool → List LineClass → Bool
 at_place affixed opened digits closed back =
     (affixed && is_unaffixed back) || ((opened && begins_with_digit back) || ((digits && goes_on back) || (closed && is_end back)))
@@ -51,7 +52,7 @@ shuffled false true true e = refl
 shuffled false true false e = refl
 shuffled false false d e = refl
 
--- disjunctions in which some terms are false or only repeat the first term
+-- a disjunction can be simplified if some of its terms are false or repeat the first term
 opens : (r a b d e : Bool) → (r || ((a && r) || ((b && false) || ((d && false) || (e && false))))) ≡ (r || false)
 opens true a b d e = refl
 opens false a b d e = rw (and_false a, and_false b, and_false d, and_false e) refl
@@ -69,7 +70,7 @@ ends r a b d e = rw (and_false a, and_false b, and_false e, or_false (d && r)) r
 begins : (r a b d e : Bool) → (r || ((a && false) || ((b && false) || ((d && false) || (e && false))))) ≡ (r || false)
 begins r a b d e = rw (and_false a, and_false b, and_false d, and_false e) refl
 
--- moving the position back past one base: the conditions on what follows then include that base
+-- moving the position forward past `class` moves `class` into the conditions on the bases before the position
 step : (class next : LineClass) (back : List LineClass) (a b d e : Bool) →
     (is_number (class ∷ next ∷ back) || at_place a b d e (class ∷ next ∷ back))
     ≡ at_place (is_one_of affix class) (is_one_of opening class) (is_same class NU || (is_one_of middle class && d)) (is_one_of closing class && d) (next ∷ back)
@@ -123,7 +124,7 @@ begun_is (b ∷ before) next back =
     ∙ ap (λ rest. is_number (classes_of (b ∷ next ∷ back)) || rest) (begun_is before b (next ∷ back))
     ∙ step (class_of b) (class_of next) (classes_of back) (is affix before) (is opening before) (ends_in_digits before) (ends_in_closed_digits before)
 
--- a test of either of two conditions, for the items of a list
+-- some item passes one of two tests if and only if some item passes the first or some item passes the second
 any_or : {A : Type 0} (p q : A → Bool) (xs : List A) → list_any (λ x. p x || q x) xs ≡ (list_any p xs || list_any q xs)
 any_or p q [] = refl
 any_or p q (x ∷ xs) = ap (λ rest. (p x || q x) || rest) (any_or p q xs) ∙ shuffled (p x) (q x) (list_any p xs) (list_any q xs)
@@ -147,7 +148,8 @@ module _ (a b d e : Bool) where
         any_and e is_end backs,
       ) refl
 
--- the non-empty prefixes of a list are its first item, and that item before each prefix of the rest
+-- the non-empty prefixes of a list are its first item alone, and its first item before each non-empty prefix
+-- of the rest
 fronts_begin : (test : List LineClass → Bool) (class : LineClass) (back : List LineClass)
     → list_any test (fronts (class ∷ back))
     ≡ (test (class ∷ []) || list_any (λ front. test (class ∷ front)) (fronts back))
@@ -199,12 +201,13 @@ first_is_class : (classes : List LineClass) (bases : List Base) → first_is cla
 first_is_class classes [] = refl
 first_is_class classes (b ∷ bases) = refl
 
--- searching all pairs of two lists finds the same in either order
+-- searching all pairs of items from two lists gives the same result in either order
 either_way : {A B : Type 0} (test : A → B → Bool) (xs : List A) (ys : List B) → list_any (λ x. list_any (test x) ys) xs ≡ list_any (λ y. list_any (λ x. test x y) xs) ys
 either_way test [] ys = sym (any_none ys)
 either_way test (x ∷ xs) ys = ap (λ rest. list_any (test x) ys || rest) (either_way test xs ys) ∙ sym (any_or (test x) (λ y. list_any (λ x. test x y) xs) ys)
 
--- some bases before a position and a prefix of those after it form a number if the conditions hold for the prefix
+-- some bases before a position and a prefix of those after it form a number if and only if the conditions
+-- hold for the prefix
 begun_fronts : (before : List Base) (b : Base) (fs : List (List Base))
     → list_any (λ back. list_any (λ front. is_number (classes_of (reverse front ++ back))) (fronts before))
     (map (λ front. b ∷ front) fs) ≡ list_any (λ back. is_at before (classes_of back)) (map (λ front. b ∷ front) fs)
@@ -217,7 +220,8 @@ begun_all : (before after : List Base)
 begun_all before [] = refl
 begun_all before (b ∷ after) = begun_fronts before b ([] ∷ fronts after)
 
--- a position is inside a number if the conditions before and after it hold for one of the four places
+-- a position is inside a number if and only if the conditions before and after it hold for one of the four
+-- places
 pub in_number_is : (before after : List Base) → is_in_number before after
     ≡ ((is affix before && begins_unaffixed after) ||
     ((is opening before && is (NU ∷ []) after) ||

@@ -1,4 +1,4 @@
--- One step of the pass: the new state belongs to the bases so far, and the mark is that of the rules.
+-- One step of the pass: the new state belongs to the bases so far, and the mark agrees with the rules.
 use Rattle.std.proofs.Common.{◌≡◌, ℕ, ◌+◌, ◌*◌, ◌/◌, ◌%◌, ◌<◌, ◌≤◌, ◌==◌, nat_lt, nat_le, Bool, true, false, not, ◌&&◌, ◌||◌, List, [], ◌∷◌, ◌++◌, map, get_or, refl, sym, ap, ◌∙◌, arith, if◌then◌else◌, inl, inr}
 use Rattle.std.proofs.lemmas.Bool.{cases_Bool}
 use Rattle.ucd.specs.declared.line_class.LineClass.{LineClass}
@@ -47,7 +47,8 @@ and_false : (b : Bool) → (b && false) ≡ false
 and_false true = refl
 and_false false = refl
 
--- an entry's outcome is right in each of the eight cases for the ZWJ bit, the pictograph bit and the next digit
+-- whether an entry's outcome is right in all eight cases: with or without the ZWJ bit, the pictograph bit and
+-- a following digit
 abbrev both_of : Bool → ℕ → ℕ → ℕ → Bool → Bool → Bool
 both_of whole_numbers state symbol outcome =
     gives_both whole_numbers (answers whole_numbers (bases_at state)) (answers_after whole_numbers (shown symbol) false)
@@ -132,7 +133,8 @@ beginning whole_numbers state symbol outcome next led =
       gives = waits.1;
     }
 
--- the step for a character that begins a base, if `carried` is the same for the bases before it as for the state's
+-- After a character that begins a base, the new state belongs to the bases that include it. The bases before
+-- it must have the same `carried` as the example bases of the old state.
 pub begins : (whole_numbers : Bool) (state symbol entry : ℕ) (c : Character) (before : List Base)
     → symbol < SYMBOL_COUNT → shown symbol ≡ told c → Leads whole_numbers state symbol entry → stays state symbol
     ≡ false → carried before ≡ carried (bases_at state)
@@ -159,7 +161,7 @@ begins whole_numbers state symbol entry c before symbol_lt shows entry_leads beg
       is_pictograph = refl;
     }
 
--- the step for a character that joins the last base
+-- after a character that joins the last base, the new state belongs to the bases with the character attached
 attached : (whole_numbers : Bool) (walk : Walk) (last : Base) (others : List Base)
     (stands : Stands whole_numbers walk last others) (symbol entry : ℕ) (c : Character) → symbol < SYMBOL_COUNT
     → shown symbol ≡ told c → Leads whole_numbers stands.state symbol entry → stays stands.state symbol ≡ true
@@ -192,7 +194,8 @@ attached whole_numbers walk last others stands symbol entry c symbol_lt shows en
       is_pictograph = stands.is_pictograph;
     }
 
--- the conditions after a position read only the character there, and whether the second base is NU
+-- the conditions on the bases after a position depend only on the character there and on whether the second
+-- base is NU
 reads_after : (whole_numbers : Bool) (c : Character) (attached : List Character) (bases : List Base)
     → map (λ row. row.after (record { first = c; attached = attached } ∷ bases)) (rows whole_numbers)
     ≡ answers_after whole_numbers c (is (NU ∷ []) bases)
@@ -233,7 +236,8 @@ second_joined : (c : Character) (bases : List Base) → second_is_digit (joined 
 second_joined c [] = refl
 second_joined c (b ∷ bases) = refl
 
--- if characters can join the first base, the second base is NU exactly if `is_before_digit` holds for the rest
+-- if characters can join the first base, the second base is NU if and only if `is_before_digit` holds for the
+-- rest of the text
 second_is : (c : Character) (text : List Character) → is_one_of unattached c.class ≡ false → second_is_digit (bases_of (c ∷ text)) ≡ is_before_digit text
 second_is c [] free = refl
 second_is c (d ∷ text) free =
@@ -244,7 +248,7 @@ second_is c (d ∷ text) free =
           rw (begins, next.2) (digit_class d.class begins)
     ]
 
--- the results of all conditions after a position, from the text there
+-- the results of all conditions on the bases after a position, from the text there
 read_text : (whole_numbers : Bool) (c : Character) (text : List Character)
     → map (λ row. row.after (bases_of (c ∷ text))) (rows whole_numbers)
     ≡ answers_after whole_numbers c (second_is_digit (bases_of (c ∷ text)))
@@ -252,7 +256,7 @@ read_text whole_numbers c text =
     let next = first_base c text in
     rw next.2 (reads_after whole_numbers c next.0 next.1)
 
--- the mark depends on the base after next only if the outcome waits
+-- the mark depends on the base after next only if the outcome is `WAITS`
 waits_or_not : (whole_numbers : Bool) (outcome : ℕ) (is_joined is_pictograph : Bool) (a b : Bool) → (outcome == WAITS)
     ≡ false → mark_of whole_numbers (decided_at outcome is_joined is_pictograph) a
     ≡ mark_of whole_numbers (decided_at outcome is_joined is_pictograph) b
@@ -284,7 +288,7 @@ same_of_digit whole_numbers symbol outcome c text is_joined is_pictograph shows 
       | inr other ↦ waits_or_not whole_numbers outcome is_joined is_pictograph _ _ other
     ]
 
--- the mark before a character that begins a base
+-- before a character that begins a base, the outcome gives the mark of the rules
 marks_begun : (whole_numbers : Bool) (walk : Walk) (last : Base) (others : List Base)
     (stands : Stands whole_numbers walk last others) (symbol entry : ℕ) (c : Character) (text : List Character)
     → shown symbol ≡ told c → Leads whole_numbers stands.state symbol entry → stays stands.state symbol ≡ false
@@ -377,7 +381,8 @@ passes whole_numbers walk symbol entry c symbol_lt shows reads last others stand
           )
     ]
 
--- the first character of a text is read as one after BK, and gives the state after it
+-- the first character of a text is read as if it came after BK, and the resulting state belongs to the base
+-- with that character
 pub starts : (symbol entry : ℕ) (c : Character) → symbol < SYMBOL_COUNT → shown symbol ≡ told c → entry
     ≡ get_or TABLE (0 + symbol) 0 → (whole_numbers : Bool)
     → Stands whole_numbers (record {
@@ -389,7 +394,7 @@ pub starts : (symbol entry : ℕ) (c : Character) → symbol < SYMBOL_COUNT → 
 starts symbol entry c symbol_lt shows reads whole_numbers =
     begins whole_numbers 0 symbol entry c [] symbol_lt shows (entry_is_right whole_numbers 0 symbol 0 entry (omega arith) symbol_lt refl reads) (and_false _) refl
 
--- the step, stated for the values that the program has computed
+-- one step of the pass, stated for the values that the program computes
 pub passes_as : (walk : Walk) (symbol entry : ℕ) (c : Character) (is_pictograph : Bool) (decided : ℕ)
     → symbol < SYMBOL_COUNT → shown symbol ≡ told c → entry ≡ get_or TABLE (walk.row + symbol) 0
     → kept walk (entry % PARTS) c ≡ is_pictograph → decided
@@ -404,7 +409,7 @@ pub passes_as : (walk : Walk) (symbol entry : ℕ) (c : Character) (is_pictograp
 passes_as walk symbol entry c is_pictograph decided symbol_lt shows reads keeps is whole_numbers last others stands =
     rw (← keeps, is) (passes whole_numbers walk symbol entry c symbol_lt shows reads last others stands)
 
--- the next row of each entry is in the table
+-- the next row in each entry is a row of the table
 pub row_within : (place entry : ℕ) → place < ENTRY_COUNT → entry ≡ get_or TABLE place 0 → entry / PARTS ≤ LAST_ROW
 row_within place entry lt reads =
     let test : nat_le (get_or TABLE place 0 / PARTS) LAST_ROW ≡ true = below ENTRY_COUNT (λ place. nat_le (get_or TABLE place 0 / PARTS) LAST_ROW) entries_are_within place lt in

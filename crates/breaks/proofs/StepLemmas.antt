@@ -17,12 +17,12 @@ use Rattle.breaks.proofs.NumberLemmas.{in_number_is}
 use Rattle.breaks.proofs.SymbolLemmas.{narrow_before}
 use Rattle.breaks.proofs.Computed.{decide, answered_with, marks_by_row}
 
--- the last character of a base after another has been attached is that character
+-- a character that is attached to a base becomes the last character of the base
 pub end_attached : (first : Character) (attached : List Character) (c : Character) → last_of first (attached ++ c ∷ []) ≡ c
 end_attached first [] c = refl
 end_attached first (a ∷ attached) c = end_attached a attached c
 
--- the mark of the first row that applies, or else the given mark
+-- the mark of the first row that applies, or the given mark if none does
 abbrev row_mark : List Row → Mark → List Base → List Base → Mark
 row_mark [] else_mark before after = else_mark
 row_mark (row ∷ rest) else_mark before after = if row.before before && row.after after then row.mark else row_mark rest else_mark before after
@@ -94,7 +94,7 @@ spaced_after classes b bases =
     elim (is_same (class_of b) SP) as (λ space. is classes (if space then without_spaces bases else b ∷ bases)
     ≡ (if space then is_spaced classes bases else is_one_of classes (class_of b))) [ true ↦ refl | false ↦ refl ]
 
--- the conditions after spaces depend only on the class of the last base
+-- the conditions with `SP*` depend on the last base only through its class
 pub spaced_same_class : (classes : List LineClass) (b d : Base) (bases : List Base) → class_of b ≡ class_of d → is_spaced classes (b ∷ bases) ≡ is_spaced classes (d ∷ bases)
 spaced_same_class classes b d bases e =
     spaced_after classes b bases
@@ -145,7 +145,7 @@ module _ (b : Base) (p q : List Base) (carry : carried p ≡ carried q) where
   pub carried_same : carried (b ∷ p) ≡ carried (b ∷ q)
   carried_same = cons _ _ _ _ refl (cons _ _ _ _ zw (cons _ _ _ _ op (cons _ _ _ _ qu (cons _ _ _ _ after_closing (cons _ _ _ _ dash (cons _ _ _ _ odd (cons _ _ _ _ digits refl)))))))
 
--- the carried results depend only on the class of the last base
+-- the carried results depend on the last base only through its class
 pub carried_same_class : (b d : Base) (bases : List Base) → class_of b ≡ class_of d → carried (b ∷ bases) ≡ carried (d ∷ bases)
 carried_same_class b d bases e =
     cons _ _ _ _ (ap (is_one_of (HL ∷ [])) e)
@@ -177,7 +177,8 @@ answers_same_plain false b p q carry = rw (zw b p q carry, op b p q carry, qu b 
 pub answers_same : (whole_numbers : Bool) (b : Base) (p q : List Base) → carried p ≡ carried q → answers whole_numbers (b ∷ p) ≡ answers whole_numbers (b ∷ q)
 answers_same whole_numbers b p q carry = answers_same_plain whole_numbers (record { first = record b.first { is_future_pictograph = false }; attached = narrow CM ∷ [] }) p q carry
 
--- the results of all conditions, with those of LB8a and LB30b set from the last base
+-- the results of all conditions are `answers`, with the results of LB8a and LB30b for pictographs taken from
+-- the last base
 all_answers : (whole_numbers : Bool) (last : Base) (others : List Base)
     → map (λ row. row.before (last ∷ others)) (rows whole_numbers)
     ≡ answered_with whole_numbers (is_same (end_of last).class ZWJ) last.first.is_future_pictograph
@@ -222,7 +223,7 @@ answers_attached false last others attached = refl
 pub carried_attached : (last : Base) (others : List Base) (attached : List Character) → carried (record { first = last.first; attached = attached } ∷ others) ≡ carried (last ∷ others)
 carried_attached last others attached = carried_same_class (record { first = last.first; attached = attached }) last others refl
 
--- the conditions read no more of a base than the symbol of its first character has
+-- the conditions depend on the first character of a base only through its symbol
 pub answers_told : (whole_numbers : Bool) (c : Character) (bases : List Base) → answers whole_numbers (alone c ∷ bases) ≡ answers whole_numbers (alone (told c) ∷ bases)
 unfolding rows rows_before_numbers rows_of_numbers rows_after_numbers
 answers_told true c bases =

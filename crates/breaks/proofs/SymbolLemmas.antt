@@ -90,7 +90,7 @@ is_digit symbol lt = same_is _ _ (below SYMBOL_COUNT (λ x. same (x == DIGIT) (i
 pub is_not_attached : (symbol : ℕ) → symbol < SYMBOL_COUNT → nat_lt symbol ATTACHED ≡ not (is_one_of (CM ∷ ZWJ ∷ []) (shown symbol).class)
 is_not_attached symbol lt = same_is _ _ (below SYMBOL_COUNT (λ x. same (nat_lt x ATTACHED) (not (is_one_of (CM ∷ ZWJ ∷ []) (shown x).class))) attached_are_last symbol lt)
 
--- the conditions read no more of a character than its symbol has
+-- the conditions depend on a character only through its symbol
 pub narrow_before : (class : LineClass) (is_wide : Bool) → (is_one_of (CP ∷ []) (base_class class) && not is_wide)
     ≡ (is_one_of (CP ∷ []) (base_class class) && not (is_one_of (CP ∷ OP ∷ []) class && is_wide))
 narrow_before CP is_wide = refl
@@ -108,7 +108,7 @@ answers_after_told true c false = rw (narrow_after c.class c.is_wide) refl
 answers_after_told false c true = rw (narrow_after c.class c.is_wide) refl
 answers_after_told false c false = rw (narrow_after c.class c.is_wide) refl
 
--- the symbol in the table has all that the rules read of the character
+-- the symbol in the table represents all that the rules read of the character
 pub symbol_shown : (p : Properties) (index symbol : ℕ) → index ≡ line_index p → symbol ≡ get_or SYMBOLS index 0 → shown symbol ≡ told (character_by p)
 symbol_shown p index symbol is reads =
     ap shown reads ∙ ap (λ i. shown (get_or SYMBOLS i 0)) is

@@ -1,4 +1,4 @@
--- The marks of the pass over the characters are those of the bases.
+-- The pass over the characters gives the marks of the bases.
 use Rattle.std.proofs.Common.{◌≡◌, ℕ, Bool, true, false, ◌==◌, nat_lt, not, suc, ◌+◌, ◌-◌, ◌<◌, ◌≤◌, Some, length, get_or, take, drop, arith, List, [], ◌∷◌, ◌++◌, map, if◌then◌else◌, refl, sym, ap, ◌∙◌, append_assoc, append-nil, inl, inr}
 use Rattle.std.proofs.Math.ListN.{set}
 use Rattle.std.specs.List.{slice_get}
@@ -23,14 +23,14 @@ use Rattle.breaks.proofs.PassLemmas.{first_base}
 use Rattle.breaks.proofs.StepLemmas.{end_attached}
 use Rattle.breaks.proofs.SymbolLemmas.{is_digit, is_not_attached}
 
--- the marks from the position after the last base on, by a recursion over the characters
+-- the marks from the position after the base `last` on, by recursion over the characters
 abbrev pub walk : Bool → List Base → Base → List Character → List Mark
 walk whole_numbers others last [] = Must ∷ []
 walk whole_numbers others last (c ∷ text) =
     if stays_with (end_of last) c then Never ∷ walk whole_numbers others (with_attached last c) text
     else mark_by (rules whole_numbers) (last ∷ others) (bases_of (c ∷ text)) ∷ walk whole_numbers (last ∷ others) (alone c) text
 
--- the base that results if the first of some bases is joined to another
+-- the bases that result if `last` replaces the first character of the first base
 abbrev grown : Base → List Base → List Base
 grown last [] = last ∷ []
 grown last (b ∷ bases) = record { first = last.first; attached = last.attached ++ b.attached } ∷ bases
@@ -61,7 +61,7 @@ nevers_attached (a ∷ attached) c marks = ap (λ ms. Never ∷ ms) (nevers_atta
 same_tail : (front : List Mark) (m n : Mark) (ms ns : List Mark) → m ≡ n → ms ≡ ns → front ++ m ∷ ms ≡ front ++ n ∷ ns
 same_tail front m n ms ns mark marks = rw (mark, marks) refl
 
--- the marks of the recursion from a base on are those of the bases
+-- the recursion from the base `last` on gives the marks of the bases
 walk_is : (whole_numbers : Bool) (others : List Base) (last : Base) (text : List Character) (end : Character)
     → end_of last ≡ end → nevers last.attached ++ walk whole_numbers others last text
     ≡ marks_after whole_numbers others (grown last (bases_of (end ∷ text)))
@@ -80,7 +80,7 @@ walk_is whole_numbers others last (c ∷ text) end is =
           ∙ ap (marks_after whole_numbers others) (sym (grown_end last end (bases_of (c ∷ text)))))
     ]
 
--- the marks of the recursion over a text are those of the bases
+-- the recursion over a text gives the marks of its bases
 pub walk_from_start : (whole_numbers : Bool) (c : Character) (text : List Character) → walk whole_numbers [] (alone c) text ≡ marks_after whole_numbers [] (bases_of (c ∷ text))
 walk_from_start whole_numbers c text = walk_is whole_numbers [] (alone c) text c refl ∙ ap (marks_after whole_numbers []) (grown_alone c text)
 
@@ -90,14 +90,15 @@ unfolding marks_of
 none_marked t whole_numbers [] none = refl
 none_marked t whole_numbers (c ∷ text) none = absurd (omega arith)
 
--- the marks of a text are those of the recursion from its second character on
+-- the recursion from the second character of a text on gives the marks of the text
 pub begins_walk : (t : Tables) (whole_numbers : Bool) (text rest : List ℕ) (c : ℕ) (first : Character)
     (marks : List Mark) → text ≡ c ∷ rest → first ≡ character t c → marks ≡ [] → marks
     ++ walk whole_numbers [] (alone first) (map (character t) rest) ≡ marks_of t whole_numbers text
 unfolding marks_of
 begins_walk t whole_numbers text rest c first marks is reads none = rw (none, is, reads) (walk_from_start whole_numbers (character t c) (map (character t) rest))
 
--- the state belongs to the bases so far, and the marks so far and those of the recursion are all marks
+-- The state belongs to the bases so far. The marks so far, followed by the marks of the recursion, are all
+-- marks.
 abbrev pub Walks : Bool → Walk → List Mark → List Character → List Mark → Type 0
 Walks whole_numbers before marks text whole =
     (last : Base) × (others : List Base) × Stands whole_numbers before last others × (marks ++ walk whole_numbers others last text ≡ whole)
@@ -141,7 +142,8 @@ other_class symbol c below shows begins =
     ap (λ d. is_one_of (CM ∷ ZWJ ∷ []) d.class) (sym shows) ∙ not_is _ (sym (is_not_attached symbol below) ∙ begins)
 
 module _ {X : Type 0} (read : X → Character) (rest : List X) where
-  -- if the character at i joins the base before it, whether NU is the next base is the same from i + 1 on
+  -- if the character at i joins the base before it, `is_before_digit` gives the same result from i as from i
+  -- + 1
   pub looks_on : (i : ℕ) (x : X) (symbol : ℕ) → i < length rest → x ≡ get_or rest i x → symbol < SYMBOL_COUNT
       → shown symbol ≡ told (read x) → ATTACHED ≤ symbol → is_before_digit (map read (drop i rest))
       ≡ is_before_digit (map read (drop (i + 1) rest))
@@ -221,7 +223,7 @@ pub read_once : (t : Tables) (text : List ℕ) → map character_by (map (proper
 read_once t [] = refl
 read_once t (c ∷ text) = ap (λ cs. character t c ∷ cs) (read_once t text)
 
--- an empty text has no marks, for a list of its length
+-- if a text is empty, a list of the same length is the list of its marks
 pub none_at_all : (t : Tables) (whole_numbers : Bool) (text : List ℕ) (marks : List Mark) → length text ≡ 0 → length marks ≡ length text → marks ≡ marks_of t whole_numbers text
 none_at_all t whole_numbers [] [] none len = sym (none_marked t whole_numbers [] refl)
 none_at_all t whole_numbers [] (m ∷ marks) none len = absurd (omega arith)
@@ -230,7 +232,8 @@ none_at_all t whole_numbers (c ∷ text) marks none len = absurd (omega arith)
 pub one_longer : {X : Type 0} (text : List X) (x : X) (rest : List X) (marks : List Mark) → length marks ≡ length text → text ≡ x ∷ rest → length marks ≡ length rest + 1
 one_longer text x rest marks len is = omega (arith, ap length is)
 
--- the marks of a text are those of the recursion from its second character on, read from the properties
+-- the recursion from the second character of a text on, with characters read from their properties, gives the
+-- marks of the text
 pub begins_read : (t : Tables) (whole_numbers : Bool) (text : List ℕ) (properties rest : List Properties)
     (p : Properties) → properties ≡ map (properties_of t) text → properties ≡ p ∷ rest
     → walk whole_numbers [] (alone (character_by p)) (map character_by rest) ≡ marks_of t whole_numbers text

@@ -45,7 +45,7 @@ small_kana = refl
 unknown : resolved XX true ≡ AL
 unknown = refl
 
--- LB3 to LB6: a line ends after BK, CR, LF and NL, but not between CR and LF, nor before any of them
+-- LB3 to LB6: a line ends after BK, CR, LF or NL, but not between CR and LF, and not before any of them
 ends : marks_by (AL ∷ CR ∷ LF ∷ []) ≡ Never ∷ Never ∷ Must ∷ []
 unfolding rules rows_before_numbers rows_of_numbers rows_after_numbers
 ends = refl
@@ -58,7 +58,7 @@ twice : marks_by (LF ∷ CR ∷ NL ∷ []) ≡ Must ∷ Must ∷ Must ∷ []
 unfolding rules rows_before_numbers rows_of_numbers rows_after_numbers
 twice = refl
 
--- LB7, LB8 and LB18: a line may end after spaces, and not before them
+-- LB7, LB8 and LB18: a line may end after spaces, but not before them
 spaces : marks_by (AL ∷ SP ∷ SP ∷ AL ∷ []) ≡ Never ∷ Never ∷ May ∷ Must ∷ []
 unfolding rules rows_before_numbers rows_of_numbers rows_after_numbers
 spaces = refl
@@ -133,7 +133,7 @@ in_parentheses : marks_by (PR ∷ OP ∷ NU ∷ CP ∷ PO ∷ []) ≡ Never ∷ 
 unfolding rules rows_before_numbers rows_of_numbers rows_after_numbers
 in_parentheses = refl
 
--- LB25 as a rule on two bases, and with whole numbers
+-- LB25 as rules on pairs of bases, and with whole numbers
 opened_price : (marks_by (PR ∷ OP ∷ NU ∷ []) ≡ Never ∷ Never ∷ Must ∷ []) × (whole_marks_by (PR ∷ OP ∷ NU ∷ []) ≡ Never ∷ Never ∷ Must ∷ [])
 unfolding rules rows_before_numbers rows_of_numbers rows_after_numbers
 opened_price = (refl, refl)

@@ -1,4 +1,5 @@
--- The bases of a paragraph: its characters, each with the combining marks that join it (UAX #14, LB1, LB9 and LB10).
+-- The bases of a paragraph, each of which is a character with the combining marks that join it (UAX #14, LB1,
+-- LB9 and LB10).
 use Rattle.std.specs.Prelude.{ℕ, Bool, true, false, not, ◌&&◌, List, [], ◌∷◌, if◌then◌else◌}
 use Rattle.ucd.specs.Tables.{line_class_of, is_wide_in, is_mark_in, is_future_pictograph_in}
 use Rattle.ucd.specs.declared.line_class.LineClass.{LineClass}
@@ -6,7 +7,8 @@ use Rattle.ucd.specs.declared.line_class.LineClass.TheVariants.{AI, AL, BK, CJ, 
 use Rattle.ucd.specs.declared.tables.Tables.{Tables}
 use Rattle.breaks.specs.Classes.{is_one_of}
 
--- LB1: AI, SG and XX become AL; SA becomes CM if it is a mark of category Mn or Mc, and else AL; CJ becomes NS
+-- LB1: AI, SG and XX become AL, and CJ becomes NS. SA becomes CM for a mark of category Mn or Mc, and AL
+-- otherwise.
 abbrev pub resolved : LineClass → Bool → LineClass
 resolved AI is_mark = AL
 resolved SG is_mark = AL
@@ -16,13 +18,13 @@ resolved SA false = AL
 resolved CJ is_mark = NS
 resolved class is_mark = class
 
--- the properties of a character that the rules need, with the class that LB1 gives it
+-- what the rules need to know about a character, with the class that LB1 gives it
 pub record Character : Type 0 where
   pub class : LineClass
   pub is_wide : Bool
   pub is_future_pictograph : Bool
 
--- the character at a code point, from the tables
+-- the character with code point c, from the tables
 abbrev pub character : Tables → ℕ → Character
 character t c = record {
   class = resolved (line_class_of t c) (is_mark_in t c);
@@ -30,7 +32,7 @@ character t c = record {
   is_future_pictograph = is_future_pictograph_in t c;
 }
 
--- a base: a character, and those that join it
+-- a base: a character, and the combining marks and ZWJ that join it
 pub record Base : Type 0 where
   pub first : Character
   pub attached : List Character
@@ -40,7 +42,8 @@ abbrev pub stays_with : Character → Character → Bool
 stays_with before c =
     is_one_of (CM ∷ ZWJ ∷ []) c.class && not (is_one_of (BK ∷ CR ∷ LF ∷ NL ∷ SP ∷ ZW ∷ []) before.class)
 
--- puts a character before some bases: it is a base of its own, or the first base joins it
+-- Puts a character before some bases. It becomes a base of its own, or the new first character of the first
+-- base.
 abbrev pub alone : Character → Base
 alone c = record { first = c; attached = [] }
 

@@ -6,14 +6,15 @@ use Rattle.breaks.specs.Rules.{rules, mark_by}
 use Rattle.breaks.specs.declared.mark.Mark.{Mark}
 use Rattle.breaks.specs.declared.mark.Mark.TheVariants.{Never}
 
--- The marks after the characters of some bases: `Never` inside a base (LB9), and the mark of the rules after each.
--- `before` has the bases before these, the nearest first.
+-- The marks after the characters of some bases: `Never` inside a base (LB9), and the mark that the rules give
+-- after each base. `before` has the bases before these, the nearest first.
 abbrev pub marks_after : Bool → List Base → List Base → List Mark
 marks_after whole_numbers before [] = []
 marks_after whole_numbers before (b ∷ after) =
     map (λ _. Never) b.attached
     ++ mark_by (rules whole_numbers) (b ∷ before) after ∷ marks_after whole_numbers (b ∷ before) after
 
--- the mark after each character of a paragraph, with whole numbers, or with LB25 as a rule on two bases
+-- The mark after each character of a paragraph. LB25 is applied to whole numbers if `whole_numbers` is true,
+-- and otherwise to pairs of bases.
 unfoldable pub marks_of : Tables → Bool → List ℕ → List Mark
 marks_of t whole_numbers text = marks_after whole_numbers [] (bases_of (map (character t) text))

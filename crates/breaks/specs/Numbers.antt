@@ -1,5 +1,5 @@
--- Whole numbers (UAX #14, LB25 in the form of section 8.2, example 7). No line ends inside what the expression `(PR |
--- PO)? (OP | HY)? NU (NU | SY | IS)* (CL | CP)? (PR | PO)?` matches, whichever bases those are.
+-- Whole numbers (UAX #14, LB25 in the form of section 8.2, example 7). No line ends inside any bases that
+-- match the expression `(PR | PO)? (OP | HY)? NU (NU | SY | IS)* (CL | CP)? (PR | PO)?`.
 use Rattle.std.specs.Prelude.{Bool, true, false, ◌&&◌, List, [], ◌∷◌, ◌++◌, map, reverse, if◌then◌else◌}
 use Rattle.std.specs.List.{list_any}
 use Rattle.ucd.specs.declared.line_class.LineClass.{LineClass}
@@ -7,7 +7,7 @@ use Rattle.ucd.specs.declared.line_class.LineClass.TheVariants.{CL, CP, HY, IS, 
 use Rattle.breaks.specs.Bases.{Base, class_of}
 use Rattle.breaks.specs.Classes.{is_same, is_one_of}
 
--- the parts of a number
+-- the classes in each part of a number
 abbrev pub affix : List LineClass
 affix = PR ∷ PO ∷ []
 
@@ -20,7 +20,7 @@ middle = NU ∷ SY ∷ IS ∷ []
 abbrev pub closing : List LineClass
 closing = CL ∷ CP ∷ []
 
--- the rest of a list after its first item, if that has one of the classes; and after all such items at its front
+-- a list without its first item, if that is one of `classes`, and a list without all such items at its front
 abbrev pub after_one : List LineClass → List LineClass → List LineClass
 after_one classes [] = []
 after_one classes (class ∷ rest) = if is_one_of classes class then rest else class ∷ rest
@@ -33,8 +33,8 @@ abbrev pub is_nothing : List LineClass → Bool
 is_nothing [] = true
 is_nothing (class ∷ rest) = false
 
--- The expression from each of its parts on, the last part first. No class is in two adjacent parts, so a part can
--- take all that it matches.
+-- Whether a list of classes matches the expression from one of its parts on, with the last part first. No
+-- class is in two adjacent parts, so each part can match greedily.
 abbrev pub is_end : List LineClass → Bool
 is_end classes = is_nothing (after_one affix classes)
 
@@ -48,7 +48,7 @@ begins_with_digit (class ∷ rest) = is_same class NU && goes_on rest
 abbrev pub is_unaffixed : List LineClass → Bool
 is_unaffixed classes = begins_with_digit (after_one opening classes)
 
--- whether a list is a number
+-- whether a list of classes matches the whole expression
 abbrev pub is_number : List LineClass → Bool
 is_number classes = is_unaffixed (after_one affix classes)
 
@@ -57,7 +57,7 @@ abbrev pub fronts : {A : Type 0} → List A → List (List A)
 fronts [] = []
 fronts (a ∷ rest) = (a ∷ []) ∷ map (λ front. a ∷ front) (fronts rest)
 
--- some bases directly before a position, the nearest first, and some directly after it form a number
+-- whether some bases directly before a position, the nearest first, and some directly after it form a number
 abbrev pub is_in_number : List Base → List Base → Bool
 is_in_number before after =
     list_any (λ front. list_any (λ back. is_number (map class_of (reverse front ++ back))) (fronts after)) (fronts before)

@@ -1,6 +1,6 @@
--- The rules for break marks (UAX #14, LB3 to LB31), in the order of the annex. LB1, LB9 and LB10 make bases of the
--- characters (Bases.antt). LB2 is about the position before a text, which has no mark. LB31 applies if no rule of the
--- table does. Whole numbers have a rule of their own in place of LB25 (Numbers.antt).
+-- The rules for break marks (UAX #14, LB3 to LB31), in the order of the annex. LB1, LB9 and LB10 turn the
+-- characters into bases (Bases.antt). LB2 is about the position before a text, which has no mark. LB31
+-- applies if no rule of the table does. For whole numbers, a separate rule replaces LB25 (Numbers.antt).
 use Rattle.std.specs.Prelude.{◌%◌, ◌==◌, Bool, true, false, not, ◌&&◌, List, [], ◌∷◌, ◌++◌, map, if◌then◌else◌}
 use Rattle.std.specs.List.{prefix_len}
 use Rattle.ucd.specs.declared.line_class.LineClass.{LineClass}
@@ -11,13 +11,13 @@ use Rattle.breaks.specs.Numbers.{is_in_number}
 use Rattle.breaks.specs.declared.mark.Mark.{Mark}
 use Rattle.breaks.specs.declared.mark.Mark.TheVariants.{Never, May, Must}
 
--- A rule: a condition on the bases before a position, the nearest first, and those after it; and the mark that it
--- gives.
+-- A rule: a condition on the bases before a position, the nearest first, and the bases after it, and the mark
+-- that the rule gives.
 pub record Rule : Type 0 where
   pub holds : List Base → List Base → Bool
   pub mark : Mark
 
--- the form of most rules: a condition on the bases before a position, and one on those after it
+-- the form of most rules: a condition on the bases before a position, and another on the bases after it
 pub record Row : Type 0 where
   pub before : List Base → Bool
   pub after : List Base → Bool
@@ -44,27 +44,28 @@ abbrev pub none : List Base → Bool
 none [] = true
 none (b ∷ bases) = false
 
--- the nearest base has one of the classes
+-- whether the nearest base has one of the classes
 abbrev pub is : List LineClass → List Base → Bool
 is classes [] = false
 is classes (b ∷ bases) = is_one_of classes (class_of b)
 
--- the nearest base has one of the classes, and is not wide
+-- whether the nearest base has one of the classes and is not wide
 abbrev pub is_narrow : List LineClass → List Base → Bool
 is_narrow classes [] = false
 is_narrow classes (b ∷ bases) = is_one_of classes (class_of b) && not b.first.is_wide
 
--- the nearest base has none of the classes
+-- whether there is a nearest base, and it has none of the classes
 abbrev pub is_not : List LineClass → List Base → Bool
 is_not classes [] = false
 is_not classes (b ∷ bases) = not (is_one_of classes (class_of b))
 
--- the nearest base has one of the classes, and the one before it one of some others
+-- whether the nearest base has one of `classes`, and the base before it has one of `firsts`
 abbrev pub is_pair : List LineClass → List LineClass → List Base → Bool
 is_pair firsts classes (b ∷ a ∷ bases) = is_one_of firsts (class_of a) && is_one_of classes (class_of b)
 is_pair firsts classes bases = false
 
--- the classes with `SP*` after them: the nearest base that is not a space has one of them
+-- whether the nearest base that is not a space has one of the classes, which the rules write as the class
+-- followed by `SP*`
 abbrev pub without_spaces : List Base → List Base
 without_spaces [] = []
 without_spaces (b ∷ bases) = if is_same (class_of b) SP then without_spaces bases else b ∷ bases
@@ -72,21 +73,21 @@ without_spaces (b ∷ bases) = if is_same (class_of b) SP then without_spaces ba
 abbrev pub is_spaced : List LineClass → List Base → Bool
 is_spaced classes bases = is classes (without_spaces bases)
 
--- the character directly before is a ZWJ
+-- whether the character directly before the position is a ZWJ
 abbrev pub ends_in_zwj : List Base → Bool
 ends_in_zwj [] = false
 ends_in_zwj (b ∷ bases) = is_same (end_of b).class ZWJ
 
--- the number of RI from the start of their run up to the position is odd
+-- whether the run of RI before the position has an odd length
 abbrev pub ends_in_odd_run : List Base → Bool
 ends_in_odd_run bases = prefix_len (λ b. is_same (class_of b) RI) bases % 2 == 1
 
--- the nearest base is Extended_Pictographic and unassigned
+-- whether the nearest base is Extended_Pictographic and unassigned
 abbrev pub is_future_pictograph : List Base → Bool
 is_future_pictograph [] = false
 is_future_pictograph (b ∷ bases) = b.first.is_future_pictograph
 
--- The classes of a set are in the order of LineClass, as in the code's sets of bits.
+-- The classes in each list are in the order of `LineClass`, as in the bit sets of the code.
 abbrev letters : List LineClass
 letters = AL ∷ HL ∷ []
 
@@ -155,7 +156,7 @@ rows_before_numbers =
     never (is letters) (is (PO ∷ PR ∷ [])) ∷
     []
 
--- LB25 as a rule on two bases
+-- LB25 as rules on pairs of bases
 unfoldable pub rows_of_numbers : List Row
 rows_of_numbers =
     never (is (CL ∷ CP ∷ NU ∷ [])) (is (PO ∷ PR ∷ [])) ∷
@@ -186,7 +187,7 @@ rows_after_numbers =
     never is_future_pictograph (is (EM ∷ [])) ∷
     []
 
--- LB25: one rule on whole numbers, or its rows on two bases
+-- LB25: one rule on whole numbers, or the rows on pairs of bases
 abbrev pub numbers : Bool → List Rule
 numbers true = record { holds = is_in_number; mark = Never } ∷ []
 numbers false = map rule_of rows_of_numbers

@@ -1,4 +1,4 @@
--- The part of a character that the rules read, as a symbol.
+-- Each symbol represents the part of a character that the rules read.
 use Rattle.std.specs.Prelude.{ℕ, true, false, ◌&&◌, List, [], ◌∷◌, get_or}
 use Rattle.ucd.specs.declared.line_class.LineClass.{LineClass}
 use Rattle.ucd.specs.declared.line_class.LineClass.TheVariants as class
@@ -6,7 +6,7 @@ use Rattle.ucd.specs.declared.properties.Properties.{Properties}
 use Rattle.breaks.specs.Bases.{Character, resolved}
 use Rattle.breaks.specs.Classes.{is_one_of}
 
--- the character with these properties, as the rules need it
+-- the character with these properties, reduced to what the rules need
 abbrev pub character_by : Properties → Character
 character_by p = record {
   class = resolved p.line_class p.is_mark;
@@ -14,7 +14,8 @@ character_by p = record {
   is_future_pictograph = p.is_future_pictograph;
 }
 
--- the part of a character that the rules read: LB30 needs the width of parentheses only, and LB30b only looks back
+-- The part of a character that the rules read. LB30 needs the width only for parentheses, and LB30b only
+-- looks back.
 abbrev pub told : Character → Character
 told c = record {
   class = c.class;

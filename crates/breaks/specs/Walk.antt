@@ -1,6 +1,6 @@
--- The state of the single pass over the characters: the part of the bases before a position that the rules need. A
--- state belongs to all bases that the rules cannot distinguish from its example bases (`bases_at`). Only the code
--- depends on states: `marks` ensures that its marks are those of Marks.antt.
+-- The state of the single pass over the characters: what the rules need to know about the bases before a
+-- position. A state belongs to all bases that the rules cannot distinguish from its example bases
+-- (`bases_at`). Only the code depends on states. The contract of `marks` refers to Marks.antt instead.
 use Rattle.std.specs.Prelude.{◌≡◌, ℕ, ◌*◌, ◌<◌, Bool, true, false, ◌||◌, ◌&&◌, ◌==◌, ◌++◌, List, [], ◌∷◌, map, MatchBool, get_or, if◌then◌else◌}
 use Rattle.ucd.specs.declared.line_class.LineClass.{LineClass}
 use Rattle.ucd.specs.declared.line_class.LineClass.TheVariants as class
@@ -19,7 +19,7 @@ use Rattle.breaks.specs.declared.symbol.TheConstants.{SYMBOL_COUNT}
 abbrev pub base : LineClass → Base
 base class = alone (narrow class)
 
--- example bases of each state, the nearest first, in the order of the states
+-- Example bases for each state, in the order of the states. The nearest base comes first.
 abbrev pub states : List (List Base)
 states =
     (base class.BK ∷ []) ∷
@@ -68,7 +68,8 @@ states =
 abbrev pub bases_at : ℕ → List Base
 bases_at number = get_or states number []
 
--- the final outcome, from whether the last character is a ZWJ and whether the last base is a future pictograph
+-- the final outcome, given whether the last character is a ZWJ and whether the last base is a future
+-- pictograph
 abbrev pub decided_at : ℕ → Bool → Bool → ℕ
 decided_at outcome is_joined is_pictograph = if is_joined || ((outcome == UNLESS) && is_pictograph) then NEVER else outcome
 
@@ -81,7 +82,8 @@ abbrev pub mark_of : Bool → ℕ → Bool → Mark
 mark_of whole_numbers decided before_digit =
     if whole_numbers && ((decided == WAITS) && before_digit) then Never else get_or (marks_alone whole_numbers) decided Never
 
--- whether the next base of some characters is NU; the first of them may join the base before
+-- Whether the next base that begins in these characters is NU. The first characters may still join the base
+-- before them.
 abbrev pub is_before_digit : List Character → Bool
 is_before_digit [] = false
 is_before_digit (c ∷ text) = if is_one_of (class.CM ∷ class.ZWJ ∷ []) c.class then is_before_digit text else is_same c.class class.NU
@@ -90,7 +92,8 @@ is_before_digit (c ∷ text) = if is_one_of (class.CM ∷ class.ZWJ ∷ []) c.cl
 abbrev pub unattached : List LineClass
 unattached = class.BK ∷ class.CR ∷ class.LF ∷ class.NL ∷ class.SP ∷ class.ZW ∷ []
 
--- LB25 with whole numbers: the conditions on the bases before and after for each place of the expression
+-- LB25 with whole numbers: for each place in the expression, the conditions on the bases before it and after
+-- it
 abbrev pub ends_in_digits : List Base → Bool
 ends_in_digits [] = false
 ends_in_digits (b ∷ bases) = is_same (class_of b) class.NU || (is_one_of middle (class_of b) && ends_in_digits bases)
@@ -115,11 +118,11 @@ number_rows true =
     []
 number_rows false = rows_of_numbers
 
--- all rules as rows, with whole numbers or without
+-- all rules as rows, with or without whole numbers
 unfoldable pub rows : Bool → List Row
 rows whole_numbers = rows_before_numbers ++ (number_rows whole_numbers ++ rows_after_numbers)
 
--- the bases with LB8a and LB30b for pictographs made false for the nearest one
+-- the bases, with the nearest one changed so that LB8a and LB30b for pictographs do not apply to it
 abbrev pub plain : List Base → List Base
 plain [] = []
 plain (b ∷ bases) = record { first = record b.first { is_future_pictograph = false }; attached = narrow class.CM ∷ [] } ∷ bases
@@ -136,8 +139,9 @@ carried bases =
     ∷ is_spaced (class.CL ∷ class.CP ∷ []) bases ∷ is_spaced (class.B2 ∷ []) bases
     ∷ ends_in_odd_run bases ∷ ends_in_digits bases ∷ []
 
--- The state belongs to the bases `last` and `others`, the nearest first; a character may still join `last`. Its row is
--- that of a state whose example bases give and carry the same results. Its two bits describe `last`.
+-- The state `walk` belongs to the bases `last` and `others`, the nearest first. A character may still join
+-- `last`. The row of `walk` is that of a state whose example bases have the same `answers` and `carried`. The
+-- two bits of `walk` describe `last`.
 pub record Stands (whole_numbers : Bool) (walk : Walk) (last : Base) (others : List Base) : Type 0 where
   pub state : ℕ
   pub below : state < STATE_COUNT
@@ -152,7 +156,8 @@ pub record Stands (whole_numbers : Bool) (walk : Walk) (last : Base) (others : L
 abbrev pub with_attached : Base → Character → Base
 with_attached last c = record { first = last.first; attached = last.attached ++ c ∷ [] }
 
--- the outcome before a character gives the mark of the rules, and the new state belongs to the bases with it
+-- the outcome before the character c gives the mark of the rules, and the new state belongs to the bases that
+-- include c
 abbrev pub Passes : Bool → Walk → Base → List Base → Character → ℕ → Type 0
 Passes whole_numbers after last others c decided =
     MatchBool (stays_with (end_of last) c)

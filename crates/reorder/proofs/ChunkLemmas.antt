@@ -1,4 +1,4 @@
--- Reversing each base with its marks before L2 makes L2 put the base first.
+-- If each base with its marks is reversed before L2, L2 puts the base first.
 use Rattle.std.proofs.Common.{◌≡◌, ℕ, zero, suc, ◌+◌, ◌-◌, ◌<◌, ◌≤◌, ◌==◌, Bool, true, false, ◌&&◌, ◌||◌, not, List, [], ◌∷◌}
 use Rattle.std.proofs.Common.{length, get_or, map, take, drop, reverse, Option, None, refl, sym, ap, subst, ◌∙◌, inl, inr, arith}
 use Rattle.std.specs.Prelude.{nat_lt}
@@ -20,7 +20,8 @@ use Rattle.reorder.specs.Order.{has_base, is_mark_at, is_odd, lowest_odd, ltov_o
 -- ---- the groups that the scan finds
 
 module _ (classes : List BidiClass) (levels : List ℕ) where
-  -- the state of the scan after a base: `len` characters, the base and the marks after it, have the same level
+  -- The state of the scan after a base: `len` characters, namely the base and the marks after it, have the
+  -- same level.
   pub record MarksSoFar (start len : ℕ) : Type 0 where
     pub some : 0 < len
     pub within : start + len ≤ length levels
@@ -59,7 +60,7 @@ module _ (classes : List BidiClass) (levels : List ℕ) where
         ];
       }
 
-  -- where the scan ends, no mark of the base follows
+  -- the character at which the scan ends is not a mark of the base
   stops : (start place : ℕ) → is_mark_of place (get_or levels start 0) ≡ false → is_odd (get_or levels start 0) ≡ true
       → is_mark_at classes place ≡ true → get_or levels place 0 ≡ get_or levels start 0 → ⊥
   stops start place ended odd marked same =
@@ -103,7 +104,7 @@ module _ (classes : List BidiClass) (levels : List ℕ) where
         ap (has_base classes levels) next ∙ no_base_after last none,
       )
 
-  -- a mark without a base, or a character at an even level, is a chunk by itself
+  -- a character in no group is a chunk by itself
   alone : (start next : ℕ) → has_base classes levels start ≡ false → has_base classes levels (suc start) ≡ false → next ≡ start + 1
       → IsChunk classes levels start 1 × (has_base classes levels next ≡ false)
   alone start next none more past =
@@ -138,7 +139,8 @@ module _ (classes : List BidiClass) (levels : List ℕ) where
     pub to : place < start + len
     pub there : get_or current place 0 ≡ get_or old (start + (len - 1 - (place - start))) 0
 
-  -- the state of the scan at an index: the chunks before it have been reversed, and the rest is unchanged
+  -- The state of the scan at the index `at`: the chunks before `at` have been reversed, and the rest is
+  -- unchanged.
   pub record Chunked (old current : List ℕ) (at : ℕ) : Type 0 where
     pub sizes : length current ≡ length old
     pub no_base : has_base classes levels at ≡ false
@@ -186,7 +188,7 @@ module _ (classes : List BidiClass) (levels : List ℕ) where
         left = λ k above. after k above ∙ w.left k (omega (arith, above, past));
       }
 
-  -- the theorems on L2 and L3, as assumptions on the groups of the line
+  -- the theorems on L2 and L3, as assumptions about the groups of the line
   module _ (together : (base n : ℕ) → IsGroup classes levels base n → StandsTogether classes levels base n)
       (others : (k : ℕ) → k < length levels → IsAlone classes levels (get_or (vtol_of false classes levels) k 0)
       → get_or (vtol_of true classes levels) k 0 ≡ get_or (vtol_of false classes levels) k 0)
@@ -197,7 +199,8 @@ module _ (classes : List BidiClass) (levels : List ℕ) where
     same_position j k first second same =
         sym (inverse.at_vtol j first) ∙ ap (λ p. get_or (ltov_of false classes levels) p 0) same ∙ inverse.at_vtol k second
 
-    -- reversing each group and then ordering by L2 gives the same item as ordering by L3
+    -- reversing each group and then ordering by L2 gives the same item at each visual position as ordering
+    -- with L3
     read_at : (old current : List ℕ) (k : ℕ) → k < length levels → IsTurned old current (get_or (vtol_of false classes levels) k 0)
         → get_or current (get_or (vtol_of false classes levels) k 0) 0 ≡ get_or old (get_or (vtol_of true classes levels) k 0) 0
     read_at old current k within t =
@@ -276,7 +279,7 @@ without_odd asked classes levels even =
     (λ i. and_right (is_mark_at classes (suc i)) (is_odd (get_or levels i 0) && (get_or levels (suc i) 0 == get_or levels i 0))
     (and_left (is_odd (get_or levels i 0)) (get_or levels (suc i) 0 == get_or levels i 0) (all i))))
 
--- if no level is odd, the visual order is the logical order, with L3 or without
+-- if no level is odd, the visual order is the logical order, with or without L3
 pub stays : (asked : Bool) (classes : List BidiClass) (levels old : List ℕ) → None ≡ lowest_odd levels
     → ((k : ℕ) → k < length levels → is_odd (get_or levels k 0) ≡ false) → length old ≡ length levels
     → old ≡ map (λ k. get_or old k 0) (vtol_of asked classes levels)

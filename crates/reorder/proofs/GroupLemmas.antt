@@ -75,7 +75,8 @@ module _ (classes : List BidiClass) (levels : List ℕ) where
       let parts = bound_is x y is in
       ap (has_base classes levels) parts.0 ∙ ap (λ b. b && (not (is_mark_at classes y) || has_base classes levels y)) parts.1
 
-  -- if each of n positions is bound to the next, and the last is not a mark, all before the last have a base
+  -- if n positions are each bound to the next, and the last character is not a mark, all characters before it
+  -- have a base
   based : (xs : List ℕ) (n d k : ℕ) → AreBound classes levels xs n → is_mark_at classes (get_or xs n 0) ≡ false → k + suc d ≡ n
       → has_base classes levels (get_or xs k 0) ≡ true
   based xs n zero k are plain e =
@@ -88,7 +89,8 @@ module _ (classes : List BidiClass) (levels : List ℕ) where
       base_of (get_or xs k 0) next (are.bound k (omega (arith, e)))
       ∙ or_right (not (is_mark_at classes next)) (has_base classes levels next) (based xs n d (k + 1) are plain (omega (arith, e)))
 
-  -- if each of n positions is bound to the next, and the last is a mark without a base, none of them has one
+  -- if n positions are each bound to the next, and the last character is a mark without a base, none of these
+  -- characters has a base
   unbased : (xs : List ℕ) (n d k : ℕ) → AreBound classes levels xs n → is_mark_at classes (get_or xs n 0) ≡ true
       → has_base classes levels (get_or xs n 0) ≡ false → k + d ≡ n → has_base classes levels (get_or xs k 0) ≡ false
   unbased xs n zero k are mark free e =
@@ -105,7 +107,7 @@ module _ (classes : List BidiClass) (levels : List ℕ) where
       base_of (get_or xs k 0) next (are.bound k (omega (arith, e)))
       ∙ ap₂ (λ (m b : Bool). not m || b) marked (unbased xs n d (k + 1) are mark free (omega (arith, e)))
 
-  -- the position after n bound positions, which is bound to none, has no base
+  -- after n bound positions, the character at the next position, which is not bound, has no base
   free_of : (start : ℕ) (xs : List ℕ) (n z : ℕ) → xs ≡ drop start (order_of levels) → AreBound classes levels xs n → get_or xs n 0 ≡ z
       → has_base classes levels z ≡ false
   free_of start xs n zero is are here = refl
@@ -127,7 +129,8 @@ module _ (classes : List BidiClass) (levels : List ℕ) where
 
 -- ---- lists with intervals reversed
 
--- an interval whose items pass the test is reversed together with the next item, before the rest of the list
+-- an interval whose items pass the test is reversed together with the next item, and the rest of the list
+-- follows
 passed : (test : ℕ → Bool) (run xs : List ℕ) (n : ℕ) → n < length xs → ((k : ℕ) → k < n → test (get_or xs k 0) ≡ true) → test (get_or xs n 0) ≡ false
     → reverse_with_next test run xs ≡ reverse (take (suc n) xs) ++ run ++ reverse_with_next test [] (drop (suc n) xs)
 passed test run [] n within passes stops = absurd (omega (arith, within))
@@ -146,7 +149,7 @@ reversed test xs n within passes stops =
     passed test [] xs n within passes stops
     ∙ ap (λ front. front ++ reverse_with_next test [] (drop (suc n) xs)) (append-nil (reverse (take (suc n) xs)))
 
--- items that fail the test stay where they are
+-- items that fail the test keep their positions
 pub stayed : (test : ℕ → Bool) (xs : List ℕ) (n : ℕ) → n < length xs → ((k : ℕ) → k ≤ n → test (get_or xs k 0) ≡ false)
     → reverse_with_next test [] xs ≡ take (suc n) xs ++ reverse_with_next test [] (drop (suc n) xs)
 stayed test [] n within fails = absurd (omega (arith, within))
@@ -157,7 +160,7 @@ stayed test (x ∷ xs) (suc n) within fails =
     ∙ ap (λ zs. x ∷ zs) (stayed test xs n (omega (arith, within)) (λ k h. fails (suc k) (omega (arith, h))))
 
 module _ (classes : List BidiClass) (levels : List ℕ) (start : ℕ) (xs : List ℕ) (n : ℕ) (is : xs ≡ drop start (order_of levels)) (are : AreBound classes levels xs n) where
-  -- a base after n bound marks: these positions are reversed together
+  -- if a base comes after n bound marks, these n + 1 positions are reversed together
   pub group_reversed : is_mark_at classes (get_or xs n 0) ≡ false
       → reverse_with_next (has_base classes levels) [] xs ≡ reverse (take (suc n) xs) ++ reverse_with_next (has_base classes levels) [] (drop (suc n) xs)
   group_reversed plain =
@@ -167,7 +170,7 @@ module _ (classes : List BidiClass) (levels : List ℕ) (start : ℕ) (xs : List
       based classes levels xs n (n - suc k) k are plain d)
       (free_of classes levels start xs n (get_or xs n 0) is are refl)
 
-  -- a mark without a base after n bound marks: these positions stay where they are
+  -- if a mark without a base comes after n bound marks, these n + 1 positions stay unchanged
   pub marks_stay : is_mark_at classes (get_or xs n 0) ≡ true
       → reverse_with_next (has_base classes levels) [] xs ≡ take (suc n) xs ++ reverse_with_next (has_base classes levels) [] (drop (suc n) xs)
   marks_stay mark =
@@ -179,7 +182,8 @@ module _ (classes : List BidiClass) (levels : List ℕ) (start : ℕ) (xs : List
   abbrev done : List ℕ → List ℕ
   done ys = reverse_with_next (has_base classes levels) [] ys
 
-  -- the result, with the group at the front of the list already written
+  -- once the group at the front of the list has been written, the result is the group followed by the result
+  -- for the rest
   pub group_written : (ys new : List ℕ) → is_mark_at classes (get_or xs n 0) ≡ false → ys ≡ reverse (take (n + 1) xs) → new ≡ ys ++ drop (n + 1) xs
       → done xs ≡ take (n + 1) new ++ done (drop (n + 1) xs)
   group_written ys new plain written whole =
@@ -196,13 +200,13 @@ module _ (classes : List BidiClass) (levels : List ℕ) (start : ℕ) (xs : List
 
 -- ---- the scan of the order
 
--- the state of the scan at an index: the order before it is final, and the rest is unchanged
+-- The state of the scan at the index `start`: the order before `start` is final, and the rest is unchanged.
 pub record Grouped (test : ℕ → Bool) (old current : List ℕ) (start : ℕ) : Type 0 where
   pub sizes : length current ≡ length old
   pub rest : drop start current ≡ drop start old
   pub done : take start current ++ reverse_with_next test [] (drop start old) ≡ reverse_with_next test [] old
 
--- the step over n more positions
+-- the scan moves on by n positions, which it has written in their final order
 pub Grouped-next : (test : ℕ → Bool) (old current ys new : List ℕ) (start n : ℕ) → Grouped test old current start → start ≤ length current
     → new ≡ take start current ++ ys → length ys ≡ length (drop start current) → drop n ys ≡ drop n (drop start current)
     → reverse_with_next test [] (drop start current) ≡ take n ys ++ reverse_with_next test [] (drop n (drop start current))
@@ -224,7 +228,7 @@ Grouped-next test old current ys new start n w within is sizes rest done =
           ∙ w.done;
     }
 
--- the step over n more positions, with the rest of the order as a list of its own
+-- the same step, with the rest of the order as a separate list
 pub Grouped-part : (test : ℕ → Bool) (old current part ys : List ℕ) (start n : ℕ) → Grouped test old current start → start ≤ length current
     → part ≡ drop start current → length ys ≡ length part → drop n ys ≡ drop n part
     → reverse_with_next test [] part ≡ take n ys ++ reverse_with_next test [] (drop n part)

@@ -15,14 +15,14 @@ use Rattle.reorder.specs.InPlace.{flags_at, reverse_flagged}
 
 -- ---- an array, and its list of positions
 
--- reversing by flags is reversing by a test, if the flags are the results of the test
+-- reversing by flags is the same as reversing by a test if the flags are the results of the test
 runs_flagged : (test : ℕ → Bool) (run xs : List ℕ) → reverse_runs test run xs ≡ reverse_flagged (map test xs) run xs
 runs_flagged test run [] = refl
 runs_flagged test run (x ∷ xs) =
     ap (λ (front : List ℕ). if test x then front else run ++ x ∷ reverse_runs test [] xs) (runs_flagged test (x ∷ run) xs)
     ∙ ap (λ (back : List ℕ). if test x then reverse_flagged (map test xs) (x ∷ run) xs else run ++ x ∷ back) (runs_flagged test [] xs)
 
--- reversing the items of an array is reversing their positions
+-- reversing by flags can be done before or after a function is applied to each item
 map_flagged : (f : ℕ → ℕ) (flags : List Bool) (run xs : List ℕ) → map f (reverse_flagged flags run xs) ≡ reverse_flagged flags (map f run) (map f xs)
 map_flagged f [] run xs = refl
 map_flagged f (flag ∷ flags) run [] = refl
@@ -30,7 +30,7 @@ map_flagged f (true ∷ flags) run (x ∷ xs) = map_flagged f flags (x ∷ run) 
 map_flagged f (false ∷ flags) run (x ∷ xs) =
     map-append f run (x ∷ reverse_flagged flags [] xs) ∙ ap (λ back. map f run ++ f x ∷ back) (map_flagged f flags [] xs)
 
--- ---- reversing intervals inside larger ones keeps the positions that the larger ones cover
+-- ---- reversing intervals inside larger intervals does not change which positions the larger intervals cover
 
 trues_first : (n : ℕ) (bits : List Bool) → replicate n true ++ true ∷ bits ≡ true ∷ (replicate n true ++ bits)
 trues_first zero bits = refl
@@ -67,7 +67,7 @@ module _ (levels : List ℕ) where
   map_places : (test : ℕ → Bool) → map (λ k. test (get_or levels k 0)) (places levels) ≡ map test levels
   map_places test = sym (map-map test (λ k. get_or levels k 0) (places levels)) ∙ ap (map test) levels_at_places
 
-  -- the flags of a level stay the same when the intervals of higher levels are reversed
+  -- reversing the intervals of higher levels does not change the flags of a level
   flags_kept : (level low count : ℕ) → level ≤ low → map (is_at_least levels level) (reversed_from levels low count (places levels)) ≡ flags_at level levels
   flags_kept level low zero below = map_places (nat_le level)
   flags_kept level low (suc count) below =
@@ -81,7 +81,7 @@ get_or_first xs start = sym (get_or-drop start xs 0 0 ∙ ap (λ n. get_or xs n 
 
 -- ---- the scan for one level
 
--- an interval of n set flags is reversed at the front, if the flag after it is not set
+-- an interval of n set flags at the front is reversed if the flag after it is not set
 interval : (test : ℕ → Bool) (levels run xs : List ℕ) (n : ℕ) → length levels ≡ length xs → n ≤ length levels
     → ((k : ℕ) → k < n → test (get_or levels k 0) ≡ true) → (n < length levels → test (get_or levels n 0) ≡ false)
     → reverse_flagged (map test levels) run xs ≡ reverse (take n xs) ++ run ++ reverse_flagged (map test (drop n levels)) [] (drop n xs)
@@ -100,7 +100,8 @@ interval test (l ∷ levels) run (x ∷ xs) (suc n) sizes within passes stops =
     ∙ ap (λ (front : List ℕ). front ++ rest) (sym (append_assoc (reverse (take n xs)) (x ∷ []) run))
     ∙ ap (λ (front : List ℕ). front ++ run ++ rest) (sym (reverse-append (x ∷ []) (take n xs)))
 
--- the state of the scan at an index: the intervals before it have been reversed, and the rest is unchanged
+-- The state of the scan at the index `start`: the intervals before `start` have been reversed, and the rest
+-- is unchanged.
 pub record Flagged (test : ℕ → Bool) (levels old current : List ℕ) (start : ℕ) : Type 0 where
   pub sizes : length current ≡ length old
   pub rest : drop start current ≡ drop start old
@@ -109,7 +110,7 @@ pub record Flagged (test : ℕ → Bool) (levels old current : List ℕ) (start 
 pub Flagged-start : (test : ℕ → Bool) (levels old : List ℕ) → Flagged test levels old old 0
 Flagged-start test levels old = record { sizes = refl; rest = refl; done = refl }
 
--- the step over an interval, which may be empty
+-- the scan reverses the next interval, which may be empty, and moves on past it
 pub Flagged-next : (test : ℕ → Bool) (levels old current ys : List ℕ) (start n k next : ℕ) → Flagged test levels old current start → length levels ≡ length old
     → start ≤ length levels → n ≡ prefix_len test (drop start levels) → k ≡ n → ys ≡ reverse (take k (drop start current)) → next ≡ start + n
     → Flagged test levels old (put_mid start k current ys) next
@@ -138,7 +139,7 @@ Flagged-next test levels old current ys start n k next w same inside found e is 
           ∙ w.done;
     }
 
--- the step over an index whose flag is not set
+-- the scan moves on past an index whose flag is not set
 pub Flagged-skip : (test : ℕ → Bool) (levels old current : List ℕ) (start next : ℕ) → Flagged test levels old current start → length levels ≡ length old
     → start < length levels → test (get_or levels start 0) ≡ false → next ≡ start + 1 → Flagged test levels old current next
 Flagged-skip test levels old current start next w same inside failed past =
@@ -187,7 +188,7 @@ TurnedInPlace-start levels old top low same below =
       done = items_at_places levels old same ∙ ap (λ count. map (λ k. get_or old k 0) (reversed_from levels (top + 1) count (places levels))) (sym e);
     }
 
--- the step for one more level
+-- reversing the intervals of `level` gives the state for the next lower level
 pub TurnedInPlace-next : (levels old : List ℕ) (top low : ℕ) (current : List ℕ) (level before : ℕ) (after : List ℕ) → TurnedInPlace levels old top low current level
     → before + 1 ≡ level → low ≤ level → length after ≡ length current → after ≡ reverse_flagged (flags_at level levels) [] current
     → TurnedInPlace levels old top low after before

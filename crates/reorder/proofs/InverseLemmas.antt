@@ -11,7 +11,7 @@ use Rattle.ucd.specs.declared.bidi_class.BidiClass.{BidiClass}
 use Rattle.reorder.specs.Order.{ltov_of, vtol_of, AreInverse}
 use Rattle.reorder.proofs.OrderLemmas.{permuted_within, vtol_permutes}
 
--- 1 if x is k, and else 0
+-- 1 if x is k, and 0 otherwise
 abbrev one : ℕ → ℕ → ℕ
 one k x = cond (x == k) 1 0
 
@@ -77,7 +77,7 @@ permuted_places n vtol p =
           (found.0, omega (arith, found.1), sym (get_or_default vtol found.0 k 0 found.1) ∙ found.2);
     }
 
--- `ltov` has the indices in `vtol` of its first k items
+-- for each of the first k items of `vtol`, `ltov` has the index of the item
 pub record Placed (vtol ltov : List ℕ) (k : ℕ) : Type 0 where
   pub sizes : length ltov ≡ length vtol
   pub done : (m : ℕ) → m < k → get_or ltov (get_or vtol m 0) 0 ≡ m
@@ -100,7 +100,7 @@ Placed-next n vtol ltov k p w within =
       ];
     }
 
--- at the end, `ltov` has the index of each item of `vtol`
+-- at the end, `ltov` has the index of every item of `vtol`
 at_place : (n : ℕ) (vtol ltov : List ℕ) (k i j : ℕ) → Placed vtol ltov k → n ≤ k → i < n → get_or vtol i 0 ≡ j → get_or ltov j 0 ≡ i
 at_place n vtol ltov k i j w past within here = ap (λ m. get_or ltov m 0) (sym here) ∙ w.done i (omega arith)
 
@@ -116,7 +116,7 @@ Placed-inverse n vtol ltov k p w past = record {
   at_vtol = λ j h. w.done j (omega arith);
 }
 
--- the first index of a position in a permutation is its only one
+-- the first index of a position in a permutation is its only index
 first_at : (n : ℕ) (vtol : List ℕ) (i j : ℕ) → ArePlaces n vtol → i < n → get_or vtol i 0 ≡ j → position_or_len (λ x. x == j) vtol ≡ i
 first_at n vtol i j p within here =
     position_or_len_is (λ x. x == j) vtol i 0 (omega (arith, p.sizes))
@@ -136,7 +136,7 @@ Placed-positions n vtol ltov k p w past =
     ∙ sym (first_at n vtol there.0 j p there.1 there.2)
     ∙ sym (get_or-map-range_with_len position 0 n j j d within (omega arith)))
 
--- a list of the first index of each position is the inverse of the permutation
+-- the list of the first index of each position is the inverse of the permutation
 pub first_positions : (n : ℕ) (vtol : List ℕ) → ArePlaces n vtol → Placed vtol (map (λ j. position_or_len (λ x. x == j) vtol) (range_with_len 0 n)) n
 first_positions n vtol p =
     let position = λ (j : ℕ). position_or_len (λ x. x == j) vtol in
@@ -147,7 +147,7 @@ first_positions n vtol p =
           ∙ first_at n vtol m (get_or vtol m 0) p h refl;
     }
 
--- the two maps of a line are inverse
+-- the two maps of a line are inverse to each other
 pub inverse_maps : (reordernsm : Bool) (classes : List BidiClass) (levels : List ℕ)
     → AreInverse (length levels) (vtol_of reordernsm classes levels) (ltov_of reordernsm classes levels)
 unfolding ltov_of

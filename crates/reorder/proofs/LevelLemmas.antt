@@ -31,12 +31,12 @@ pub record IsLow (levels : List ℕ) (top low : ℕ) : Type 0 where
   pub above : 0 < low
   pub below : low ≤ top
 
--- the lowest odd level, if there is one
+-- `Some low` is the lowest odd level of the list, and `None` means that no level is odd
 abbrev pub IsLowest : List ℕ → ℕ → Option ℕ → Type 0
 IsLowest levels top None = (m : ℕ) → has_odd levels m ≡ false
 IsLowest levels top (Some low) = IsLow levels top low
 
--- the state of the scan after k levels
+-- the state of the scan after k levels: the highest level and the lowest odd level so far
 pub record Extremes (levels : List ℕ) (k top : ℕ) (lowest : Option ℕ) : Type 0 where
   pub top_is : top ≡ highest (take k levels)
   pub lowest_is : IsLowest (take k levels) top lowest
@@ -48,7 +48,7 @@ or_none : (b : Bool) → (b || false) ≡ b
 or_none true = refl
 or_none false = refl
 
--- appending a level does not change whether another level is an odd one of the list
+-- appending a level does not change whether a different level is odd and in the list
 other : (levels : List ℕ) (k m : ℕ) → k < length levels → (get_or levels k 0 ≡ m → ⊥) → has_odd (take (k + 1) levels) m ≡ has_odd (take k levels) m
 other levels k m within ne =
     let before = list_any (λ level. level == m) (take k levels) in
@@ -73,7 +73,7 @@ here levels k within odd =
     and_from (is_odd x) (list_any (λ level. level == x) (take (k + 1) levels)) odd
     (list_any_more (λ level. level == x) levels k 0 within ∙ or_right (list_any (λ level. level == x) (take k levels)) (x == x) (eq-eqb x x refl))
 
--- an odd level of a prefix is one of each longer prefix
+-- an odd level of a prefix is an odd level of every longer prefix
 kept : (levels : List ℕ) (k m : ℕ) → has_odd (take k levels) m ≡ true → has_odd (take (k + 1) levels) m ≡ true
 kept levels k m there =
     let both = and_parts (is_odd m) (list_any (λ level. level == m) (take k levels)) there in
@@ -82,7 +82,7 @@ kept levels k m there =
 positive : (x : ℕ) → is_odd x ≡ true → 0 < x
 positive x odd = let e : x % 2 ≡ 1 = eqb-true (x % 2) 1 odd in omega arith
 
--- the lowest odd level after an even level
+-- after an even level, the lowest odd level is the same as before
 past_even : (levels : List ℕ) (k top next : ℕ) (lowest : Option ℕ) → k < length levels → is_odd (get_or levels k 0) ≡ false → top ≤ next
     → IsLowest (take k levels) top lowest → IsLowest (take (k + 1) levels) next lowest
 past_even levels k top next None within e more w = λ m. even levels k m within e ∙ w m
@@ -93,7 +93,7 @@ past_even levels k top next (Some low) within e more w = record {
   below = omega (arith, w.below);
 }
 
--- the lowest odd level after an odd level that is lower than the earlier ones
+-- after an odd level that is lower than all earlier odd levels, that level is the lowest odd level
 past_lower : (levels : List ℕ) (k top next : ℕ) → k < length levels → is_odd (get_or levels k 0) ≡ true → get_or levels k 0 ≤ next
     → ((m : ℕ) → m < get_or levels k 0 → has_odd (take k levels) m ≡ false) → IsLow (take (k + 1) levels) next (get_or levels k 0)
 past_lower levels k top next within odd more w = record {
@@ -145,13 +145,13 @@ Extremes-next levels k top next lowest after w within most is =
       ];
     }
 
--- the result of the scan
+-- the result of the scan: the highest level and the lowest odd level
 pub record Found (levels : List ℕ) (top : ℕ) (lowest : Option ℕ) : Type 0 where
   pub top_is : top ≡ highest levels
   pub lowest_is : lowest ≡ lowest_odd levels
   pub ordered : IfSome lowest (λ low. (0 < low) × (low ≤ top))
 
--- the lowest odd level found is that of the definition
+-- the lowest odd level that the scan finds is `lowest_odd`
 is_least : (levels : List ℕ) (top : ℕ) (lowest : Option ℕ) → top ≡ highest levels → IsLowest levels top lowest → Found levels top lowest
 is_least levels top None e w = record { top_is = e; lowest_is = sym (least_none (has_odd levels) 0 (suc (highest levels)) w); ordered = tt }
 is_least levels top (Some low) e w = record {
@@ -165,7 +165,7 @@ Extremes-end levels k top lowest w past =
     let whole : take k levels ≡ levels = take_all k levels past in
     is_least levels top lowest (w.top_is ∙ ap highest whole) (subst (λ (xs : List ℕ). IsLowest xs top lowest) whole w.lowest_is)
 
--- ---- the same scan with a number and a flag; an even level is represented by 255
+-- ---- the same scan, with a number and a flag for the lowest odd level; an even level counts as 255
 
 abbrev pub lowest_by : Bool → ℕ → Option ℕ
 lowest_by any low = if any then Some low else None

@@ -22,7 +22,7 @@ after ys xs x y a = record {
 
 -- ---- reversing the intervals of one level
 
--- adjacent items of the current interval stay adjacent
+-- adjacent items of the current interval stay adjacent when it is reversed
 inside : (test : ℕ → Bool) (ys run back : List ℕ) (x y : ℕ) → Adjacent y x (reverse_runs test (ys ++ y ∷ x ∷ run) back)
 inside test ys run [] x y = record { front = ys; back = run; is = refl }
 inside test ys run (b ∷ back) x y =
@@ -122,7 +122,8 @@ module _ (levels : List ℕ) (i : ℕ) (same : get_or levels (suc i) 0 ≡ get_o
   at_start : Adjacent i (suc i) (places levels)
   at_start = subst (λ (k : ℕ). Adjacent k (suc k) (places levels)) (zero-add i) (range_pair 0 i (length levels) within)
 
-  -- reversing the intervals of levels above that of two characters keeps them adjacent, in the same order
+  -- reversing the intervals of levels above that of two adjacent characters keeps these characters adjacent,
+  -- in the same order
   above : (low count : ℕ) → get_or levels i 0 < low → Adjacent i (suc i) (reversed_from levels low count (places levels))
   above low zero h = at_start
   above low (suc count) h =
@@ -130,7 +131,8 @@ module _ (levels : List ℕ) (i : ℕ) (same : get_or levels (suc i) 0 ≡ get_o
       let there : is_at_least levels low (suc i) ≡ false = lt-leb low (get_or levels (suc i) 0) (omega (arith, h, same)) in
       pass_keeps (is_at_least levels low) (reversed_from levels (suc low) count (places levels)) i (suc i) (above (suc low) count (omega (arith, h))) here there
 
-  -- reversing the intervals of `d + 1` levels, from that of two characters down, keeps them adjacent
+  -- reversing the intervals of `d + 1` levels, from the level of two adjacent characters down, keeps these
+  -- characters adjacent
   down : (d low count : ℕ) → low + d ≡ get_or levels i 0 → d < count → Lies (is_turned (suc d)) i (suc i) (reversed_from levels low count (places levels))
   down d low zero e h = absurd (omega (arith, h))
   down zero low (suc count) e h =
@@ -145,7 +147,7 @@ module _ (levels : List ℕ) (i : ℕ) (same : get_or levels (suc i) 0 ≡ get_o
 
 -- ---- the lowest odd level
 
--- the properties of a result of `least`
+-- what a result of `least` says about the numbers of the range
 abbrev Says : (ℕ → Bool) → ℕ → ℕ → Option ℕ → Type 0
 Says p low count None = (m : ℕ) → low ≤ m → m < low + count → p m ≡ false
 Says p low count (Some k) = (p k ≡ true) × ((m : ℕ) → low ≤ m → m < k → p m ≡ false)

@@ -1,4 +1,4 @@
--- Lists with their intervals reversed.
+-- Reversing the intervals of a list, for one level after another.
 use Rattle.std.proofs.Common.{◌≡◌, ℕ, zero, suc, ◌+◌, ◌-◌, ◌<◌, ◌≤◌, ◌==◌, Bool, true, false, List, [], ◌∷◌, ◌++◌, length}
 use Rattle.std.proofs.Common.{get_or, map, take, drop, reverse, Option, Some, None, sym, ap, subst, ◌∙◌, inl, inr, arith, add-one, append_assoc}
 use Rattle.std.specs.List.{position_or_len, prefix_len, range_with_len}
@@ -23,7 +23,7 @@ range_more a (suc n) =
     let last : a + 1 + n ≡ a + suc n = omega arith in
     ap (range_with_len a) e ∙ ap (λ ks. a ∷ ks) (range_more (a + 1) n) ∙ ap (λ k. a ∷ (range_with_len (a + 1) n ++ k ∷ [])) last
 
--- the first interval of a list is reversed, before the item after it and the rest
+-- the first interval of a list is reversed, and the item after it and the rest of the list follow
 split : (test : ℕ → Bool) (run xs : List ℕ) (n : ℕ) → n ≤ length xs → ((k : ℕ) → k < n → test (get_or xs k 0) ≡ true)
     → (n < length xs → test (get_or xs n 0) ≡ false)
     → reverse_runs test run xs ≡ reverse (take n xs) ++ run ++ take 1 (drop n xs) ++ reverse_runs test [] (drop (suc n) xs)
@@ -45,13 +45,14 @@ first test xs n found =
     (λ h. rw found (prefix_len_stops test xs 0 (rw (← found) h)))
     ∙ ap (λ zs. zs ++ take 1 (drop n xs) ++ reverse_runs test [] (drop (suc n) xs)) (append-nil (reverse (take n xs)))
 
--- the state of the scan at an index: the intervals before it have been reversed, and the rest is unchanged
+-- The state of the scan at the index `start`: the intervals before `start` have been reversed, and the rest
+-- is unchanged.
 pub record Reversed (test : ℕ → Bool) (old current : List ℕ) (start : ℕ) : Type 0 where
   pub sizes : length current ≡ length old
   pub rest : drop start current ≡ drop start old
   pub done : take start current ++ reverse_runs test [] (drop start old) ≡ reverse_runs test [] old
 
--- the step over an interval, which may be empty, and the item after it
+-- the scan reverses the next interval, which may be empty, and moves on past it and the item after it
 pub Reversed-next : (test : ℕ → Bool) (old current ys : List ℕ) (start n k : ℕ) → Reversed test old current start → start < length current
     → n ≡ prefix_len test (drop start current) → k ≡ n → ys ≡ reverse (take k (drop start current))
     → Reversed test old (put_mid start k current ys) (start + (n + 1))
@@ -101,7 +102,7 @@ Turned-start levels items top low below =
     let e : top - top ≡ 0 = omega arith in
     record { from = omega arith; to = omega arith; done = ap (λ count. reversed_from levels (top + 1) count items) (sym e) }
 
--- the step for one more level
+-- reversing the intervals of `level` gives the state for the next lower level
 pub Turned-next : (levels items : List ℕ) (top low : ℕ) (current : List ℕ) (level before : ℕ) (after : List ℕ) → Turned levels items top low current level
     → before + 1 ≡ level → low ≤ level → after ≡ reverse_runs (is_at_least levels level) [] current → Turned levels items top low after before
 Turned-next levels items top low current level before after w e more is =
@@ -134,7 +135,7 @@ pub without_odd : (levels current : List ℕ) → current ≡ places levels → 
 unfolding order_of
 without_odd levels current is none = is ∙ ap (order_by levels) none
 
--- reversing intervals is a permutation
+-- reversing intervals permutes the list
 runs_permute : (test : ℕ → Bool) (run xs : List ℕ) → IsPermutation (run ++ xs) (reverse_runs test run xs)
 runs_permute test run [] = subst (λ (ys : List ℕ). IsPermutation ys run) (sym (append-nil run)) (IsPermutation-refl run)
 runs_permute test run (x ∷ xs) =
@@ -162,7 +163,7 @@ pub order_of_permutes : (levels : List ℕ) → IsPermutation (places levels) (o
 unfolding order_of
 order_of_permutes levels = by_permutes levels (lowest_odd levels)
 
--- reversing intervals together with the item after each is a permutation
+-- reversing each interval together with the item after it permutes the list
 pub with_next_permutes : (test : ℕ → Bool) (run xs : List ℕ) → IsPermutation (run ++ xs) (reverse_with_next test run xs)
 with_next_permutes test run [] = subst (λ (ys : List ℕ). IsPermutation ys run) (sym (append-nil run)) (IsPermutation-refl run)
 with_next_permutes test run (x ∷ xs) =
@@ -196,7 +197,7 @@ permuted_within n xs p k within =
     omega (arith, get_or-range_with_len 0 n j d short))
     k 0 within
 
--- a permutation of a list has the same upper bound
+-- if all items of a list are below n, so are the items of each permutation of the list
 pub permuted_below : (n : ℕ) (xs ys : List ℕ) → IsPermutation xs ys → AreWithin n xs → AreWithin n ys
 permuted_below n xs ys p within k short =
     All-permutation (λ x. x < n) xs ys p (λ j d inside. omega (arith, within j inside, get_or_default xs j d 0 inside)) k 0 short

@@ -20,7 +20,7 @@ use Rattle.reorder.proofs.OrderLemmas.{without_odd}
 abbrev pub AreZero : List ℕ → Type 0
 AreZero levels = (k : ℕ) → get_or levels k 0 ≡ 0
 
--- if all levels are 0, so are those of a prefix
+-- if all levels are 0, so are the levels of a prefix
 pub zero_take : (levels : List ℕ) (n : ℕ) → AreZero levels → AreZero (take n levels)
 zero_take levels zero zeros k = get_or_past (take zero levels) k 0 (omega arith)
 zero_take [] (suc n) zeros k = refl
@@ -103,11 +103,11 @@ plain_within n k below =
     let lt : k < n = omega (arith, below, length-range_with_len 0 n) in
     omega (arith, lt, get_or-range_with_len 0 n k 0 lt)
 
--- the classes in the properties of characters are those of the tables
+-- the properties of a character have the same class as the tables
 pub classes_are : (t : Tables) (line : List ℕ) → map class_in (map (properties_of t) line) ≡ map (class_of t) line
 classes_are t [] = refl
 classes_are t (c ∷ line) = ap (λ cs. class_of t c ∷ cs) (classes_are t line)
 
--- a list written over the front of another is the front of the result
+-- a list that is written over the front of another list is the front of the result
 pub front_written : {X : Type 0} (new old : List X) (n : ℕ) → length new ≡ n → take n (new ++ drop n old) ≡ new
 front_written new old n size = ap (λ k. take k (new ++ drop n old)) (sym size) ∙ take-append_seam new (drop n old)

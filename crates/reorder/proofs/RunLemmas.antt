@@ -61,7 +61,8 @@ block_ends test run (x ∷ xs) ys each some =
     cond-false (test x) (reverse_runs test (x ∷ run) (xs ++ ys)) (run ++ x ∷ reverse_runs test [] (xs ++ ys)) each.0
     ∙ ap (λ zs. run ++ x ∷ zs) (none_pass test xs ys each.1)
 
--- blocks whose items all pass the test or all fail it; those that pass are reversed
+-- In each block, all items pass the test or all fail it. `new` has the blocks that pass reversed, and the
+-- others unchanged.
 record Blocks (test : ℕ → Bool) (old new : ℕ → List ℕ) : Type 0 where
   some : (s : ℕ) → 0 < length (old s)
   each : (s : ℕ) → Each test (test s) (old s)
@@ -183,7 +184,8 @@ module _ (levels : List ℕ) where
         below k s low ∙ sym (below (suc k) s (omega arith));
   }
 
-  -- reversing runs, and then the positions in each, is reversing the positions of all runs
+  -- reversing the runs, and then the positions in each run, gives the same list as reversing the positions of
+  -- all runs
   all_turned : (k count : ℕ) (items : List ℕ) → ((s : ℕ) → get_or levels s 0 < k + count)
       → flat_map (shown_from k) (reversed_from levels k count items) ≡ reversed_from levels k count (flat_map (run_at levels) items)
   all_turned k zero items most = flat_map-ext (shown_from k) (run_at levels) items (λ s. below k s (omega (arith, most s)))
@@ -208,7 +210,7 @@ module _ (levels : List ℕ) where
   level_within : (s : ℕ) → get_or levels s 0 < suc (highest levels)
   level_within s = omega (arith, (most_of 0 s levels).1)
 
--- the result of `least` passes, is in the range, and no smaller number of the range passes
+-- the result of `least` is in the range and passes the test, and no smaller number of the range passes
 least_is : (p : ℕ → Bool) (low count k : ℕ) → least p low count ≡ Some k → (p k ≡ true) × (k < low + count) × ((m : ℕ) → low ≤ m → m < k → p m ≡ false)
 least_is p low zero k is = absurd (cc)
 least_is p low (suc count) k is =
@@ -272,7 +274,8 @@ module _ (levels : List ℕ) where
         | inr even ↦ even
       ]
 
-  -- from the highest level down to the lowest odd one, a run is reversed an odd number of times if its level is odd
+  -- from the highest level down to the lowest odd level, a run is reversed an odd number of times if and only
+  -- if its level is odd
   odd_turned : (low s : ℕ) → lowest_odd levels ≡ Some low → is_odd (suc (get_or levels s 0) - low) ≡ is_odd (get_or levels s 0)
   odd_turned low s is =
       let level : ℕ = get_or levels s 0 in
@@ -341,7 +344,7 @@ within_more n s (x ∷ xs) within below zero short = within zero (omega arith)
 within_more n s (x ∷ xs) within below (suc k) short =
     within_more n s xs (λ j inside. within (suc j) (omega arith)) below k (omega arith)
 
--- the list begins with the starts of the runs before an index
+-- the first `count` items of the list are the starts of the level runs before the index `start`
 pub record RunsFound (levels items : List ℕ) (count start : ℕ) : Type 0 where
   pub few : count ≤ start
   pub within : start ≤ length levels
@@ -394,7 +397,7 @@ length-run_shown levels s =
           ∙ length-range_with_len s (level_run_len levels s)
     ]
 
--- the positions of a run in visual order, from its start and its length
+-- the positions computed from a run's start and length are the positions of the run in visual order
 pub is_run_shown : (levels xs : List ℕ) (s n len : ℕ) → n ≡ len → len ≡ level_run_len levels s
     → xs ≡ (if is_odd (get_or levels s 0) then reverse (range_with_len s n) else range_with_len s n) → xs ≡ run_shown levels s
 is_run_shown levels xs s n len e len_is is =
@@ -406,7 +409,8 @@ runs_few levels [] = omega arith
 runs_few levels (s ∷ starts) =
     omega (arith, length-append (run_shown levels s) (flat_map (run_shown levels) starts), length-run_shown levels s, runs_few levels starts)
 
--- the positions of all runs but the first `left` are at the end of the list, and the starts before them are unchanged
+-- The positions of all runs except the first `left` have been written at the end of the list. The starts of
+-- the first `left` runs are unchanged.
 pub record RunsLaid (levels starts old current : List ℕ) (left end : ℕ) : Type 0 where
   pub sizes : length current ≡ length old
   pub below : left ≤ length starts
@@ -429,7 +433,7 @@ RunsLaid-start levels old count few whole =
       within = omega arith;
     }
 
--- the step for one more run
+-- the loop writes the positions of one more run
 module _ (levels starts old current : List ℕ) (left end before len s : ℕ) (w : RunsLaid levels starts old current left «end»)
     (one : before + 1 ≡ left) (s_is : s ≡ get_or current before 0) (len_is : len ≡ level_run_len levels s) where
   left_starts : take left starts ≡ take before starts ++ s ∷ []
@@ -517,7 +521,7 @@ module _ (levels : List ℕ) (level s : ℕ) where
             ap (same_len levels level s) none
       ]
 
--- the state of the scan of a run: the characters from `start` up to `end` have the same level
+-- The state of the scan of a run: the characters from `start` up to `end` have the same level.
 pub record AlongRun (levels : List ℕ) (start level «end» : ℕ) : Type 0 where
   pub above : start < «end»
   pub within : «end» ≤ length levels
@@ -550,7 +554,7 @@ AlongRun-end levels start level «end» w other =
 
 -- ---- the characters of a run
 
--- two functions that agree at positions of a run's level agree on the run
+-- two functions that agree at all positions of a run's level give the same results on the run
 module _ (levels : List ℕ) (f g : ℕ → ℕ) where
   map_same : (level s count : ℕ) → ((i : ℕ) → get_or levels i 0 ≡ level → f i ≡ g i)
       → map f (range_with_len s (same_len levels level s count)) ≡ map g (range_with_len s (same_len levels level s count))
@@ -568,7 +572,7 @@ module _ (levels : List ℕ) (f g : ℕ → ℕ) where
   map_run : (s : ℕ) → ((i : ℕ) → get_or levels i 0 ≡ get_or levels s 0 → f i ≡ g i) → map f (run_at levels s) ≡ map g (run_at levels s)
   map_run s same = ap₂ (λ (x : ℕ) (xs : List ℕ). x ∷ xs) (same s refl) (map_same (get_or levels s 0) (s + 1) (length levels - (s + 1)) same)
 
--- mapping consecutive positions is mapping a part of the list
+-- mapping the items at consecutive positions is the same as mapping that part of the list
 map_places : (f : ℕ → ℕ) (xs : List ℕ) (s n : ℕ) → s + n ≤ length xs → map (λ i. f (get_or xs i 0)) (range_with_len s n) ≡ map f (take n (drop s xs))
 map_places f xs s zero within = refl
 map_places f xs s (suc n) within =
@@ -613,7 +617,7 @@ module _ (t : Tables) (levels line : List ℕ) where
       ∙ ap (λ (n : ℕ). reverse (map turned_char (range_with_len s n))) (sym len_is)
       ∙ ap reverse (map_places (mirrored t 1) line s len within))
 
--- the characters of a run, as they are shown
+-- the characters of a run, reversed and mirrored if its level is odd, are its characters in visual order
 pub run_chars : (t : Tables) (levels line : List ℕ) (s len m : ℕ) (part : List ℕ) → m ≡ len → len ≡ level_run_len levels s → s + len ≤ length line
     → part ≡ (if is_odd (get_or levels s 0) then reverse (map (mirrored t 1) (take m (drop s line))) else take m (drop s line))
     → part ≡ map (char_at t levels line) (run_shown levels s)
@@ -730,7 +734,7 @@ lowered_again lowest level =
           ap (λ (o : Option ℕ). lowered o level) (sym once)
     ]
 
--- the state of the scan of levels after several characters at one level
+-- for the scan of levels, several characters at the same level have the same effect as one
 Extremes-same : (levels : List ℕ) (start level top : ℕ) (lowest : Option ℕ) (n : ℕ) → Extremes levels start top lowest → start + suc n ≤ length levels
     → ((j : ℕ) → j < suc n → get_or levels (start + j) 0 ≡ level) → Extremes levels (start + suc n) (max top level) (lowered lowest level)
 Extremes-same levels start level top lowest zero w within same =

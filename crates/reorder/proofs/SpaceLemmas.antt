@@ -10,7 +10,8 @@ use Rattle.ucd.specs.Classes.{class_at}
 use Rattle.reorder.specs.NoEnds.{AreNoEnds}
 use Rattle.reorder.specs.Spaces.{ends_segment, is_blank, is_reset, line_levels}
 
--- the state of the scan at an index: the levels from there on are final; `resets` is whether a blank before it is reset
+-- The state of the scan at the index `at`. The levels from `at` on are final, and `resets` tells whether a
+-- blank directly before `at` is reset.
 pub record Walked (base : ℕ) (classes : List BidiClass) (old current : List ℕ) (resets : Bool) (at : ℕ) : Type 0 where
   pub within : at ≤ length classes
   pub blank : resets ≡ is_reset (drop at classes)
@@ -32,7 +33,7 @@ pub Walked-end : (base : ℕ) (classes : List BidiClass) (old current : List ℕ
     → at ≡ 0 → current ≡ line_levels base classes old
 Walked-end base classes old current resets at w first = w.done ∙ ap (λ n. take n old ++ line_levels base (drop n classes) (drop n old)) first
 
--- the step for one character
+-- the scan moves back by one character
 next : (base : ℕ) (classes : List BidiClass) (old current : List ℕ) (resets after : Bool) (k : ℕ) (written : List ℕ)
     → Walked base classes old current resets (k + 1) → length classes ≡ length old
     → after ≡ (ends_segment (get_or classes k L) || (is_blank (get_or classes k L) && resets))
@@ -86,7 +87,7 @@ passed_over base classes old current n (suc d) w sizes passed =
     (no_reset (ends_segment class) (is_blank class) (passed (n + d) (omega arith) (omega arith))) refl)
     sizes (λ k from to. passed k from (omega arith))
 
--- the step over a range without separators in which no character is reset
+-- the scan skips a range without separators in which no character is reset
 pub Walked-skip : (classes : List BidiClass) (base : ℕ) (old current : List ℕ) (resets : Bool) (at n : ℕ) → Walked base classes old current resets at → length classes ≡ length old
     → n ≤ at → (resets ≡ true → n ≡ at) → AreNoEnds classes n at → Walked base classes old current resets n
 Walked-skip classes base old current true at n w sizes within stays passed = subst (λ (k : ℕ). Walked base classes old current true k) (sym (stays refl)) w

@@ -65,7 +65,7 @@ module _ (classes : List BidiClass) (levels : List ℕ) (base n : ℕ) (is : IsG
   level_at : (k : ℕ) → k ≤ n → is_odd (get_or levels (base + k) 0) ≡ true
   level_at k h = ap is_odd (is.same k h) ∙ is.odd
 
-  -- each character of a group but the last precedes a mark of the group
+  -- each character of a group except the last precedes a mark of the group
   precedes : (k : ℕ) → k < n → precedes_mark classes levels (base + k) ≡ true
   precedes k h =
       let next : suc (base + k) ≡ base + (k + 1) = omega arith in
@@ -168,7 +168,8 @@ module _ (classes : List BidiClass) (levels : List ℕ) (base n : ℕ) (is : IsG
   back_len : n < length (drop start (order_of levels))
   back_len = omega (arith, length-drop start (order_of levels), are.sizes, (follows n (omega arith)).0)
 
-  -- the visual order is split in three: the characters before the group, the group, and those after it
+  -- L3 applies separately to three parts of the visual order: the characters before the group, the group, and
+  -- the characters after it
   three : reverse_with_next (has_base classes levels) [] (order_of levels)
       ≡ reverse_with_next (has_base classes levels) [] (take start (order_of levels))
       ++ (reverse (take (suc n) (drop start (order_of levels))) ++ reverse_with_next (has_base classes levels) [] (drop (suc n) (drop start (order_of levels))))

@@ -7,7 +7,8 @@ use Rattle.reorder.specs.Mirroring.{visual_chars}
 use Rattle.reorder.specs.Order.{lowest_odd, ltov_of, order_of, vtol_of}
 use Rattle.reorder.specs.Spaces.{line_levels}
 
--- L1: blanks inside the line keep their levels; separators, and blanks before a separator or the end, do not
+-- L1: blanks inside the line keep their levels; separators and the blanks before a separator or before the
+-- end are reset
 tab : line_levels 0 (R ∷ WS ∷ R ∷ WS ∷ PDI ∷ S ∷ R ∷ WS ∷ RLI ∷ PDF ∷ []) (1 ∷ 1 ∷ 1 ∷ 1 ∷ 1 ∷ 1 ∷ 1 ∷ 1 ∷ 1 ∷ 1 ∷ [])
     ≡ 1 ∷ 1 ∷ 1 ∷ 0 ∷ 0 ∷ 0 ∷ 1 ∷ 0 ∷ 0 ∷ 0 ∷ []
 tab = refl
@@ -18,7 +19,7 @@ separator = refl
 blanks : line_levels 0 (WS ∷ WS ∷ []) (1 ∷ 3 ∷ []) ≡ 0 ∷ 0 ∷ []
 blanks = refl
 
--- L2: one interval is reversed, and the characters around it stay
+-- L2: one interval is reversed, and the characters around it keep their positions
 middle : order_of (0 ∷ 0 ∷ 1 ∷ 1 ∷ 0 ∷ []) ≡ 0 ∷ 1 ∷ 3 ∷ 2 ∷ 4 ∷ []
 unfolding order_of
 middle = refl
@@ -64,7 +65,7 @@ lowest = refl
 no_odd : lowest_odd (2 ∷ 4 ∷ []) ≡ None
 no_odd = refl
 
--- a mark is to the left of its base, and to the right of it with L3
+-- a mark is to the left of its base without L3, and to its right with L3
 point : vtol_of false (R ∷ NSM ∷ R ∷ []) (1 ∷ 1 ∷ 1 ∷ []) ≡ 2 ∷ 1 ∷ 0 ∷ []
 unfolding vtol_of order_of
 point = refl
@@ -81,7 +82,7 @@ points_read : vtol_of true (R ∷ NSM ∷ NSM ∷ []) (1 ∷ 1 ∷ 1 ∷ []) ≡
 unfolding vtol_of order_of
 points_read = refl
 
--- at an even level, a mark is to the right of its base, with L3 or without
+-- at an even level, a mark is to the right of its base, with or without L3
 digit_read : vtol_of true (R ∷ EN ∷ NSM ∷ []) (1 ∷ 2 ∷ 2 ∷ []) ≡ 1 ∷ 2 ∷ 0 ∷ []
 unfolding vtol_of order_of
 digit_read = refl
@@ -90,7 +91,8 @@ digit_places : ltov_of true (R ∷ EN ∷ NSM ∷ []) (1 ∷ 2 ∷ 2 ∷ []) ≡
 unfolding ltov_of vtol_of order_of
 digit_places = refl
 
--- marks without a base: at another level than the character before, at the start, or after such a mark
+-- marks without a base: at a different level from the character before, at the start of the line, or after
+-- such a mark
 other_level : vtol_of true (R ∷ NSM ∷ NSM ∷ []) (1 ∷ 3 ∷ 3 ∷ []) ≡ 2 ∷ 1 ∷ 0 ∷ []
 unfolding vtol_of order_of
 other_level = refl

@@ -4,7 +4,8 @@ use Rattle.ucd.specs.declared.bidi_class.BidiClass.{BidiClass}
 use Rattle.reorder.specs.Order.{has_base, is_mark_at, is_odd, vtol_of}
 
 module _ (classes : List BidiClass) (levels : List ℕ) where
-  -- a base, which is no mark and at an odd level, with the n marks after it at the same level
+  -- A group: a base with exactly n marks. The base is not a mark and is at an odd level, and the n marks
+  -- directly after it are at the same level.
   pub record IsGroup (base n : ℕ) : Type 0 where
     pub plain : is_mark_at classes base ≡ false
     pub odd : is_odd (slice_index levels base) ≡ true
@@ -19,17 +20,19 @@ module _ (classes : List BidiClass) (levels : List ℕ) where
     pub reversed : (k : ℕ) → k ≤ n → slice_index (vtol_of false classes levels) (at + k) ≡ base + (n - k)
     pub read : (k : ℕ) → k ≤ n → slice_index (vtol_of true classes levels) (at + k) ≡ base + k
 
-  -- a character in no group: it is no mark with a base, and no base with a mark
+  -- a character in no group: neither it nor the character after it is a mark with a base
   pub record IsAlone (place : ℕ) : Type 0 where
     pub no_base : has_base classes levels place ≡ false
     pub no_marks : has_base classes levels (suc place) ≡ false
 
-  -- the position `place` has a mark, `next` has the character before it, and both are at the same odd level
+  -- whether `place` is the position of a mark, `next` is the position before it, and both characters are at
+  -- the same odd level
   abbrev pub is_bound : ℕ → ℕ → Bool
   is_bound place next =
       (next + 1 == place) && (is_mark_at classes place && (is_odd (slice_index levels next) && (slice_index levels place == slice_index levels next)))
 
-  -- each of the first n positions of a list is bound to the next one, and the position after them is not
+  -- each of the first n positions in a list is bound to the next one (`is_bound`), and the position after
+  -- these n is not
   pub record AreBound (items : List ℕ) (n : ℕ) : Type 0 where
     pub within : n < length items
     pub bound : (k : ℕ) → k < n → is_bound (slice_index items k) (slice_index items (k + 1)) ≡ true

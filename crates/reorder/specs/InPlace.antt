@@ -1,4 +1,4 @@
--- Items that L2 moves within an array. Only the code uses these definitions.
+-- Reversing intervals of an array, as L2 does. Only the code uses these definitions.
 use Rattle.std.specs.Prelude.{◌≡◌, ℕ, ◌-◌, Bool, List, [], ◌∷◌, ◌++◌, ◌⊎◌, map, nat_le, if◌then◌else◌}
 use Rattle.ucd.specs.declared.bidi_class.BidiClass.{BidiClass}
 use Rattle.reorder.specs.Groups.{IsAlone, IsGroup}
@@ -9,10 +9,11 @@ reverse_flagged [] run items = run
 reverse_flagged (flag ∷ flags) run [] = run
 reverse_flagged (flag ∷ flags) run (x ∷ items) = if flag then reverse_flagged flags (x ∷ run) items else run ++ x ∷ reverse_flagged flags [] items
 
--- the flags of the characters at a level or higher
+-- for each character, whether it is at the given level or higher
 abbrev pub flags_at : ℕ → List ℕ → List Bool
 flags_at level levels = map (nat_le level) levels
 
--- a base and all its marks, or a character in no such group
+-- the `len` characters from `start` on are a chunk: a base and all its marks, or a single character in no
+-- group
 abbrev pub IsChunk : List BidiClass → List ℕ → ℕ → ℕ → Type 0
 IsChunk classes levels start len = IsGroup classes levels start (len - 1) ⊎ ((len ≡ 1) × IsAlone classes levels start)

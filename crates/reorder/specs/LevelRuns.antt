@@ -4,7 +4,7 @@ use Rattle.std.specs.List.{range_with_len}
 use Rattle.reorder.specs.Order.{highest, is_odd, lowest_odd, reversed_from}
 
 module _ (levels : List ℕ) where
-  -- the number of characters at a level from s on, up to the first at another level, and at most `count`
+  -- the number of consecutive characters at the given level from s on, at most `count`
   abbrev pub same_len : ℕ → ℕ → ℕ → ℕ
   same_len level s zero = zero
   same_len level s (suc count) = if slice_index levels s == level then suc (same_len level (s + 1) count) else zero

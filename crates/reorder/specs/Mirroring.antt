@@ -9,6 +9,6 @@ module _ (t : Tables) where
   abbrev pub mirrored : ℕ → ℕ → ℕ
   mirrored level c = if is_odd level then unwrap_or (mirror_of t c) c else c
 
-  -- the characters of a line at listed positions, as they are shown
+  -- the characters of a line at the positions in `vtol`, as they are shown
   abbrev pub visual_chars : List ℕ → List ℕ → List ℕ → List ℕ
   visual_chars levels text vtol = map (λ i. mirrored (slice_index levels i) (slice_index text i)) vtol

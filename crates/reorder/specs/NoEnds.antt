@@ -1,9 +1,9 @@
--- Characters of a line that L1 skips, since no character after them is reset. Only the code uses this definition.
+-- Ranges without separators, which the scan for L1 may skip. Only the code uses this definition.
 use Rattle.std.specs.Prelude.{◌≡◌, ℕ, ◌<◌, ◌≤◌, false, List}
 use Rattle.ucd.specs.declared.bidi_class.BidiClass.{BidiClass}
 use Rattle.ucd.specs.Classes.{class_at}
 use Rattle.reorder.specs.Spaces.{ends_segment}
 
--- there is no separator in a range
+-- no character from `start` up to `end_at` is a separator
 abbrev pub AreNoEnds : List BidiClass → ℕ → ℕ → Type 0
 AreNoEnds classes start end_at = (k : ℕ) → start ≤ k → k < end_at → ends_segment (class_at classes k) ≡ false

@@ -1,4 +1,4 @@
--- The visual order of a line's characters (UAX #9, L2 and, as an option, L3), from their levels after L1.
+-- The visual order of the characters of a line (UAX #9, L2 and optionally L3), from their levels after L1.
 use Rattle.std.specs.Prelude.{◌≡◌, ℕ, zero, suc, ◌-◌, ◌%◌, ◌<◌, nat_le, ◌==◌, max, Bool, false, ◌&&◌, ◌||◌, not, List, [], ◌∷◌, ◌++◌, length, map, fold, slice_index, Option, Some, None, if◌then◌else◌}
 use Rattle.std.specs.List.{list_any, position_or_len, range_with_len}
 use Rattle.ucd.specs.declared.bidi_class.BidiClass.{BidiClass}
@@ -15,22 +15,22 @@ abbrev pub is_odd : ℕ → Bool
 is_odd level = level % 2 == 1
 
 module _ (levels : List ℕ) where
-  -- whether the i-th character is at a level or higher
+  -- whether the character at i is at the given level or higher
   abbrev pub is_at_least : ℕ → ℕ → Bool
   is_at_least level i = nat_le level (slice_index levels i)
 
   abbrev pub highest : ℕ
   highest = fold max 0 levels
 
-  -- whether an odd level is that of a character, and the lowest such level
+  -- whether a level is odd and occurs in the line, and the lowest such level
   abbrev pub has_odd : ℕ → Bool
   has_odd level = is_odd level && list_any (λ other. other == level) levels
 
   abbrev pub lowest_odd : Option ℕ
   lowest_odd = least has_odd 0 (suc highest)
 
-  -- the list after L2 for `count` levels: for each level from `low + count - 1` down to `low`, the maximal intervals at that level or
-  -- higher are reversed
+  -- L2 for `count` levels: for each level from `low + count - 1` down to `low`, reverses the maximal
+  -- intervals at that level or higher
   abbrev pub reversed_from : ℕ → ℕ → List ℕ → List ℕ
   reversed_from low zero items = items
   reversed_from low (suc count) items = reverse_runs (is_at_least low) [] (reversed_from (suc low) count items)
@@ -39,7 +39,8 @@ module _ (levels : List ℕ) where
   abbrev pub places : List ℕ
   places = range_with_len 0 (length levels)
 
-  -- the list with its intervals reversed for each level from the highest down to the lowest odd one, if there is one
+  -- the list after the intervals have been reversed for each level from the highest down to the lowest odd
+  -- level, if there is one
   abbrev pub order_by : Option ℕ → List ℕ
   order_by None = places
   order_by (Some low) = reversed_from low (suc highest - low) places
@@ -60,11 +61,12 @@ is_mark_at classes i = is_mark (class_at classes i)
 
 -- the classes of a line, and the levels of its shown part
 module _ (classes : List BidiClass) (levels : List ℕ) where
-  -- the next character is a mark, and both are at the same odd level
+  -- whether the character after i is a mark, and both characters are at the same odd level
   abbrev pub precedes_mark : ℕ → Bool
   precedes_mark i = is_mark_at classes (suc i) && (is_odd (slice_index levels i) && (slice_index levels (suc i) == slice_index levels i))
 
-  -- A mark has a base if the character before it is at the same odd level, and is no mark or has a base too.
+  -- Whether a character is a mark with a base. A mark has a base if the character before it is at the same
+  -- odd level, and is not a mark or has a base too.
   abbrev pub has_base : ℕ → Bool
   has_base zero = false
   has_base (suc i) = precedes_mark i && (not (is_mark_at classes i) || has_base i)
@@ -78,7 +80,7 @@ vtol_of reordernsm classes levels = if reordernsm then reverse_with_next (has_ba
 unfoldable pub ltov_of : Bool → List BidiClass → List ℕ → List ℕ
 ltov_of reordernsm classes levels = map (λ k. position_or_len (λ i. i == k) (vtol_of reordernsm classes levels)) (places levels)
 
--- each of two lists of numbers below n has the index of each number in the other
+-- `vtol` and `ltov` are permutations of the numbers below n, and each is the inverse of the other
 pub record AreInverse (n : ℕ) (vtol ltov : List ℕ) : Type 0 where
   pub ltov_within : (k : ℕ) → k < n → slice_index ltov k < n
   pub vtol_within : (k : ℕ) → k < n → slice_index vtol k < n

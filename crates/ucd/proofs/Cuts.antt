@@ -9,11 +9,11 @@ use Rattle.std.proofs.lemmas.List.Sums.{position_or_len_is}
 use Rattle.std.proofs.lemmas.List.Splits.{slice_split_first, slice_split_none}
 use Rattle.ucd.specs.Grammar.{is_mark, rest_after}
 
--- no byte before the position is the delimiter
+-- no byte before the index `at` is the delimiter
 abbrev pub NoMarkBelow : ℕ → List ℕ → ℕ → Type 0
 NoMarkBelow mark bytes at = (k : ℕ) → k < at → get_or bytes k 0 ≡ mark → ⊥
 
--- the first delimiter is at this position: the parts before and after it, and the split
+-- if the first delimiter is at index `at`, the list is split into the parts before and after that index
 module _ (mark : ℕ) (bytes : List ℕ) (at : ℕ) (below : NoMarkBelow mark bytes at) (within : at < length bytes) (here : get_or bytes at 0 ≡ mark) where
   first_place : position_or_len (is_mark mark) bytes ≡ at
   first_place = position_or_len_is (is_mark mark) bytes at 0 (omega arith) (λ k lt. ne_eqb _ _ (below k lt)) (λ _. eq-eqb _ _ here)
@@ -29,7 +29,7 @@ module _ (mark : ℕ) (bytes : List ℕ) (at : ℕ) (below : NoMarkBelow mark by
       let lt : position_or_len (is_mark mark) bytes < length bytes = omega (arith, first_place) in
       rw (slice_split_first (is_mark mark) bytes 0 lt, take_rest bytes (at + 1), first_place) refl
 
--- the list contains no delimiter: the first part is the whole list, and it is the only part
+-- if the list contains no delimiter, the first part is the whole list, and there is no other part
 module _ (mark : ℕ) (bytes : List ℕ) (none : NoMarkBelow mark bytes (length bytes)) where
   all_fail : All (λ x. is_mark mark x ≡ false) bytes
   all_fail = All-from_get_or (λ x. is_mark mark x ≡ false) bytes 0 (λ k lt. ne_eqb _ _ (none k lt))

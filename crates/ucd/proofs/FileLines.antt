@@ -1,4 +1,4 @@
--- Adding the lines of a file to entries, one by one.
+-- Adding the lines of a file to the entries, one by one.
 use Rattle.std.proofs.Common.{◌≡◌, ℕ, zero, suc, ◌+◌, ◌<◌, ◌≤◌, ◌==◌, nat_lt, not, Bool, true, false, ◌&&◌, List, [], ◌∷◌, ◌++◌, length, get_or, take, drop, Option, Some, None, IsSome, IfSome, option_map, Result, Ok, Err, ◌⊎◌, inl, inr, IsTrue, add-one, refl, sym, ◌∙◌, ap, subst, if◌then◌else◌, arith}
 use Rattle.std.specs.Char.{IsScalar}
 use Rattle.std.proofs.Math.Utf8.{scalar}
@@ -18,7 +18,7 @@ abbrev pub lines_left : Option (List ℕ) → List (List ℕ)
 lines_left None = []
 lines_left (Some text) = lines_of text
 
--- the bytes that have not been read, plus one if there are any lines left
+-- the number of bytes that have not been read, plus one if any lines are left
 abbrev pub size_left : Option (List ℕ) → ℕ
 size_left None = 0
 size_left (Some text) = length text + 1
@@ -28,7 +28,7 @@ pub record HoldsLines {V : Type 0} (form : Form V) (lines : List (List ℕ)) (k 
   pub good : (j : ℕ) (why : Cause) → j < k → ¬ (HasFault form lines j why)
   pub values : (c : ℕ) → IsScalar c → value_at es c ≡ value_in form (take k lines) c
 
--- the lines of the remaining text are its first part, and the lines after it
+-- the lines of the remaining text are its first line, and the lines left after it
 first_left : (text front : List ℕ) (rest : Option (List ℕ)) → lines_of text ≡ parts_of 10 front rest → lines_of text ≡ front ∷ lines_left rest
 first_left text front None is = is
 first_left text front (Some rest) is = is
@@ -78,7 +78,7 @@ module _ {V : Type 0} (form : Form V) where
       go true true err = cc
       go true false err = fields_read (fields_of (content_of line)) err
 
--- `or_else` is associative, with `None` as its unit; its result is `Some` if either argument is
+-- `or_else` is associative, and `None` is its unit. Its result is `Some` if either argument is.
 module _ {V : Type 0} (form : Form V) where
   or_else_None : (o : Option V) → or_else form o None ≡ o
   or_else_None None = refl
@@ -120,7 +120,8 @@ module _ {V : Type 0} (form : Form V) where
     | inr later ↦ let line = line_of_value lines k c later in (suc line.0, omega (arith, line.1), line.2)
   ]
 
-  -- a line with an entry gives a character the entry's value if the entry covers it, and otherwise none
+  -- a line with an entry gives a character the entry's value if the entry covers the character, and otherwise
+  -- no value
   given_entry : (e : Entry V) (c : ℕ) → IsScalar c → given_by form (Ok (Some e)) c ≡ (if covers e c then Some e.value else None)
   given_entry e c character = rw character refl
 
@@ -146,7 +147,8 @@ module _ {V : Type 0} (form : Form V) where
         false≢true (rw none at some)
     not_refused new (Err other) is adds why fault = absurd adds
 
-    -- adding line k gives each character its earlier value, or else the value from line k
+    -- after line k has been added, each character has its earlier value, or the value from line k if it had
+    -- none
     added : (new : List (Entry V)) (r : Result (Option (Entry V)) Cause) → AddsReading form r es new → (c : ℕ) → IsScalar c → value_at new c ≡ or_else form (value_at es c) (given_by form r c)
     added new (Ok None) adds c is = rw adds (sym (or_else_None (value_at es c)))
     added new (Ok (Some e)) adds c is = elim (cases_Bool (covers e c)) [
@@ -159,7 +161,8 @@ module _ {V : Type 0} (form : Form V) where
     ]
     added new (Err why) adds c is = absurd adds
 
-    -- if line k is added, the first k + 1 lines are not faulty, and the entries have their values
+    -- if line k is added, none of the first k + 1 lines is faulty, and the entries have the values of these
+    -- lines
     one_more : (new : List (Entry V)) → AddsLine form es new (line_at form lines k) → HoldsLines form lines (k + 1) new
     one_more new adds = record {
       good = λ j why lt fault. elim (cases_lt j k) [
@@ -175,7 +178,8 @@ module _ {V : Type 0} (form : Form V) where
     fault_for cause.Memory (inr (named, again)) = absurd (let no : ⊥ = cc in no)
     fault_for why fault = (omega arith, subst (λ n. IsFirstFault form lines n why) {x = k} (omega arith) (record { in_range = within; fault = fault; earlier = held.good }))
 
-    -- a line whose entry names no character with a value is not faulty, so it is a line at which memory can run out
+    -- a line whose entry names no character that already has a value is not faulty, so memory can run out at
+    -- it
     not_named : (e : Entry V) → reading_of form (line_at form lines k) ≡ Ok (Some e) → ¬ (IsTaken es e) → (why : Cause) → ¬ (HasFault form lines k why)
     not_named e is free why (inl err) = cc
     not_named e is free why (inr (named, (j, c, lt, before, here))) =
@@ -194,7 +198,7 @@ module _ {V : Type 0} (form : Form V) where
       ];
     }
 
-    -- if line k is refused for a cause, it is the first faulty line, or memory ran out there
+    -- if adding line k fails, line k is the first faulty line, or memory ran out there
     refused : (r : Result (Option (Entry V)) Cause) → reading_of form (line_at form lines k) ≡ r → (why : Cause) → IsReadingCause form r es why → IsFaultFor form lines (k + 1) why
     refused (Ok None) is why because = absurd because
     refused (Ok (Some e)) is cause.NamedBefore (c, character, covered, some) =
@@ -215,7 +219,8 @@ holds_file form lines k es held all = record {
   values = λ c is. held.values c is ∙ ap (λ ls. value_in form ls c) (take_all k lines all);
 }
 
--- after the first line of the remaining text: the lines left, the entries if it is added, the fault if it is not
+-- What holds after the first line of the remaining text: which lines are left, what the entries contain if
+-- the line was added, and what the fault is if not.
 module _ {V : Type 0} (form : Form V) (file : List ℕ) (k : ℕ) (es : List (Entry V)) (text front : List ℕ)
     (rest : Option (List ℕ)) (held : HoldsLines form (lines_of file) k es) (left : drop k (lines_of file)
     ≡ lines_of text) (parts : lines_of text ≡ parts_of 10 front rest) where
@@ -231,7 +236,7 @@ module _ {V : Type 0} (form : Form V) (file : List ℕ) (k : ℕ) (es : List (En
   pub next_fault : (why : Cause) → IsLineCause form es front why → IsFaultFor form (lines_of file) (k + 1) why
   next_fault why because = fault_here form (lines_of file) k es held line_here.0 why (subst (λ line. IsLineCause form es line why) (sym line_here.1) because)
 
--- the size of what follows is at most `n` if each text in it is shorter than `n`
+-- the size of the remaining text is at most `n` if the text is shorter than `n` or there is none
 pub size_falls : {B : Type 0} (f : B → List ℕ) (rest : Option B) (n : ℕ) → IfSome rest (λ r. length (f r) < n) → size_left (option_map f rest) ≤ n
 size_falls f None n shorter = omega arith
 size_falls f (Some rest) n shorter = omega arith

@@ -5,7 +5,7 @@ use Rattle.std.proofs.lemmas.List.{length-append, get_or-drop, get_or-append-add
 use Rattle.ucd.specs.Answers.{PropertyAnswers, unnamed}
 use Rattle.ucd.specs.Pages.{answers_at, HasPage}
 
--- if the last page equals this page, the entries have the page under the number of the last page
+-- if the last page equals `page`, the entries have `page` under the number of the last page
 pub has_last : (entries page : List PropertyAnswers) (end : ℕ) → end ≡ length entries → length entries % 256 ≡ 0
     → 256 ≤ end → drop (end - 256) entries ≡ page → HasPage entries entries page (end / 256 - 1)
 has_last entries page end is whole some same = record {

@@ -20,7 +20,8 @@ use Rattle.ucd.specs.declared.grammar.Entry.{Entry}
 use Rattle.ucd.specs.declared.tables.Tables.{Tables}
 
 module _ {V : Type 0} where
-  -- in a concatenation, the first list that has a value for a code point gives it; only `c` has a value in `single c`
+  -- In a concatenation, the value of a code point comes from the first list that has one. In `single c`, only
+  -- `c` can have a value.
   value_append_some : (xs ys : List (Entry V)) (c : ℕ) (v : V) → value_at xs c ≡ Some v → value_at (xs ++ ys) c ≡ Some v
   value_append_some [] ys c v is = cc
   value_append_some (x ∷ xs) ys c v is = grind (arith, nat_tests, value_append_some xs ys c v)
@@ -50,7 +51,7 @@ module _ {V : Type 0} where
   kept xs ys c None is other = value_append_none xs ys c is ∙ other refl
   kept xs ys c (Some v) is other = value_append_some xs ys c v is
 
-  -- for a code point below n, the value in `singles f n` is `f` of the code point
+  -- for a code point c below n, the value in `singles f n` is `f c`
   pub value_singles : (f : ℕ → Option V) (n c : ℕ) → c < n → value_at (singles f n) c ≡ f c
   unfolding singles
   value_singles f zero c lt = absurd (omega arith)
@@ -60,18 +61,19 @@ module _ {V : Type 0} where
         value_append_none (singles f n) (single n (f n)) c (value_above f n c (omega arith)) ∙ rw here (value_single c (f c))
   ]
 
--- a scalar value is below 110000 in hexadecimal
+-- a scalar value is below 0x110000
 pub below_limit : (c : ℕ) → IsScalar c → c < 1114112
 below_limit c is = grind (arith, nat_tests, is)
 
--- the general category made from the flags is a mark if and only if the mark flag is set
+-- the general category computed from the flags is a mark if and only if the mark flag is set
 mark_by : (mark future : Bool) → (mark && future) ≡ false → is_mark_by (if future then category.Unassigned else (if mark then category.Mark else category.Other)) ≡ mark
 mark_by true true apart = cc
 mark_by true false apart = refl
 mark_by false true apart = refl
 mark_by false false apart = refl
 
--- a pictograph is a future pictograph if and only if its flag is set
+-- a character is a future pictograph if and only if that flag is set, and wide if and only if that flag is
+-- set
 abbrev pictograph_if : Bool → Option Pictograph
 pictograph_if future = if future then Some (record {}) else None
 

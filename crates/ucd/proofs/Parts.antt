@@ -1,4 +1,4 @@
--- The parts of a field and of a line, if their last part contains a separator.
+-- The parts of a field or a line whose last part contains another separator.
 use Rattle.std.proofs.Common.{◌≡◌, ℕ, ◌<◌, Bool, true, false, List, [], ◌∷◌, length, get_or, map, Some, None, Option, is_some, option_map, Err, refl, sym, inl, inr, arith}
 use Rattle.std.specs.List.{slice_split, position_or_len, after_first, list_all}
 use Rattle.std.specs.Char.{is_ascii_hexdigit}
@@ -48,11 +48,11 @@ pub too_many : {V B : Type 0} (form : Form V) (x y z : List ℕ) (f : B → List
 too_many form x y z f None some = absurd (false≢true some)
 too_many form x y z f (Some more) some = let first = first_part (is_mark 59) (f more) in rw first.2 refl
 
--- a line with two fields is refused if the file has three
+-- a line with two fields is rejected if the file has three
 pub one_missing : {V : Type 0} (form : Form V) (x y : List ℕ) → form.has_third ≡ true → Err cause.FieldCount ≡ by_fields form (map (trimmed (is_one_of spaces)) (x ∷ y ∷ []))
 one_missing form x y third = rw third refl
 
--- a line with three or more fields is refused if the file has two
+-- a line with three or more fields is rejected if the file has two
 pub one_more : {V : Type 0} (form : Form V) (x y more : List ℕ) → form.has_third ≡ false → Err cause.FieldCount
     ≡ by_fields form (map (trimmed (is_one_of spaces)) (x ∷ y ∷ slice_split (is_mark 59) more))
 one_more form x y more third =

@@ -12,7 +12,8 @@ use Rattle.ucd.specs.declared.grammar.Entry.{Entry}
 use Rattle.ucd.specs.Entries.{covers, value_at, AddsEntry, AreApart, AreNamed, IsFree}
 
 module _ {V : Type 0} where
-  -- the value of a code point after an entry has been appended
+  -- appending an entry gives its value to the code points that it covers, and leaves the other values
+  -- unchanged
   value_push : (es : List (Entry V)) (e : Entry V) (c : ℕ) → (IsTrue (covers e c) → value_at es c ≡ None) → value_at (es ++ e ∷ []) c ≡ (if covers e c then Some e.value else value_at es c)
   value_push [] e c free = refl
   value_push (x ∷ es) e c free = grind (arith, nat_tests, value_push es e c)
@@ -70,14 +71,16 @@ module _ {V : Type 0} where
       each = λ c lt. rw (value_push es e c (free c)) (grind (arith, nat_tests, common_steps, each c, are.each c lt));
     }
 
-  -- the value of a code point in the first i + 1 entries, from that in the first i
+  -- In the first i + 1 entries, a code point that entry i covers has the value of entry i. Other code points
+  -- have the same value as in the first i entries.
   pub value_more : (es : List (Entry V)) → AreApart es → (i : ℕ) (e : Entry V) → slice_get es i ≡ Some e → (c : ℕ)
       → value_at (take (i + 1) es) c ≡ (if covers e c then Some e.value else value_at (take i es) c)
   value_more es apart i e is c =
       let more : take (i + 1) es ≡ take i es ++ e ∷ [] = take_more es i e (slice_get_within es i e is) ∙ ap (λ x. take i es ++ x ∷ []) (get_or_from_slice_get es i e e is) in
       rw more (value_push (take i es) e c (apart.apart i e is c))
 
-  -- the properties of a code point after the first i + 1 entries, from those after the first i
+  -- applying entry i to the code points that it covers turns the properties after the first i entries into
+  -- those after the first i + 1
   pub put_more : (put : V → PropertyAnswers → PropertyAnswers) (es : List (Entry V)) → AreApart es → (i : ℕ) (e : Entry V) → slice_get es i ≡ Some e → (c : ℕ) (old mid new : PropertyAnswers) →
       mid ≡ put_by put (value_at (take i es) c) old → new ≡ (if nat_le e.first c && nat_lt c (e.last + 1) then put e.value mid else mid) → new ≡ put_by put (value_at (take (i + 1) es) c) old
   put_more put es apart i e is c old mid new before after =

@@ -1,4 +1,4 @@
--- The properties of a code point that the entries determine, one lemma for each property.
+-- The properties that the entries give a code point, with one lemma for each property.
 use Rattle.std.proofs.Common.{◌≡◌, ℕ, ◌&&◌, Bool, true, false, Option, Some, None, is_some, unwrap_or, refl, ◌∙◌}
 use Rattle.ucd.specs.Answers.{PropertyAnswers, unnamed}
 use Rattle.ucd.specs.Contents.{TableContents}
@@ -74,7 +74,8 @@ width_keeps_future : (v : Width) (a : PropertyAnswers) → (put_width v a).is_fu
 width_keeps_future width.Wide a = refl
 width_keeps_future width.Other a = refl
 
--- a property after the value from its own file has been applied
+-- once the value from its own file has been applied, a property has that value, or its default if the file
+-- has none
 class_put : (o : Option BidiClass) (a : PropertyAnswers) → a.bidi_class ≡ L → (put_by put_bidi_class o a).bidi_class ≡ unwrap_or o L
 class_put None a is = is
 class_put (Some v) a is = refl

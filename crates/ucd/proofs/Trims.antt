@@ -1,4 +1,4 @@
--- A list without the bytes at both ends that pass a test.
+-- Trimming a list: removing the bytes at both ends that pass a test.
 use Rattle.std.proofs.Common.{◌≡◌, ℕ, ◌-◌, ◌<◌, ◌≤◌, Bool, true, false, List, length, get_or, take, drop, refl, arith}
 use Rattle.std.specs.List.{prefix_len, suffix_len}
 use Rattle.std.proofs.lemmas.List.Sums.{prefix_len_is, suffix_len_is}

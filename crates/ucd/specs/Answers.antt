@@ -46,8 +46,8 @@ bidi_class_at place = slice_index_or bidi.all_classes place L
 abbrev pub line_class_at : ℕ → LineClass
 line_class_at place = slice_index_or line.all_classes place BK
 
--- The bits, from the lowest: five for the bidi class, five flags, and six for the line breaking class. All 16 are used.
--- The flags are, in order, those of a bracket, a mirror, a future pictograph, a mark and a wide character.
+-- The bits, from the lowest: five for the bidi class, five flags, and six for the line breaking class. All 16
+-- are used. The flags are, in order: bracket, mirror, future pictograph, mark and wide.
 abbrev pub bit : Bool → ℕ
 bit b = if b then 1 else 0
 
@@ -66,7 +66,7 @@ answers_in bits = record {
   line_class = line_class_at (bits / 1024);
 }
 
--- bits that encode the properties of a character
+-- `bits` encodes the properties of a character: the indices of both classes are in range
 pub record AreBits (bits : ℕ) : Type 0 where
   pub bidi : bits % 32 < BIDI_CLASS_COUNT
   pub line : bits / 1024 < LINE_CLASS_COUNT

@@ -1,4 +1,4 @@
--- Encoding properties as bits and decoding them are inverse.
+-- Encoding properties as bits and decoding bits are inverse to each other.
 use Rattle.std.proofs.Common.{◌*◌, ◌==◌, if◌then◌else◌, ◌≡◌, ℕ, ◌/◌, ◌%◌, ◌<◌, ◌==◌, map, get_or, refl, sym, ◌∙◌, ap, arith, zero-add, lit<, ◌⊎◌, inl, inr, zero, suc}
 use Rattle.std.specs.List.{range_with_len}
 use Rattle.std.proofs.lemmas.List.FromFn.{get_or-range_with_len, get_or-map-range_with_len}
@@ -10,7 +10,8 @@ use Rattle.ucd.specs.declared.line_class.LineClass.{LineClass}
 use Rattle.ucd.specs.declared.line_class.LineClass.TheVariants.{BK}
 use Rattle.ucd.specs.Answers.{bidi_tag, line_tag, bidi_class_at, line_class_at, bit, bits_of, answers_in, AreBits, line_index}
 
--- the class at an index has that index, the class at the index of a class is that class, and indices are below the count
+-- Looking up the class at an index and looking up the index of a class are inverse. Indices are below the
+-- number of classes.
 pub bidi_tag_at : (k : ℕ) → k < BIDI_CLASS_COUNT → bidi_tag (bidi_class_at k) ≡ k
 bidi_tag_at k lt =
     let f : ℕ → ℕ = λ n. bidi_tag (bidi_class_at n) in
@@ -46,7 +47,7 @@ cases_zero (suc n) = inr (omega arith)
 bit_of : (n : ℕ) → n < 2 → bit (n == 1) ≡ n
 bit_of n lt = elim (cases_zero n) [ inl none ↦ rw none refl | inr some ↦ (let one : n ≡ 1 = omega arith in rw one refl) ]
 
--- a flag with the value k, as a product
+-- for a flag n, which is 0 or 1, `if n == 1 then k else 0` is the product k * n
 times : (k n : ℕ) → n < 2 → (if n == 1 then k else 0) ≡ k * n
 times k n lt = elim (cases_zero n) [ inl none ↦ rw none (omega arith) | inr some ↦ (let one : n ≡ 1 = omega arith in rw one (omega arith)) ]
 
@@ -62,7 +63,7 @@ bits_of-answers_in bits are =
     let wide = bit_of (bits / 512 % 2) (omega arith) in
     rw (bidi, line, bracket, mirror, wide, mark, pictograph) (omega arith)
 
--- the bits without the lowest seven are the properties that line breaking needs, as one number
+-- without the lowest seven bits, the bits are the number that encodes the properties for line breaking
 pub line_index_in : (bits : ℕ) → AreBits bits → bits / 128 ≡ line_index (answers_in bits)
 line_index_in bits are =
     let line = line_tag_at (bits / 1024) are.line in

@@ -1,10 +1,11 @@
--- Entries, each a range of code points with a value, and the value that they give a code point.
+-- Lists of entries, and the values that they give code points. An entry is a range of code points with a
+-- value.
 use Rattle.std.specs.Prelude.{◌≡◌, ℕ, ◌<◌, ◌≤◌, nat_le, Bool, false, ◌&&◌, List, [], ◌∷◌, length, take, slice_get, slice_index_or, Option, Some, None, is_some, IsSome, IsTrue, if◌then◌else◌}
 use Rattle.std.specs.Char.{IsScalar}
 use Rattle.ucd.specs.declared.grammar.Entry.{Entry}
 
 module _ {V : Type 0} where
-  -- whether the entry names the code point
+  -- whether the code point is in the range of the entry
   abbrev pub covers : Entry V → ℕ → Bool
   covers e c = nat_le e.first c && nat_le c e.last
 
@@ -23,7 +24,8 @@ module _ {V : Type 0} where
     pub len : length named ≡ 1114112
     pub each : (c : ℕ) → c < 1114112 → slice_index_or named c false ≡ is_some (value_at es c)
 
-  -- `new` gives the entry's value to the entry's code points, which had none, and to every other the value in `old`
+  -- `new` gives the entry's value to the code points that the entry covers, which have no value in `old`.
+  -- Every other code point has the same value as in `old`.
   pub record AddsEntry (old new : List (Entry V)) (e : Entry V) : Type 0 where
     pub free : (c : ℕ) → IsTrue (covers e c) → value_at old c ≡ None
     pub values : (c : ℕ) → value_at new c ≡ (if covers e c then Some e.value else value_at old c)
@@ -32,7 +34,7 @@ module _ {V : Type 0} where
   abbrev pub AddsBoth : List (Entry V) → List (Entry V) → Entry V → Entry V → Type 0
   AddsBoth old new one other = (mid : List (Entry V)) × AddsEntry old mid one × AddsEntry mid new other
 
-  -- an entry is added as in `AddsEntry`, for scalar values only
+  -- an entry is added as in `AddsEntry`, but only for scalar values
   pub record AddsCharacters (old new : List (Entry V)) (e : Entry V) : Type 0 where
     pub free : (c : ℕ) → IsScalar c → IsTrue (covers e c) → value_at old c ≡ None
     pub values : (c : ℕ) → IsScalar c → value_at new c ≡ (if covers e c then Some e.value else value_at old c)
@@ -41,14 +43,14 @@ module _ {V : Type 0} where
   abbrev pub IsFree : List (Entry V) → Entry V → Type 0
   IsFree es e = (c : ℕ) → IsTrue (covers e c) → value_at es c ≡ None
 
-  -- a code point of the entry has a value already
+  -- some code point of the entry already has a value
   abbrev pub IsMet : List (Entry V) → Entry V → Type 0
   IsMet es e = (c : ℕ) × IsTrue (covers e c) × IsSome (value_at es c)
 
-  -- a character of the entry has a value already
+  -- some character of the entry already has a value
   abbrev pub IsTaken : List (Entry V) → Entry V → Type 0
   IsTaken es e = (c : ℕ) × IsScalar c × IsTrue (covers e c) × IsSome (value_at es c)
 
-  -- one of the entry's code points is a character
+  -- at least one code point of the entry is a character
   abbrev pub NamesSome : Entry V → Type 0
   NamesSome e = (c : ℕ) × IsScalar c × IsTrue (covers e c)

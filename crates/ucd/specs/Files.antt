@@ -1,4 +1,4 @@
--- The values that the lines of a file give, and its first faulty line.
+-- The values that the lines of a file give to characters, and the first faulty line of the file.
 use Rattle.std.specs.Prelude.{◌≡◌, ℕ, ◌-◌, ◌<◌, ◌≤◌, ◌⊎◌, ◌&&◌, List, [], ◌∷◌, length, slice_index_or, Option, Some, None, IsSome, Result, Ok, Err, if◌then◌else◌}
 use Rattle.std.specs.Char.{IsScalar}
 use lib.Utf8.{scalar}
@@ -10,7 +10,7 @@ use Rattle.ucd.specs.declared.file.FileFault.{FileFault}
 use Rattle.ucd.specs.Entries.{covers, value_at, AddsCharacters, IsTaken, NamesSome}
 
 module _ {V : Type 0} (form : Form V) where
-  -- the value that a line gives to a character that it names; a surrogate is not a character, so it has none
+  -- The value that a line gives to a character. A surrogate is not a character, so no line gives it a value.
   abbrev pub given_by : Result (Option (Entry V)) Cause → ℕ → Option V
   given_by (Ok (Some e)) c = if scalar c && covers e c then Some e.value else None
   given_by (Ok None) c = None
@@ -35,7 +35,7 @@ module _ {V : Type 0} (form : Form V) where
   abbrev pub NamesAgain : List (List ℕ) → ℕ → Type 0
   NamesAgain lines k = (j : ℕ) × (c : ℕ) × (j < k) × IsSome (given (line_at lines j) c) × IsSome (given (line_at lines k) c)
 
-  -- line k is faulty, for this cause
+  -- line k is faulty for the given cause
   abbrev pub HasFault : List (List ℕ) → ℕ → Cause → Type 0
   HasFault lines k why = (reading_of form (line_at lines k) ≡ Err why) ⊎ ((why ≡ cause.NamedBefore) × NamesAgain lines k)
 
@@ -49,7 +49,7 @@ module _ {V : Type 0} (form : Form V) where
     pub fault : HasFault lines k why
     pub earlier : (j : ℕ) (other : Cause) → j < k → ¬ (HasFault lines j other)
 
-  -- adding a line leaves the entries unchanged, or adds its entry
+  -- adding a line adds its entry, or leaves the entries unchanged if the line has none
   abbrev pub AddsReading : Result (Option (Entry V)) Cause → List (Entry V) → List (Entry V) → Type 0
   AddsReading (Ok None) old new = new ≡ old
   AddsReading (Ok (Some e)) old new = AddsCharacters old new e
@@ -58,7 +58,8 @@ module _ {V : Type 0} (form : Form V) where
   abbrev pub AddsLine : List (Entry V) → List (Entry V) → List ℕ → Type 0
   AddsLine old new line = AddsReading (reading_of form line) old new
 
-  -- The reason why a line cannot be added. `Memory` requires that the line is not faulty and names a character.
+  -- The cause that prevents a line from being added. `Memory` can be the cause only if the line is not faulty
+  -- and names a character.
   abbrev pub IsReadingCause : Result (Option (Entry V)) Cause → List (Entry V) → Cause → Type 0
   IsReadingCause (Ok None) es why = ⊥
   IsReadingCause (Ok (Some e)) es cause.NamedBefore = IsTaken es e
@@ -74,14 +75,15 @@ module _ {V : Type 0} (form : Form V) where
     pub good : IsGood lines
     pub values : (c : ℕ) → IsScalar c → value_at es c ≡ value_in lines c
 
-  -- line k names a character, so adding it allocates; no line up to k is faulty
+  -- Line k names a character, so adding the line allocates memory. No line up to k is faulty.
   pub record WantsMemoryAt (lines : List (List ℕ)) (k : ℕ) : Type 0 where
     pub entry : Entry V
     pub reads : reading_of form (line_at lines k) ≡ Ok (Some entry)
     pub names : NamesSome entry
     pub good : (j : ℕ) (why : Cause) → j ≤ k → ¬ (HasFault lines j why)
 
-  -- a line, numbered from 1, is the first faulty line; or memory ran out at that line
+  -- the line with the given number, which counts from 1, is the first faulty line, or memory ran out at that
+  -- line
   abbrev pub IsFaultFor : List (List ℕ) → ℕ → Cause → Type 0
   IsFaultFor lines line cause.Memory = (0 < line) × WantsMemoryAt lines (line - 1)
   IsFaultFor lines line why = (0 < line) × IsFirstFault lines (line - 1) why

@@ -6,19 +6,21 @@ use Rattle.ucd.specs.declared.fault.Cause.{Cause}
 use Rattle.ucd.specs.declared.fault.Cause.TheVariants as cause
 use Rattle.ucd.specs.declared.grammar.Entry.{Entry}
 
--- whether a byte is the separator of lines, fields or the ends of a range
+-- whether a byte is the given separator: of lines, of fields, or of the ends of a range
 abbrev pub is_mark : ℕ → ℕ → Bool
 is_mark mark b = b == mark
 
--- A line ends at U+000A, which is optional on the last line: after a last U+000A comes an empty line.
+-- A line ends at U+000A, which is optional on the last line. If a file ends with U+000A, an empty line
+-- follows it.
 abbrev pub lines_of : List ℕ → List (List ℕ)
 lines_of file = slice_split (is_mark 10) file
 
--- the bytes without those at both ends that pass the test
+-- removes the bytes at both ends that pass the test
 abbrev pub trimmed : (ℕ → Bool) → List ℕ → List ℕ
 trimmed p bytes = let rest = drop (prefix_len p bytes) bytes in take (length rest - suffix_len p rest) rest
 
--- white space between fields is spaces and tabs, and at the ends of a line also U+000D
+-- White space around fields consists of spaces and tabs. White space at the ends of a line can also be
+-- U+000D.
 abbrev pub is_one_of : List ℕ → ℕ → Bool
 is_one_of bytes b = list_any (λ byte. byte == b) bytes
 
@@ -50,8 +52,8 @@ is_code_point digits = nat_le 4 (length digits) && (nat_le (length digits) 6 && 
 abbrev pub code_point : List ℕ → Option ℕ
 code_point digits = if is_code_point digits then Some (hex_value digits) else None
 
--- the first and the last code point of a field, by cases on its parts between dots: `X`, or `X..Y` if the file has
--- ranges
+-- The first and last code points of a field: `X`, or `X..Y` if the file has ranges. The field is given by its
+-- parts between dots.
 abbrev pub both : Option ℕ → Option ℕ → Option (ℕ × ℕ)
 both (Some x) (Some y) = Some (x, y)
 both (Some x) None = None
@@ -66,7 +68,8 @@ abbrev pub points_of : Bool → List ℕ → Option (ℕ × ℕ)
 points_of has_ranges field = points_by has_ranges (slice_split (is_mark 46) field)
 
 -- The form of a file's lines: whether the first field may be a range, and whether there is a third field.
--- `value` parses the second and third field: `None` if the value is unknown, `Some(None)` if the line has no entry.
+-- `value` parses the second and third fields. It gives `None` if the value is unknown, and `Some None` if the
+-- line has no entry.
 pub record Form (V : Type 0) : Type 0 where
   pub has_ranges : Bool
   pub has_third : Bool
@@ -95,11 +98,11 @@ module _ {V : Type 0} (form : Form V) where
       if not (list_all is_ascii (before_comment line)) then Err cause.NotAscii
       else (if length (content_of line) == 0 then Ok None else by_fields (fields_of (content_of line)))
 
--- what follows the first separator, if there is one
+-- the bytes after the first separator, if there is one
 abbrev pub rest_after : ℕ → List ℕ → Option (List ℕ)
 rest_after mark bytes = if list_any (is_mark mark) bytes then Some (after_first (is_mark mark) bytes) else None
 
--- the parts: the first one, and those of the rest
+-- the parts between separators: the first part, followed by the parts of the rest
 abbrev pub parts_of : ℕ → List ℕ → Option (List ℕ) → List (List ℕ)
 parts_of mark front None = front ∷ []
 parts_of mark front (Some rest) = front ∷ slice_split (is_mark mark) rest

@@ -8,11 +8,12 @@ use Rattle.ucd.specs.declared.grammar.Entry.{Entry}
 use Rattle.ucd.specs.declared.width.Width.{Width}
 use Rattle.ucd.specs.declared.width.Width.TheVariants as width
 
--- the properties of a code point: `index` has the number of its page, `entries` the contents of the pages
+-- The properties of a code point. `index` has the number of its page, and `entries` has the contents of the
+-- pages.
 abbrev pub answers_at : List ℕ → List PropertyAnswers → ℕ → PropertyAnswers
 answers_at index entries c = slice_index_or entries (slice_index index (c / 256) * 256 + c % 256) unnamed
 
--- entries that give each code point below n the value of a function
+-- entries that give each code point below n the value of a function at that code point
 abbrev pub single : {V : Type 0} → ℕ → Option V → List (Entry V)
 single c None = []
 single c (Some v) = record { first = c; last = c; value = v } ∷ []
@@ -21,7 +22,7 @@ unfoldable pub singles : {V : Type 0} → (ℕ → Option V) → ℕ → List (E
 singles f zero = []
 singles f (suc n) = singles f n ++ single n (f n)
 
--- the values of the files from which the properties follow
+-- the values in the files that result in these properties
 abbrev pub category_in : PropertyAnswers → Category
 category_in a = if a.is_future_pictograph then category.Unassigned else (if a.is_mark then category.Mark else category.Other)
 
@@ -31,11 +32,11 @@ width_in a = if a.is_wide then width.Wide else width.Other
 abbrev pub pictograph_in : PropertyAnswers → Option Pictograph
 pictograph_in a = if a.is_future_pictograph then Some (record {}) else None
 
--- the last page equals this page
+-- the last page of `pages` equals `page`
 abbrev pub EndsWithPage : List PropertyAnswers → List PropertyAnswers → Type 0
 EndsWithPage pages page = (256 ≤ length pages) × (drop (length pages - 256) pages ≡ page)
 
--- `new` has this page under this number: it is `old`, possibly with one page appended
+-- `new` has the page `page` under the given number. It is `old`, possibly with one page appended.
 pub record HasPage (old new page : List PropertyAnswers) (number : ℕ) : Type 0 where
   pub whole : length new % 256 ≡ 0
   pub room : length new ≤ length old + 256

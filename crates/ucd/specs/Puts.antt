@@ -1,5 +1,5 @@
--- Applying a value of a file to the properties of a character. A pictograph counts as unassigned until its category
--- is applied, so categories come after pictographs.
+-- How a value from a file is applied to the properties of a character. A pictograph counts as unassigned
+-- until its category is applied, so categories are applied after pictographs.
 use Rattle.std.specs.Prelude.{true, false, Option, Some, None}
 use Rattle.ucd.specs.Answers.{PropertyAnswers}
 use Rattle.ucd.specs.declared.bidi_class.BidiClass.{BidiClass}

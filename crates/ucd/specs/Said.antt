@@ -1,4 +1,4 @@
--- The properties of each code point that the entries of the files determine.
+-- The properties that the entries of the files give each code point.
 use Rattle.std.specs.Prelude.{◌≡◌, ℕ, ◌<◌, List, length, slice_index_or}
 use Rattle.ucd.specs.Answers.{PropertyAnswers, unnamed}
 use Rattle.ucd.specs.Contents.{TableContents}

@@ -31,7 +31,7 @@ use Rattle.ucd.specs.Widths.{width_form}
 abbrev pub mirror_by : Option Mirror → Option ℕ
 mirror_by mirror = option_map (λ m. m.0) mirror
 
--- whether there is a width and it is wide
+-- whether a width is given and is wide
 abbrev pub is_wide_by : Option Width → Bool
 is_wide_by (Some Wide) = true
 is_wide_by _ = false
@@ -45,7 +45,7 @@ abbrev pub is_unassigned_by : Category → Bool
 is_unassigned_by Unassigned = true
 is_unassigned_by _ = false
 
--- the properties that tables give a character, with the defaults of characters that no line names
+-- the properties that tables give a character, with defaults for characters that no line names
 unfoldable pub class_of : Tables → ℕ → BidiClass
 class_of t c = unwrap_or (value_at t.bidi_classes c) L
 
@@ -80,11 +80,11 @@ pub record AreGood (files : UcdFiles) : Type 0 where
   pub east_asian_width : IsGood width_form (lines_of files.east_asian_width.now)
   pub emoji_data : IsGood emoji_form (lines_of files.emoji_data.now)
 
--- the category that a file gives a character, or Cn
+-- the category that the file gives a character, or Cn if it gives none
 abbrev pub category_in : UcdFiles → ℕ → Category
 category_in files c = unwrap_or (value_in category_form (lines_of files.general_category.now) c) Unassigned
 
--- the tables give a character the same properties as the files, with the same defaults
+-- the tables give the character c the same properties as the files, with the same defaults
 pub record SayOf (files : UcdFiles) (t : Tables) (c : ℕ) : Type 0 where
   pub bidi_class : class_of t c ≡ unwrap_or (value_in bidi_class_form (lines_of files.bidi_class.now) c) L
   pub bracket : bracket_of t c ≡ value_in bracket_form (lines_of files.bidi_brackets.now) c
@@ -99,7 +99,8 @@ pub record AreTablesOf (files : UcdFiles) (t : Tables) : Type 0 where
   pub good : AreGood files
   pub say : (c : ℕ) → IsScalar c → SayOf files t c
 
--- the fault is the first faulty line of this file; if memory ran out, its file and line are 0
+-- The fault is at the first faulty line of this file. If memory ran out, the file and line of the fault are
+-- 0.
 module _ {V : Type 0} (number : ℕ) (form : Form V) (lines : List (List ℕ)) where
   abbrev pub IsFaultBy : ℕ → ℕ → Cause → Type 0
   IsFaultBy file line cause.Memory = (file ≡ 0) × (line ≡ 0)
@@ -108,11 +109,11 @@ module _ {V : Type 0} (number : ℕ) (form : Form V) (lines : List (List ℕ)) w
   abbrev pub IsFaultIn : TableFault → Type 0
   IsFaultIn fault = IsFaultBy fault.file fault.line fault.cause
 
-  -- the fault is in this file; or this file has no fault, and the fault is in a later file
+  -- The fault is in this file, or this file has no fault and the fault is in a later file.
   abbrev pub IsInOr : (TableFault → Type 0) → TableFault → Type 0
   IsInOr after fault = IsFaultIn fault ⊎ (IsGood form lines × after fault)
 
--- the first fault, looked for in the files for bidirectional text first, and then in those for line breaking
+-- the first fault in the files, with the files for bidirectional text before those for line breaking
 abbrev pub IsBidiFaultOf : UcdFiles → TableFault → Type 0
 IsBidiFaultOf files =
     IsInOr 1 bidi_class_form (lines_of files.bidi_class.now) (

@@ -7,7 +7,7 @@ use Rattle.bidi.proofs.PairLemmas.{greatest_found}
 use Rattle.bidi.proofs.brackets.close.Goals as goal
 use Rattle.bidi.proofs.brackets.close.Goals.{After-as_slice-in-Some}
 
--- the opener found is on the list of openers
+-- the index of the opener found is below the number of openers
 newest_within : (openers : List Opener) (closer m : ℕ) → Some m ≡ newest openers closer → m < length openers
 newest_within openers closer m e = (greatest_found (λ i. canonical (pair_of openers i) == canonical closer) (length openers) m (sym e)).0
 

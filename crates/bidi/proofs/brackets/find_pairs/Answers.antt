@@ -58,7 +58,7 @@ says (Some b) c =
       | inr closes ↦ rw (cond-false b.opens (Opening b.pair) (Closing c) closes) (says_closing b c closes)
     ]
 
--- the bracket type that was read agrees with the character at k
+-- the bracket type `answer`, which was read at k, agrees with the character there
 record Told (look : ℕ → Option Bracket) (text : List ℕ) (types : List BidiClass) (k : ℕ) (answer : BracketType) : Type 0 where
   opens : is_opener look text types k ≡ opens_by answer
   closes : is_closer look text types k ≡ closes_by answer
@@ -122,7 +122,7 @@ skipped look text kinds types k j openers closers size are order within none now
     (λ m above below. (other_told look text kinds types m (omega arith) size are (none m above below)).opens)
     (λ m above below. (other_told look text kinds types m (omega arith) size are (none m above below)).closes) now
 
--- the state after k + 1 characters, with the index as the program computes it
+-- a state after `suc k` characters is a state after `k + 1`, the form that the program computes
 next : (look : ℕ → Option Bracket) (text : List ℕ) (types : List BidiClass) (k : ℕ) (openers : List Opener) (closers : List ℕ)
     → Walks look text types (suc k) openers closers → Walks look text types (k + 1) openers closers
 next look text types k openers closers now = let e : k + 1 ≡ suc k = omega arith in rw e now

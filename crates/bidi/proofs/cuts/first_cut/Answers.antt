@@ -7,7 +7,8 @@ use Rattle.bidi.proofs.LeastLemmas.{least_found, least_none}
 use Rattle.bidi.proofs.PiecesLemmas.{paragraphs-at_cut, paragraphs-no_cut}
 use Rattle.bidi.proofs.cuts.first_cut.Goals as goal
 
--- the result for the two neighbours at k, as they were read
+-- the result for the two characters that were read at k - 1 and k tells whether there is a boundary between
+-- them
 answer_is : (is_cut : ℕ → ℕ → Bool) (text : List ℕ) (k before after : ℕ) (answer : Bool) → k < length text
     → before ≡ get_or text (k - 1) before → after ≡ get_or text k after → answer ≡ is_cut before after
     → is_cut (slice_index text (k - 1)) (slice_index text k) ≡ answer

@@ -8,7 +8,7 @@ use Rattle.bidi.proofs.MatchLemmas.{Opens, Opens-up, Opens-down, Opens-down_none
 use Rattle.bidi.proofs.isolates.find_matches.Goals as goal
 use Rattle.bidi.proofs.isolates.find_matches.Goals.{then-is_initiator+in_ok-push, else-is_initiator+then-is_pdi, else-is_initiator+else-is_pdi}
 
--- the result of a test for the class at k, as it was read
+-- the result of testing the class read at k is the result for the class at k
 told : (p : BidiClass → Bool) (classes : List BidiClass) (k : ℕ) (answer : Bool) → k < length classes → answer ≡ p (get_or classes k L) → p (class_at classes k) ≡ answer
 told p classes k answer within e = ap p (get_or_default classes k ON L within) ∙ sym e
 
@@ -20,7 +20,7 @@ length_either stack found k =
       | inr some ↦ ap length (cond-false (length stack == 0) found (set found (get_or stack (length stack - 1) 0) k) some) ∙ length-set found (get_or stack (length stack - 1) 0) k
     ]
 
--- the step for a PDI, with an empty stack or not
+-- a PDI keeps the state of the pass correct, whether the stack is empty or not
 closed_one : (classes : List BidiClass) (k : ℕ) (stack found rest after : List ℕ) → k < length classes
     → is_initiator (class_at classes k) ≡ false → is_pdi (class_at classes k) ≡ true → Opens classes k stack found
     → rest ≡ take (length stack - 1) stack → after ≡ (if length stack == 0 then found else set found (get_or stack (length stack - 1) 0) k)

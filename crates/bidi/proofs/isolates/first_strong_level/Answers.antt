@@ -9,7 +9,7 @@ use Rattle.bidi.specs.Isolates.{match_at, matches_of}
 use Rattle.bidi.proofs.JumpLemmas.{Walks, Walks-strong, Walks-step, Walks-jump, Walks-end, get_or-matches_of, match_at-le, end-above}
 use Rattle.bidi.proofs.isolates.first_strong_level.Goals as goal
 
--- the entry of the list of matches at k
+-- the entry at k in the list of matches is the match at k
 match_there : (classes : List BidiClass) (matches : List ℕ) (k : ℕ) → matches ≡ matches_of classes → k < length classes → get_or matches k 0 ≡ match_at classes k
 match_there classes matches k e within = ap (λ found. get_or found k 0) e ∙ get_or-matches_of classes k 0 within
 
@@ -39,7 +39,7 @@ bounds-classes-at c =
       before c.args.classes.now c.args.matches.now c.args.initiator c.loop-at.at c.requires.matches c.requires.within c.loop-at-test.true,
     )
 
--- an index before the match is in the list
+-- an index before the match of an initiator is below the length of the list
 inside : (classes : List BidiClass) (matches : List ℕ) (i at : ℕ) → matches ≡ matches_of classes → i < length classes → at < get_or matches i 0 → at < length classes
 inside classes matches i at e within below = omega (arith, match_at-le classes i within, before classes matches i at e within below)
 
@@ -57,7 +57,7 @@ place_after-at-requires-clause-found c =
     let here = inside c.args.classes.now c.args.matches.now c.args.initiator c.loop-at.at c.requires.matches c.requires.within c.loop-at-test.true in
     omega (arith, match_there c.args.classes.now c.args.matches.now c.loop-at.at c.requires.matches here, match_at-le c.args.classes.now c.loop-at.at here)
 
--- one step of the search
+-- one step of the search moves on by a character or past a nested isolate, and keeps the state
 stepped : (classes : List BidiClass) (matches : List ℕ) (i at next : ℕ) (class : BidiClass) (level : Option ℕ) → matches ≡ matches_of classes → (within : i < length classes)
     → (opens : is_initiator (class_at classes i) ≡ true) → at < get_or matches i 0 → Walks classes i at → class ≡ get_or classes at L
     → level ≡ (if is_strong class then Some (strong_level class) else None) → is_some level ≡ false

@@ -12,7 +12,7 @@ loop-at-init c = record {
   so_far = record { sizes = c.requires.length; order = omega arith; whole = refl };
 }
 
--- an empty run of neutrals
+-- for an empty run of neutrals, no levels are written
 no_row : (levels : List ℕ) (start at value : ℕ) → start ≤ at → at ≤ start → take at levels ≡ take start levels ++ replicate (at - start) value
 no_row levels start at value order past =
     let same : at ≡ start = omega arith in

@@ -9,7 +9,7 @@ use Rattle.bidi.specs.Sequences.{direction}
 use Rattle.bidi.proofs.JumpLemmas.{get_or-matches_of, open-match_at}
 use Rattle.bidi.proofs.sequences.eos.Goals as goal
 
--- whether the last character is an initiator without a match, from the list of matches
+-- the list of matches shows whether the last character is an initiator without a match
 open_there : (classes : List BidiClass) (matches : List ℕ) (last len : ℕ) → matches ≡ matches_of classes → length classes ≡ len → last < len
     → (is_initiator (get_or classes last L) && (get_or matches last 0 == len)) ≡ (is_initiator (class_at classes last) && is_none (match_of classes last))
 open_there classes matches last len e size within =

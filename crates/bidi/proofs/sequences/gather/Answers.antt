@@ -22,7 +22,7 @@ next_run-requires-clause-above c =
     rw (last_match c.args.classes.now c.args.matches.now c.run_end-end.result (length c.args.levels.now) c.requires.matches c.requires.length (omega arith) (omega arith))
     (match_at-above c.args.classes.now (c.run_end-end.result - 1) (omega (arith, c.requires.length)))
 
--- a run that continues at `next`: the sequence that begins there remains to be appended
+-- if a run continues at `next`, the sequence that begins there remains to be appended
 goes_on : (classes : List BidiClass) (levels matches places after : List ℕ) (start end next : ℕ) → matches ≡ matches_of classes → length classes ≡ length levels → IsRunEnd levels start end
     → after ≡ places ++ range_with_len start (end - start) → Some next ≡ next_start levels (get_or matches (end - 1) 0)
     → (end ≤ next) × (next < length levels) × (after ++ sequence_at classes levels next ≡ places ++ sequence_at classes levels start)
@@ -59,7 +59,7 @@ loop-next-preserved c =
           c.run_end-end.ensures.within (omega arith) c.loop-next.invariant.inside);
     }
 
--- a run that ends its sequence: the whole sequence has been appended
+-- if a run is the last of its sequence, the whole sequence has been appended
 ends : (classes : List BidiClass) (levels matches places after : List ℕ) (start end : ℕ) → matches ≡ matches_of classes → length classes ≡ length levels → IsRunEnd levels start end
     → after ≡ places ++ range_with_len start (end - start) → None ≡ next_start levels (get_or matches (end - 1) 0) → after ≡ places ++ sequence_at classes levels start
 ends classes levels matches places after start end e size run pushed f =

@@ -8,7 +8,7 @@ use Rattle.breaks.proofs.mark.mark_all.Goals as goal
 pub returns-in_default : goal.returns-in_default
 returns-in_default g c = none_at_all _ _ _ _ (no_text _ _ _ c.requires.characters c.in_default.ensures.cases) c.requires.len
 
--- the state after the first character
+-- the loop invariant holds after the first character
 pub loop-i-init : goal.loop-i-init
 loop-i-init g c = record {
   walks = (_, [], c.start-walk.ensures.stands c.args.whole_numbers, begins_read _ _ _ _ _ _ c.requires.characters c.in-Some.ensures.cases);
@@ -16,7 +16,7 @@ loop-i-init g c = record {
   within = c.start-walk.ensures.within;
 }
 
--- the step for the next character
+-- the loop invariant still holds after the next character
 pub loop-i-preserved : goal.loop-i-preserved
 loop-i-preserved g c =
     let lt : c.loop-i.i < length c.loop-i.marks = omega arith in
@@ -29,6 +29,6 @@ loop-i-preserved g c =
       within = c.pass-decided.ensures.within;
     }
 
--- the mark after the last character
+-- the mark after the last character completes the list
 pub returns : goal.returns
 returns g c = rw c.len-last.ensures (ends character_by _ _ c.args.whole_numbers c.loop-i.i _ c.loop-i.marks (omega arith) c.loop-i.invariant.len c.loop-i.invariant.walks)

@@ -5,7 +5,7 @@ use Rattle.breaks.proofs.WalkLemmas.{Walks}
 use Rattle.breaks.proofs.mark.mark_all.Given as goal
 use Rattle.breaks.specs.declared.table.TheConstants.{LAST_ROW}
 
--- the marks so far, and those that the recursion gives for the rest, are the marks of the text
+-- the marks so far, followed by those that the recursion gives for the rest, are the marks of the text
 abbrev pub invariant-loop-i : goal.invariant-loop-i
 invariant-loop-i g l = record {
   walks : Walks l.whole_numbers l.walk (take l.i l.marks) (map character_by (drop l.i (g.C.Characters.all l.rest))) (marks_of l.tables l.whole_numbers l.text);

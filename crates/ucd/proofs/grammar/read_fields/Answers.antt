@@ -9,7 +9,7 @@ returns-then-is_some g c =
     rw (c.cut.ensures.parts, c.in-Some.is, c.cut-2.ensures.parts, c.in-Some-rest.is, c.cut-in-Some-rest.ensures.parts)
     (too_many g.V.Property.form c.cut.result.0.now c.cut-2.result.0.now _ (λ more. more.now) c.cut-in-Some-rest.result.1 (sym c.is_some.ensures ∙ c.if-is_some.true))
 
--- the line has two fields but the file three, or the line has three or more but the file two
+-- the line has two fields although the file has three, or three or more although the file has two
 pub returns-in_default-rest : goal.returns-in_default-rest
 returns-in_default-rest g c =
     elim c.in_default-rest.branch [

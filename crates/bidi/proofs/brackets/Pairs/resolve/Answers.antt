@@ -10,7 +10,7 @@ use Rattle.bidi.proofs.BracketTypeLemmas.{look_for, text_for, told}
 use Rattle.bidi.proofs.PairLemmas.{closer_in-pairs_of, fold-same, length-closers_of}
 use Rattle.bidi.proofs.brackets.Pairs.resolve.Goals as goal
 
--- resolving the pairs in the list of closers is resolving those of the text
+-- resolving the pairs in the list of closers gives the same types as resolving the pairs of the text
 by_pairs : (look : ℕ → Option Bracket) (text : List ℕ) (types : List BidiClass) (embedding sos : BidiClass) (marks : List Bool) (closers : List ℕ)
     → closers ≡ closers_of (pairs_of look text types) (length types)
     → resolve_pairs embedding sos marks (closer_in closers) types ≡ resolve_pairs embedding sos marks (closer_of (pairs_of look text types)) types

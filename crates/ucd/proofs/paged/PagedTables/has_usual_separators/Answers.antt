@@ -3,7 +3,7 @@ use Rattle.ucd.specs.Tables.{class_of}
 use Rattle.ucd.proofs.PagedLemmas.{class_is}
 use Rattle.ucd.proofs.paged.PagedTables.has_usual_separators.Goals as goal
 
--- the separators of the tables are usual if and only if those of the pages are
+-- the separators of the tables are usual if and only if the separators of the pages are
 pub returns-clause-yes : goal.returns-clause-yes
 returns-clause-yes c = λ is x lt other separates.
     c.self.inside.pages.usual is x lt other
