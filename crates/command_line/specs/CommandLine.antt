@@ -1,4 +1,4 @@
--- The arguments as `clap` knows them, and the settings that they give.
+-- The arguments as `clap` is told to parse them, and the settings that they give.
 use Rattle.std.specs.Prelude.{◌≡◌, ◌≤◌, ◌==◌, ◌||◌, not, ℕ, pos, Bool, true, false, List, [], ◌∷◌, ◌++◌, length, map, fold, codes, Option, Some, None, is_some, option_map, unwrap_or}
 use Rattle.std.specs.Str.Parse.{IsNumeral, digits_value, without_leading_plus}
 use Rattle.bidi.specs.declared.base.Base.{Base}
@@ -134,9 +134,9 @@ pub record AreMatches (words : List Text) (matches : ArgMatches) : Type 0 where
   pub ucd : is_some (first_of (codes "ucd") (rows_of (found_of matches))) ≡ true
   pub width : HasWidth (rows_of (found_of matches))
 
--- `clap` refuses the arguments with this kind of error. Or it accepts them, and one of these faults applies, tested in
--- this order. More than one base direction is set. A script has no text, or more than one. There are queries without a
--- script.
+-- Either `clap` refuses the arguments with this kind of error, or it accepts them and one of these faults
+-- applies. The faults are tested in this order. More than one base direction is set. A script has no text, or
+-- more than one. There are queries without a script.
 abbrev pub IsLineFault : List Text → LineFault → Type 0
 IsLineFault words (Words error) = IsAmong (kind_of error) (fault_of program words)
 IsLineFault words Directions = (fault_of program words ≡ []) × (base_of (matches_of program words) ≡ None)

@@ -1,4 +1,4 @@
--- Calls of a sink, one after another.
+-- Several calls of a sink in order.
 use Rattle.std.proofs.Common.{◌≡◌, ℕ, ◌+◌, ◌≤◌, ◌==◌, false, List, ◌++◌, length, take, drop, Option, Some, None, ap, ◌∙◌, arith}
 use Rattle.std.specs.Io.KnownBytes.{Appends}
 use Rattle.std.proofs.lemmas.List.{append_assoc, length-take-le}

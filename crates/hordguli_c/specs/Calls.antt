@@ -1,6 +1,6 @@
--- How a call changes a handle and an output parameter. The conditions of a call are checked one after another. Each
--- definition checks one condition: if it does not hold, the call returns a status, and otherwise the next one is
--- checked.
+-- How a call changes a handle and an output parameter. The conditions of a call are checked one after
+-- another. Each definition checks one condition. If the condition does not hold, the call returns a status.
+-- Otherwise, the next condition is checked.
 use Rattle.std.specs.Prelude.{◌≡◌, ℕ, ◌⊎◌, List, Option, Some, None, IsUtf8, chars}
 use Rattle.hordguli_c.specs.declared.status.Status.{Status}
 use Rattle.hordguli_c.specs.declared.status.Status.TheVariants as is
@@ -29,7 +29,7 @@ Changes does status None after old new = (status ≡ is.Closed) × (after ≡ No
 Changes does status (Some before) None old new = ⊥
 Changes does status (Some before) (Some after) old new = does status before after old new
 
--- the result is stored, if there is one
+-- the result is stored if there is one; otherwise the status is `OutOfRange`
 abbrev pub Gives : {O : Type 0} → Option O → Status → O → O → Type 0
 Gives None status old new = (status ≡ is.OutOfRange) × (new ≡ old)
 Gives (Some x) status old new = (status ≡ is.Ok) × (new ≡ x)

@@ -19,13 +19,13 @@ mark_number Never = 0
 mark_number May = 1
 mark_number Must = 2
 
--- why numbers are not accepted as characters: one is not a scalar value, or an allocation failed
+-- the reason why numbers are not accepted as characters: one is not a scalar value, or an allocation failed
 abbrev pub CharactersNot : List ℕ → Status → Type 0
 CharactersNot numbers status =
     ((¬ All IsScalar numbers) × (status ≡ is.NotACharacter))
     ⊎ (All IsScalar numbers × (status ≡ is.NoMemory) × (0 < length numbers))
 
--- a call on characters succeeds only if all numbers are characters, and allocates if there are any
+-- A call on characters succeeds only if all numbers are characters. It may allocate if there are any.
 abbrev pub OfCharacters : List ℕ → Status → Type 0 → Type 0 → Type 0
 OfCharacters characters status unchanged done =
     Given (All IsScalar characters) is.NotACharacter status unchanged

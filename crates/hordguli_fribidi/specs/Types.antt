@@ -41,7 +41,7 @@ classes = L ∷ R ∷ AL ∷ EN ∷ ES ∷ ET ∷ AN ∷ CS ∷ NSM ∷ BN ∷ B
 abbrev pub named : List ℕ
 named = map type_of classes ++ 32 ∷ 33 ∷ 128 ∷ []
 
--- the index of a number in that list, or 26
+-- the index of a number in `named`, or 26 if it is not in that list
 unfoldable pub name_index : ℕ → ℕ
 name_index number = position_or_len (λ other. other == number) named
 
@@ -59,7 +59,8 @@ base_of number =
 abbrev pub direction_of : ℕ → ℕ
 direction_of level = if level == 0 then 272 else 273
 
--- the bracket with a number: the code point of its pair, plus 2 ^ 31 for an opening one; 0 is no bracket
+-- The bracket with a number, which is the code point of the other bracket of the pair, plus 2^31 for an
+-- opening bracket. The number 0 is no bracket.
 abbrev pub bracket_by : ℕ → Option Bracket
 bracket_by number =
     if number == 0 then None

@@ -111,7 +111,7 @@ pub direction_only : (rules : Rules) (width : ℕ) (print : Print) (text : List 
 direction_only rules width print text skips paragraph marks =
     sym (all_are width print skips (base_of rules text) text (lines_of rules width text) (lines_of rules width text) (some_lines rules width text paragraph marks))
 
--- what holds unless memory ran out holds after `Ok`
+-- if a property holds unless memory ran out, it holds after `Ok`
 pub on_ok : (P : Type 0) (result : Result (Unit {0}) PrintFault) → (¬ (IsErrOf result Memory) → P) → OnOk result P
 on_ok P (Ok done) holds = holds (λ bad. cc)
 on_ok P (Err fault) holds = tt

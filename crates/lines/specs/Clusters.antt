@@ -15,8 +15,9 @@ cluster_ends text = ends_after [] text
 abbrev pub ends_of : List ℕ → List Bool
 ends_of cluster = replicate (length (chars cluster) - 1) false ++ true ∷ []
 
--- Characters that no rule joins to one another: Latin-1 without controls below U+0020 except tab and line feed; Hebrew
--- and Arabic letters; separators, embeddings and isolates. Only the code uses these definitions.
+-- Characters that no rule joins to one another: Latin-1 (of the controls below U+0020, only tab and line
+-- feed), Hebrew and Arabic letters, separators, embeddings and isolates. Only the code uses these
+-- definitions.
 abbrev pub lies_in : ℕ → ℕ → ℕ → Bool
 lies_in first last c = nat_le first c && nat_le c last
 

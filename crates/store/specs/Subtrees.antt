@@ -4,7 +4,7 @@ use Rattle.std.specs.declared.alloc.Global.{Global}
 use Rattle.store.specs.Trees.{Tree, Empty, Fork, in_order, height, IsBalanced}
 use Rattle.store.specs.declared.subtree.Node.{Node}
 
--- the number of items, and the sums of their characters and lines, fit a usize
+-- whether the number of items, and the sums of their characters and lines, fit in a `usize`
 pub record Fits {P : Type 0} (chars lines : P → ℕ) (items : List P) : Type 0 where
   pub count : length items < 2 ^ 64
   pub chars_fit : sum_by chars items < 2 ^ 64

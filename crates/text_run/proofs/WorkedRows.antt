@@ -1,4 +1,4 @@
--- Worked examples of the definitions.
+-- The value of a constant.
 use Rattle.std.proofs.Common.{◌≡◌, refl}
 use Rattle.stream.specs.declared.reading.TheConstants.{CHUNK}
 
