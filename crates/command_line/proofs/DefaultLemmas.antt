@@ -38,7 +38,7 @@ has_entry (x ∷ xs) id i lt is = go (bytes_eq x.0.now id) refl i lt is (λ k lo
     go false other (suc k) low at rec = rw other (rec k (omega arith) at)
 
 -- A non-empty list of values has a first value, which has a parsed form. A fact that holds for all values
--- holds for it.
+-- holds for the first one.
 head_value : (P : Bor Text → Type 0) (how : Reading) (vs : List (Bor Text)) → All P vs → 0 < length vs
     → (v : Bor Text) × (option_map (λ s. s.now) (slice_get vs 0) ≡ Some v.now) × (option_map (λ s. read_as how s.now) (slice_get vs 0) ≡ Some (read_as how v.now)) × P v
 head_value P how [] all some = absurd (omega arith)

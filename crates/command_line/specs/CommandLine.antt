@@ -1,4 +1,4 @@
--- The arguments as `clap` is told to parse them, and the settings that they give.
+-- The command line as it is described to `clap`, and the settings that its arguments give.
 use Rattle.std.specs.Prelude.{◌≡◌, ◌≤◌, ◌==◌, ◌||◌, not, ℕ, pos, Bool, true, false, List, [], ◌∷◌, ◌++◌, length, map, fold, codes, Option, Some, None, is_some, option_map, unwrap_or}
 use Rattle.std.specs.Str.Parse.{IsNumeral, digits_value, without_leading_plus}
 use Rattle.bidi.specs.declared.base.Base.{Base}
@@ -13,7 +13,7 @@ use Rattle.command_line.specs.declared.options.LineFault.{LineFault}
 use Rattle.command_line.specs.declared.options.LineFault.TheVariants.{Words, Directions, ScriptFiles, Queries, NoMemory}
 use Rattle.command_line.specs.declared.options.Settings.{Settings}
 
--- an option without a value, named by its long name
+-- an option with a long name and no value
 abbrev pub flag_rule : Text → Rule
 flag_rule name = record (new_rule name) { long = Some name; action = Some SetTrue }
 
@@ -127,7 +127,8 @@ pub record HasWidth (rows : List Row) : Type 0 where
   pub one : one_of (codes "width") rows ≡ Some text
   pub allowed : IsNumeral 10 (without_leading_plus text) × (1 ≤ number_of text) × (number_of text ≤ 65535)
 
--- The matches are those of arguments without a fault. So each argument that is required or has a default is present.
+-- The matches are those of arguments without a fault, so each argument that is required or has a default is
+-- present.
 pub record AreMatches (words : List Text) (matches : ArgMatches) : Type 0 where
   pub taken : fault_of program words ≡ []
   pub rows : rows_of (found_of matches) ≡ matches_of program words

@@ -17,7 +17,7 @@ status_of_line (Words error) = status_of_words (kind_of error)
 status_of_line NoMemory = 1
 status_of_line fault = 2
 
--- whether the arguments are refused because the folder is missing, which is the only required argument
+-- whether the arguments are refused because the folder, the only required argument, is missing
 abbrev pub is_missing : ErrorKind → Bool
 is_missing MissingRequiredArgument = true
 is_missing kind = false

@@ -32,7 +32,7 @@ pub record Fails (old new : Device) : Type 0 where
   pub failures : new.failures ≡ min (old.failures + 1) greatest
   pub failed_at : new.failed_at ≡ old.passed
 
--- A read put n bytes at the front of a buffer. It reads none only if the source has none left.
+-- A read put n bytes at the front of a buffer. It put none only if the source has no bytes left.
 pub record Gives (old new : Device) (n : ℕ) (buffer : List ℕ) : Type 0 where
   pub bytes : Consumes old.bytes new.bytes (take n buffer)
   pub end : n ≡ 0 → IsAtEnd new.bytes

@@ -5,7 +5,7 @@ use Rattle.std.specs.Prelude.{◌≡◌, ℕ, ◌⊎◌, List, Option, Some, Non
 use Rattle.hordguli_c.specs.declared.status.Status.{Status}
 use Rattle.hordguli_c.specs.declared.status.Status.TheVariants as is
 
--- If a condition holds, the next one is checked. If not, the call returns a status and changes nothing.
+-- If a condition holds, the next one is checked. Otherwise, the call returns a status and changes nothing.
 abbrev pub Given : Type 0 → Status → Status → Type 0 → Type 0 → Type 0
 Given holds refused status unchanged rest = ((¬ holds) × (status ≡ refused) × unchanged) ⊎ (holds × rest)
 

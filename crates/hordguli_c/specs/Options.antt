@@ -8,7 +8,7 @@ use Rattle.lines.specs.declared.print.Print.{Print}
 abbrev pub has_bit : ℕ → ℕ → Bool
 has_bit bits value = bits / value % 2 == 1
 
--- the base direction, which the two lowest bits give
+-- the base direction in the two lowest bits
 abbrev pub base_of : ℕ → Base
 base_of bits =
     if bits % 4 == 0 then WeakLtr else if bits % 4 == 1 then WeakRtl else if bits % 4 == 2 then Ltr else Rtl

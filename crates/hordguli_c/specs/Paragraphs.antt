@@ -25,7 +25,8 @@ CharactersNot numbers status =
     ((¬ All IsScalar numbers) × (status ≡ is.NotACharacter))
     ⊎ (All IsScalar numbers × (status ≡ is.NoMemory) × (0 < length numbers))
 
--- A call on characters succeeds only if all numbers are characters. It may allocate if there are any.
+-- A call on characters succeeds only if all numbers are characters. It may allocate if there is at least one
+-- number.
 abbrev pub OfCharacters : List ℕ → Status → Type 0 → Type 0 → Type 0
 OfCharacters characters status unchanged done =
     Given (All IsScalar characters) is.NotACharacter status unchanged
@@ -37,7 +38,7 @@ PutsEach numbers characters status old new =
     Given (length characters ≤ length old) is.NoRoom status (new ≡ old)
     (OfCharacters characters status (new ≡ old) ((status ≡ is.Ok) × (new ≡ put (numbers characters) old)))
 
--- the levels before L1 (UAX #9, X1 to I2), which proof search does not unfold
+-- the levels before L1 (UAX #9, X1 to I2), as a definition that proof search does not unfold
 unfoldable pub levels_by : Tables → Base → List ℕ → List ℕ
 levels_by tables base text = levels_of tables text base
 

@@ -1,4 +1,5 @@
--- What a handle of tables owns: nothing if it is null, and otherwise the block of tables with this value.
+-- What a handle of tables owns: nothing if it is null, and otherwise the block that has tables with this
+-- value.
 use Rattle.std.specs.Prelude.{◌≡◌, Option, Some, None}
 use base.Fml.{Fml, ftrue, fex}
 use denote.RattleType.{RattleType}

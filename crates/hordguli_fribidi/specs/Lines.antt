@@ -13,7 +13,7 @@ asks_marks flags = flags / 2 % 2 == 1
 abbrev pub reordered : ℕ → List ℕ → List ℕ → List ℕ
 reordered off vtol old = take off old ++ map (slice_index (drop off old)) vtol
 
--- a reordered array, if its length is `len`; any other array is unchanged
+-- an array after reordering, if its length is `len`; any other array is unchanged
 abbrev pub reordered_if : ℕ → ℕ → List ℕ → List ℕ → List ℕ
 reordered_if len off vtol old = if length old == len then reordered off vtol old else old
 

@@ -49,8 +49,8 @@ name_index number = position_or_len (λ other. other == number) named
 unfoldable pub class_of : ℕ → BidiClass
 class_of number = slice_index_or classes (position_or_len (λ other. other == number) (map type_of classes)) ON
 
--- The base direction of a number: LTR, RTL or WRTL. All other numbers count as ON, which is a weak direction with
--- left-to-right as default.
+-- The base direction for which a number stands. Numbers other than those of LTR, RTL and WRTL count as ON,
+-- which is a weak direction with left-to-right as default.
 abbrev pub base_of : ℕ → Base
 base_of number =
     if number == 272 then Ltr else (if number == 273 then Rtl else (if number == 33 then WeakRtl else WeakLtr))

@@ -98,7 +98,7 @@ alone_is_apart c =
     (either _ _ (is_apart c ≡ true) (apart_in 8232 6 c embeddings) (apart_in 8294 3 c isolates)))))
 
 -- No rule for a pair of classes joins two of these characters. The rules for joiners, flags and conjuncts do
--- not apply to them.
+-- not apply to these characters.
 by_pair : (g h : GraphemeClusterBreak) → stands_apart g ≡ true → stands_apart h ≡ true → unwrap_or (break_by_pair true g h) true ≡ true
 by_pair Control Control one other = refl
 by_pair Control Lf one other = refl

@@ -1,4 +1,4 @@
--- Where lines end and what they show does not depend on cluster ends, unless no break opportunity fits.
+-- Where lines end and what they show do not depend on cluster ends, unless no break opportunity fits.
 use Rattle.std.proofs.Common.{◌≡◌, ℕ, zero, suc, ◌+◌, ◌-◌, ◌<◌, ◌≤◌, nat_le, Bool, true, false, ◌&&◌, List, [], ◌∷◌, ◌++◌}
 use Rattle.std.proofs.Common.{length, map, take, drop, reverse, set, get_or, Some, unwrap_or, slice_range, refl, sym, ap, ap₂, ◌∙◌, arith}
 use Rattle.std.proofs.Math.Seq.{set-append_seam, get_or-append_seam}
@@ -212,8 +212,8 @@ parts_bare n xs (s ∷ t ∷ starts) = ap₂ (λ (p : Shown) (ps : List Shown). 
 pub same_shown : (n : ℕ) (xs ys : List CharInfo) (starts : List ℕ) → AreAlike xs ys → shown_from n xs starts ≡ shown_from n ys starts
 same_shown n xs ys starts alike = sym (parts_bare n xs starts) ∙ ap (λ zs. shown_from n zs starts) alike ∙ parts_bare n ys starts
 
--- The first k items of `current` are written. Followed by the items of the remaining characters, they are the
--- items of the whole text.
+-- The first k items of `current` are written. These items, followed by those of the remaining characters, are
+-- the items of the whole text.
 pub record PlacesPut (t : Tables) (text : List ℕ) (marks : List Mark) (current : List CharInfo) (k : ℕ) : Type 0 where
   pub sizes : length current ≡ length text
   pub within : k ≤ length text

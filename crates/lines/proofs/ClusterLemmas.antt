@@ -31,7 +31,8 @@ cut_begins : (rule : Rule) (before : List ℕ) (c : ℕ) (cs after : List ℕ)
 unfolding cut
 cut_begins rule before c cs after = attach_begins (rule (c ∷ before) (cs ++ after)) c (cut rule (c ∷ before) cs after)
 
--- after `attach` puts a character before pieces, a cluster ends after it exactly if it is a piece of its own
+-- if `attach` puts a character before pieces, a cluster ends after that character exactly if it is a piece of
+-- its own
 ends_attach : (b : Bool) (c d : ℕ) (p : List ℕ) (ps : List (List ℕ))
     → flat_map ends_of_piece (attach b c ((d ∷ p) ∷ ps)) ≡ b ∷ flat_map ends_of_piece ((d ∷ p) ∷ ps)
 ends_attach true c d p ps = refl

@@ -160,8 +160,8 @@ greatest_more test fit k best here so_far =
       | inr f ↦ cond-false (test k) (Some k) best f ∙ so_far ∙ sym (cond-false (test k && fit k) (Some k) (greatest (λ j. test j && fit j) k) (ap (λ b. b && fit k) f))
     ]
 
--- If no number from `low` to k - 1 passes, the least number that passes is at least k and below n. So is the
--- default.
+-- if no number from `low` to k - 1 passes, the least number that passes is at least k and below n, and so is
+-- the default
 pub least_within : (p : ℕ → Bool) (low count n d k : ℕ) → low + count ≡ n → k ≤ d → d < n → ((m : ℕ) → low ≤ m → m < k → p m ≡ false)
     → (k ≤ unwrap_or (least p low count) d) × (unwrap_or (least p low count) d < n)
 least_within p low zero n d k e above below fails = (above, below)

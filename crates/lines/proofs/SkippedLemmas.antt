@@ -71,7 +71,7 @@ module _ (width : ℕ) (print : Print) (skips : skips_lines print ≡ true) wher
     all_are (line ∷ lines) some =
         ap (λ rest. bytes_at (0, line) ++ rest) (others_are 1 lines (omega arith)) ∙ append-nil (bytes_at (0, line)) ∙ first_is line
 
--- ---- a paragraph has a line
+-- ---- a paragraph has at least one line
 
 pub length-infos : (t : Tables) (text : List ℕ) (marks : List Mark) (clusters : List Bool) → length text ≤ length marks → length clusters ≡ length text
     → length (infos t text marks clusters) ≡ length text

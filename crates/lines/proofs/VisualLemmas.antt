@@ -77,7 +77,7 @@ from_within tables options base text levels ps low n (s ∷ t ∷ at) e rise =
     All-cons (λ (line : Line). line.start + length line.levels ≤ n) (line_between tables options base text levels ps s t) (lines_from tables options base text levels ps (t ∷ at))
     (omega (arith, levels_most tables options base text levels ps s t, rise.2.0, rise.2.1)) (from_within tables options base text levels ps (suc s) n (t ∷ at) e rise.2)
 
--- the lines of a paragraph are inside it
+-- the shown parts of a paragraph's lines are inside the paragraph
 pub lines_within : (rules : Rules) (width : ℕ) (text : List ℕ) → AreWithin (length text) (lines_of rules width text)
 unfolding line_starts_of infos_of
 lines_within rules width text =

@@ -164,8 +164,7 @@ take-spaced (x ∷ xs) (suc k) = ap (λ more. x ∷ more) (sym (take-map (λ (y 
 joined-front : (xs : List (List ℕ)) (k : ℕ) → join_with_byte 32 (take k xs) ≡ concat (take k (spaced xs))
 joined-front xs k = sym (spaced-whole (take k xs)) ∙ ap concat (take-spaced xs k)
 
--- Joining by spaces appends each list after a space, unless it is the first. This holds for list k, and for
--- all lists from list k on.
+-- when lists are joined by spaces, a space precedes each list except the first
 pub joined-more : (xs : List (List ℕ)) (k : ℕ) (x : List ℕ) → k < length xs → x ≡ get_or xs k []
     → join_with_byte 32 (take (k + 1) xs) ≡ join_with_byte 32 (take k xs) ++ ((if k == 0 then [] else 32 ∷ []) ++ x)
 joined-more xs k x within is =

@@ -1,4 +1,5 @@
--- Lines written one at a time, each by its shown part, have the printed bytes of the paragraph.
+-- Writing the lines of a paragraph one at a time, given their shown parts, writes the printed bytes of the
+-- paragraph.
 use Rattle.std.proofs.Common.{◌≡◌, ℕ, zero, suc, ◌+◌, ◌-◌, ◌<◌, ◌≤◌, ◌==◌, ◌++◌, Bool, List, [], ◌∷◌, length, map, take, drop, get_or, Some, refl, sym, ap, ap₂, ◌∙◌, arith}
 use Rattle.std.specs.Prelude.{option_map, slice_get, slice_range}
 use Rattle.std.proofs.lemmas.List.{length-map, length-take-le, take-take}
@@ -26,7 +27,8 @@ use Rattle.lines.specs.declared.print.Print.{Print}
 use Rattle.lines.proofs.PageLemmas.{piece_at, pieces}
 use Rattle.lines.proofs.ShowLemmas.{length_range}
 
--- taking the first n items of a list gives the front of length n; if all items are 0, so are the taken ones
+-- Taking n items from a list that starts with n new items gives these items. If all items of a list are 0, so
+-- are the first n.
 pub front_is : (n : ℕ) (new rest : List ℕ) → length new ≡ n → take n (new ++ rest) ≡ new
 front_is n new rest size = ap (λ (m : ℕ). take m (new ++ rest)) (sym size) ∙ take-append_seam new rest
 

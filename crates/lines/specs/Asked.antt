@@ -1,4 +1,5 @@
--- A line for which only the printed parts are computed. Only the code uses these definitions.
+-- A line for which only the printed parts are computed. No contract of an exported function uses these
+-- definitions.
 use Rattle.std.specs.Prelude.{ℕ, Bool, ◌&&◌, ◌||◌, not, List, length, map, take}
 use Rattle.ucd.specs.Tables.{class_of}
 use Rattle.ucd.specs.declared.tables.Tables.{Tables}

@@ -1,5 +1,5 @@
--- `CharInfo`s without the ends of grapheme clusters. Most lines end at a break opportunity and do not need them. Only
--- the code uses these definitions.
+-- `CharInfo`s without the ends of grapheme clusters. Most lines end at a break opportunity and do not need
+-- these ends. No contract of an exported function uses these definitions.
 use Rattle.std.specs.Prelude.{◌≡◌, Bool, false, List, [], ◌∷◌, map}
 use Rattle.lines.specs.declared.char_info.CharInfo.{CharInfo}
 

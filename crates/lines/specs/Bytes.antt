@@ -6,7 +6,7 @@ use Rattle.reorder.specs.Order.{is_odd}
 use Rattle.lines.specs.Visual.{Visual}
 use Rattle.lines.specs.declared.print.Print.{Print}
 
--- the line that names the base direction: RTL if the base level is odd, LTR otherwise
+-- the line that names the base direction, which is RTL if the base level is odd and LTR otherwise
 abbrev pub direction_line : ℕ → List ℕ
 direction_line base = if is_odd base then codes "RTL\n" else codes "LTR\n"
 

@@ -11,7 +11,7 @@ use Rattle.breaks.specs.declared.mark.Mark.{Mark}
 use Rattle.lines.specs.Clusters.{cluster_ends}
 use Rattle.lines.specs.declared.char_info.CharInfo.{CharInfo}
 
--- the columns of a character by the crate `unicode_width`, or 0 if that crate gives no width
+-- the columns of a character according to the crate `unicode_width`, or 0 if that crate gives no width
 abbrev pub columns_of : ℕ → ℕ
 columns_of c = unwrap_or (char_width false c) 0
 

@@ -89,7 +89,7 @@ pub record AreLinesOf (rules : Rules) (text : List ℕ) (fill : Filled) : Type 0
   pub width : ℕ
   pub from_scratch : fill ≡ fill_of rules width text
 
--- A layout and a fill exchange their lines, and with them the widths at which they are laid out.
+-- A layout and a fill exchange their lines, and with the lines their widths.
 pub record Exchanges (old new : Layout) (fill_old fill_new : Filled) : Type 0 where
   pub put : new ≡ record old { lines = fill_old.lines }
   pub taken : fill_new ≡ record { lines = old.lines; len = length old.text }

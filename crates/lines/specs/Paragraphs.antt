@@ -1,5 +1,5 @@
--- What is known about a paragraph, or about one of its lines, before the lines are reordered. Only the code
--- uses these definitions.
+-- What is known about a paragraph, or about one of its lines, before the lines are reordered. No contract of
+-- an exported function uses these definitions.
 use Rattle.std.specs.Prelude.{◌≡◌, ℕ, ◌≤◌, List, length, map, take}
 use Rattle.ucd.specs.Properties.{properties_of}
 use Rattle.ucd.specs.Tables.{class_of}

@@ -1,5 +1,5 @@
 -- The line starts and shown parts of a paragraph at a width, in buffers that have enough capacity for each
--- line. Only the code uses this definition.
+-- line. No contract of an exported function uses this definition.
 use Rattle.std.specs.Prelude.{◌≡◌, ℕ, length}
 use Rattle.lines.specs.Buffers.{CanHold}
 use Rattle.lines.specs.CharInfos.{infos_of}

@@ -22,7 +22,7 @@ pub record Line : Type 0 where
 
 -- the lines of a paragraph, given its base level, its levels before L1, and the `CharInfo`s of its characters
 module _ (tables : Tables) (options : Options) (base : ℕ) (text levels : List ℕ) (infos : List CharInfo) where
-  -- L1 is applied to the whole line from s to e; L2, L3 and L4 to its shown part
+  -- L1 is applied to the whole line from s to e, and L2, L3 and L4 to its shown part
   abbrev pub line_between : ℕ → ℕ → Line
   line_between s e =
       let part = shown (slice_range infos s e) in

@@ -1,5 +1,6 @@
 -- Paragraphs without a mandatory break before their end (UAX #14, LB4 and LB5). If lines end only at
--- mandatory breaks, each of these paragraphs is one line. Only the code uses these definitions.
+-- mandatory breaks, each of these paragraphs is one line. No contract of an exported function uses these
+-- definitions.
 use Rattle.std.specs.Prelude.{◌≡◌, ℕ, ◌+◌, ◌-◌, ◌<◌, ◌≤◌, Bool, true, false, ◌||◌, List, [], ◌∷◌, length, slice_index}
 use Rattle.ucd.specs.declared.line_class.LineClass.{LineClass}
 use Rattle.ucd.specs.declared.line_class.LineClass.TheVariants.{BK, CR, LF, NL}
@@ -12,7 +13,7 @@ use Rattle.lines.specs.CharInfos.{is_trailing_in}
 abbrev pub ends_line : LineClass → Bool
 ends_line class = is_one_of (BK ∷ []) (base_class class) || is_one_of (CR ∷ LF ∷ NL ∷ []) (base_class class)
 
--- whether a line need not end after any character except the last
+-- whether no character except the last requires a line to end after it
 abbrev pub IsWhole : Tables → List ℕ → Type 0
 IsWhole t text = (j : ℕ) → j + 1 < length text → ends_line (character t (slice_index text j)).class ≡ false
 

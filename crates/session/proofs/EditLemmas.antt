@@ -108,7 +108,7 @@ pub refusal-past : (is_cut : ℕ → ℕ → Bool) (text : List ℕ) (edit : Rep
 refusal-past is_cut text edit past =
     cond-true (nat_lt (length text) (edit.pos + edit.count)) (Some OutOfRange) (text_refusal is_cut (replaced text edit)) (lt-ltb (length text) (edit.pos + edit.count) past)
 
--- if a result is not an error, what `OnOk` states of it holds
+-- if a result is not an error, the fact in `OnOk` holds
 pub at_ok : {X E Q : Type 0} (r : Result X E) → is_err r ≡ false → OnOk r Q → Q
 at_ok (Ok x) e h = h
 at_ok (Err e') e h = absurd (cc e)

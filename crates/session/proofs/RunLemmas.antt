@@ -18,7 +18,7 @@ use Rattle.session.specs.declared.edits.Edit.{Edit}
 use Rattle.session.specs.declared.edits.EditFault.{EditFault}
 use Rattle.session.specs.declared.edits.EditFault.TheVariants.{OutOfRange, WidthOutOfRange, TextTooLong, ParagraphTooLong, NoMemory}
 
--- After an accepted edit, the state is the new one. After a refused edit, it is the old one.
+-- After an accepted edit, the state is the new one. After a refused edit, the state is the old one.
 choice-accepted : {A : Type 0} (reason : Option EditFault) (new old : A) → reason ≡ None → (if is_none reason then new else old) ≡ new
 choice-accepted reason new old e = cond-true (is_none reason) new old (ap is_none e)
 
@@ -91,7 +91,7 @@ stays reason bound old new (Err TextTooLong) r e = absurd (cc e)
 stays reason bound old new (Err ParagraphTooLong) r e = absurd (cc e)
 stays reason bound old new (Err NoMemory) r e = record { moved = has_stayed reason bound old new NoMemory r; accepted = r.answer }
 
--- How much work an edit did. A refused edit did none. Any other edit analysed at most n characters, and
+-- How much work an edit did. A refused edit did no work. Any other edit analysed at most n characters, and
 -- filled and wrote lines of at most m.
 pub record Works (reason : Option EditFault) (n m : ℕ) (old new : Engine) : Type 0 where
   pub analysed : RisesBy (if is_none reason then n else 0) (analysed_of old) (analysed_of new)
@@ -187,7 +187,7 @@ after_all-push : (is_cut : ℕ → ℕ → Bool) (held : Held) (edits : List Edi
 after_all-push is_cut held [] edit = refl
 after_all-push is_cut held (first ∷ edits) edit = after_all-push is_cut (after_one is_cut held first) edits edit
 
--- appending an edit to a list of edits adds its work to theirs
+-- appending an edit to a list of edits adds the work of that edit to the work of the list
 work_of-push : (rules : Rules) (work : Held → Edit → ℕ) (held : Held) (edits : List Edit) (edit : Edit)
     → work_of_all rules work held (edits ++ edit ∷ []) ≡ work_of_all rules work held edits + work_of rules work (after_all (cut_by rules) held edits) edit
 work_of-push rules work held [] edit = omega arith

@@ -172,7 +172,8 @@ module _ (is_cut : ℕ → ℕ → Bool) (text : List ℕ) (c : ℕ) where
     length_got : length (get_or (paragraphs is_cut (text ++ c ∷ [])) (length (paragraphs is_cut (text ++ c ∷ [])) - 1) []) ≡ before + 1
     length_got = ap length (get_or-last (paragraphs is_cut (text ++ c ∷ []))) ∙ length_last
 
-    -- a scan is right after one more character, whether or not the last paragraph is then past the limit
+    -- `HasScanned` holds after one more character, whether or not the last paragraph is then longer than the
+    -- limit
     pub scanned_within : (len : ℕ) (is_long : Bool) → n < PARAGRAPH_LIMIT → len ≡ n + 1 → is_long ≡ scan.is_long
         → HasScanned is_cut (text ++ c ∷ []) (record { last = Some c; len = len; is_long = is_long })
     scanned_within len is_long short len-is is_long-is = record {
@@ -190,7 +191,7 @@ module _ (is_cut : ℕ → ℕ → Bool) (text : List ℕ) (c : ℕ) where
           is_long-is ∙ ap not (sym (within_more ∙ ap (λ b. are_within (paragraphs is_cut text) && b) e ∙ and_right (are_within (paragraphs is_cut text)) false refl)));
     }
 
--- `HasScanned` also holds for any text that is equal
+-- `HasScanned` also holds for an equal text
 pub scanned_push : (is_cut : ℕ → ℕ → Bool) (text part more : List ℕ) (c : ℕ) (scan : Scan) → more ≡ part ++ c ∷ []
     → HasScanned is_cut (text ++ part ++ c ∷ []) scan → HasScanned is_cut (text ++ more) scan
 scanned_push is_cut text part more c scan more-is known =

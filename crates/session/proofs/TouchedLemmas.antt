@@ -21,8 +21,8 @@ least_found p low (suc count) k from to here before =
           ∙ least_found p (suc low) count k (omega arith) (omega arith) here (λ m above below. before m (omega arith) below)
     ]
 
--- if exactly the numbers of an interval pass a test, as many numbers of a range pass as the interval has in
--- that range
+-- if exactly the numbers of an interval pass a test, the count of passing numbers in a range is the size of
+-- the overlap of interval and range
 count_of_interval : (p : ℕ → Bool) (low count first end : ℕ) → first ≤ end → end ≤ low + count
     → ((k : ℕ) → low ≤ k → first ≤ k → k < end → p k ≡ true) → ((k : ℕ) → low ≤ k → k < first → p k ≡ false) → ((k : ℕ) → low ≤ k → end ≤ k → k < low + count → p k ≡ false)
     → count_by p (range_with_len low count) ≡ end - max first low

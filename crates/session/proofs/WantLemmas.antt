@@ -10,7 +10,7 @@ use Rattle.lines.specs.declared.engine.Engine.{Engine}
 use Rattle.session.specs.Kept.{pars_of, text_of, layouts_of}
 use Rattle.session.specs.Sessions.{IsWholeLayout}
 
--- A fact that holds anyway also holds after an error. If a result is an error, what `OnErr` states holds.
+-- If a fact holds, `OnErr` holds for that fact. If a result is an error, a fact in `OnErr` holds.
 pub on_err : {A E P : Type 0} (r : Result A E) → P → OnErr r P
 on_err (Ok x) p = tt
 on_err (Err e) p = p

@@ -29,7 +29,7 @@ in-nothing : (first_touched [] (insertion 0 (120 ∷ [])) ≡ 0) × (touched_cou
 in-nothing = (refl, refl, refl)
 
 -- Three paragraphs, the second with two lines. At width 2, only the characters of the second are filled
--- again. At width 1, all characters are.
+-- again. At width 1, all characters are filled again.
 abbrev line_of : ℕ → ℕ → Line
 line_of start columns = record { start = start; columns = columns; levels = []; ltov = []; vtol = []; chars = [] }
 

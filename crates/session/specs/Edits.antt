@@ -37,17 +37,17 @@ are_within pars = list_all (λ p. nat_le (length p) PARAGRAPH_LIMIT) pars
 abbrev pub is_within_limit : (ℕ → ℕ → Bool) → List ℕ → Bool
 is_within_limit is_cut text = are_within (paragraphs is_cut text)
 
--- the reason why the paragraphs of a text are refused, if they are
+-- the reason for refusing the paragraphs of a text, or `None`
 abbrev pub paragraphs_refusal : (ℕ → ℕ → Bool) → List ℕ → Option EditFault
 paragraphs_refusal is_cut text = if is_within_limit is_cut text then None else Some ParagraphTooLong
 
--- the reason why a text is refused, if it is
+-- the reason for refusing a text, or `None`
 abbrev pub text_refusal : (ℕ → ℕ → Bool) → List ℕ → Option EditFault
 text_refusal is_cut text =
     if nat_lt TEXT_LIMIT (length text) then Some TextTooLong
     else (if is_within_limit is_cut text then None else Some ParagraphTooLong)
 
--- the reason why an edit is refused, if it is: the edit reaches past the end of the text, or its result is
+-- the reason for refusing an edit, or `None`: the edit reaches past the end of the text, or its result is
 -- refused
 abbrev pub refusal : (ℕ → ℕ → Bool) → List ℕ → Replacement → Option EditFault
 refusal is_cut text edit =
@@ -59,7 +59,7 @@ pub record Held : Type 0 where
   pub text : List ℕ
   pub width : ℕ
 
--- the reason why a width is refused, if it is 0
+-- the reason for refusing a width, or `None`: only a width of 0 is refused
 abbrev pub width_refusal : ℕ → Option EditFault
 width_refusal width = if width == 0 then Some WidthOutOfRange else None
 

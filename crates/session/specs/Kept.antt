@@ -68,8 +68,8 @@ pub record CanBePut (writer : Writer) (kept : Layout) (extents : LineExtents) : 
   pub at_width : (width : ℕ) × (extents ≡ extents_of writer.rules width kept.text)
   pub capacity : length kept.text ≤ writer.capacity
 
--- The extents are those of the paragraph at a width. There are none if the paragraph has one line that fits;
--- it keeps that line.
+-- The extents are those of the paragraph at a width. If the paragraph is one line that fits, there are no
+-- extents, and the line is kept.
 abbrev pub BringsTo : Rules → ℕ → Layout → Option LineExtents → Type 0
 BringsTo rules width kept None = (is_line_within width kept.lines ≡ true) × (kept.lines ≡ lines_of rules width kept.text)
 BringsTo rules width kept (Some extents) = (is_line_within width kept.lines ≡ false) × (extents ≡ extents_of rules width kept.text)

@@ -37,15 +37,15 @@ place_in kept pos = record {
 abbrev pub next_place : List Layout → Place
 next_place kept = record { paragraph = length kept; line = length (lines_in kept); offset = 0 }
 
--- Whether a new paragraph would start at the end of a text. It would if the text is empty, or if there is a
--- paragraph boundary between two copies of its last character.
+-- Whether a new paragraph would start at the end of a text: if the text is empty, or if there is a paragraph
+-- boundary between two copies of its last character.
 abbrev pub is_closed : Rules → List ℕ → Bool
 is_closed rules text =
     let last = slice_index text (length text - 1) in
     length text == 0 || cut_by rules last last
 
--- The place of a position of a text. The end of the text is after its last character, or where the next paragraph would
--- start.
+-- The place of a position of a text. The place of the text's end is after its last character or, if a new
+-- paragraph would start there, at the start of that paragraph.
 abbrev pub place_at : Rules → List Layout → ℕ → Option Place
 place_at rules kept pos =
     if nat_lt (length (text_of kept)) pos then None

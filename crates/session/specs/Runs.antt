@@ -13,7 +13,7 @@ use Rattle.session.specs.declared.edits.Edit.TheVariants.{Insert, Delete, SetWid
 use Rattle.session.specs.declared.edits.EditFault.{EditFault}
 
 module _ (rules : Rules) where
-  -- the reason why an edit is refused, if it is
+  -- the reason for refusing an edit, or `None`
   abbrev pub edit_refusal : Held → Edit → Option EditFault
   edit_refusal held (Insert pos text) = refusal (cut_by rules) held.text (insertion pos (chars text.now))
   edit_refusal held (Delete pos count) = refusal (cut_by rules) held.text (deletion pos count)
@@ -45,7 +45,7 @@ module _ (rules : Rules) where
     pub filled : RisesBy (work_of_all filled_by start edits) (filled_of old) (filled_of new)
     pub written : RisesBy (work_of_all filled_by start edits) (written_of old) (written_of new)
 
-  -- whether an edit may allocate, which it may if the text or the inserted text is not empty
+  -- whether an edit may allocate: only if the text or the inserted text is not empty
   abbrev pub TakesMemory : Held → Edit → Type 0
   TakesMemory held (Insert pos text) = 0 < length held.text + length (chars text.now)
   TakesMemory held (Delete pos count) = 0 < length held.text

@@ -40,7 +40,7 @@ pub record IsWholeLayout (state : SessionState) : Type 0 where
   pub allowed : text_refusal (cuts_at state) (text_at state) ≡ None
   pub filled : 0 < state.width
 
--- the reason why a session cannot be opened on a text at a width, if there is one
+-- the reason for refusing to open a session on a text at a width, or `None`
 abbrev pub opening_refusal : (ℕ → ℕ → Bool) → List ℕ → ℕ → Option EditFault
 opening_refusal is_cut text width = if width == 0 then Some WidthOutOfRange else text_refusal is_cut text
 
@@ -49,7 +49,7 @@ abbrev pub IsAnswerFor : Option EditFault → EditFault → Type 0
 IsAnswerFor reason NoMemory = reason ≡ None
 IsAnswerFor reason fault = reason ≡ Some fault
 
--- After a refusal, the engine is unchanged. After `NoMemory`, its work is within a bound.
+-- After a refusal, the engine is unchanged. After `NoMemory`, the engine's work is within a bound.
 abbrev pub IsCountedFor : EditFault → (Engine → Engine → Type 0) → Engine → Engine → Type 0
 IsCountedFor NoMemory bound old new = bound old new
 IsCountedFor fault bound old new = new ≡ old
@@ -79,7 +79,7 @@ pub record Edits (edit : Replacement) (old new : SessionState) (answer : Damage)
   pub damage : IsDamage edit old.kept new.kept answer
   pub counts : LaysOutAtMost (fresh (pars_of old.kept) edit) old.engine new.engine
 
--- the width was set, and all paragraphs were filled again, except those of one line that fits
+-- the width was set, and all paragraphs except those of one fitting line were filled again
 pub record SetsWidth (width : ℕ) (old new : SessionState) (answer : Damage) : Type 0 where
   pub accepted : width_refusal width ≡ None
   pub text : text_at new ≡ text_at old

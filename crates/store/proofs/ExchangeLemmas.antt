@@ -33,8 +33,8 @@ module _ {P Part : Type 0} (fits : P → Part → Type 0) where
   pairwise_at f (x ∷ xs) (p ∷ ps) zero d e a h g = refl
   pairwise_at f (x ∷ xs) (p ∷ ps) (suc k) d e a h g = pairwise_at f xs ps k d e a (omega arith) g.1
 
-  -- The cost of the first k + 1 exchanges is the cost of the first k plus that of exchange k. For all items,
-  -- it is the total cost.
+  -- The cost of the first k + 1 exchanges is the cost of the first k plus that of exchange k. The cost of all
+  -- exchanges is `total_cost`.
   pub cost_all : (cost : P → Part → ℕ) (items : List P) (parts : List Part) (k : ℕ) → length items ≤ k → AllZip fits items parts
       → sum_by (λ (n : ℕ). n) (take k (pairwise cost items parts)) ≡ total_cost cost items parts
   cost_all cost items parts k last g =

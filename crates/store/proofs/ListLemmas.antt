@@ -28,7 +28,7 @@ module _ {A : Type 0} where
       let e : j - i ≤ length (drop i xs) = omega (arith, length-drop i xs) in
       length-take-le (j - i) (drop i xs) e
 
-  -- rotating the rest of a list exchanges its two adjacent parts
+  -- rotating the items of a list from an index on exchanges the two parts after that index
   pub rotated : (a b c xs : List A) (i j : ℕ) → xs ≡ a ++ (b ++ c) → i ≡ length a → j ≡ length a + length b
       → take i xs ++ (drop j xs ++ slice_range xs i j) ≡ a ++ (c ++ b)
   rotated a b c xs i j e f g =
@@ -58,7 +58,7 @@ module _ {A : Type 0} where
       omega (arith, ap length kept_parts, length-append a (c ++ ys), length-append c ys) in
       (result_is ∙ rotated a c ys kept i n kept_parts (sym la) end_is, moved_parts)
 
-  -- if the first k items of a list are copied over another list, copying item k makes it k + 1
+  -- if the first k items of a list are copied over another list, copying item k makes them the first k + 1
   pub set_next : (made xs now : List A) (k : ℕ) (y : A) → length made ≡ length xs → k < length xs
       → now ≡ take k made ++ drop k xs → y ≡ get_or made k y → set now k y ≡ take (k + 1) made ++ drop (k + 1) xs
   set_next made xs now k y l h now_is y_is =

@@ -71,8 +71,7 @@ module _ (is_cut : ℕ → ℕ → Bool) where
     filled = λ some. b.filled (a.filled some);
   }
 
-  -- if more text follows a text, its first paragraphs are the same, and that text also follows the remaining
-  -- text
+  -- appending to a text leaves its first paragraphs unchanged, and appends the same to the remaining text
   pub front_more : (ps : List (List ℕ)) (text rest more : List ℕ) → IsFront is_cut ps text rest → IsFront is_cut ps (text ++ more) (rest ++ more)
   front_more ps text rest more a = record {
     whole = ap (λ t. t ++ more) a.whole ∙ append_assoc (concat ps) rest more;

@@ -45,7 +45,7 @@ all_but_last ps q qs =
     let n : length (ps ++ q ∷ qs) - 1 ≡ length ps + length qs = omega (arith, length-append ps (q ∷ qs)) in
     ap (λ k. take k (ps ++ q ∷ qs)) n ∙ take-append-add ps (q ∷ qs) (length qs)
 
--- paragraphs that are within the limit, and not the last one, are written
+-- if all paragraphs before some paragraph are within the limit, they are written
 written_begins : (ps : List (List ℕ)) (q : List ℕ) (qs : List (List ℕ)) (whole : Bool) → are_within ps ≡ true → (more : List (List ℕ)) × (written_of (ps ++ q ∷ qs) whole ≡ ps ++ more)
 written_begins ps q qs whole all = go (are_within (ps ++ q ∷ qs)) whole refl
   where
@@ -118,8 +118,8 @@ had_all (Some us) (Some bs) xs p done = p ∙ ap (λ t. xs ++ t) done ∙ append
 
 -- ---- the run of a text so far
 
--- The run ends with this fault, for any engine that `HasPrinted` allows. After a fault of the input, that is
--- an engine that has printed n characters.
+-- The run ends with this fault, for any engine that `HasPrinted` allows. After a fault of the input,
+-- `HasPrinted` allows only an engine that has printed n characters.
 pub record Stops (rules : Rules) (width : ℕ) (print : Print) (reader_old writer_old reader_new writer_new : Device) (fault : RunFault) (n : ℕ) : Type 0 where
   pub run : (engine_old engine_new : Engine) → HasPrinted (Some fault) n print engine_old engine_new
       → IsTextRun rules width print reader_old reader_new writer_old writer_new engine_old engine_new (Err fault)

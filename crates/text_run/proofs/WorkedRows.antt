@@ -1,4 +1,4 @@
--- The value of a constant.
+-- The value of the constant `CHUNK`.
 use Rattle.std.proofs.Common.{◌≡◌, refl}
 use Rattle.stream.specs.declared.reading.TheConstants.{CHUNK}
 

@@ -22,8 +22,8 @@ use Rattle.stream.specs.declared.reading.TheConstants.{CHUNK}
 use Rattle.text_run.specs.declared.text.Held.{Held}
 
 module _ (is_cut : ℕ → ℕ → Bool) where
-  -- `pars` are the first paragraphs of a text, whatever follows the text. `rest` is the remaining text. It is
-  -- empty only if the text is empty.
+  -- `pars` are the first paragraphs of a text, whatever follows the text. `rest` is the remaining text, which
+  -- is empty only if the whole text is empty.
   pub record IsFront (pars : List (List ℕ)) (text rest : List ℕ) : Type 0 where
     pub whole : text ≡ concat pars ++ rest
     pub cuts : (more : List ℕ) → paragraphs is_cut (text ++ more) ≡ pars ++ paragraphs is_cut (rest ++ more)
@@ -77,8 +77,8 @@ pub record IsRead (n : ℕ) (old new : Held) (reader_old reader_new : Device) : 
   pub same : new ≡ record old { chunk = new.chunk }
 
 -- The valid UTF-8 prefix of the bytes was decoded, and the lines of the paragraphs that have ended were
--- appended to the page. The bytes after this prefix wait for the next read. If they are invalid, the fault is
--- `NotUtf8`.
+-- appended to the page. The bytes after this prefix wait for the next read. If these bytes are invalid, the
+-- fault is `NotUtf8`.
 pub record Gathers (rules : Rules) (width : ℕ) (print : Print) (bytes : List ℕ) (old new : Held) (engine_old engine_new : Engine) (fault : Option RunFault) : Type 0 where
   pub pushed : Pushed rules width print (old.text.items ++ front_of bytes) new.text.items old.page.bytes.items new.page.bytes.items engine_old engine_new
   pub fault_is : fault ≡ (if is_bad bytes then Some (f.NotUtf8 new.decoded) else None)

@@ -24,8 +24,8 @@ pub data Ending : Type 0 where
   AtEnd : Ending
   AtFailure : Ending
 
--- The fault of an input: it is not UTF-8, or a read failed. At the end of the input, an incomplete UTF-8 sequence is
--- `NotUtf8` too.
+-- The fault of an input: it is not UTF-8, or a read failed. At the end of the input, an incomplete UTF-8
+-- sequence is reported as `NotUtf8` too.
 abbrev pub input_fault : Ending → List ℕ → Option RunFault
 input_fault AtEnd bytes =
     if utf8_valid_len bytes == length bytes then None else Some (fault.NotUtf8 (utf8_valid_len bytes))
@@ -38,8 +38,8 @@ is_within paragraph = nat_le (length paragraph) PARAGRAPH_LIMIT
 abbrev pub are_within : List (List ℕ) → Bool
 are_within pars = list_all is_within pars
 
--- The paragraphs that are written. If a paragraph is too long, these are the paragraphs before the first such one.
--- Otherwise these are all paragraphs, or all but the last if the input has a fault.
+-- The paragraphs that are written. If a paragraph is too long, the paragraphs before the first such paragraph
+-- are written. Otherwise all paragraphs are written, or all but the last if the input has a fault.
 abbrev pub written_of : List (List ℕ) → Bool → List (List ℕ)
 written_of pars is_whole =
     if are_within pars then (if is_whole then pars else take (length pars - 1) pars) else take_while is_within pars

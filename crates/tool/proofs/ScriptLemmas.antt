@@ -48,7 +48,7 @@ first_part (b ∷ front) bytes p ps none parts =
     let later = first_part front bytes p ps (no_end_tail b front none) parts in
     rw (isnt, later) refl
 
--- every part that is not the last one is a line
+-- every part except the last one is a line
 pub lines_after : (ending : Ending) (done : List (List ℕ)) (p : List ℕ) (ps : List (List ℕ)) → lines_among ending (done ++ p ∷ ps) ≡ done ++ lines_among ending (p ∷ ps)
 lines_after ending [] p ps = refl
 lines_after ending (d ∷ []) p ps = refl

@@ -22,7 +22,7 @@ use Rattle.text_run.specs.declared.faults.RunFault.TheVariants as f
 use Rattle.tool.specs.declared.queries.Query.{Query}
 use Rattle.tool.specs.declared.queries.Query.TheVariants as ask
 
--- the reply with these numbers: `=`, each number after a space, and a newline
+-- the reply that consists of `=`, each of these numbers after a space, and a newline
 abbrev pub told : List ℕ → List ℕ
 told numbers = codes "=" ++ flat_map (λ n. codes " " ++ decimal n) numbers ++ codes "\n"
 

@@ -25,8 +25,8 @@ use Rattle.text_run.specs.declared.faults.RunFault.TheVariants as f
 use Rattle.tool.specs.declared.script.Reading.{Reading}
 use Rattle.tool.specs.declared.script.ScriptOptions.{ScriptOptions}
 
--- Whether a command may allocate. An edit may if the text or the inserted text is not empty. A query may if
--- `AsksMemory` holds.
+-- Whether a command may allocate. An edit may allocate if the text or the inserted text is not empty. A query
+-- may allocate if `AsksMemory` holds.
 abbrev pub TakesMemory : Held → Command → Type 0
 TakesMemory held (Insert pos piece) = 0 < length held.text + length piece
 TakesMemory held (Delete pos count) = 0 < length held.text
@@ -171,7 +171,7 @@ FailsIn rules options piece state_old state_new old new writer_old writer_new fa
     ⊎ IsNotKept piece state_old state_new old new writer_old writer_new fault
 
 -- What a run did between two states of its source, sink and session: it read some bytes and executed the
--- lines `done`. It holds the unfinished line after these lines, and the waiting bytes.
+-- lines `done`. The run holds the unfinished line after these lines, and the waiting bytes.
 pub record IsAt (rules : Rules) (options : ScriptOptions) (start : SessionState)
     (reader_old reader_new writer_old writer_new : Device) (now : SessionState) (reading : Reading)
     (waiting : List ℕ) : Type 0 where

@@ -26,7 +26,8 @@ abbrev pub executed_lines : List (List ℕ) → ℕ → Option RunFault → List
 executed_lines lines k (Some (fault.Write n)) = take (k + 1) lines
 executed_lines lines k stop = take k lines
 
--- an allocation failed before anything was read, or bytes after the lines that were replied to had been read
+-- an allocation failed, either before anything was read or after bytes beyond the lines that were replied to
+-- were read
 abbrev pub WantsMore : List (List ℕ) → Device → Device → Option RunFault → Type 0
 WantsMore done old new (Some fault.Memory) =
     ((length done ≡ 0) × (new.passed ≡ old.passed)) ⊎ (old.passed + length (with_ends done) < new.passed)

@@ -22,7 +22,7 @@ use Rattle.tool.specs.declared.script.TheConstants.{LINE_LIMIT}
 
 -- ---- one command
 
--- the reason why a command is refused, if it is
+-- the reason for refusing a command, or `None`
 abbrev pub command_refusal : Rules → Held → Command → Option EditFault
 command_refusal rules held (Insert pos piece) = refusal (cut_by rules) held.text (insertion pos piece)
 command_refusal rules held (Delete pos count) = refusal (cut_by rules) held.text (deletion pos count)
@@ -45,7 +45,7 @@ after_command rules held command = if is_none (command_refusal rules held comman
 abbrev pub layouts_at : Rules → Held → List Layout
 layouts_at rules held = layouts_of rules held.width held.text
 
--- the reply to an edit: `new` lines replace `old` lines from `first` on
+-- the reply to an edit in which `new` lines replace `old` lines from `first` on
 abbrev pub damage_text : ℕ → ℕ → ℕ → List ℕ
 damage_text first old new = codes "@ " ++ decimal first ++ codes " " ++ decimal old ++ codes " " ++ decimal new ++ codes "\n"
 

@@ -16,8 +16,8 @@ use Rattle.text_run.specs.TextRun.{Ending, AtEnd, AtFailure}
 abbrev pub is_line_end : ℕ → Bool
 is_line_end b = b == 10
 
--- The bytes after the last line end are a line if the script has ended and they are not empty. If the source
--- failed, they are a line only if they already exceed the length limit.
+-- The bytes after the last line end are a line if the script has ended and there is at least one. If the
+-- source failed, these bytes are a line only if they already exceed the length limit.
 abbrev pub is_last_line : Ending → List ℕ → Bool
 is_last_line AtEnd rest = nat_lt 0 (length rest)
 is_last_line AtFailure rest = nat_lt LINE_LIMIT (length rest)
@@ -33,8 +33,8 @@ script_lines ending bytes = lines_among ending (slice_split is_line_end bytes)
 
 -- ---- commands
 
--- Inserts a text before the character at a position, deletes characters from a position on, sets the width, prints all
--- lines, or replies to a query.
+-- A command inserts a text before the character at a position, deletes characters from a position on, sets
+-- the width, prints all lines, or replies to a query.
 pub data Command : Type 0 where
   Insert : (pos : ℕ) (piece : List ℕ) → Command
   Delete : (pos count : ℕ) → Command
@@ -52,7 +52,7 @@ are_digits radix text = list_all (λ c. is_digit c radix) text
 abbrev pub number_in : List ℕ → Option ℕ
 number_in text = if nat_lt 0 (length text) && (nat_le (length text) 9 && are_digits 10 text) then Some (number_by 10 text) else None
 
--- An escape is a backslash and `n`, `r`, another backslash, or `u{H}`. H is the number of a character, 1 to 6
+-- An escape is a backslash and `n`, `r`, another backslash, or `u{H}`. H is a Unicode scalar value in 1 to 6
 -- hexadecimal digits. From the text after the backslash, these definitions compute the character and the
 -- length of the whole escape.
 abbrev pub is_character : ℕ → Bool
@@ -175,7 +175,7 @@ query_in line =
     query_by (stripped (codes "lines ") line) (stripped (codes "caret ") line) (stripped (codes "hit ") line) (stripped (codes "cluster ") line)
     (stripped (codes "size") line) (stripped (codes "text ") line)
 
--- a line that is no other command is a query, if queries are allowed
+-- if queries are allowed, a line that is no other command may be a query
 abbrev pub or_query : Option Command → Option Query → Option Command
 or_query (Some command) query = Some command
 or_query None query = option_map Ask query

@@ -12,7 +12,7 @@ use Rattle.tool.specs.Scripts.{LacksPiece, Command, command_in, command_of_line}
 use Rattle.tool.proofs.script.read_line.Goals as goal
 use Rattle.tool.specs.declared.script.TheConstants.{LINE_LIMIT}
 
--- a fact that holds anyway also holds after an error
+-- if a fact holds, `OnErr` holds for that fact
 on_err : {A E : Type 0} (P : Type 0) (r : Result A E) → P → OnErr r P
 on_err P (Ok done) p = tt
 on_err P (Err error) p = p
