@@ -42,7 +42,7 @@ queries_rule = flag_rule (codes "queries")
 abbrev pub files_rule : Rule
 files_rule = record (new_rule (codes "files")) { value_names = 1; action = Some Append }
 
--- the options of the layout, and those of printing
+-- the layout options, and the print options
 abbrev pub layout_rules : List Rule
 layout_rules =
     ucd_rule ∷ width_rule
@@ -63,7 +63,8 @@ start = on_top (λ s. record s { no_binary_name = true; has_version = true }) (n
 unfoldable pub program : App
 program = fold with_rule start (layout_rules ++ (print_rules ++ script_rule ∷ queries_rule ∷ files_rule ∷ []))
 
--- how base levels are found: by the one option that is set, or by the first strong character
+-- how base levels are found: as the only given option says or, if none is given, by the first strong
+-- character
 abbrev pub base_by : Bool → Bool → Bool → Bool → Option Base
 base_by true false false false = Some base.Rtl
 base_by false true false false = Some base.Ltr

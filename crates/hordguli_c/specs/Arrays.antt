@@ -5,8 +5,8 @@ use Rattle.std.specs.Prelude.{ℕ, ◌||◌, nat_le, not, Bool, List, ◌++◌, 
 abbrev pub put : List ℕ → List ℕ → List ℕ
 put list array = list ++ drop (length list) array
 
--- An array that a caller may request: the array after a list is copied to it, and whether `len` elements fit.
--- An array that is not requested is unchanged, and any number of elements fits.
+-- `put_if` copies a list to an array if a caller requested the array. `has_room` is true if `len` elements
+-- fit in the array or it was not requested.
 abbrev pub put_if : Bool → List ℕ → List ℕ → List ℕ
 put_if wanted list array = if wanted then put list array else array
 

@@ -34,6 +34,6 @@ abbrev pub Gives : {O : Type 0} → Option O → Status → O → O → Type 0
 Gives None status old new = (status ≡ is.OutOfRange) × (new ≡ old)
 Gives (Some x) status old new = (status ≡ is.Ok) × (new ≡ x)
 
--- a text passed as bytes; if they are not UTF-8, nothing changes
+-- a text that is passed as bytes; if the bytes are not UTF-8, nothing changes
 abbrev pub OfText : List ℕ → Status → Type 0 → (List ℕ → Type 0) → Type 0
 OfText bytes status unchanged does = Given (IsUtf8 bytes) is.NotUtf8 status unchanged (does (chars bytes))

@@ -32,7 +32,7 @@ OfCharacters characters status unchanged done =
     Given (All IsScalar characters) is.NotACharacter status unchanged
     (OrNoMemory (0 < length characters) status unchanged done)
 
--- one number for each character is stored, if they fit in the array
+-- one number for each character is stored, if the numbers fit in the array
 abbrev pub PutsEach : (List ℕ → List ℕ) → List ℕ → Status → List ℕ → List ℕ → Type 0
 PutsEach numbers characters status old new =
     Given (length characters ≤ length old) is.NoRoom status (new ≡ old)

@@ -10,7 +10,7 @@ use Rattle.ucd.specs.contracts.tables.Tables as tables
 use Rattle.ucd.specs.declared.tables.Tables.{Tables}
 use Rattle.hordguli_c.specs.Held.{the_global}
 
--- the value of tables in contracts
+-- the value that stands for tables in contracts
 abbrev pub Value : Type 0
 Value = Tables
 

@@ -90,8 +90,8 @@ break_bare width xs =
     ∙ greatest_same (λ k. may_end (map bare xs) k && fits_to width (map bare xs) k) (λ k. may_end xs k && fits_to width xs k) (suc (stop xs))
     (λ k. ap₂ ◌&&◌ (ap (λ (p : CharInfo). is_break p.mark) (at_bare xs k)) (fits_bare width xs k))
 
--- if two lists differ only in their cluster ends, they have the same first mandatory break and the same last
--- break opportunity that fits
+-- if two lists differ only in their cluster ends, they have the same first position at which a line must end,
+-- and the same last break opportunity that fits
 pub same_stop : (xs ys : List CharInfo) → AreAlike xs ys → stop xs ≡ stop ys
 same_stop xs ys alike = sym (stop_bare xs) ∙ ap stop alike ∙ stop_bare ys
 

@@ -92,7 +92,7 @@ sums_more rest k sums within so_far = record {
   ];
 }
 
--- the shown part of the first n characters is no wider than all n of them
+-- the shown part of the first n characters is no wider than all n characters
 shown_most : (rest : List CharInfo) (n : ℕ) → n ≤ length rest → columns (shown (take n rest)) ≤ columns (take n rest)
 shown_most rest n within = sum_by-take-le (λ p. p.columns) (take n rest) (length (take n rest) - suffix_len trails (take n rest))
 

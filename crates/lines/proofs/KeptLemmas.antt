@@ -17,7 +17,7 @@ module _ (levels ltov vtol chars : List ℕ) where
   starts_of_lines (s ∷ starts) [] e = absurd (omega (arith, e))
   starts_of_lines (s ∷ starts) (part ∷ shown) e = ap (λ xs. s ∷ xs) (starts_of_lines starts shown (omega (arith, e)))
 
-  -- the shown parts of the stored lines are the listed ones
+  -- the stored lines have the listed shown parts
   pub shown_of_lines : (starts : List ℕ) (shown : List Shown) (d : Shown) → length shown ≡ length starts
       → ((k : ℕ) → k < length starts → slice_index starts k + (slice_index_or shown k d).len ≤ length levels)
       → map shown_in (lines_by levels ltov vtol chars starts shown) ≡ shown

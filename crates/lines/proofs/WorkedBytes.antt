@@ -6,7 +6,7 @@ use Rattle.lines.specs.Bytes.{line_bytes}
 use Rattle.lines.specs.Visual.{Visual}
 use Rattle.lines.specs.declared.print.Print.{Print}
 
--- the line of U+05D0, a space and two digits
+-- a line with U+05D0, a space and two digits
 abbrev hebrew : Visual
 hebrew = record {
   is_first = true;

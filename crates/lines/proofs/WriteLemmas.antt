@@ -60,8 +60,7 @@ stopped-before {old = old} {new = new} {xs = xs} {before = before} {w = w} ys st
   );
 }
 
--- writing the last part gives the result of the whole: either all parts were written, or the sink failed
--- within them
+-- if the first part was written, writing the last part gives the result of writing both
 module _ {old mid : Device} {xs : List ℕ} {before n : ℕ} (first : PassedOn xs before old mid n) (new : Device) (ys : List ℕ) where
   pub last_passed : (r : Result ℕ WriteFault) → IfOk r (λ m. PassedOn ys n mid new m) → IfOk r (λ m. PassedOn (xs ++ ys) before old new m)
   last_passed (Ok m) second = passed-append first second
@@ -99,7 +98,7 @@ module _ (xs : List (List ℕ)) (k : ℕ) {x : List ℕ} (within : k < length xs
       rw (concat-parts xs (k + 1) ∙ ap (λ ys. ys ++ concat (drop (k + 1) xs)) (concat-next xs k x within x_is))
       (stopped-before (concat (drop (k + 1) xs)) (stopped-after front next))
 
--- if a write fault is passed on unchanged, what holds for its byte count still holds
+-- if a function returns a write fault unchanged, what holds for its byte count still holds
 pub same_fault : {T : Type 0} (r : Result T WriteFault) (fault : WriteFault) (Q : ℕ → Type 0) → IsErrAnd r (λ y. y ≡ fault) → Q fault.written
     → IfErr r (λ y. Q y.written)
 same_fault (Ok x) fault Q is holds = tt
@@ -198,6 +197,6 @@ all_spaces count left some within part =
     ap spaces sum ∙ spaces-add (count - (left - some)) (left - some)
     ∙ ap (λ xs. xs ++ spaces (left - some)) (more_spaces count left some within part)
 
--- if nothing was written before a part, a failure within it is a failure after its first `w` bytes
+-- `StoppedIn` for a part before which nothing was written is `StoppedAt`
 pub stopped-whole : {xs : List ℕ} {old new : Device} {w : ℕ} → StoppedIn xs 0 old new w → StoppedAt w xs old new
 stopped-whole {w = w} stopped = let all : w ≡ w - 0 = omega arith in rw all stopped.stopped

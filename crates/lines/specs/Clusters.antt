@@ -1,5 +1,5 @@
--- Where the extended grapheme clusters of a text end, according to the crate `unicode_segmentation` (UAX
--- #29).
+-- Where the extended grapheme clusters of a text end, according to the crate `unicode_segmentation`
+-- (UAX #29).
 use Rattle.std.specs.Prelude.{ℕ, ◌-◌, nat_le, Bool, true, false, ◌&&◌, ◌||◌, List, [], ◌∷◌, ◌++◌, length, replicate}
 use Rattle.std.specs.Str.{chars}
 use Rattle.unicode_segmentation.specs.Grapheme.{is_grapheme_break}

@@ -1,4 +1,4 @@
--- Sums over a store's paragraphs as numbers of characters and lines, and what searches by these sums find.
+-- What sums over a store's paragraphs count, and what searches by these sums find.
 use Rattle.std.proofs.Common.{◌≡◌, ℕ, ◌+◌, ◌-◌, ◌<◌, ◌≤◌, List, [], ◌∷◌, ◌++◌, length, take, get_or, sum_by, Option, Some, None, unwrap_or, refl, sym, ap, ◌∙◌, inl, inr, arith}
 use Rattle.std.specs.List.{concat, enumerate_from, slice_get}
 use Rattle.std.specs.Option.{option_map}

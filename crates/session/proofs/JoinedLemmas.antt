@@ -1,4 +1,4 @@
--- A text that is given as three parts, and its paragraphs one by one.
+-- A text that is given in three parts, and the layout of a text one paragraph at a time.
 use Rattle.std.proofs.Common.{◌≡◌, ℕ, ◌<◌, ◌≤◌, Bool, true, false, not, ◌==◌, List, [], ◌∷◌, ◌++◌, length, map, take, drop, Some, None, nat_le, sym, ap, subst, ◌∙◌, arith}
 use Rattle.std.specs.Str.{chars, IsUtf8}
 use Rattle.std.proofs.Math.Utf8.{encodes, scalars}

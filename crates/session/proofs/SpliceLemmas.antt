@@ -89,7 +89,7 @@ module _ (is_cut : ℕ → ℕ → Bool) where
       concat-append left (paragraphs is_cut new ++ right) ∙ ap (λ t. concat left ++ t) text in
       ap (paragraphs is_cut) (sym whole) ∙ law.only is_cut (left ++ (paragraphs is_cut new ++ right)) all
 
--- editing a text inside its middle edits the middle and nothing else
+-- an edit inside the middle of a text changes only the middle
 take-add : (left rest : List ℕ) (n : ℕ) → take (length left + n) (left ++ rest) ≡ left ++ take n rest
 take-add [] rest n = rw zero-add refl
 take-add (x ∷ left) rest n = rw suc-add (ap (λ t. x ∷ t) (take-add left rest n))
@@ -139,7 +139,7 @@ length-replaced mid piece from count within =
     let back : length (drop (from + count) mid) ≡ length mid - (from + count) = length-drop (from + count) mid in
     rw (length-append (take from mid) (piece ++ drop (from + count) mid), length-append piece (drop (from + count) mid)) (omega arith)
 
--- if no old paragraph is too long, the new ones in the middle decide whether any paragraph is
+-- if no old paragraph is too long, the new ones in the middle decide whether any paragraph is too long
 pub are_within-splice : (left mid right new : List (List ℕ)) → are_within (left ++ (mid ++ right)) ≡ true → are_within (left ++ (new ++ right)) ≡ are_within new
 are_within-splice left mid right new h =
     let p : List ℕ → Bool = λ q. nat_le (length q) PARAGRAPH_LIMIT in

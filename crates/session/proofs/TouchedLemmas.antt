@@ -22,7 +22,7 @@ least_found p low (suc count) k from to here before =
     ]
 
 -- if exactly the numbers of an interval pass a test, the count of passing numbers in a range is the size of
--- the overlap of interval and range
+-- its overlap with the interval
 count_of_interval : (p : ℕ → Bool) (low count first end : ℕ) → first ≤ end → end ≤ low + count
     → ((k : ℕ) → low ≤ k → first ≤ k → k < end → p k ≡ true) → ((k : ℕ) → low ≤ k → k < first → p k ≡ false) → ((k : ℕ) → low ≤ k → end ≤ k → k < low + count → p k ≡ false)
     → count_by p (range_with_len low count) ≡ end - max first low

@@ -5,7 +5,8 @@ use Rattle.lines.specs.Layouts.{cut_by, Layout, Rules}
 use Rattle.session.specs.Kept.{lines_in, text_of}
 use Rattle.session.specs.declared.places.Place.{Place}
 
--- the starts of the lines, and of the paragraphs, in a list of paragraphs whose first one starts at `place`
+-- the starts of the lines and the starts of the paragraphs, in a list of paragraphs whose first one starts at
+-- `place`
 abbrev pub lines_from : ℕ → List Layout → List ℕ
 lines_from place [] = []
 lines_from place (l ∷ kept) = map (λ line. place + line.start) l.lines ++ lines_from (place + length l.text) kept
@@ -14,7 +15,7 @@ abbrev pub paragraphs_from : ℕ → List Layout → List ℕ
 paragraphs_from place [] = []
 paragraphs_from place (l ∷ kept) = place ∷ paragraphs_from (place + length l.text) kept
 
--- the starts of the lines, and of the paragraphs, of a text
+-- the starts of a text's lines, and the starts of its paragraphs
 abbrev pub line_starts : List Layout → List ℕ
 line_starts kept = lines_from 0 kept
 

@@ -35,8 +35,9 @@ pub record Span : Type 0 where
   pub start : ℕ
   pub stop : ℕ
 
--- The paragraphs that an edit of the characters from `pos` to `end` touches. If another paragraph precedes or
--- follows them, at least one of their characters on that side is outside the edited range.
+-- The paragraphs that an edit of the characters from `pos` to `end` touches. If another paragraph precedes
+-- them, they have a character before the edited range. If another paragraph follows them, they have a
+-- character after it.
 pub record AreTouched (pars : List (List ℕ)) (pos end : ℕ) (touched : Span) : Type 0 where
   pub first : touched.first ≡ first_touched pars (region_edit pos end [])
   pub count : touched.end ≡ touched.first + touched_count pars (region_edit pos end [])

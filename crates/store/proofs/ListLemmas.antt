@@ -113,7 +113,7 @@ module _ {A : Type 0} where
         ap reverse whole ∙ turned rest,
       )
 
-  -- a prefix that ends after x consists of all items before x, of x, and of a prefix of the items after x
+  -- a prefix that ends after x consists of all items before x, x itself, and a prefix of the items after x
   pub take_far : (l r : List A) (x : A) (n : ℕ) → length l < n → take n (l ++ x ∷ r) ≡ l ++ x ∷ take (n - length l - 1) r
   take_far l r x n h =
       let e : n ≡ length l + suc (n - length l - 1) = omega arith in
@@ -181,7 +181,7 @@ one_over items front nodes more all x y items_is y_is more_is all_is =
 pub length_both : {A : Type 0} (items nodes all : List A) → items ++ reverse nodes ≡ all → length items + length nodes ≡ length all
 length_both items nodes all e = omega (arith, ap length e, length-append items (reverse nodes), length-reverse nodes)
 
--- a list's capacity is enough for its items together with those that were moved out of it
+-- a list's capacity is enough for its remaining items and the items that were moved out of it
 pub room_after : {A : Type 0} (items nodes all now : List A) (len cap room : ℕ) → items ++ reverse nodes ≡ all → now ≡ items → len ≡ length all
     → len ≤ cap → room ≡ cap → length now + length nodes ≤ room
 room_after items nodes all now len cap room e now_is len_is within room_is = omega (arith, length_both items nodes all e, ap length now_is)

@@ -71,7 +71,8 @@ module _ (is_cut : ℕ → ℕ → Bool) where
     filled = λ some. b.filled (a.filled some);
   }
 
-  -- appending to a text leaves its first paragraphs unchanged, and appends the same to the remaining text
+  -- appending more text leaves the first paragraphs of a text unchanged, and appends the same text to the
+  -- remaining text
   pub front_more : (ps : List (List ℕ)) (text rest more : List ℕ) → IsFront is_cut ps text rest → IsFront is_cut ps (text ++ more) (rest ++ more)
   front_more ps text rest more a = record {
     whole = ap (λ t. t ++ more) a.whole ∙ append_assoc (concat ps) rest more;

@@ -58,9 +58,9 @@ abbrev pub Gave : Device → Device → Ending → List ℕ → Type 0
 Gave old new AtEnd bytes = IfSome old.bytes (λ all. all ≡ bytes) × (new.failures ≡ old.failures)
 Gave old new AtFailure bytes = Consumes old.bytes new.bytes bytes × (new.passed ≡ old.passed + length bytes) × FailedLast old new
 
--- How a run ended. Without a fault, or with a fault of the input, the page of all written paragraphs was written. After
--- a failed write, a prefix of that page was written, whose length is in the fault. After a failed allocation, the page
--- of the first k of these paragraphs was written.
+-- How a run ended. Without a fault, or with a fault of the input, the page of the paragraphs `written` was
+-- written to the sink. After a failed write, a prefix of that page was written, and the fault has the length
+-- of the prefix. After a failed allocation, the page of the first k of these paragraphs was written.
 abbrev pub EndsWith : (List (List ℕ) → List ℕ) → List (List ℕ) → Option RunFault → Device → Device → Option RunFault → Type 0
 EndsWith page_of written wrong old new (Some (fault.Write n)) = StoppedAt n (page_of written) old new
 EndsWith page_of written wrong old new (Some fault.Memory) = (k : ℕ) × Wrote (page_of (take k written)) old new

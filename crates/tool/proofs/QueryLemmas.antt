@@ -44,7 +44,7 @@ pub each_stops-after : (old mid new : Device) (xs ys : List ℕ) (done n : ℕ) 
 each_stops-after old mid new xs ys done n (Ok m) first stops = tt
 each_stops-after old mid new xs ys done n (Err fault) first stops = stops-after old mid new xs ys done n fault first stops
 
--- if the returned fault is `fault`, what holds for `fault` holds for the returned one
+-- if a function returns `fault` unchanged, what holds for `fault` holds for the returned fault
 pub same_stop : {T : Type 0} (r : Result T RunFault) (fault : RunFault) (Q : RunFault → Type 0) → IsErrAnd r (λ y. y ≡ fault) → Q fault → IfErr r Q
 same_stop (Ok x) fault Q is holds = tt
 same_stop (Err y) fault Q is holds = rw is holds

@@ -97,7 +97,7 @@ is_space c = c == 32
 abbrev pub parted : List ℕ → Option (List ℕ × List ℕ)
 parted text = if nat_lt (position_or_len is_space text) (length text) then Some (before_first is_space text, after_first is_space text) else None
 
--- the rest of a text after a prefix, if it has that prefix
+-- the rest of a text after a prefix, if the text starts with that prefix
 abbrev pub stripped : List ℕ → List ℕ → Option (List ℕ)
 stripped word text = if pointwise (◌==◌) (take (length word) text) word then Some (drop (length word) text) else None
 
