@@ -27,7 +27,7 @@ more_rise n m k a b c r s e = record { least = omega (arith, r.least, s.least); 
 within_rise : (n m a b : ℕ) → n ≤ m → RisesBy n a b → RisesBy m a b
 within_rise n m a b le r = record { least = r.least; most = omega (arith, r.most, le) }
 
--- an unchanged engine has done no work, which is within any bound
+-- if an engine is unchanged, its work is within any bound
 pub works_none : (rules : Rules) (most : (Held → Command → ℕ) → ℕ) (old new : Engine) → new ≡ old → Works rules most old new
 works_none rules most old new e = record {
   analysed = same_rise _ (analysed_of old) (analysed_of new) (ap analysed_of e);
