@@ -35,7 +35,7 @@ pub program_is_free : is_simple_and_free program ≡ true
 unfolding program
 program_is_free = refl
 
--- if no later rule has the id of the first one, only the first has it
+-- if no later rule has the id of the first rule, only the first rule has that id
 only_first : (id : Text) (x d : Rule) (xs : List Rule) → list_any (λ r. bytes_eq r.id id) xs ≡ false
     → (j : ℕ) → j < length (x ∷ xs) → bytes_eq (slice_index_or (x ∷ xs) j d).id id ≡ true → j ≡ 0
 only_first id x d xs none zero lt same = refl
@@ -43,7 +43,7 @@ only_first id x d xs none (suc j) lt same =
     let any = list_any_at (λ r. bytes_eq r.id id) xs j d (omega arith) same in
     cc
 
--- if no other rule has the id of the second one, only the second has it
+-- if no other rule has the id of the second rule, only the second rule has that id
 only_second : (id : Text) (x y d : Rule) (xs : List Rule) → bytes_eq x.id id ≡ false → list_any (λ r. bytes_eq r.id id) xs ≡ false
     → (j : ℕ) → j < length (x ∷ y ∷ xs) → bytes_eq (slice_index_or (x ∷ y ∷ xs) j d).id id ≡ true → j ≡ 1
 only_second id x y d xs other none zero lt same = cc
@@ -51,7 +51,7 @@ only_second id x y d xs other none (suc j) lt same =
     let first = only_first id y d xs none j (omega arith) same in
     omega (arith, first)
 
--- a value of the width that its parser accepts is a number of columns
+-- if a parser accepts a value for `width`, the value is a number from 1 to 65,535
 width_of : (f : Found) (a : Arg) → a.id.now ≡ codes "width" → HasValue a (Signed (pos 1) (pos 65535)) f → HasWidth (rows_of f)
 width_of f a id value =
     let number = number_in value.text 1 65535 (omega arith) value.accepted in

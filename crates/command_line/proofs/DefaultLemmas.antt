@@ -22,7 +22,7 @@ use Rattle.clap.specs.declared.parser.matches.Found.{Found}
 use Rattle.clap.specs.declared.parser.matches.MatchedArg.{MatchedArg}
 use Rattle.clap.proofs.CallerLemmas.{default_present, entry_by_id, same_rules_by_id}
 
--- if an entry has an id, `find` finds one
+-- if some entry has an id, `find` finds an entry with that id
 has_entry : (xs : List Entry) (id : Text) (i : ℕ) → i < length xs → ((d : Entry) → bytes_eq (slice_index_or xs i d).0.now id ≡ true)
     → is_some (option_map (λ e. e.1) (find (λ e. bytes_eq e.0.now id) xs)) ≡ true
 has_entry [] id i lt is = absurd (omega arith)
@@ -37,7 +37,8 @@ has_entry (x ∷ xs) id i lt is = go (bytes_eq x.0.now id) refl i lt is (λ k lo
         cc
     go false other (suc k) low at rec = rw other (rec k (omega arith) at)
 
--- the first of some values, its parsed form, and a fact that holds for all of them
+-- A non-empty list of values has a first value, which has a parsed form. A fact that holds for all values
+-- holds for the first one.
 head_value : (P : Bor Text → Type 0) (how : Reading) (vs : List (Bor Text)) → All P vs → 0 < length vs
     → (v : Bor Text) × (option_map (λ s. s.now) (slice_get vs 0) ≡ Some v.now) × (option_map (λ s. read_as how s.now) (slice_get vs 0) ≡ Some (read_as how v.now)) × P v
 head_value P how [] all some = absurd (omega arith)
@@ -80,7 +81,7 @@ module _ (old : Command) (m : ArgMatches) (p : IsParsedFrom old m) (plain : IsPl
       let same = same_rules any.0 any.1 any.2 any.3 any.4.0 in
       sym any.4.1 ∙ ap reading_of (parser_is any.1 same)
 
-  -- what the entry with the argument's id contains
+  -- the contents of the entry that has the argument's id
   module _ (x : MatchedArg) (found : matched_of (found_of m) arg.id.now ≡ Some x) (e : Entry) (same_x : e.1 ≡ x) (key : e.0.now ≡ arg.id.now)
       (pass : EntryPasses p.built e) where
     no_groups : groups_of p.built ≡ []
@@ -187,7 +188,7 @@ number_in t low high some inside =
       whole = without_minus-cond t ∙ rw plain refl;
     }
 
--- the text of a number in a range is parsed as that number, if the type has all numbers of the range
+-- if a type has all numbers of a range, the text of a number in that range is parsed as that number
 pub number_read : (E : Type 0) (G : Text → Result ℕ E → Type 0) (bits high : ℕ) (t : Text) (r : Option ℕ)
     → ReadsOne G t r → ((u : Text) (x : Result ℕ E) → G u x → ParsesUnsigned bits 10 u x) → high < 2 ^ bits
     → IsNumeral 10 (without_leading_plus t) → digits_value 10 (without_leading_plus t) ≤ high

@@ -1,4 +1,4 @@
--- The arguments as `clap` knows them, and the settings that they give.
+-- The command line as it is described to `clap`, and the settings that its arguments give.
 use Rattle.std.specs.Prelude.{◌≡◌, ◌≤◌, ◌==◌, ◌||◌, not, ℕ, pos, Bool, true, false, List, [], ◌∷◌, ◌++◌, length, map, fold, codes, Option, Some, None, is_some, option_map, unwrap_or}
 use Rattle.std.specs.Str.Parse.{IsNumeral, digits_value, without_leading_plus}
 use Rattle.bidi.specs.declared.base.Base.{Base}
@@ -13,7 +13,7 @@ use Rattle.command_line.specs.declared.options.LineFault.{LineFault}
 use Rattle.command_line.specs.declared.options.LineFault.TheVariants.{Words, Directions, ScriptFiles, Queries, NoMemory}
 use Rattle.command_line.specs.declared.options.Settings.{Settings}
 
--- an option without a value, named by its long name
+-- an option with a long name and no value
 abbrev pub flag_rule : Text → Rule
 flag_rule name = record (new_rule name) { long = Some name; action = Some SetTrue }
 
@@ -42,7 +42,7 @@ queries_rule = flag_rule (codes "queries")
 abbrev pub files_rule : Rule
 files_rule = record (new_rule (codes "files")) { value_names = 1; action = Some Append }
 
--- the options of the layout, and those of printing
+-- the layout options, and the print options
 abbrev pub layout_rules : List Rule
 layout_rules =
     ucd_rule ∷ width_rule
@@ -63,7 +63,8 @@ start = on_top (λ s. record s { no_binary_name = true; has_version = true }) (n
 unfoldable pub program : App
 program = fold with_rule start (layout_rules ++ (print_rules ++ script_rule ∷ queries_rule ∷ files_rule ∷ []))
 
--- how base levels are found: by the one option that is set, or by the first strong character
+-- how base levels are found: as the only given option says or, if none is given, by the first strong
+-- character
 abbrev pub base_by : Bool → Bool → Bool → Bool → Option Base
 base_by true false false false = Some base.Rtl
 base_by false true false false = Some base.Ltr
@@ -127,16 +128,17 @@ pub record HasWidth (rows : List Row) : Type 0 where
   pub one : one_of (codes "width") rows ≡ Some text
   pub allowed : IsNumeral 10 (without_leading_plus text) × (1 ≤ number_of text) × (number_of text ≤ 65535)
 
--- The matches are those of arguments without a fault. So each argument that is required or has a default is present.
+-- The matches are those of arguments without a fault, so each argument that is required or has a default is
+-- present.
 pub record AreMatches (words : List Text) (matches : ArgMatches) : Type 0 where
   pub taken : fault_of program words ≡ []
   pub rows : rows_of (found_of matches) ≡ matches_of program words
   pub ucd : is_some (first_of (codes "ucd") (rows_of (found_of matches))) ≡ true
   pub width : HasWidth (rows_of (found_of matches))
 
--- `clap` refuses the arguments with this kind of error. Or it accepts them, and one of these faults applies, tested in
--- this order. More than one base direction is set. A script has no text, or more than one. There are queries without a
--- script.
+-- Either `clap` refuses the arguments with this kind of error, or it accepts them and one of these faults
+-- applies. The faults are tested in this order. More than one base direction is set. A script has no text, or
+-- more than one. There are queries without a script.
 abbrev pub IsLineFault : List Text → LineFault → Type 0
 IsLineFault words (Words error) = IsAmong (kind_of error) (fault_of program words)
 IsLineFault words Directions = (fault_of program words ≡ []) × (base_of (matches_of program words) ≡ None)

@@ -6,7 +6,7 @@ use Rattle.clap.specs.declared.error.kind.ErrorKind.TheVariants.{DisplayHelp, Di
 use Rattle.command_line.specs.declared.options.LineFault.{LineFault}
 use Rattle.command_line.specs.declared.options.LineFault.TheVariants.{Words, NoMemory}
 
--- help and the version have the exit status 0
+-- a request for help or for the version has the exit status 0
 abbrev pub status_of_words : ErrorKind → ℕ
 status_of_words DisplayHelp = 0
 status_of_words DisplayVersion = 0
@@ -17,7 +17,7 @@ status_of_line (Words error) = status_of_words (kind_of error)
 status_of_line NoMemory = 1
 status_of_line fault = 2
 
--- the arguments are refused because the folder, the only required one, is missing
+-- whether the arguments are refused because the folder, the only required argument, is missing
 abbrev pub is_missing : ErrorKind → Bool
 is_missing MissingRequiredArgument = true
 is_missing kind = false

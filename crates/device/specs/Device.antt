@@ -2,9 +2,9 @@
 use Rattle.std.specs.Prelude.{◌≡◌, ℕ, ◌+◌, ◌-◌, ◌^◌, ◌<◌, ◌≤◌, ◌==◌, min, List, length, take, Option, Result, MatchResult, MatchBool}
 use Rattle.std.specs.Io.KnownBytes.{Keeps, Appends, Consumes, IsAtEnd}
 
--- The state of a source or sink. `bytes` are those that a source still has or a sink holds, if it reports them.
--- `passed` counts all bytes that passed. `failures` counts failed calls, up to 2^64 - 1. `failed_at` is `passed` at the
--- last failure.
+-- The state of a source or sink. `bytes` are those that a source still has or a sink holds, if it reports
+-- them. `passed` counts all bytes that were transferred. `failures` counts failed calls, up to 2^64 - 1.
+-- `failed_at` is the value of `passed` at the last failure.
 pub record Device : Type 0 where
   pub bytes : Option (List ℕ)
   pub passed : ℕ
@@ -18,21 +18,21 @@ fresh_device bytes = record { bytes = bytes; passed = 0; failures = 0; failed_at
 abbrev pub greatest : ℕ
 greatest = 2 ^ 64 - 1
 
--- n bytes passed, and no call failed
+-- n bytes were transferred, and no call failed
 pub record Passes (old new : Device) (n : ℕ) : Type 0 where
   pub passed : new.passed ≡ old.passed + n
   pub bounded : new.passed ≤ greatest
   pub failures : new.failures ≡ old.failures
   pub failed_at : new.failed_at ≡ old.failed_at
 
--- no byte passed, and a call failed
+-- no byte was transferred, and a call failed
 pub record Fails (old new : Device) : Type 0 where
   pub bytes : Keeps old.bytes new.bytes
   pub passed : new.passed ≡ old.passed
   pub failures : new.failures ≡ min (old.failures + 1) greatest
   pub failed_at : new.failed_at ≡ old.passed
 
--- a read put these bytes at the front of a buffer; it reads none only if the source has none left
+-- A read put n bytes at the front of a buffer. It put none only if the source has no bytes left.
 pub record Gives (old new : Device) (n : ℕ) (buffer : List ℕ) : Type 0 where
   pub bytes : Consumes old.bytes new.bytes (take n buffer)
   pub end : n ≡ 0 → IsAtEnd new.bytes
@@ -50,8 +50,8 @@ abbrev pub Writes : {E : Type 0} → Device → Device → Result ℕ E → List
 Writes old new result given =
     MatchResult result (λ n. MatchBool (n == 0) (Fails old new) (Takes old new n given)) (λ _. Fails old new)
 
--- A call failed between two states, and no bytes passed after it: the count of failures rose, or is already at its
--- maximum.
+-- A call failed between two states, and no bytes were transferred after it. The count of failures rose, or is
+-- already at its maximum.
 pub record FailedLast (old new : Device) : Type 0 where
   pub failures : new.failures ≡ min (old.failures + 1) greatest
   pub last : new.failed_at ≡ new.passed
@@ -61,13 +61,13 @@ pub record Took (old new : Device) (given : List ℕ) : Type 0 where
   pub bytes : Appends old.bytes new.bytes given
   pub passed : new.passed ≡ old.passed + length given
 
--- all of the bytes were taken, or the sink failed after a number of them
+-- all bytes were taken without a failure, or the sink failed after the first n bytes
 abbrev pub Wrote : List ℕ → Device → Device → Type 0
 Wrote given old new = Took old new given × (new.failures ≡ old.failures)
 
 abbrev pub StoppedAt : ℕ → List ℕ → Device → Device → Type 0
 StoppedAt n given old new = (n < length given) × Took old new (take n given) × FailedLast old new
 
--- if bytes passed, their count is at most the greatest
+-- if bytes were transferred, `passed` is at most `greatest`
 abbrev pub StaysCounted : Device → Device → Type 0
 StaysCounted old new = old.passed < new.passed → new.passed ≤ greatest

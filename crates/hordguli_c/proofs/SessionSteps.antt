@@ -82,7 +82,8 @@ module _ {M : Type 1} {𝓤 : Ura M} {𝓛 : Logic 𝓤} {K : Type 0} {Γ : List
       nothing t $ move t (2 ∷ 0 ∷ []) $ fjoin t $ feq_i t (List Val) (vptr b o ∷ []) (vptr b o ∷ []) refl $ fjoin t $ feq_i t (List Val) (v ∷ []) (v ∷ []) refl $ fjoin t $
       fpack t (Valss (RawPtr ∷ heap.the_row ∷ [])) (within (shape (raw.the_type object_row heap.the_row ghosts)) (block_ptr b o, (a, tt)) (v ∷ [])) (vptr b o ∷ [], (h ∷ [], tt)) $ fjoin t $ s)
 
-  -- a handle is null and owns nothing, or it owns a session, and its pointer may be compared with null
+  -- Either a handle is null and owns nothing, or it owns a session, and its pointer may be compared with
+  -- null.
   pub by_held : K → (p : Ptr) (x : Option Value) → (x ≡ None → p ≡ null_ptr → Seq K 𝓛 Γ G)
       → ((b o : ℕ) (xs : Value) → x ≡ Some xs → p ≡ block_ptr b o → Testable (block_ptr b o) → Seq K 𝓛 (‵ (object_at (block_ptr b o) (Some xs)) ∷ Γ) G)
       → Seq K 𝓛 (‵ (object_at p x) ∷ Γ) G

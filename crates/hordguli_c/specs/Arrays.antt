@@ -1,11 +1,12 @@
--- Arrays of C callers, to which lists are copied.
+-- Copying lists to the arrays of C callers.
 use Rattle.std.specs.Prelude.{ℕ, ◌||◌, nat_le, not, Bool, List, ◌++◌, length, drop, if◌then◌else◌}
 
--- a list at the front of an array, whose other elements are unchanged
+-- an array after a list was copied to its front; the other elements are unchanged
 abbrev pub put : List ℕ → List ℕ → List ℕ
 put list array = list ++ drop (length list) array
 
--- a list in an optional array, and whether `len` elements fit in that array, if it is requested
+-- `put_if` copies a list to an array if a caller requested the array. `has_room` is true if `len` elements
+-- fit in the array or it was not requested.
 abbrev pub put_if : Bool → List ℕ → List ℕ → List ℕ
 put_if wanted list array = if wanted then put list array else array
 

@@ -1,11 +1,11 @@
--- How a call changes a handle and an output parameter. The conditions of a call are checked one after another. Each
--- definition checks one condition: if it does not hold, the call returns a status, and otherwise the next one is
--- checked.
+-- How a call changes a handle and an output parameter. The conditions of a call are checked one after
+-- another. Each definition checks one condition. If the condition does not hold, the call returns a status.
+-- Otherwise, the next condition is checked.
 use Rattle.std.specs.Prelude.{◌≡◌, ℕ, ◌⊎◌, List, Option, Some, None, IsUtf8, chars}
 use Rattle.hordguli_c.specs.declared.status.Status.{Status}
 use Rattle.hordguli_c.specs.declared.status.Status.TheVariants as is
 
--- If a condition holds, the next one is checked. If not, the call returns a status and changes nothing.
+-- If a condition holds, the next one is checked. Otherwise, the call returns a status and changes nothing.
 abbrev pub Given : Type 0 → Status → Status → Type 0 → Type 0 → Type 0
 Given holds refused status unchanged rest = ((¬ holds) × (status ≡ refused) × unchanged) ⊎ (holds × rest)
 
@@ -29,11 +29,11 @@ Changes does status None after old new = (status ≡ is.Closed) × (after ≡ No
 Changes does status (Some before) None old new = ⊥
 Changes does status (Some before) (Some after) old new = does status before after old new
 
--- the result is stored, if there is one
+-- the result is stored if there is one; otherwise the status is `OutOfRange`
 abbrev pub Gives : {O : Type 0} → Option O → Status → O → O → Type 0
 Gives None status old new = (status ≡ is.OutOfRange) × (new ≡ old)
 Gives (Some x) status old new = (status ≡ is.Ok) × (new ≡ x)
 
--- a text passed as bytes; if they are not UTF-8, nothing changes
+-- a text that is passed as bytes; if the bytes are not UTF-8, nothing changes
 abbrev pub OfText : List ℕ → Status → Type 0 → (List ℕ → Type 0) → Type 0
 OfText bytes status unchanged does = Given (IsUtf8 bytes) is.NotUtf8 status unchanged (does (chars bytes))

@@ -27,8 +27,8 @@ damage_out damage = record {
   new_paragraphs = damage.new_pars;
 }
 
--- An edit is executed, and its damage is stored. Or it fails, and nothing is stored. It fails with `NoMemory` only if
--- `may_want` holds.
+-- Either an edit is executed and its damage is stored, or it fails and nothing is stored. It fails with
+-- `NoMemory` only if `may_want` holds.
 abbrev pub Tries : (SessionState → SessionState → Damage → Type 0) → (SessionState → SessionState → EditFault → Type 0) → Type 0
     → Status → SessionState → SessionState → DamageOut → DamageOut → Type 0
 Tries makes refuses may_want status before after old new =

@@ -1,4 +1,4 @@
--- The object of a handle, if it is open.
+-- The object of a handle, if the handle is open.
 use Rattle.std.specs.Prelude.{Option, Some, None}
 use Rattle.std.specs.Global.{Global, Box}
 use Rattle.hordguli_c.specs.declared.raw_box.RawBox.{RawBox}

@@ -1,4 +1,4 @@
--- What is stored for a line and for a paragraph: numbers, and lists in arrays, each of which is optional.
+-- What is stored for a line and for a paragraph: numbers, and lists in optional arrays.
 use Rattle.std.specs.Prelude.{◌≡◌, ℕ, ◌&&◌, Bool, List, length, map, slice_index, Option, Some, None, MatchBool}
 use Rattle.lines.specs.Columns.{padding_of}
 use Rattle.lines.specs.Layouts.{Layout}
@@ -36,7 +36,7 @@ pub record LineArrays : Type 0 where
   pub vtol : List ℕ
   pub columns : List ℕ
 
--- the arrays with the requested lists of a line, and whether these fit
+-- the arrays after the requested lists of a line were copied to them, and whether these lists fit
 abbrev pub line_put : ℕ → Visual → LineArrays → LineArrays
 line_put wanted line arrays = record {
   characters = put_if (has_bit wanted 1) line.chars arrays.characters;
@@ -59,7 +59,7 @@ abbrev pub PutsLine : ℕ → Visual → Status → LineArrays → LineArrays �
 PutsLine wanted line status old new =
     MatchBool (line_fits wanted line old) ((status ≡ is.Ok) × (new ≡ line_put wanted line old)) ((status ≡ is.NoRoom) × (new ≡ old))
 
--- the information about a line and its lists are stored, or there is no such line
+-- the information about a line and the line's lists are stored, or there is no such line
 abbrev pub ShowsLine : ℕ → ℕ → Option ℕ → Option Visual → Status → LineOut × LineArrays → LineOut × LineArrays → Type 0
 ShowsLine wanted width (Some start) (Some line) status old new = (new.0 ≡ line_out width start line) × PutsLine wanted line status old.1 new.1
 ShowsLine wanted width start line status old new = (status ≡ is.OutOfRange) × (new ≡ old)

@@ -12,7 +12,7 @@ use Rattle.hordguli_c.specs.Edits.{edit_status}
 use Rattle.hordguli_c.specs.declared.status.Status.{Status}
 use Rattle.hordguli_c.specs.declared.status.Status.TheVariants as is
 
--- an engine that has done no work yet
+-- whether an engine has these tables and options, and has done no work yet
 pub record IsFresh (tables : Tables) (options : Options) (engine : Engine) : Type 0 where
   pub rules : rules_of engine ≡ record { tables = tables; options = options }
   pub analysed : analysed_of engine ≡ 0
@@ -25,14 +25,14 @@ pub record IsOpened (tables : Tables) (options : Options) (text : List ℕ) (wid
   pub fresh : IsFresh tables options engine
   pub opens : Opens engine text width state
 
--- a session is not opened: for the first reason that applies, or with `NoMemory` if none applies
+-- a session was not opened, for the first reason that applies, or with `NoMemory` if none applies
 pub record IsRefused (tables : Tables) (options : Options) (text : List ℕ) (width : ℕ) (status : Status) : Type 0 where
   pub fault : EditFault
   pub reason : IsAnswerFor (opening_refusal (cut_by (record { tables = tables; options = options })) text width) fault
   pub status_is : status ≡ edit_status fault
 
--- Opens a session on tables. If they have too many owners, fails with `NoMemory` before the limits of the text are
--- checked.
+-- The result of opening a session on tables. If the tables have too many owners, the call fails with
+-- `NoMemory` before it checks the limits of the text.
 abbrev pub OpensOn : Options → List ℕ → ℕ → Status → Option Tables → Option SessionState → Option SessionState → Type 0
 OpensOn options text width status tables (Some state) after = (status ≡ is.AlreadyOpen) × (after ≡ Some state)
 OpensOn options text width status None None after = (status ≡ is.Closed) × (after ≡ None)

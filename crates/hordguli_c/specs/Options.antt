@@ -8,7 +8,7 @@ use Rattle.lines.specs.declared.print.Print.{Print}
 abbrev pub has_bit : ℕ → ℕ → Bool
 has_bit bits value = bits / value % 2 == 1
 
--- the two lowest bits are the base direction
+-- the base direction in the two lowest bits
 abbrev pub base_of : ℕ → Base
 base_of bits =
     if bits % 4 == 0 then WeakLtr else if bits % 4 == 1 then WeakRtl else if bits % 4 == 2 then Ltr else Rtl
@@ -31,7 +31,7 @@ options_of bits =
       whole_numbers = has_bit bits 16;
     }) else None
 
--- what is printed of a line, or `None` if an unknown bit is set
+-- the print options of a line, or `None` if an unknown bit is set
 abbrev pub print_of : ℕ → Option Print
 print_of bits =
     if nat_lt bits 128 then Some (record {

@@ -19,25 +19,26 @@ mark_number Never = 0
 mark_number May = 1
 mark_number Must = 2
 
--- why numbers are not accepted as characters: one is not a scalar value, or an allocation failed
+-- the reason why numbers are not accepted as characters: one is not a scalar value, or an allocation failed
 abbrev pub CharactersNot : List ℕ → Status → Type 0
 CharactersNot numbers status =
     ((¬ All IsScalar numbers) × (status ≡ is.NotACharacter))
     ⊎ (All IsScalar numbers × (status ≡ is.NoMemory) × (0 < length numbers))
 
--- a call on characters succeeds only if all numbers are characters, and allocates if there are any
+-- A call on characters succeeds only if all numbers are characters. It may allocate if there is at least one
+-- number.
 abbrev pub OfCharacters : List ℕ → Status → Type 0 → Type 0 → Type 0
 OfCharacters characters status unchanged done =
     Given (All IsScalar characters) is.NotACharacter status unchanged
     (OrNoMemory (0 < length characters) status unchanged done)
 
--- one number for each character is stored, if they fit in the array
+-- one number for each character is stored, if the numbers fit in the array
 abbrev pub PutsEach : (List ℕ → List ℕ) → List ℕ → Status → List ℕ → List ℕ → Type 0
 PutsEach numbers characters status old new =
     Given (length characters ≤ length old) is.NoRoom status (new ≡ old)
     (OfCharacters characters status (new ≡ old) ((status ≡ is.Ok) × (new ≡ put (numbers characters) old)))
 
--- the levels before L1 (UAX #9, X1 to I2), which proof search does not unfold
+-- the levels before L1 (UAX #9, X1 to I2), as a definition that proof search does not unfold
 unfoldable pub levels_by : Tables → Base → List ℕ → List ℕ
 levels_by tables base text = levels_of tables text base
 

@@ -13,7 +13,7 @@ use Rattle.hordguli_c.specs.declared.place_calls.ClusterOut.{ClusterOut}
 use Rattle.hordguli_c.specs.declared.place_calls.HitOut.{HitOut}
 use Rattle.hordguli_c.specs.declared.place_calls.PlaceOut.{PlaceOut}
 
--- a truth value as a number
+-- a Boolean as a number: 1 for true, 0 for false
 abbrev pub flag : Bool → ℕ
 flag is = if is then 1 else 0
 

@@ -1,4 +1,4 @@
--- What a handle of a session owns: nothing if it is null, and otherwise the block of a session with this value.
+-- What a session handle owns: nothing if it is null, and otherwise the block of a session with this value.
 use Rattle.std.specs.Prelude.{◌≡◌, Option, Some, None}
 use base.Fml.{Fml, ftrue, fex}
 use denote.RattleType.{RattleType}
@@ -13,7 +13,7 @@ use Rattle.store.specs.contracts.tree_store.TreeStoreParagraphStore.TheImpl as s
 use Rattle.session.specs.Sessions.{SessionState}
 use Rattle.hordguli_c.specs.Held.{the_global}
 
--- the value of a session in contracts
+-- the value that stands for a session in contracts
 abbrev pub Value : Type 0
 Value = SessionState
 

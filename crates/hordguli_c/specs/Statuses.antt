@@ -8,7 +8,7 @@ statuses =
     is.Ok ∷ is.OutOfRange ∷ is.WidthOutOfRange ∷ is.TextTooLong ∷ is.ParagraphTooLong ∷ is.NoMemory ∷ is.TableFault ∷ is.NotUtf8
     ∷ is.NotACharacter ∷ is.Closed ∷ is.AlreadyOpen ∷ is.UnknownOption ∷ is.NoRoom ∷ []
 
--- the status with a number; the last one for a number above 12
+-- the status with the given number, or the last status for a number above 12
 unfoldable pub status_of : ℕ → Status
 status_of number = slice_index_or statuses number is.NoRoom
 

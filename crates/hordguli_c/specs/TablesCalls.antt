@@ -34,7 +34,7 @@ Reads files status (Some tables) old new = (status ≡ is.Ok) × AreTablesOf fil
 Reads files status None old new =
     ((status ≡ is.NoMemory) × (new ≡ old)) ⊎ ((fault : TableFault) × IsFaultOf files fault × TellsFault fault.cause fault status old new)
 
--- reads tables into a closed handle; an open one is unchanged
+-- tables are read into a closed handle; an open handle is unchanged
 abbrev pub ReadsTables : UcdFiles → Status → Option Tables → Option Tables → TableFaultOut → TableFaultOut → Type 0
 ReadsTables files status None after old new = Reads files status after old new
 ReadsTables files status (Some tables) after old new = (status ≡ is.AlreadyOpen) × (after ≡ Some tables) × (new ≡ old)

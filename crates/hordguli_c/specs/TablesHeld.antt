@@ -1,4 +1,5 @@
--- What a handle of tables owns: nothing if it is null, and otherwise the block of tables with this value.
+-- What a handle of tables owns: nothing if it is null, and otherwise the block that has tables with this
+-- value.
 use Rattle.std.specs.Prelude.{◌≡◌, Option, Some, None}
 use base.Fml.{Fml, ftrue, fex}
 use denote.RattleType.{RattleType}
@@ -9,7 +10,7 @@ use Rattle.ucd.specs.contracts.tables.Tables as tables
 use Rattle.ucd.specs.declared.tables.Tables.{Tables}
 use Rattle.hordguli_c.specs.Held.{the_global}
 
--- the value of tables in contracts
+-- the value that stands for tables in contracts
 abbrev pub Value : Type 0
 Value = Tables
 

@@ -13,28 +13,28 @@ use Rattle.hordguli_c.specs.Calls.{Given, OrNoMemory}
 use Rattle.hordguli_c.specs.declared.status.Status.{Status}
 use Rattle.hordguli_c.specs.declared.status.Status.TheVariants as is
 
--- bytes are copied to an array if all of them fit; their number is stored in any case
+-- Bytes are copied to an array if all of them fit. The number of bytes is stored in either case.
 abbrev pub PutsBytes : List ℕ → Status → List ℕ × ℕ → List ℕ × ℕ → Type 0
 PutsBytes bytes status old new =
     ((status ≡ is.Ok) × (length bytes ≤ length old.0) × (new ≡ (put bytes old.0, length bytes)))
     ⊎ ((status ≡ is.NoRoom) × (length old.0 < length bytes) × (new ≡ (old.0, length bytes)))
 
--- Stores the bytes of a range of items. They are collected before they are copied, so an allocation may fail before
--- their number is known.
+-- The bytes of a range of items are stored. They are collected before they are copied, so an allocation may
+-- fail before their number is known.
 abbrev pub PutsRange : ℕ → ℕ → ℕ → List ℕ → Status → List ℕ × ℕ → List ℕ × ℕ → Type 0
 PutsRange size first count bytes status old new =
     Given (first + count ≤ size) is.OutOfRange status (new ≡ old)
     (OrNoMemory (0 < length bytes) status (new ≡ old) (PutsBytes bytes status old new))
 
--- why the bytes of a range are not collected: the range is past the end, or an allocation failed
+-- the reason why the bytes of a range were not collected: the range is past the end, or an allocation failed
 abbrev pub RangeNot : ℕ → ℕ → ℕ → List ℕ → RangeFault → Type 0
 RangeNot size first count bytes OutOfRange = size < first + count
 RangeNot size first count bytes (Write fault) = (first + count ≤ size) × (0 < length bytes)
 
--- stores the bytes of lines, as they are printed
+-- the printed bytes of lines are stored
 abbrev pub PutsLines : ℕ → ℕ → Print → Status → SessionState → List ℕ × ℕ → List ℕ × ℕ → Type 0
 PutsLines first count print status state = PutsRange (length (lines_in state.kept)) first count (lines_page state first count print) status
 
--- stores characters as UTF-8
+-- characters are stored as UTF-8
 abbrev pub PutsText : ℕ → ℕ → Status → SessionState → List ℕ × ℕ → List ℕ × ℕ → Type 0
 PutsText pos count status state = PutsRange (length (text_at state)) pos count (utf8_part state.kept pos count) status

@@ -1,5 +1,5 @@
--- A line of a paragraph in visual order. All arrays are those of the paragraph up to the line's end, and the line
--- begins at `off`.
+-- A line of a paragraph in visual order. All arrays hold the paragraph up to the end of the line. The line
+-- starts at `off`.
 use Rattle.std.specs.Prelude.{◌≡◌, ℕ, suc, ◌/◌, ◌%◌, ◌==◌, Bool, List, ◌++◌, length, map, take, drop, slice_index, if◌then◌else◌}
 use Rattle.reorder.specs.Order.{highest, vtol_of}
 use Rattle.reorder.specs.Spaces.{line_levels}
@@ -13,12 +13,12 @@ asks_marks flags = flags / 2 % 2 == 1
 abbrev pub reordered : ℕ → List ℕ → List ℕ → List ℕ
 reordered off vtol old = take off old ++ map (slice_index (drop off old)) vtol
 
--- an array likewise, if its length is that of the line's end; otherwise it is unchanged
+-- an array after reordering, if its length is `len`; any other array is unchanged
 abbrev pub reordered_if : ℕ → ℕ → List ℕ → List ℕ → List ℕ
 reordered_if len off vtol old = if length old == len then reordered off vtol old else old
 
--- The line after L1 at the level of the direction, L2, and L3 if the flags request it. The result is the line's greatest
--- level plus one.
+-- The line after L1 (by the level of the direction), L2 and, if the flags request it, L3. The result is the
+-- line's greatest level plus one.
 module _ (flags : ℕ) (types : List ℕ) (off direction : ℕ) (old : List ℕ) where
   abbrev pub line_after : List ℕ
   line_after = line_levels (direction % 2) (map class_of (drop off types)) (drop off old)

@@ -19,7 +19,8 @@ number_at index pages numbers c = slice_index_or numbers (entry_at index pages c
 abbrev pub bracket_at : List ℕ → List ℕ → List ℕ → ℕ → ℕ → ℕ
 bracket_at index pages numbers c type = if type == 64 then number_at index pages numbers c else 0
 
--- the types of the code points of a string, if the arrays have its length
+-- the types, and the brackets, of the code points of a string, if the arrays have the same length as the
+-- string
 abbrev pub types_at : List ℕ → List ℕ → List ℕ → List ℕ → List ℕ
 types_at index pages characters old = if length old == length characters then map (type_at index pages) characters else old
 

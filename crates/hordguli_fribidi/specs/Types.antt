@@ -41,7 +41,7 @@ classes = L ∷ R ∷ AL ∷ EN ∷ ES ∷ ET ∷ AN ∷ CS ∷ NSM ∷ BN ∷ B
 abbrev pub named : List ℕ
 named = map type_of classes ++ 32 ∷ 33 ∷ 128 ∷ []
 
--- the index of a number in that list, or 26
+-- the index of a number in `named`, or 26 if it is not in that list
 unfoldable pub name_index : ℕ → ℕ
 name_index number = position_or_len (λ other. other == number) named
 
@@ -49,8 +49,8 @@ name_index number = position_or_len (λ other. other == number) named
 unfoldable pub class_of : ℕ → BidiClass
 class_of number = slice_index_or classes (position_or_len (λ other. other == number) (map type_of classes)) ON
 
--- The base direction of a number: LTR, RTL or WRTL. All other numbers count as ON, which is a weak direction with
--- left-to-right as default.
+-- The base direction for which a number stands. Numbers other than those of LTR, RTL and WRTL count as ON,
+-- which is a weak direction with left-to-right as default.
 abbrev pub base_of : ℕ → Base
 base_of number =
     if number == 272 then Ltr else (if number == 273 then Rtl else (if number == 33 then WeakRtl else WeakLtr))
@@ -59,7 +59,8 @@ base_of number =
 abbrev pub direction_of : ℕ → ℕ
 direction_of level = if level == 0 then 272 else 273
 
--- the bracket with a number: the code point of its pair, plus 2 ^ 31 for an opening one; 0 is no bracket
+-- The bracket with a number, which is the code point of the other bracket of the pair, plus 2^31 for an
+-- opening bracket. The number 0 is no bracket.
 abbrev pub bracket_by : ℕ → Option Bracket
 bracket_by number =
     if number == 0 then None

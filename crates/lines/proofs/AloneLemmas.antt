@@ -1,4 +1,5 @@
--- Characters that no grapheme cluster rule joins to a neighbour: a cluster ends after each of them.
+-- Characters that no grapheme cluster rule joins to one another. In a text of only such characters, a cluster
+-- ends after each one.
 use Rattle.std.proofs.Common.{◌≡◌, ℕ, zero, suc, ◌+◌, ◌<◌, ◌≤◌, nat_le, Bool, true, false, not, ◌&&◌, ◌||◌, List, []}
 use Rattle.std.proofs.Common.{◌∷◌, length, map, replicate, unwrap_or, Option, Some, None, refl, sym, ap, ◌∙◌, inl, inr, arith}
 use Rattle.std.specs.List.{list_all}
@@ -56,7 +57,7 @@ isolates : all_from is_apart 8294 4 ≡ true
 unfolding grapheme_cluster_break value_in grapheme_cluster_break_rows indic_conjunct_break indic_conjunct_break_rows
 isolates = refl
 
--- a test that holds for a range of numbers holds for each of them
+-- if `all_from` returns true for the n numbers from `first` on, the test holds for each of them
 one_of : (test : ℕ → Bool) (first n c : ℕ) → all_from test first n ≡ true → first ≤ c → c < first + n → test c ≡ true
 one_of test first zero c all from to = absurd (omega (arith, from, to))
 one_of test first (suc n) c all from to =
@@ -96,7 +97,8 @@ alone_is_apart c =
     (either _ _ (is_apart c ≡ true) (apart_in 1569 41 c arabic)
     (either _ _ (is_apart c ≡ true) (apart_in 8232 6 c embeddings) (apart_in 8294 3 c isolates)))))
 
--- no pair rule joins two of these characters, and no other rule applies to them
+-- No rule for a pair of classes joins two of these characters. The rules for joiners, flags and conjuncts do
+-- not apply to these characters.
 by_pair : (g h : GraphemeClusterBreak) → stands_apart g ≡ true → stands_apart h ≡ true → unwrap_or (break_by_pair true g h) true ≡ true
 by_pair Control Control one other = refl
 by_pair Control Lf one other = refl
@@ -149,7 +151,7 @@ ends_apart before (c ∷ d ∷ text) all =
     let next = and_parts (is_alone d) (list_all is_alone text) parts.1 in
     rw (breaks_between c d before text (alone_is_apart c parts.0) (alone_is_apart d next.0)) (ap (λ ends. true ∷ ends) (ends_apart (c ∷ before) (d ∷ text) parts.1))
 
--- a cluster ends after each character of a text of such characters
+-- in a text of only such characters, a cluster ends after each character
 pub ends_alone : (text : List ℕ) → list_all is_alone text ≡ true → replicate (length text) true ≡ cluster_ends text
 unfolding cluster_ends
 ends_alone text all = splat_is_map text (length text) true refl ∙ sym (ends_apart [] text all)

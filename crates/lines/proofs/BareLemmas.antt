@@ -1,4 +1,4 @@
--- Filling and showing lines do not depend on cluster ends, except where no break opportunity fits.
+-- Where lines end and what they show do not depend on cluster ends, unless no break opportunity fits.
 use Rattle.std.proofs.Common.{◌≡◌, ℕ, zero, suc, ◌+◌, ◌-◌, ◌<◌, ◌≤◌, nat_le, Bool, true, false, ◌&&◌, List, [], ◌∷◌, ◌++◌}
 use Rattle.std.proofs.Common.{length, map, take, drop, reverse, set, get_or, Some, unwrap_or, slice_range, refl, sym, ap, ap₂, ◌∙◌, arith}
 use Rattle.std.proofs.Math.Seq.{set-append_seam, get_or-append_seam}
@@ -63,7 +63,7 @@ shown_length_bare xs = ap length (shown_bare xs) ∙ length-map (shown xs) bare
 range_bare : (xs : List CharInfo) (s e : ℕ) → slice_range (map bare xs) s e ≡ map bare (slice_range xs s e)
 range_bare xs s e = ap (take (e - s)) (drop-map bare s xs) ∙ take-map bare (e - s) (drop s xs)
 
--- ---- tests that agree find the same number
+-- ---- searches with equal tests find the same number
 
 greatest_same : (p q : ℕ → Bool) (n : ℕ) → ((k : ℕ) → p k ≡ q k) → greatest p n ≡ greatest q n
 greatest_same p q zero same = refl
@@ -90,7 +90,8 @@ break_bare width xs =
     ∙ greatest_same (λ k. may_end (map bare xs) k && fits_to width (map bare xs) k) (λ k. may_end xs k && fits_to width xs k) (suc (stop xs))
     (λ k. ap₂ ◌&&◌ (ap (λ (p : CharInfo). is_break p.mark) (at_bare xs k)) (fits_bare width xs k))
 
--- lists that differ in their cluster ends alone have the same break opportunities
+-- if two lists differ only in their cluster ends, they have the same first position at which a line must end,
+-- and the same last break opportunity that fits
 pub same_stop : (xs ys : List CharInfo) → AreAlike xs ys → stop xs ≡ stop ys
 same_stop xs ys alike = sym (stop_bare xs) ∙ ap stop alike ∙ stop_bare ys
 
@@ -151,7 +152,8 @@ length_with [] ends size = refl
 length_with (x ∷ xs) [] size = absurd (omega (arith, size))
 length_with (x ∷ xs) (e ∷ ends) size = ap suc (length_with xs ends (omega (arith, size)))
 
--- if the first k items have their cluster ends, and item k gets its own, the first k + 1 items have theirs
+-- if the first k items have their cluster ends, and the cluster end of item k is stored, the first k + 1
+-- items have theirs
 pub with_more : (old current : List CharInfo) (ends : List Bool) (k : ℕ) (e : Bool) → k < length old → length ends ≡ length old → e ≡ get_or ends k e
     → current ≡ with_ends (take k old) (take k ends) ++ drop k old
     → set current k (record (place_at current k) { ends_cluster = e }) ≡ with_ends (take (k + 1) old) (take (k + 1) ends) ++ drop (k + 1) old
@@ -210,7 +212,8 @@ parts_bare n xs (s ∷ t ∷ starts) = ap₂ (λ (p : Shown) (ps : List Shown). 
 pub same_shown : (n : ℕ) (xs ys : List CharInfo) (starts : List ℕ) → AreAlike xs ys → shown_from n xs starts ≡ shown_from n ys starts
 same_shown n xs ys starts alike = sym (parts_bare n xs starts) ∙ ap (λ zs. shown_from n zs starts) alike ∙ parts_bare n ys starts
 
--- the first k items are written; followed by the items of the remaining characters, they are those of the whole text
+-- The first k items of `current` are written. These items, followed by those of the remaining characters, are
+-- the items of the whole text.
 pub record PlacesPut (t : Tables) (text : List ℕ) (marks : List Mark) (current : List CharInfo) (k : ℕ) : Type 0 where
   pub sizes : length current ≡ length text
   pub within : k ≤ length text

@@ -1,4 +1,4 @@
--- The clusters that a text is split into end where the rules of UAX #29 say.
+-- Splitting a text into grapheme clusters finds exactly the cluster ends that `cluster_ends` defines.
 use Rattle.std.proofs.Common.{◌≡◌, ℕ, suc, ◌-◌, Bool, true, false, ◌&&◌, cond, List, [], ◌∷◌, ◌++◌, map, length, replicate, refl, sym, ap, ap₂, ◌∙◌, append-nil, arith}
 use Rattle.std.proofs.Math.Utf8.{scalars}
 use Rattle.std.proofs.lemmas.Bool.{and_parts}
@@ -11,11 +11,12 @@ use Rattle.unicode_segmentation.specs.Grapheme.{graphemes, is_grapheme_break}
 use Rattle.unicode_segmentation.specs.Segments.{Rule, cut, prepend, segments}
 use Rattle.lines.specs.Clusters.{cluster_ends, ends_after, ends_of}
 
--- the ends of one cluster, given its characters
+-- for each character of a cluster, whether the cluster ends after it: true for the last character only
 abbrev ends_of_piece : List ℕ → List Bool
 ends_of_piece piece = replicate (length piece - 1) false ++ true ∷ []
 
--- puts a character before pieces: as a piece of its own, or as the first character of the first piece
+-- a list of pieces with a character put in front: as a piece of its own, or as the first character of the
+-- first piece
 abbrev attach : Bool → ℕ → List (List ℕ) → List (List ℕ)
 attach is_break c pieces = cond is_break ((c ∷ []) ∷ pieces) (prepend (c ∷ []) pieces)
 
@@ -24,13 +25,14 @@ attach_begins true c pieces = ([], pieces, refl)
 attach_begins false c [] = ([], [], refl)
 attach_begins false c (p ∷ ps) = (p, ps, refl)
 
--- the first piece starts with the first character
+-- if `cut` splits a non-empty list, the first piece starts with the first character
 cut_begins : (rule : Rule) (before : List ℕ) (c : ℕ) (cs after : List ℕ)
     → (p : List ℕ) × (ps : List (List ℕ)) × (cut rule before (c ∷ cs) after ≡ (c ∷ p) ∷ ps)
 unfolding cut
 cut_begins rule before c cs after = attach_begins (rule (c ∷ before) (cs ++ after)) c (cut rule (c ∷ before) cs after)
 
--- a character that is put before pieces has a cluster end after it if it is a piece of its own
+-- if `attach` puts a character before pieces, a cluster ends after that character exactly if it is a piece of
+-- its own
 ends_attach : (b : Bool) (c d : ℕ) (p : List ℕ) (ps : List (List ℕ))
     → flat_map ends_of_piece (attach b c ((d ∷ p) ∷ ps)) ≡ b ∷ flat_map ends_of_piece ((d ∷ p) ∷ ps)
 ends_attach true c d p ps = refl
@@ -49,7 +51,7 @@ ends_of_cut before (c ∷ (d ∷ cs)) =
     ap (λ rest. flat_map ends_of_piece (attach b c rest)) inner.2 ∙ ends_attach b c d inner.0 inner.1
     ∙ ap₂ ◌∷◌ (ap (rule (c ∷ before)) (append-nil (d ∷ cs))) (ap (flat_map ends_of_piece) (sym inner.2) ∙ ends_of_cut (c ∷ before) (d ∷ cs))
 
--- the concatenated pieces are the characters
+-- concatenating the pieces gives the original characters
 concat_attach : (b : Bool) (c : ℕ) (pieces : List (List ℕ)) → concat (attach b c pieces) ≡ c ∷ concat pieces
 concat_attach true c pieces = refl
 concat_attach false c [] = refl
@@ -61,7 +63,8 @@ concat_cut rule before [] after = refl
 concat_cut rule before (c ∷ cs) after =
     concat_attach (rule (c ∷ before) (cs ++ after)) c (cut rule (c ∷ before) cs after) ∙ ap (λ t. c ∷ t) (concat_cut rule (c ∷ before) cs after)
 
--- the ends of pieces that consist of scalar values can be computed from their UTF-8 bytes
+-- if all characters of the pieces are Unicode scalar values, the pieces' UTF-8 bytes give the same cluster
+-- ends
 scalars_parts : (xs ys : List ℕ) → scalars (xs ++ ys) ≡ true → (scalars xs ≡ true) × (scalars ys ≡ true)
 scalars_parts [] ys h = (refl, h)
 scalars_parts (x ∷ xs) ys h =
@@ -82,7 +85,7 @@ ends_of_graphemes bs u =
     let all : scalars (concat (cut rule [] (chars bs) [])) ≡ true = ap scalars (concat_cut rule [] (chars bs) []) ∙ scalars-chars bs u in
     ends_of_bytes _ all ∙ ends_of_cut [] (chars bs)
 
--- the UTF-8 bytes of characters decode to these characters
+-- decoding the UTF-8 bytes of characters gives these characters
 bytes_of_each : (cs : List ℕ) → flat_map encode_utf8 cs ≡ encode_utf8_all cs
 bytes_of_each [] = refl
 bytes_of_each (c ∷ cs) = ap (◌++◌ (encode_utf8 c)) (bytes_of_each cs)

@@ -15,7 +15,7 @@ module _ (line : Visual) where
       ∙ sum_by_push columns_of (take k (unmirrored line)) (get_or (unmirrored line) k 0)
       ∙ ap (λ c. columns_left line k + columns_of c) (get_or-map (λ v. get_or line.text v 0) line.vtol k 0 0 within)
 
-  -- past the last position, the columns to the left are those of the whole line
+  -- a position past the end has the columns of the whole line to its left
   pub left_to : (place k : ℕ) → k ≡ min place (length line.vtol) → columns_left line k ≡ columns_left line place
   left_to place k is =
       elim (cases_lt place (length line.vtol)) [
@@ -25,7 +25,7 @@ module _ (line : Visual) where
             ap (sum_by columns_of) (take_all k (unmirrored line) (omega (arith, is, past, size)) ∙ sym (take_all place (unmirrored line) (omega (arith, past, size))))
       ]
 
-  -- the first position that covers the column, if there is one, is k or a later one
+  -- whether a search that starts at position k finds the position that covers the column
   abbrev pub IsLeft : ℕ → ℕ → Type 0
   IsLeft column k = covering line column ≡ least (λ place. nat_lt column (columns_left line (place + 1))) k (length line.vtol - k)
 

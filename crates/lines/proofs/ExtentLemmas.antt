@@ -1,4 +1,4 @@
--- Extents and properties, written one item at a time.
+-- Lists of extents and of character properties that are written one item at a time.
 use Rattle.std.proofs.Common.{◌≡◌, ℕ, ◌+◌, ◌<◌, ◌≤◌, List, [], ◌∷◌, ◌++◌, length, map, take, get_or, set, refl, ap, ap₂, sym, ◌∙◌, arith}
 use Rattle.std.proofs.lemmas.List.{map-append, take_all, take_more, take_more_set}
 use Rattle.lines.specs.Extents.{LineExtents}

@@ -1,4 +1,4 @@
--- What the scan of a line finds: sums of columns, and the positions at which the line may end.
+-- What a scan of a line's characters finds: sums of columns, and the positions at which the line may end.
 use Rattle.std.proofs.Common.{take-take, length-append, get_or, subst, ◌≡◌, ℕ, zero, suc, ◌+◌, ◌-◌, ◌*◌, ◌<◌, ◌≤◌, Bool, true, false, ◌&&◌, ◌||◌}
 use Rattle.std.proofs.Common.{Option, Some, unwrap_or, List, [], ◌∷◌, ◌++◌, length, take, drop, if◌then◌else◌, refl, sym, ap, ◌∙◌, inl, inr, arith}
 use Rattle.std.proofs.Math.ListN.{get_or-append}
@@ -19,7 +19,7 @@ use Rattle.lines.specs.declared.char_info.CharInfo.{CharInfo}
 
 -- ---- the greatest number that passes a test
 
--- if no number from k on passes, the greatest one that passes is below k
+-- if no number from k on passes the test, the greatest number that passes is below k
 pub greatest_skips : (p : ℕ → Bool) (k n : ℕ) → k ≤ n → ((j : ℕ) → k ≤ j → j < n → p j ≡ false) → greatest p n ≡ greatest p k
 greatest_skips p k zero below fails = let e : k ≡ 0 = omega (arith, below) in rw e refl
 greatest_skips p k (suc n) below fails =
@@ -34,7 +34,7 @@ greatest_skips p k (suc n) below fails =
 abbrev trails : CharInfo → Bool
 trails p = p.is_trailing
 
--- the shown part of the first n characters of a line
+-- the shown part of the first n characters is these characters without the longest tail at their end
 shown_to : (rest : List CharInfo) (n : ℕ) → n ≤ length rest → shown (take n rest) ≡ take (n - suffix_len trails (take n rest)) rest
 shown_to rest n within =
     ap (λ m. take (m - suffix_len trails (take n rest)) (take n rest)) (length-take-le n rest within)
@@ -51,7 +51,7 @@ trailing_none rest k within counts =
     let e : suc k - 1 ≡ k = omega arith in
     suffix_len-take_no trails rest (suc k) nothing (omega arith) (omega (arith, within)) (subst (λ j. trails (place_at rest j) ≡ false) (sym e) counts)
 
--- a last character that may be in a tail adds no shown columns; with any other last character, all columns are shown
+-- If the last character may be in a tail, it adds no shown columns. Otherwise all columns are shown.
 pub shown_after : (rest : List CharInfo) (k : ℕ) → k < length rest
     → columns (shown (take (suc k) rest)) ≡ (if (place_at rest k).is_trailing then columns (shown (take k rest)) else columns (take (suc k) rest))
 shown_after rest k within =
@@ -77,7 +77,7 @@ columns_after rest k within =
     let e : suc k ≡ k + 1 = omega arith in
     ap (λ n. columns (take n rest)) e ∙ sum_by_more (λ p. p.columns) rest k nothing within
 
--- the sums are kept for one more character
+-- if `sums` are the sums of the first k characters, `sums_after` gives the sums of the first k + 1
 pub sums_more : (rest : List CharInfo) (k : ℕ) (sums : Sums) → k < length rest → AreSumsOf (take k rest) sums → AreSumsOf (take (suc k) rest) (sums_after sums (place_at rest k))
 sums_more rest k sums within so_far = record {
   columns_are = ap (λ n. n + (place_at rest k).columns) so_far.columns_are ∙ sym (columns_after rest k within);
@@ -92,11 +92,11 @@ sums_more rest k sums within so_far = record {
   ];
 }
 
--- the shown part is no wider than the whole
+-- the shown part of the first n characters is no wider than all n characters
 shown_most : (rest : List CharInfo) (n : ℕ) → n ≤ length rest → columns (shown (take n rest)) ≤ columns (take n rest)
 shown_most rest n within = sum_by-take-le (λ p. p.columns) (take n rest) (length (take n rest) - suffix_len trails (take n rest))
 
--- one more character does not make the shown part narrower
+-- appending a character does not make the shown part narrower
 shown_grows : (rest : List CharInfo) (k : ℕ) → k < length rest → columns (shown (take k rest)) ≤ columns (shown (take (suc k) rest))
 shown_grows rest k within =
     elim (cases_Bool (trails (place_at rest k))) [
@@ -110,7 +110,7 @@ shown_grows rest k within =
       )
     ]
 
--- a line that does not fit up to a position does not fit up to a later one
+-- if a line does not fit up to a position, it does not fit up to any later position
 pub misfits : (width : ℕ) (rest : List CharInfo) (k j : ℕ) → k ≤ j → j < length rest → fits_to width rest k ≡ false → fits_to width rest j ≡ false
 misfits width rest k zero above within here = let e : k ≡ 0 = omega (arith, above) in subst (λ j. fits_to width rest j ≡ false) e here
 misfits width rest k (suc j) above within here =
@@ -138,10 +138,10 @@ pub first_end_none : (rest : List CharInfo) → ((j : ℕ) → j < length rest �
 first_end_none rest fails =
     ap (λ o. unwrap_or o (length rest - 1)) (least_none (λ j. may_end rest j || cluster_ends_at rest j) 0 (length rest) (λ m from below. fails m (omega (arith, below))))
 
--- ---- what the scan keeps
+-- ---- the state of the scan
 
--- The state of the scan before character k. The line need not end at an earlier position. `break` and `cluster` are the
--- last earlier positions of their kind up to which the line fits.
+-- The state of the scan before character k. There is no mandatory break before k. `break` is the last break
+-- opportunity before k up to which the line fits, and `cluster` is the last such cluster end.
 pub record IsWalked (width : ℕ) (rest : List CharInfo) (k : ℕ) (sums : Sums) (break cluster : Option ℕ) : Type 0 where
   pub within : k ≤ length rest
   pub sums_are : AreSumsOf (take k rest) sums
@@ -150,7 +150,8 @@ pub record IsWalked (width : ℕ) (rest : List CharInfo) (k : ℕ) (sums : Sums)
   pub break_is : break ≡ greatest (λ j. may_end rest j && fits_to width rest j) k
   pub cluster_is : cluster ≡ greatest (λ j. cluster_ends_at rest j && fits_to width rest j) k
 
--- if `fit` holds for k, the greatest number up to k that passes both tests is k or the greatest one below k
+-- if k passes `fit`, the greatest number up to k that passes both tests is k or, if k fails `test`, the
+-- greatest one below k
 greatest_more : (test fit : ℕ → Bool) (k : ℕ) (best : Option ℕ) → fit k ≡ true → best ≡ greatest (λ j. test j && fit j) k
     → (if test k then Some k else best) ≡ greatest (λ j. test j && fit j) (suc k)
 greatest_more test fit k best here so_far =
@@ -159,7 +160,8 @@ greatest_more test fit k best here so_far =
       | inr f ↦ cond-false (test k) (Some k) best f ∙ so_far ∙ sym (cond-false (test k && fit k) (Some k) (greatest (λ j. test j && fit j) k) (ap (λ b. b && fit k) f))
     ]
 
--- the least number that passes, or the default, is inside the range, and not below k if no number before k passes
+-- if no number from `low` to k - 1 passes, the least number that passes is at least k and below n, and so is
+-- the default
 pub least_within : (p : ℕ → Bool) (low count n d k : ℕ) → low + count ≡ n → k ≤ d → d < n → ((m : ℕ) → low ≤ m → m < k → p m ≡ false)
     → (k ≤ unwrap_or (least p low count) d) × (unwrap_or (least p low count) d < n)
 least_within p low zero n d k e above below fails = (above, below)
@@ -177,12 +179,12 @@ least_within p low (suc count) n d k e above below fails =
           (omega (arith, skipped, rest.0), omega (arith, skipped, rest.1))
     ]
 
--- if the line need not end before k, the first position at which it must end is k or later
+-- if there is no mandatory break before k, the first position at which the line must end is k or later
 pub stop_from : (rest : List CharInfo) (k : ℕ) → k < length rest → ((j : ℕ) → j < k → must_end rest j ≡ false) → (k ≤ stop rest) × (stop rest < length rest)
 stop_from rest k within fails =
     least_within (must_end rest) 0 (length rest) (length rest) (length rest - 1) k (omega arith) (omega (arith, within)) (omega (arith, within)) (λ m from below. fails m below)
 
--- one step of the scan keeps its state
+-- scanning one more character that fits, and after which the line need not end, preserves `IsWalked`
 pub walk_more : (width : ℕ) (rest : List CharInfo) (k : ℕ) (sums next : Sums) (break cluster : Option ℕ) → k < length rest → IsWalked width rest k sums break cluster
     → next ≡ sums_after sums (place_at rest k) → next.columns ≤ sums.columns + 255 → next.shown ≤ width → must_end rest k ≡ false
     → IsWalked width rest (k + 1) next (if may_end rest k then Some k else break) (if cluster_ends_at rest k then Some k else cluster)
@@ -202,7 +204,8 @@ walk_more width rest k sums next break cluster within walked e most fitting must
       cluster_is = greatest_more (cluster_ends_at rest) (fits_to width rest) k cluster fit walked.cluster_is;
     })
 
--- a scan that ends where the line must end has found the last position that passes and up to which the line fits
+-- if the scan stops at a mandatory break, it has found the last position that passes the test and up to which
+-- the line fits
 pub walk_stops : (width : ℕ) (rest : List CharInfo) (test : ℕ → Bool) (k : ℕ) (sums next : Sums) (best : Option ℕ) → k < length rest
     → AreSumsOf (take k rest) sums → ((j : ℕ) → j < k → must_end rest j ≡ false) → next ≡ sums_after sums (place_at rest k) → next.shown ≤ width → must_end rest k ≡ true
     → best ≡ greatest (λ j. test j && fits_to width rest j) k
@@ -213,7 +216,8 @@ walk_stops width rest test k sums next best within are no_must e fitting must so
     greatest_more test (fits_to width rest) k best fit so_far
     ∙ ap (λ n. greatest (λ j. test j && fits_to width rest j) (suc n)) (sym (stop_at rest k within no_must must))
 
--- a scan that reaches the last character has found the last position that passes and up to which the line fits
+-- if the scan reads all characters, it has found the last position that passes the test and up to which the
+-- line fits
 pub walk_ends : (width : ℕ) (rest : List CharInfo) (test : ℕ → Bool) (k : ℕ) → 0 < length rest → k ≡ length rest → ((j : ℕ) → j < k → must_end rest j ≡ false)
     → greatest (λ j. test j && fits_to width rest j) k ≡ greatest (λ j. test j && fits_to width rest j) (suc (stop rest))
 walk_ends width rest test k some e no_must =
@@ -221,7 +225,8 @@ walk_ends width rest test k some e no_must =
     let same : k ≡ suc (stop rest) = omega (arith, e, none, some) in
     ap (greatest (λ j. test j && fits_to width rest j)) same
 
--- a scan that ends where the line does not fit has found that position, because the line fits nowhere later
+-- if the scan stops because the line no longer fits, it has found the last position that passes the test,
+-- because the line fits up to no later position
 pub walk_misfits : (width : ℕ) (rest : List CharInfo) (test : ℕ → Bool) (k : ℕ) (sums next : Sums) → k < length rest
     → AreSumsOf (take k rest) sums → ((j : ℕ) → j < k → must_end rest j ≡ false) → next ≡ sums_after sums (place_at rest k) → width < next.shown
     → greatest (λ j. test j && fits_to width rest j) k ≡ greatest (λ j. test j && fits_to width rest j) (suc (stop rest))
@@ -234,7 +239,7 @@ walk_misfits width rest test k sums next within are no_must e above =
 
 -- ---- lines one after another
 
--- after the `left` characters of the current line, the next line starts
+-- the next line starts after the `left` remaining characters of the current line
 pub starts_skip : (nobreak : Bool) (width place left : ℕ) (rest : List CharInfo) → left ≤ length rest
     → starts nobreak width place left rest ≡ starts nobreak width (place + left) 0 (drop left rest)
 starts_skip nobreak width place zero rest within = ap (λ n. starts nobreak width n 0 rest) (omega arith)
@@ -242,7 +247,7 @@ starts_skip nobreak width place (suc left) [] within = absurd (omega (arith, wit
 starts_skip nobreak width place (suc left) (p ∷ rest) within =
     starts_skip nobreak width (suc place) left rest (omega (arith, within)) ∙ ap (λ n. starts nobreak width n 0 (drop left rest)) (omega arith)
 
--- the line starts are that of the first line and those of the lines after it
+-- the line starts are the start of the first line, followed by the starts of the lines after it
 pub starts_line : (nobreak : Bool) (width place : ℕ) (rest : List CharInfo) → 0 < length rest → line_len nobreak width rest ≤ length rest
     → starts nobreak width place 0 rest ≡ place ∷ starts nobreak width (place + line_len nobreak width rest) 0 (drop (line_len nobreak width rest) rest)
 starts_line nobreak width place [] some within = absurd (omega (arith, some))
@@ -255,14 +260,16 @@ starts_line nobreak width place (p ∷ rest) some within =
     ∙ starts_skip nobreak width (suc place) n rest (omega (arith, within))
     ∙ ap (λ m. starts nobreak width m 0 (drop n rest)) more)
 
--- a position that was found is inside the line
+-- if a search up to the first mandatory break finds a position, it is the position of one of the remaining
+-- characters
 pub found_within : (rest : List CharInfo) (test : ℕ → Bool) (k : ℕ) → 0 < length rest → greatest test (suc (stop rest)) ≡ Some k → k < length rest
 found_within rest test k some e =
     omega (arith, (stop_from rest 0 some (λ j below. absurd (omega (arith, below)))).1, (greatest_found test (suc (stop rest)) k e).0)
 
 -- ---- how much of a line is shown
 
--- how many of the first k characters are shown, and their columns
+-- whether `len` and `columns_shown` are the length and columns of the shown part of the first k characters,
+-- and `columns_all` the columns of all k
 pub record IsShownTo (rest : List CharInfo) (k len columns_shown columns_all : ℕ) : Type 0 where
   pub within : k ≤ length rest
   pub most : columns_all ≤ 255 * k
@@ -273,7 +280,7 @@ pub record IsShownTo (rest : List CharInfo) (k len columns_shown columns_all : �
 
 -- ---- where lines start
 
--- line starts below n, followed by n, are line starts of a longer paragraph
+-- if all line starts are below n, appending n gives line starts of a longer paragraph
 pub starts_more : (n m : ℕ) (starts : List ℕ) → AreStarts n starts → n < m → AreStarts m (starts ++ n ∷ [])
 starts_more n m starts are order =
     let size : length (starts ++ n ∷ []) ≡ length starts + 1 = length-append starts (n ∷ []) in

@@ -1,4 +1,4 @@
--- The stored lines, one by one.
+-- The stored lines of a paragraph: their starts, their shown parts, and the k-th line.
 use Rattle.std.proofs.Common.{◌≡◌, ℕ, zero, suc, ◌+◌, ◌<◌, ◌≤◌, false, List, [], ◌∷◌, length, map, Some, slice_get, slice_index, slice_index_or, slice_range, refl, ap, ap₂, subst, ◌∙◌, arith}
 use Rattle.std.proofs.lemmas.List.Elements.{All-get_or}
 use Rattle.std.proofs.lemmas.Option.{get_or_from_slice_get, slice_get_within}
@@ -17,7 +17,7 @@ module _ (levels ltov vtol chars : List ℕ) where
   starts_of_lines (s ∷ starts) [] e = absurd (omega (arith, e))
   starts_of_lines (s ∷ starts) (part ∷ shown) e = ap (λ xs. s ∷ xs) (starts_of_lines starts shown (omega (arith, e)))
 
-  -- the shown parts of the stored lines are the listed ones
+  -- the stored lines have the listed shown parts
   pub shown_of_lines : (starts : List ℕ) (shown : List Shown) (d : Shown) → length shown ≡ length starts
       → ((k : ℕ) → k < length starts → slice_index starts k + (slice_index_or shown k d).len ≤ length levels)
       → map shown_in (lines_by levels ltov vtol chars starts shown) ≡ shown
@@ -53,7 +53,7 @@ module _ (levels ltov vtol chars : List ℕ) where
   not_one width (s ∷ t ∷ starts) (part ∷ []) e other = absurd (omega (arith, e))
   not_one width (s ∷ t ∷ starts) (part ∷ next ∷ shown) e other = refl
 
--- what holds for all lines holds for the k-th
+-- a property of all lines holds for the k-th line
 pub holds_at : (P : Line → Type 0) (lines : List Line) (k : ℕ) (line : Line) → All P lines → slice_get lines k ≡ Some line → P line
 holds_at P lines k line all e =
     subst P (get_or_from_slice_get lines k line line e) (All-get_or P lines k line (slice_get_within lines k line e) all)

@@ -1,4 +1,5 @@
--- A layout from its parts, and after an exchange of lines.
+-- Conditions under which a layout is a fresh layout: after it is built from its parts, or after its lines are
+-- exchanged.
 use Rattle.std.proofs.Common.{◌≡◌, ℕ, List, Result, Ok, Err, IfOk, length, refl, ap, ap₂, subst, sym, ◌∙◌}
 use Rattle.breaks.specs.declared.mark.Mark.{Mark}
 use Rattle.lines.specs.Extents.{extents_of, reflowed, LineExtents}
@@ -11,7 +12,8 @@ pub same_layout : (rules : Rules) (width : ℕ) (text seen : List ℕ) (base : �
     → record { text = text; base = base; levels = levels; marks = marks; lines = lines } ≡ layout_of rules width text
 same_layout rules width text seen base levels marks lines e b l m s = rw (b, l, m, s, e) refl
 
--- if the rules are equal, the fresh layout of a paragraph is laid out, and its lines are lines of its text
+-- if `same` equals `rules`, a fresh layout by `rules` satisfies `IsLaidOut`, and its lines satisfy
+-- `AreLinesOf`
 pub laid_out_by : (rules same : Rules) (width : ℕ) (text : List ℕ) (laid : Layout) → same ≡ rules → IsParagraph rules text → laid ≡ layout_of rules width text → IsLaidOut same laid
 laid_out_by rules same width text laid e paragraph is =
     rw (e, is) (record { width = width; paragraph = paragraph; from_scratch = refl })
@@ -24,7 +26,7 @@ pub all_lines_by : {E : Type 0} (rules same : Rules) (width : ℕ) (text : List 
 all_lines_by rules same width text (Ok fill) e is = lines_by rules same width text fill e is
 all_lines_by rules same width text (Err error) e is = tt
 
--- equal lines and lengths make equal `Filled` values
+-- two `Filled` values are equal if their lines and lengths are equal
 pub filled_as : (lines seen : List Line) (len size : ℕ) → lines ≡ seen → len ≡ size
     → let here : Filled = record { lines = lines; len = len } in here ≡ record { lines = seen; len = size }
 filled_as lines seen len size e f = rw (e, f) refl
@@ -52,7 +54,7 @@ pub exchanged_by : (old new : Layout) (fill_old fill_new : Filled) → new ≡ r
     → fill_new ≡ record { lines = old.lines; len = length old.text } → Exchanges old new fill_old fill_new
 exchanged_by old new fill_old fill_new put taken = rw (put, taken) (exchanged old fill_old)
 
--- a layout that is reflowed by its extents at a width is its fresh layout at that width
+-- reflowing a layout by its extents at a width gives its fresh layout at that width
 pub reflowed_by : (rules : Rules) (width : ℕ) (old : Layout) (extents : LineExtents) → IsLaidOut rules old → extents ≡ extents_of rules width old.text
     → reflowed rules old extents ≡ layout_of rules width old.text
 reflowed_by rules width old extents laid is =

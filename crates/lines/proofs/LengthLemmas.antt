@@ -20,7 +20,8 @@ module _ (base : ℕ) (text : List ℕ) (all : List Line) where
   abbrev total : List Visual → ℕ
   total lines = sum_by (λ (line : Visual). line.len) lines
 
-  -- the lengths of the lines from the k-th on add up to the characters from its start on
+  -- the lengths of the lines from the k-th on add up to the number of characters from the start of the k-th
+  -- line to the end of the text
   from_there : AreStarts (length text) (map start_of all) → (k : ℕ) (line : Line) (rest : List Line) → drop k (map start_of all) ≡ map start_of (line ∷ rest)
       → total (numbered (enumerate_from k (line ∷ rest))) ≡ length text - line.start
   from_there are k line [] there =

@@ -12,37 +12,37 @@ use Rattle.lines.specs.Pages.{layout_bytes, lines_bytes}
 use Rattle.lines.specs.Visual.{Line, Visual, visual_of}
 use Rattle.lines.specs.declared.print.Print.{Print}
 
--- item k of numbered lines is the k-th line, with the number k
+-- in a list of lines that are numbered from 0, item k is the k-th line with the number k
 line_with : (lines : List Line) (k : ℕ) (line : Line) → k < length lines → slice_get lines k ≡ Some line → get_or (enumerate_from 0 lines) k (0, line) ≡ (k, line)
 line_with lines k line within got =
     let place : 0 + k ≡ k = omega arith in
     let there : get_or lines k line ≡ line = get_or_from_slice_get lines k line line got in
     get_or-enumerate_from 0 lines k (0, line) within ∙ rw (place, there) refl
 
--- item i of a list that is mapped with numbers from k on has the number k + i
+-- in a list that is numbered from k on and then mapped, item i has the number k + i
 slice_get_numbered : {A B : Type 0} (f : ℕ → A → B) (k : ℕ) (xs : List A) (i : ℕ) → slice_get (map (λ nth. f nth.0 nth.1) (enumerate_from k xs)) i ≡ option_map (f (k + i)) (slice_get xs i)
 slice_get_numbered f k [] i = refl
 slice_get_numbered f k (x ∷ xs) zero = let same : k ≡ k + 0 = omega arith in ap (λ n. Some (f n x)) same
 slice_get_numbered f k (x ∷ xs) (suc i) = let same : k + 1 + i ≡ k + suc i = omega arith in slice_get_numbered f (k + 1) xs i ∙ ap (λ n. option_map (f n) (slice_get xs i)) same
 
--- the n-th visual line of a layout
+-- the n-th visual line of a layout shows its n-th line
 pub visual_at : (layout : Layout) (n : ℕ) → option_map (visual_of layout.base layout.text layout.lines n) (slice_get layout.lines n) ≡ slice_get (visuals layout) n
 visual_at layout n =
     let same : n ≡ 0 + n = omega arith in
     ap (λ k. option_map (visual_of layout.base layout.text layout.lines k) (slice_get layout.lines n)) same
     ∙ sym (slice_get_numbered (visual_of layout.base layout.text layout.lines) 0 layout.lines n)
 
--- the bytes of a layout are those of its visual lines
+-- the printed bytes of a layout are those of its visual lines, in order
 pub layout_by_lines : (width : ℕ) (print : Print) (layout : Layout) → layout_bytes width print layout ≡ flat_map (line_bytes width print) (visuals layout)
 layout_by_lines width print layout =
     sym (flat_map-map (line_bytes width print) (λ (nth : ℕ × Line). visual_of layout.base layout.text layout.lines nth.0 nth.1) (enumerate_from 0 layout.lines))
 
 module _ (width : ℕ) (print : Print) (base : ℕ) (text : List ℕ) where
-  -- the bytes of one of these lines, given with its number
+  -- the printed bytes of a line, given with its number
   abbrev pub bytes_at : List Line → ℕ × Line → List ℕ
   bytes_at lines nth = line_bytes width print (visual_of base text lines nth.0 nth.1)
 
-  -- the bytes of each line
+  -- the printed bytes of each line
   abbrev pub pieces : List Line → List (List ℕ)
   pieces lines = map (bytes_at lines) (enumerate_from 0 lines)
 
@@ -63,7 +63,7 @@ module _ (width : ℕ) (print : Print) (base : ℕ) (text : List ℕ) where
   piece_of lines k line within got =
       get_or-map (bytes_at lines) (enumerate_from 0 lines) k (0, line) [] (rw (length-enumerate_from 0 lines) within) ∙ ap (bytes_at lines) (line_with lines k line within got)
 
-  -- the bytes of the k-th line
+  -- the k-th piece is the printed bytes of the k-th visual line
   pub piece_at : (lines : List Line) (k : ℕ) (visual : Visual) → k < length lines → Some visual ≡ option_map (visual_of base text lines k) (slice_get lines k)
       → line_bytes width print visual ≡ get_or (pieces lines) k []
   piece_at lines k visual within shown = go (slice_get lines k) refl
@@ -77,6 +77,6 @@ module _ (width : ℕ) (print : Print) (base : ℕ) (text : List ℕ) where
           let is : visual ≡ visual_of base text lines k line = cc in
           ap (line_bytes width print) is ∙ sym (piece_of lines k line within got)
 
-  -- the bytes of all lines
+  -- if there are at most k lines, the first k pieces are the bytes of all lines
   pub pieces_all : (lines : List Line) (k : ℕ) → length lines ≤ k → concat (take k (pieces lines)) ≡ lines_bytes width print base text lines
   pieces_all lines k past = ap concat (take_all k (pieces lines) (rw (length-pieces lines) past)) ∙ pieces_whole lines

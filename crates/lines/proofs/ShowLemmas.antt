@@ -1,4 +1,4 @@
--- Lines that are written one at a time make up the lines of the paragraph.
+-- Writing the lines of a paragraph one at a time gives all its lines.
 use Rattle.std.proofs.Common.{◌≡◌, ℕ, zero, suc, ◌+◌, ◌-◌, ◌<◌, ◌≤◌, List, [], ◌∷◌, ◌++◌, length, map, take}
 use Rattle.std.proofs.Common.{drop, get_or, refl, sym, ap, ap₂, subst, ◌∙◌, take-take, drop-drop, below_more, length-append, arith, inl, inr}
 use borrow.Rule.Slice.PartMut.{put_mid}
@@ -46,7 +46,7 @@ end_within n starts k are h =
       | inr last ↦ let e = end_last n starts k (omega (arith, last)) in (omega (arith, e, are.below k h), omega (arith, e))
     ]
 
--- a line ends at or before the start of a later one
+-- each line ends at or before the start of every later line
 ends_before : (n : ℕ) (starts : List ℕ) (j k : ℕ) → AreStarts n starts → j < k → k < length starts → end_of n starts j ≤ get_or starts k 0
 ends_before n starts j zero are h within = absurd (omega (arith, h))
 ends_before n starts j (suc k) are h within =
@@ -79,7 +79,8 @@ shown_at n infos (s ∷ []) (suc k) d h = absurd (omega (arith, h))
 shown_at n infos (s ∷ t ∷ starts) zero d h = refl
 shown_at n infos (s ∷ t ∷ starts) (suc k) d h = shown_at n infos (t ∷ starts) k d (omega (arith, h))
 
--- how much is shown of the first k lines, and of one more
+-- if `parts` are the shown parts of the first k lines, appending the shown part of line k gives those of the
+-- first k + 1
 pub shown_more : (n : ℕ) (infos : List CharInfo) (starts : List ℕ) (k e : ℕ) (part : Shown) (parts more : List Shown) → k < length starts → e ≡ end_of n starts k
     → part.len ≡ length (shown (slice_range infos (get_or starts k 0) e)) → part.columns ≡ columns (shown (slice_range infos (get_or starts k 0) e))
     → parts ≡ take k (shown_from n infos starts) → more ≡ parts ++ part ∷ [] → more ≡ take (k + 1) (shown_from n infos starts)
@@ -91,12 +92,12 @@ shown_more n infos starts k e part parts more below e_is len columns_are so_far 
     is ∙ ap (λ (ps : List Shown). ps ++ part ∷ []) so_far ∙ ap (λ (p : Shown). take k (shown_from n infos starts) ++ p ∷ []) (sym item)
     ∙ sym (take_more (shown_from n infos starts) k part here)
 
--- the same, for an equal text length and equal starts
+-- `shown_from` gives equal shown parts for equal text lengths and equal starts
 pub taken_shown : (n m : ℕ) (infos : List CharInfo) (starts seen : List ℕ) {parts : List Shown} → n ≡ m → seen ≡ starts → parts ≡ shown_from m infos seen
     → parts ≡ shown_from n infos starts
 taken_shown n m infos starts seen e same is = is ∙ ap₂ (λ (j : ℕ) (ss : List ℕ). shown_from j infos ss) (sym e) same
 
--- a line shows no more characters than it has
+-- the shown part of a line has at most as many characters as the line
 shown_most : (infos : List CharInfo) (s e : ℕ) → (shown_between infos s e).len ≤ e - s
 shown_most infos s e =
     let piece : List CharInfo = slice_range infos s e in
@@ -131,9 +132,10 @@ written a k xs ys m within size below =
 pub length_range : {X : Type 0} (xs : List X) (s e : ℕ) → s ≤ e → e ≤ length xs → length (slice_range xs s e) ≡ e - s
 length_range xs s e order within = length-take-le (e - s) (drop s xs) (omega (arith, length-drop s xs, order, within))
 
--- ---- one line more
+-- ---- one more line
 
--- the state after k lines were written; the levels from the next line on are still those of `old`
+-- The lists after the first k lines were written. From the start of the next line on, the levels are still
+-- those of `old`.
 pub record Showing (tables : Tables) (options : Options) (base : ℕ) (text old : List ℕ) (starts : List ℕ) (k : ℕ) (parts : List Shown)
     (levels ltov vtol chars : List ℕ) : Type 0 where
   pub so_far : AreShown tables options base text old starts k parts levels ltov vtol chars
@@ -153,7 +155,7 @@ length_put a k xs ys within size below =
     ∙ ap₂ ◌+◌ (length-take-le a xs within) (length-append ys (drop k (drop a xs)))
     ∙ omega (arith, size, below, length-drop k (drop a xs), length-drop a xs)
 
--- lists that agree from an index on agree from a later one on
+-- if two lists agree from an index on, they agree from any later index on
 drop_later : (a b : ℕ) (xs ys : List ℕ) → a ≤ b → drop a xs ≡ drop a ys → drop b xs ≡ drop b ys
 drop_later a b xs ys order same =
     let e : a + (b - a) ≡ b = omega (arith, order) in
@@ -163,7 +165,7 @@ same_line : (s c c2 : ℕ) (l t v h l2 t2 v2 h2 : List ℕ) → c ≡ c2 → l �
 same_line s c c2 l t v h l2 t2 v2 h2 a b d e f = rw (a, b, d, e, f) refl
 
 module _ (tables : Tables) (options : Options) (base : ℕ) (text old : List ℕ) where
-  -- a line that ends at or before the start of a write is unchanged
+  -- writing to a range does not change a line that ends at or before the start of the range
   placed_still : (s e a k : ℕ) (part : Shown) (levels ltov vtol chars l t v h : List ℕ) → IsPlaced tables options base text old s e part levels ltov vtol chars
       → e ≤ a → a ≤ length levels → a ≤ length ltov → a ≤ length vtol → a ≤ length chars
       → IsPlaced tables options base text old s e part (put_mid a k levels l) (put_mid a k ltov t) (put_mid a k vtol v) (put_mid a k chars h)
@@ -178,7 +180,7 @@ module _ (tables : Tables) (options : Options) (base : ℕ) (text old : List ℕ
         vtol_within = subst (λ (xs : List ℕ). AreWithin part.len xs) (sym same_vtol) is.vtol_within;
       }
 
-  -- the written line is in the lists
+  -- after a line is written to its range, the lists hold it there
   placed_now : (s e : ℕ) (part : Shown) (levels ltov vtol chars l t v h : List ℕ)
       → IsShown tables options base (slice_range text s e) (slice_range levels s e) part l t v h
       → s < e → e ≤ length text → length levels ≡ length text → length ltov ≡ length text → length vtol ≡ length text → length chars ≡ length text
@@ -206,7 +208,7 @@ module _ (tables : Tables) (options : Options) (base : ℕ) (text old : List ℕ
         vtol_within = subst (λ (xs : List ℕ). AreWithin n xs) (sym vtol_here) is.vtol_within;
       }
 
-  -- after the k-th line is written, the first k + 1 lines are in the lists
+  -- if the lists hold the first k lines, writing line k makes them hold the first k + 1
   pub show_more : (starts : List ℕ) (k e : ℕ) (part : Shown) (parts : List Shown) (levels ltov vtol chars l t v h : List ℕ)
       → AreStarts (length text) starts → k < length starts → e ≡ end_of (length text) starts k
       → Showing tables options base text old starts k parts levels ltov vtol chars
@@ -248,7 +250,7 @@ module _ (tables : Tables) (options : Options) (base : ℕ) (text old : List ℕ
             ∙ drop_later s (get_or starts (k + 1) 0) levels old (omega (arith, next, some)) (kept_so.rest below);
       }
 
--- the same lines are shown for equal levels, starts and shown parts
+-- if levels, starts and shown parts are equal, the lists hold the same lines
 pub shown_as : (tables : Tables) (options : Options) (base : ℕ) (text old seen starts seen_starts : List ℕ) (parts seen_parts : List Shown) {levels ltov vtol chars : List ℕ}
     → seen ≡ old → seen_starts ≡ starts → seen_parts ≡ parts
     → AreShown tables options base text seen seen_starts (length seen_starts) seen_parts levels ltov vtol chars
@@ -273,7 +275,7 @@ line_at levels ltov vtol chars (s ∷ starts) [] j d h below = absurd (omega (ar
 line_at levels ltov vtol chars (s ∷ starts) (p ∷ parts) zero d h below = refl
 line_at levels ltov vtol chars (s ∷ starts) (p ∷ parts) (suc j) d h below = line_at levels ltov vtol chars starts parts j d (omega (arith, h)) (omega (arith, below))
 
--- what holds for each line holds for all lines
+-- if a property holds for the line at each index, it holds for all stored lines
 all_lines : (P : Line → Type 0) (levels ltov vtol chars starts : List ℕ) (parts : List Shown) → length parts ≡ length starts
     → ((j : ℕ) → j < length starts → P (line_in levels ltov vtol chars (get_or starts j 0) (get_or parts j nothing_shown)))
     → All P (lines_by levels ltov vtol chars starts parts)
@@ -282,7 +284,7 @@ all_lines P levels ltov vtol chars starts parts h each = λ j d below.
     subst P (line_at levels ltov vtol chars starts parts j d h within) (each j within)
 
 module _ (tables : Tables) (options : Options) (base : ℕ) (text old : List ℕ) where
-  -- lists of lines are equal if their lines are equal one by one
+  -- if each stored line equals the line that shows its characters, the two lists of lines are equal
   lines_are : (infos : List CharInfo) (levels ltov vtol chars starts : List ℕ)
       → ((j : ℕ) → j < length starts
       → line_in levels ltov vtol chars (get_or starts j 0) (get_or (shown_from (length text) infos starts) j nothing_shown)
@@ -301,7 +303,7 @@ module _ (tables : Tables) (options : Options) (base : ℕ) (text old : List ℕ
       ∙ lines_are infos levels ltov vtol chars starts
       (λ j below. (subst (λ (ps : List Shown). AreShown tables options base text old starts (length starts) ps levels ltov vtol chars) e each j below).line_is)
 
-  -- the levels of a shown part are as many as its characters
+  -- there is one level for each character of a shown part
   length_part : (levels : List ℕ) (part : Shown) (s e : ℕ) → e ≤ length levels → s + part.len ≤ e → length (slice_range levels s (s + part.len)) ≡ part.len
   length_part levels part s e within below =
       length_range levels s (s + part.len) (omega arith) (omega (arith, within, below)) ∙ omega arith

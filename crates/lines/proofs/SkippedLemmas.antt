@@ -71,7 +71,7 @@ module _ (width : ℕ) (print : Print) (skips : skips_lines print ≡ true) wher
     all_are (line ∷ lines) some =
         ap (λ rest. bytes_at (0, line) ++ rest) (others_are 1 lines (omega arith)) ∙ append-nil (bytes_at (0, line)) ∙ first_is line
 
--- ---- a paragraph has a line
+-- ---- a paragraph has at least one line
 
 pub length-infos : (t : Tables) (text : List ℕ) (marks : List Mark) (clusters : List Bool) → length text ≤ length marks → length clusters ≡ length text
     → length (infos t text marks clusters) ≡ length text
@@ -111,7 +111,7 @@ pub direction_only : (rules : Rules) (width : ℕ) (print : Print) (text : List 
 direction_only rules width print text skips paragraph marks =
     sym (all_are width print skips (base_of rules text) text (lines_of rules width text) (lines_of rules width text) (some_lines rules width text paragraph marks))
 
--- what holds unless memory ran out holds after `Ok`
+-- if a property holds unless memory ran out, it holds after `Ok`
 pub on_ok : (P : Type 0) (result : Result (Unit {0}) PrintFault) → (¬ (IsErrOf result Memory) → P) → OnOk result P
 on_ok P (Ok done) holds = holds (λ bad. cc)
 on_ok P (Err fault) holds = tt

@@ -1,4 +1,4 @@
--- A paragraph of one line has the same line at each width that it fits.
+-- If a paragraph is one line at some width, it is the same line at every width that the line fits.
 use Rattle.std.proofs.Common.{◌≡◌, ◌∙◌, ℕ, zero, suc, ◌+◌, ◌-◌, ◌<◌, ◌≤◌, Bool, true, false, ◌&&◌, ◌||◌, Option, Some}
 use Rattle.std.proofs.Common.{None, unwrap_or, List, [], ◌∷◌, length, get_or, take, drop, refl, sym, ap, subst, inl, inr, arith}
 use Rattle.std.specs.List.{slice_get, slice_range}
@@ -26,7 +26,8 @@ use Rattle.lines.proofs.SkippedLemmas.{length-infos, some_text}
 
 -- ---- where the first line ends
 
--- the least number that passes a stricter test is no smaller
+-- if every number that passes q passes p, the least number that passes p is at most the least one that passes
+-- q
 least_low : (p q : ℕ → Bool) (low count d : ℕ) → low + count ≡ suc d → ((m : ℕ) → q m ≡ true → p m ≡ true)
     → unwrap_or (least p low count) d ≤ unwrap_or (least q low count) d
 least_low p q low zero d e stricter = omega arith
@@ -47,7 +48,7 @@ least_low p q low (suc count) d e stricter =
       ]
     ]
 
--- where a line must end, it may end
+-- at a position where a line must end, it may end
 must_may : (mark : Mark) (ends : Bool) → is_must mark ≡ true → (is_break mark || ends) ≡ true
 must_may Never ends h = cc
 must_may May ends h = cc
@@ -64,7 +65,7 @@ either_low (Some k) b first last one two three = one k refl
 either_low None (Some k) first last one two three = two k refl
 either_low None None first last one two three = three
 
--- a line ends at the latest at the first position at which it must end
+-- a line ends no later than the first position at which it must end
 end_low : (width : ℕ) (rest : List CharInfo) → 0 < length rest → line_end width rest ≤ stop rest
 end_low width rest some =
     either_low (by_break width rest) (by_cluster width rest) (first_end rest) (stop rest)
@@ -75,7 +76,7 @@ end_low width rest some =
 may_at : (mark : Mark) → mark ≡ Must → is_break mark ≡ true
 may_at mark e = ap is_break e
 
--- if a line fits, and must end only after its last character, it has all characters
+-- if all characters fit in one line, and the line must end only after the last of them, it ends there
 end_whole : (width : ℕ) (rest : List CharInfo) (last : ℕ) → length rest ≡ suc last → (place_at rest last).mark ≡ Must → columns (shown rest) ≤ width → stop rest ≡ last
     → line_end width rest ≡ last
 end_whole width rest last size ends fit stops =
@@ -98,7 +99,7 @@ all_left nobreak width place (suc left) [] within = refl
 all_left nobreak width place zero (p ∷ rest) within = absurd (omega (arith, within))
 all_left nobreak width place (suc left) (p ∷ rest) within = all_left nobreak width (suc place) left rest (omega (arith, within))
 
--- if the first line has all characters at one width, it has them at each width that it fits
+-- if the first line has all characters at one width, it has all of them at every width that they fit
 whole_again : (nobreak : Bool) (old width : ℕ) (p : CharInfo) (rest : List CharInfo) → (place_at (p ∷ rest) (length rest)).mark ≡ Must → columns (shown (p ∷ rest)) ≤ width
     → length rest ≤ line_len nobreak old (p ∷ rest) - 1 → length rest ≤ line_len nobreak width (p ∷ rest) - 1
 whole_again true old width p rest ends fit was = was
@@ -136,7 +137,7 @@ mark_at t (x ∷ text) (m ∷ marks) (ends ∷ clusters) (suc k) mark e within c
 
 -- ---- the lines
 
--- a paragraph ends at a mandatory break
+-- the mark after the last character of every non-empty text is `Must`
 abbrev pub EndsAtMust : Type 0
 EndsAtMust = (tables : Tables) (whole_numbers : Bool) (text : List ℕ) → 0 < length text → slice_get (marks_of tables whole_numbers text) (length text - 1) ≡ Some Must
 

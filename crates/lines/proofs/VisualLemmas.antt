@@ -20,7 +20,7 @@ use Rattle.lines.specs.declared.options.Options.{Options}
 use Rattle.lines.specs.declared.char_info.CharInfo.{CharInfo}
 use Rattle.bidi.specs.Levels.{levels_of}
 
--- strictly rising numbers from `low` on and below n
+-- whether the numbers rise strictly, start at `low` or above, and are below n
 abbrev Rise : ℕ → ℕ → List ℕ → Type 0
 Rise low n [] = ⊤
 Rise low n (x ∷ xs) = (low ≤ x) × (x < n) × Rise (suc x) n xs
@@ -77,7 +77,7 @@ from_within tables options base text levels ps low n (s ∷ t ∷ at) e rise =
     All-cons (λ (line : Line). line.start + length line.levels ≤ n) (line_between tables options base text levels ps s t) (lines_from tables options base text levels ps (t ∷ at))
     (omega (arith, levels_most tables options base text levels ps s t, rise.2.0, rise.2.1)) (from_within tables options base text levels ps (suc s) n (t ∷ at) e rise.2)
 
--- the lines of a paragraph are inside it
+-- the shown parts of a paragraph's lines are inside the paragraph
 pub lines_within : (rules : Rules) (width : ℕ) (text : List ℕ) → AreWithin (length text) (lines_of rules width text)
 unfolding line_starts_of infos_of
 lines_within rules width text =
@@ -86,7 +86,7 @@ lines_within rules width text =
     (rise_to 0 (length ps) (length text) (line_starts_of rules.options.nobreak width ps) (length-infos rules.tables text (marks_of rules.tables rules.options.whole_numbers text) (cluster_ends text))
     (starts_rise rules.options.nobreak width 0 0 (length ps) ps (omega arith)))
 
--- strictly rising numbers below n are line starts
+-- if `Rise` holds for a list of numbers, they are below n and each is less than the next one
 rise_below : (low n : ℕ) (xs : List ℕ) (k : ℕ) → Rise low n xs → k < length xs → slice_index xs k < n
 rise_below low n [] k rise below = absurd (omega (arith, below))
 rise_below low n (x ∷ xs) zero rise below = rise.1
@@ -100,7 +100,7 @@ rise_rising low n (x ∷ y ∷ xs) (suc k) rise below =
     let e : suc (k + 1) ≡ suc k + 1 = omega arith in
     subst (λ j. slice_index (y ∷ xs) k < slice_index (x ∷ y ∷ xs) j) e (rise_rising (suc x) n (y ∷ xs) k rise.2 (omega (arith, below)))
 
--- the line starts of a paragraph at a width are in order and inside it
+-- at every width, the line starts of a paragraph are in order and inside the paragraph
 pub starts_within : (rules : Rules) (width : ℕ) (text : List ℕ) → AreStarts (length text) (extents_of rules width text).starts
 unfolding line_starts_of infos_of
 starts_within rules width text =

@@ -1,4 +1,4 @@
--- A paragraph without a mandatory break before its end is one line, if lines end at mandatory breaks only.
+-- If lines end only at mandatory breaks, a paragraph without a mandatory break before its end is one line.
 use Rattle.std.proofs.Common.{◌≡◌, ℕ, zero, suc, ◌+◌, ◌-◌, ◌<◌, ◌≤◌, Bool, true, false, not, ◌&&◌, ◌⊎◌, List, [], ◌∷◌, ◌++◌, length, map, take, drop, get_or}
 use Rattle.std.proofs.Common.{slice_range, if◌then◌else◌, refl, sym, ap, ap₂, subst, ◌∙◌, inl, inr, arith}
 use Rattle.std.specs.List.{suffix_len}
@@ -35,7 +35,7 @@ use Rattle.lines.proofs.SkippedLemmas.{length-infos}
 
 -- ---- rules that require no mandatory break
 
--- each rule has a mark other than `Must`, or does not apply
+-- whether each rule has a mark other than `Must` or does not apply
 Quiet : List Rule → List Base → List Base → Type 0
 Quiet [] before after = Unit {0}
 Quiet (rule ∷ rules) before after = ((is_must rule.mark ≡ false) ⊎ (rule.holds before after ≡ false)) × Quiet rules before after
@@ -63,7 +63,7 @@ tame_quiet (rule ∷ rules) before after is =
     let both = and_parts (not (is_must rule.mark)) (tame rules) is in
     (inl (not-true (is_must rule.mark) both.0), tame_quiet rules before after both.1)
 
--- a base after which no rule requires a line to end, except at the end of the paragraph
+-- whether no rule requires a line to end after this base, except at the end of the paragraph
 abbrev ends_no_line : Base → Type 0
 ends_no_line b = (is_one_of (BK ∷ []) (base_class_of b) ≡ false) × (is_one_of (CR ∷ LF ∷ NL ∷ []) (base_class_of b) ≡ false)
 
@@ -98,13 +98,13 @@ quiet_rules false before after b a ends = (
 
 -- ---- the marks of bases after which a line need not end
 
--- no mark but the last is mandatory
+-- whether no mark except the last is mandatory
 pub Tame : List Mark → Type 0
 Tame [] = Unit {0}
 Tame (m ∷ []) = Unit {0}
 Tame (m ∷ n ∷ marks) = (is_must m ≡ false) × Tame (n ∷ marks)
 
--- no base but the last ends a line
+-- whether no base except the last requires a line to end after it
 QuietBases : List Base → Type 0
 QuietBases [] = Unit {0}
 QuietBases (b ∷ []) = Unit {0}
@@ -134,7 +134,7 @@ tame_marks whole_numbers before (b ∷ a ∷ bases) quiet =
 abbrev ends_none : Character → Type 0
 ends_none c = (is_one_of (BK ∷ []) (base_class c.class) ≡ false) × (is_one_of (CR ∷ LF ∷ NL ∷ []) (base_class c.class) ≡ false)
 
--- no character but the last ends a line
+-- whether no character except the last requires a line to end after it
 QuietText : List Character → Type 0
 QuietText [] = Unit {0}
 QuietText (c ∷ []) = Unit {0}
@@ -183,7 +183,7 @@ quiet_marks : (t : Tables) (whole_numbers : Bool) (text : List ℕ) → IsWhole 
 unfolding marks_of
 quiet_marks t whole_numbers text is = tame_marks whole_numbers [] (bases_of (map (character t) text)) (bases_quiet (map (character t) text) (whole_quiet t text is))
 
--- ---- `CharInfo`s of which only the last has a mandatory break
+-- ---- only the last `CharInfo` has a mandatory break
 
 tame_infos : (t : Tables) (text : List ℕ) (marks : List Mark) (ends : List Bool) (j : ℕ) → Tame marks → j + 1 < length (infos t text marks ends)
     → must_end (infos t text marks ends) j ≡ false
@@ -227,7 +227,7 @@ one_start width (p ∷ rest) some fails =
     let last = stop_last (p ∷ rest) some fails in
     ap (λ (ss : List ℕ). 0 ∷ ss) (passed true width 1 (suc (stop (p ∷ rest)) - 1) rest (omega (arith, last)))
 
--- ---- the printed bytes of such a paragraph if its visual line is not printed
+-- ---- the printed bytes of a paragraph of one line, if its visual line is not printed
 
 whole_range : {X : Type 0} (xs : List X) (n : ℕ) → n ≡ length xs → slice_range xs 0 n ≡ xs
 whole_range xs n e = take_all (n - 0) xs (omega arith)

@@ -6,7 +6,7 @@ use Rattle.lines.specs.Bytes.{line_bytes}
 use Rattle.lines.specs.Visual.{Visual}
 use Rattle.lines.specs.declared.print.Print.{Print}
 
--- the line of U+05D0, a space and two digits
+-- a line with U+05D0, a space and two digits
 abbrev hebrew : Visual
 hebrew = record {
   is_first = true;
@@ -62,7 +62,7 @@ empty_lines = refl
 blank_padded : line_bytes 2 plain (record blank { base = 1 }) ≡ codes "  \n"
 blank_padded = refl
 
--- brackets in visual order, mirrored and unmirrored
+-- a Hebrew letter in brackets, in a right-to-left line; the brackets are printed mirrored, then unmirrored
 abbrev brackets : Visual
 brackets = record {
   is_first = true;
@@ -84,7 +84,7 @@ not_mirrored : line_bytes 1 (record plain { nomirror = true }) brackets ≡ 41 �
 unfolding encode_utf8
 not_mirrored = refl
 
--- only levels are printed, one of two and one of three digits
+-- if only levels are printed, they are separated by spaces, and each has one, two or three digits
 long_number : line_bytes 80 (record plain { novisual = true; levels = true }) (record blank { levels = 10 ∷ 0 ∷ 125 ∷ [] }) ≡ codes "10 0 125\n"
 unfolding digits
 long_number = refl

@@ -1,4 +1,4 @@
--- Worked examples of the definitions.
+-- Worked examples: where lines start, and the values of limits and buffer sizes.
 use Rattle.std.proofs.Common.{◌≡◌, ℕ, ◌-◌, ◌^◌, true, false, List, [], ◌∷◌, refl}
 use Rattle.breaks.specs.declared.mark.Mark.TheVariants.{Never, May, Must}
 use Rattle.lines.specs.Engine.{counted}
@@ -46,7 +46,7 @@ one : starts 1 words ≡ 0 ∷ 1 ∷ 3 ∷ 4 ∷ 6 ∷ 7 ∷ []
 unfolding line_starts_of
 one = refl
 
--- a first line of spaces shows nothing
+-- spaces in a tail are not shown, so three of them fit on a line one column wide
 front : starts 1 (space ∷ space ∷ last_space ∷ last ∷ []) ≡ 0 ∷ 3 ∷ []
 unfolding line_starts_of
 front = refl
@@ -68,7 +68,7 @@ nobreak : line_starts_of true 1 words ≡ 0 ∷ []
 unfolding line_starts_of
 nobreak = refl
 
--- two wide characters, neither of which fits
+-- two wide characters, each of which is wider than the line
 abbrev wide : CharInfo
 wide = record { columns = 2; is_trailing = false; mark = May; ends_cluster = true }
 
@@ -80,11 +80,11 @@ too_wide = refl
 count_stays : counted (2 ^ 64 - 3) 7 ≡ 2 ^ 64 - 1
 count_stays = refl
 
--- the limit of a paragraph
+-- the greatest length of a paragraph, in characters
 paragraph_limit : PARAGRAPH_LIMIT ≡ 1048576
 paragraph_limit = refl
 
--- the sizes of the buffers on the stack
+-- the sizes of the stack buffers: one of bytes, and one of characters
 row_room : ROW_BYTES_AT_ONCE ≡ 512
 row_room = refl
 

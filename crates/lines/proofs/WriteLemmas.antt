@@ -1,4 +1,4 @@
--- Parts written one after another, and lists of parts.
+-- Writing parts one after another, and writing the items of a list in order.
 use Rattle.std.proofs.Common.{◌≡◌, ℕ, zero, suc, ◌+◌, ◌-◌, ◌<◌, ◌≤◌, ◌==◌, false, min, List, [], ◌∷◌, ◌++◌, length, map, get_or, take}
 use Rattle.std.proofs.Common.{drop, replicate, Option, Some, None, Result, Ok, Err, IfOk, IfErr, IsErrAnd, encode_utf8, encode_utf8_all, if◌then◌else◌, refl, sym, ap, ◌∙◌, arith}
 use Rattle.std.specs.Io.KnownBytes.{Appends}
@@ -23,16 +23,16 @@ Took-append old mid new xs ys first second = record {
   passed = omega (arith, first.passed, second.passed, length-append xs ys);
 }
 
--- a part that was written whole, followed by another part
+-- a first part that was written whole, and a second part after it
 module _ {old mid : Device} {xs : List ℕ} {before n : ℕ} (first : PassedOn xs before old mid n) {new : Device} {ys : List ℕ} where
-  -- which was written whole too
+  -- if the second part was written whole too, so was the concatenation of both
   pub passed-append : {m : ℕ} → PassedOn ys n mid new m → PassedOn (xs ++ ys) before old new m
   passed-append second = record {
     count = omega (arith, first.count, second.count, length-append xs ys);
     wrote = (Took-append old mid new xs ys first.wrote.0 second.wrote.0, second.wrote.1 ∙ first.wrote.1);
   }
 
-  -- of which a prefix was written
+  -- if a prefix of the second part was written, the sink failed within the concatenation of both
   pub stopped-after : {w : ℕ} → StoppedIn ys n mid new w → StoppedIn (xs ++ ys) before old new w
   stopped-after {w = w} second =
       let count : w - before ≡ length xs + (w - n) = omega (arith, first.count, second.after) in
@@ -49,7 +49,7 @@ module _ {old mid : Device} {xs : List ℕ} {before n : ℕ} (first : PassedOn x
         );
       }
 
--- a prefix of a part is a prefix of a longer part
+-- if the sink failed within a part, it failed within any longer part that starts with it
 pub stopped-before : {old new : Device} {xs : List ℕ} {before w : ℕ} (ys : List ℕ) → StoppedIn xs before old new w → StoppedIn (xs ++ ys) before old new w
 stopped-before {old = old} {new = new} {xs = xs} {before = before} {w = w} ys stopped = record {
   after = stopped.after;
@@ -60,7 +60,7 @@ stopped-before {old = old} {new = new} {xs = xs} {before = before} {w = w} ys st
   );
 }
 
--- the last part: after it, everything is written or the sink failed
+-- if the first part was written, writing the last part gives the result of writing both
 module _ {old mid : Device} {xs : List ℕ} {before n : ℕ} (first : PassedOn xs before old mid n) (new : Device) (ys : List ℕ) where
   pub last_passed : (r : Result ℕ WriteFault) → IfOk r (λ m. PassedOn ys n mid new m) → IfOk r (λ m. PassedOn (xs ++ ys) before old new m)
   last_passed (Ok m) second = passed-append first second
@@ -70,7 +70,7 @@ module _ {old mid : Device} {xs : List ℕ} {before n : ℕ} (first : PassedOn x
   last_stopped (Ok m) second = tt
   last_stopped (Err fault) second = stopped-after first second
 
--- the first k + 1 lists concatenated are the first k, followed by the k-th
+-- concatenating the first k + 1 lists gives the first k concatenated, followed by list k
 concat-more : (xs : List (List ℕ)) (k : ℕ) → k < length xs → concat (take (suc k) xs) ≡ concat (take k xs) ++ get_or xs k []
 concat-more [] k short = absurd (omega arith)
 concat-more (x ∷ xs) zero short = append-nil x
@@ -87,7 +87,7 @@ concat-next xs k x within x_is =
     let more : k + 1 ≡ suc k = omega arith in
     ap (λ j. concat (take j xs)) more ∙ concat-more xs k within ∙ ap (λ y. concat (take k xs) ++ y) (sym x_is)
 
--- the first k of some lists were written, and then the next one, or a prefix of it
+-- the first k lists of `xs` were written, and then list k or a prefix of it
 module _ (xs : List (List ℕ)) (k : ℕ) {x : List ℕ} (within : k < length xs) (x_is : x ≡ get_or xs k [])
     {old mid : Device} {before n : ℕ} (front : PassedOn (concat (take k xs)) before old mid n) {new : Device} where
   pub pieces-more : {m : ℕ} → PassedOn x n mid new m → PassedOn (concat (take (k + 1) xs)) before old new m
@@ -98,18 +98,18 @@ module _ (xs : List (List ℕ)) (k : ℕ) {x : List ℕ} (within : k < length xs
       rw (concat-parts xs (k + 1) ∙ ap (λ ys. ys ++ concat (drop (k + 1) xs)) (concat-next xs k x within x_is))
       (stopped-before (concat (drop (k + 1) xs)) (stopped-after front next))
 
--- the write fault of a part is that of the whole
+-- if a function returns a write fault unchanged, what holds for its byte count still holds
 pub same_fault : {T : Type 0} (r : Result T WriteFault) (fault : WriteFault) (Q : ℕ → Type 0) → IsErrAnd r (λ y. y ≡ fault) → Q fault.written
     → IfErr r (λ y. Q y.written)
 same_fault (Ok x) fault Q is holds = tt
 same_fault (Err y) fault Q is holds = rw is holds
 
--- one more part is appended to what precedes it
+-- if `front` followed by `piece` is `whole`, appending `part` to `piece` appends it to `whole`
 pub part-more : (front piece part : List ℕ) {new whole : List ℕ} → new ≡ piece ++ part → front ++ piece ≡ whole → front ++ new ≡ whole ++ part
 part-more front piece part new_is piece_is =
     ap (λ xs. front ++ xs) new_is ∙ sym (append_assoc front piece part) ∙ ap (λ xs. xs ++ part) piece_is
 
--- the UTF-8 of a concatenation is the concatenation of the UTF-8
+-- the UTF-8 encoding of a concatenation is the concatenation of the encodings
 pub encoded-append : (xs ys : List ℕ) → encode_utf8_all (xs ++ ys) ≡ encode_utf8_all xs ++ encode_utf8_all ys
 encoded-append [] ys = refl
 encoded-append (x ∷ xs) ys = ap (λ more. encode_utf8 x ++ more) (encoded-append xs ys) ∙ sym (append_assoc (encode_utf8 x) (encode_utf8_all xs) (encode_utf8_all ys))
@@ -128,7 +128,7 @@ encoded-part cs at to le =
 pub encoded-rest : (cs : List ℕ) (at : ℕ) → encode_utf8_all cs ≡ encode_utf8_all (take at cs) ++ encode_utf8_all (drop at cs)
 encoded-rest cs at = ap encode_utf8_all (sym (take-append-drop at cs)) ∙ encoded-append (take at cs) (drop at cs)
 
--- a space before each list but the first
+-- the given lists, with a space before each list but the first
 abbrev pub spaced : List (List ℕ) → List (List ℕ)
 spaced [] = []
 spaced (x ∷ xs) = x ∷ map (λ (y : List ℕ). 32 ∷ y) xs
@@ -163,7 +163,7 @@ take-spaced (x ∷ xs) (suc k) = ap (λ more. x ∷ more) (sym (take-map (λ (y 
 joined-front : (xs : List (List ℕ)) (k : ℕ) → join_with_byte 32 (take k xs) ≡ concat (take k (spaced xs))
 joined-front xs k = sym (spaced-whole (take k xs)) ∙ ap concat (take-spaced xs k)
 
--- lists joined by spaces: one list more, and the lists that are left
+-- when lists are joined by spaces, a space precedes each list except the first
 pub joined-more : (xs : List (List ℕ)) (k : ℕ) (x : List ℕ) → k < length xs → x ≡ get_or xs k []
     → join_with_byte 32 (take (k + 1) xs) ≡ join_with_byte 32 (take k xs) ++ ((if k == 0 then [] else 32 ∷ []) ++ x)
 joined-more xs k x within is =
@@ -175,11 +175,11 @@ pub joined-rest : (xs : List (List ℕ)) (k : ℕ) → join_with_byte 32 xs ≡ 
 joined-rest xs k =
     sym (spaced-whole xs) ∙ concat-parts (spaced xs) k ∙ ap (λ front. front ++ concat (drop k (spaced xs))) (sym (joined-front xs k))
 
--- a prefix of `SPACES` is spaces
+-- the first n bytes of `SPACES` are n spaces
 pub some_spaces : (n : ℕ) → n ≤ 64 → take n SPACES ≡ replicate n 32
 some_spaces n within = take-replicate n 64 32 within
 
--- `count` spaces
+-- n spaces
 abbrev pub spaces : ℕ → List ℕ
 spaces n = replicate n 32
 
@@ -197,6 +197,6 @@ all_spaces count left some within part =
     ap spaces sum ∙ spaces-add (count - (left - some)) (left - some)
     ∙ ap (λ xs. xs ++ spaces (left - some)) (more_spaces count left some within part)
 
--- a sink that failed in a part that nothing precedes failed in the whole
+-- `StoppedIn` for a part before which nothing was written is `StoppedAt`
 pub stopped-whole : {xs : List ℕ} {old new : Device} {w : ℕ} → StoppedIn xs 0 old new w → StoppedAt w xs old new
 stopped-whole {w = w} stopped = let all : w ≡ w - 0 = omega arith in rw all stopped.stopped

@@ -1,4 +1,5 @@
--- Lines that are written as they are shown are those of the paragraph.
+-- Writing the lines of a paragraph one at a time, given their shown parts, writes the printed bytes of the
+-- paragraph.
 use Rattle.std.proofs.Common.{◌≡◌, ℕ, zero, suc, ◌+◌, ◌-◌, ◌<◌, ◌≤◌, ◌==◌, ◌++◌, Bool, List, [], ◌∷◌, length, map, take, drop, get_or, Some, refl, sym, ap, ap₂, ◌∙◌, arith}
 use Rattle.std.specs.Prelude.{option_map, slice_get, slice_range}
 use Rattle.std.proofs.lemmas.List.{length-map, length-take-le, take-take}
@@ -26,7 +27,8 @@ use Rattle.lines.specs.declared.print.Print.{Print}
 use Rattle.lines.proofs.PageLemmas.{piece_at, pieces}
 use Rattle.lines.proofs.ShowLemmas.{length_range}
 
--- the first n items of a list whose first n items were written, or are 0
+-- Taking n items from a list that starts with n new items gives these items. If all items of a list are 0, so
+-- are the first n.
 pub front_is : (n : ℕ) (new rest : List ℕ) → length new ≡ n → take n (new ++ rest) ≡ new
 front_is n new rest size = ap (λ (m : ℕ). take m (new ++ rest)) (sym size) ∙ take-append_seam new rest
 
@@ -42,7 +44,8 @@ length-line_levels base (class ∷ classes) [] same = refl
 length-line_levels base (class ∷ classes) (level ∷ levels) same = ap suc (length-line_levels base classes levels (omega (arith, same)))
 
 module _ (tables : Tables) (options : Options) (base : ℕ) where
-  -- the visual line of a shown part, with its levels, its position maps and its characters
+  -- the visual line of a shown part is made up of the levels, position maps and characters that are computed
+  -- for it
   pub is_part : (is_first : Bool) (line : List ℕ) (columns : ℕ) (levels ltov vtol chars : List ℕ) (classes : List BidiClass)
       → classes ≡ map (class_of tables) line → ltov ≡ ltov_of options.reordernsm classes levels → vtol ≡ vtol_of options.reordernsm classes levels
       → chars ≡ visual_chars tables levels (take (length levels) line) (vtol_of options.reordernsm classes levels)
@@ -78,14 +81,14 @@ module _ (tables : Tables) (options : Options) (base : ℕ) where
     length-lines_shown (s ∷ []) (part ∷ parts) same = refl
     length-lines_shown (s ∷ t ∷ starts) (part ∷ parts) same = ap suc (length-lines_shown (t ∷ starts) parts (omega (arith, same)))
 
-    -- with the shown parts that the `CharInfo`s give, the lines are those of the paragraph
+    -- if the shown parts are computed from the `CharInfo`s, the lines are those of the paragraph
     pub shown_lines : (infos : List CharInfo) (starts : List ℕ)
         → lines_shown tables options base text old starts (shown_from (length text) infos starts) ≡ lines_from tables options base text old infos starts
     shown_lines infos [] = refl
     shown_lines infos (s ∷ []) = refl
     shown_lines infos (s ∷ t ∷ starts) = ap (λ (lines : List Line). line_showing tables options base text old (shown_between infos s t) s t ∷ lines) (shown_lines infos (t ∷ starts))
 
-    -- the bytes of the k-th line
+    -- the k-th piece is the printed bytes of the k-th line
     pub piece_is : (width : ℕ) (print : Print) (starts : List ℕ) (parts : List Shown) (k e : ℕ) (part : Shown) → length parts ≡ length starts → k < length starts
         → e ≡ end_of (length text) starts k → part ≡ get_or parts k nothing_shown → get_or starts k 0 + part.len ≤ e → e ≤ length text → length old ≡ length text
         → line_bytes width print
@@ -124,7 +127,8 @@ module _ (tables : Tables) (options : Options) (base : ℕ) where
         ∙ piece_at width print base text lines k (visual_of base text lines k (line_showing tables options base text old part s e))
         (omega (arith, below, length-lines_shown starts parts same)) (sym (ap (option_map (visual_of base text lines k)) got))
 
--- the bytes of a paragraph are those of its lines, given its base level, levels and line starts
+-- if the base level, levels and line starts are those of the paragraph, the printed lines are the paragraph's
+-- bytes
 pub page_is : (rules : Rules) (width : ℕ) (print : Print) (text : List ℕ) (base : ℕ) (levels starts : List ℕ) → base ≡ base_of rules text
     → levels ≡ levels_of rules.tables text rules.options.base
     → starts ≡ line_starts_of rules.options.nobreak width (infos_of rules.tables rules.options.whole_numbers text)

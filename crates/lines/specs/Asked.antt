@@ -1,4 +1,5 @@
--- A line of which only what is printed is computed. Only the code uses these definitions.
+-- A line for which only the printed parts are computed. No contract of an exported function uses these
+-- definitions.
 use Rattle.std.specs.Prelude.{ℕ, Bool, ◌&&◌, ◌||◌, not, List, length, map, take}
 use Rattle.ucd.specs.Tables.{class_of}
 use Rattle.ucd.specs.declared.tables.Tables.{Tables}
@@ -33,6 +34,7 @@ module _ (tables : Tables) (options : Options) (base : ℕ) (is_first : Bool) (l
   abbrev pub visual_shown : List ℕ → Shown → Visual
   visual_shown old part = visual_part part.columns (take part.len (line_levels base (map (class_of tables) line) old))
 
--- whether position maps are computed: they are printed, or characters are printed unmirrored, which are found by a map
+-- whether position maps are computed: if they are printed, or if characters are printed unmirrored, which
+-- needs a map
 abbrev pub asks_places : Print → Bool
 asks_places print = print.ltov || (print.vtol || (not print.novisual && print.nomirror))

@@ -1,5 +1,5 @@
--- `CharInfo`s without the ends of grapheme clusters. Most lines end at a break opportunity and do not need them. Only
--- the code uses these definitions.
+-- `CharInfo`s without the ends of grapheme clusters. Most lines end at a break opportunity and do not need
+-- these ends. No contract of an exported function uses these definitions.
 use Rattle.std.specs.Prelude.{◌≡◌, Bool, false, List, [], ◌∷◌, map}
 use Rattle.lines.specs.declared.char_info.CharInfo.{CharInfo}
 
@@ -7,11 +7,11 @@ use Rattle.lines.specs.declared.char_info.CharInfo.{CharInfo}
 abbrev pub bare : CharInfo → CharInfo
 bare p = record p { ends_cluster = false }
 
--- lists that differ in their cluster ends only
+-- whether two lists differ only in their cluster ends
 abbrev pub AreAlike : List CharInfo → List CharInfo → Type 0
 AreAlike xs ys = map bare xs ≡ map bare ys
 
--- a list whose cluster ends are replaced by the given ones
+-- a list with its cluster ends replaced by the given ones
 abbrev pub with_ends : List CharInfo → List Bool → List CharInfo
 with_ends (p ∷ infos) (ends ∷ clusters) = record p { ends_cluster = ends } ∷ with_ends infos clusters
 with_ends infos clusters = []

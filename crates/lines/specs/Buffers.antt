@@ -1,4 +1,4 @@
--- The lines that buffers hold, and when buffers are long enough.
+-- The lines that buffers hold, and the conditions for buffers to be long enough.
 use Rattle.std.specs.Prelude.{◌≡◌, ℕ, ◌≤◌, List, length}
 use Rattle.lines.specs.Kept.{IsSound, lines_in}
 use Rattle.lines.specs.Layouts.{Filled}
@@ -15,14 +15,14 @@ held_in b = record { lines = held_lines b; len = length b.visual.levels.items }
 abbrev pub AreSound : LineBuffers → Type 0
 AreSound b = IsSound b.starts.items b.shown.items b.visual.levels.items b.visual.ltov.items b.visual.vtol.items b.visual.chars.items
 
--- the buffers keep their lengths
+-- whether all buffers keep their lengths
 pub record SameLengths (old new : VisualBuffers) : Type 0 where
   pub levels : length new.levels.items ≡ length old.levels.items
   pub ltov : length new.ltov.items ≡ length old.ltov.items
   pub vtol : length new.vtol.items ≡ length old.vtol.items
   pub chars : length new.chars.items ≡ length old.chars.items
 
--- each buffer has at least n items, so that a line of n characters fits
+-- whether each buffer has at least n items, enough for a line of n characters
 pub record CanHold (n : ℕ) (v : VisualBuffers) : Type 0 where
   pub levels : n ≤ length v.levels.items
   pub ltov : n ≤ length v.ltov.items

@@ -1,4 +1,4 @@
--- The bytes that are printed of a line.
+-- The printed bytes of a line.
 use Rattle.std.specs.Prelude.{ℕ, ◌-◌, ◌&&◌, not, List, [], ◌++◌, codes, map, replicate, slice_index, encode_utf8_all, if◌then◌else◌}
 use Rattle.std.specs.Fmt.{decimal}
 use Rattle.std.specs.List.{join_with_byte}
@@ -6,7 +6,7 @@ use Rattle.reorder.specs.Order.{is_odd}
 use Rattle.lines.specs.Visual.{Visual}
 use Rattle.lines.specs.declared.print.Print.{Print}
 
--- the line that names the base direction: RTL if the base level is odd, LTR otherwise
+-- the line that names the base direction, which is RTL if the base level is odd and LTR otherwise
 abbrev pub direction_line : ℕ → List ℕ
 direction_line base = if is_odd base then codes "RTL\n" else codes "LTR\n"
 
@@ -14,7 +14,7 @@ direction_line base = if is_odd base then codes "RTL\n" else codes "LTR\n"
 abbrev pub numbers_line : List ℕ → List ℕ
 numbers_line numbers = join_with_byte 32 (map decimal numbers) ++ codes "\n"
 
--- the spaces before a line that is shorter than the width, in a right-to-left paragraph
+-- the spaces before a line that is narrower than the width, in a right-to-left paragraph; none with `nopad`
 abbrev pub padding : ℕ → Print → Visual → List ℕ
 padding width print visual =
     if is_odd visual.base && not print.nopad then replicate (width - visual.columns) 32 else []

@@ -1,4 +1,4 @@
--- What filling needs to know of each character of a paragraph.
+-- What filling needs to know about each character of a paragraph.
 use Rattle.std.specs.Prelude.{ℕ, Bool, false, List, [], ◌∷◌, unwrap_or}
 use Rattle.ucd.specs.Tables.{line_class_of, is_mark_in}
 use Rattle.ucd.specs.declared.line_class.LineClass.TheVariants.{BK, CR, LF, NL, SP}
@@ -11,7 +11,7 @@ use Rattle.breaks.specs.declared.mark.Mark.{Mark}
 use Rattle.lines.specs.Clusters.{cluster_ends}
 use Rattle.lines.specs.declared.char_info.CharInfo.{CharInfo}
 
--- the columns of a character by the crate `unicode_width`, or 0 if it has none there
+-- the columns of a character according to the crate `unicode_width`, or 0 if that crate gives no width
 abbrev pub columns_of : ℕ → ℕ
 columns_of c = unwrap_or (char_width false c) 0
 
@@ -19,7 +19,8 @@ columns_of c = unwrap_or (char_width false c) 0
 abbrev pub is_trailing_in : Tables → ℕ → Bool
 is_trailing_in t c = is_one_of (SP ∷ BK ∷ CR ∷ LF ∷ NL ∷ []) (resolved (line_class_of t c) (is_mark_in t c))
 
--- what filling needs of a character, given the mark after it and whether a grapheme cluster ends after it
+-- what filling needs to know about a character, given the mark after it and whether a grapheme cluster ends
+-- after it
 abbrev pub info : Tables → ℕ → Mark → Bool → CharInfo
 info t c mark ends_cluster =
     record { columns = columns_of c; is_trailing = is_trailing_in t c; mark = mark; ends_cluster = ends_cluster }

@@ -1,4 +1,5 @@
--- Where the extended grapheme clusters of a text end, by the rules of the crate `unicode_segmentation` (UAX #29).
+-- Where the extended grapheme clusters of a text end, according to the crate `unicode_segmentation`
+-- (UAX #29).
 use Rattle.std.specs.Prelude.{ℕ, ◌-◌, nat_le, Bool, true, false, ◌&&◌, ◌||◌, List, [], ◌∷◌, ◌++◌, length, replicate}
 use Rattle.std.specs.Str.{chars}
 use Rattle.unicode_segmentation.specs.Grapheme.{is_grapheme_break}
@@ -15,8 +16,9 @@ cluster_ends text = ends_after [] text
 abbrev pub ends_of : List ℕ → List Bool
 ends_of cluster = replicate (length (chars cluster) - 1) false ++ true ∷ []
 
--- Characters that no rule joins to one another: Latin-1 without controls below U+0020 except tab and line feed; Hebrew
--- and Arabic letters; separators, embeddings and isolates. Only the code uses these definitions.
+-- Some characters that no rule joins to one another, namely Latin-1 (of the controls below U+0020, only tab
+-- and line feed), Hebrew and Arabic letters, separators, embeddings and isolates. No contract of an exported
+-- function uses the two definitions below.
 abbrev pub lies_in : ℕ → ℕ → ℕ → Bool
 lies_in first last c = nat_le first c && nat_le c last
 

@@ -1,4 +1,4 @@
--- The columns of a line at each visual position. They are those of the text's characters, not of their mirrors.
+-- The columns of a line at each visual position: those of the text's characters, not of their mirrors.
 use Rattle.std.specs.Prelude.{ℕ, ◌+◌, ◌-◌, nat_lt, List, length, map, take, sum_by, slice_index, Option, if◌then◌else◌}
 use Rattle.ucd.specs.Least.{least}
 use Rattle.reorder.specs.Order.{is_odd}
@@ -17,10 +17,11 @@ columns_at line place = if nat_lt place (length line.vtol) then columns_of (slic
 abbrev pub columns_left : Visual → ℕ → ℕ
 columns_left line place = sum_by columns_of (take place (unmirrored line))
 
--- the visual position whose character includes a column: the first one with more columns up to its right edge
+-- the visual position of the character that covers a column: the first character whose right edge is past
+-- that column
 abbrev pub covering : Visual → ℕ → Option ℕ
 covering line column = least (λ place. nat_lt column (columns_left line (place + 1))) 0 (length line.vtol)
 
--- the columns of padding of a line, unless printing omits padding
+-- the columns of padding before a line, unless printing omits padding
 abbrev pub padding_of : ℕ → Visual → ℕ
 padding_of width line = if is_odd line.base then width - line.columns else 0

@@ -1,21 +1,21 @@
--- How the work counters rise. Only the code uses these definitions.
+-- How the work counters rise. No contract of an exported function uses these definitions.
 use Rattle.std.specs.Prelude.{◌≡◌, ℕ}
 use Rattle.lines.specs.Engine.{counted, RisesBy}
 use Rattle.lines.specs.declared.counts.Counts.{Counts}
 
--- n characters were analysed, filled into lines, and these lines written
+-- n characters were analysed and filled into lines, and these lines were written
 pub record LaysOutAll (n : ℕ) (old new : Counts) : Type 0 where
   pub analysed : new.analysed ≡ counted old.analysed n
   pub filled : new.filled ≡ counted old.filled n
   pub written : new.written ≡ counted old.written n
 
--- at most n characters were analysed, filled and written, because an allocation failed
+-- at most n characters were analysed, filled into lines and written, because an allocation failed
 pub record LaysOutSome (n : ℕ) (old new : Counts) : Type 0 where
   pub analysed : RisesBy n old.analysed new.analysed
   pub filled : RisesBy n old.filled new.filled
   pub written : RisesBy n old.written new.written
 
--- n characters were filled into lines, and these lines written
+-- n characters were filled into lines, and these lines were written; no character was analysed
 pub record FillsAll (n : ℕ) (old new : Counts) : Type 0 where
   pub analysed : new.analysed ≡ old.analysed
   pub filled : new.filled ≡ counted old.filled n

@@ -1,4 +1,4 @@
--- What the calls of an engine do to its rules and work counters.
+-- How calls of an engine change its rules and work counters.
 use Rattle.std.specs.Prelude.{◌≡◌, ℕ, ◌+◌, ◌-◌, ◌^◌, ◌≤◌, min, if◌then◌else◌}
 use Rattle.lines.specs.Layouts.{Rules}
 use Rattle.lines.specs.Printing.{skips_lines}
@@ -21,7 +21,7 @@ written_of engine = engine.written
 abbrev pub SameRules : Engine → Engine → Type 0
 SameRules old new = rules_of new ≡ rules_of old
 
--- a count after n more, capped at 2^64−1
+-- a count raised by n, capped at 2^64−1
 abbrev pub counted : ℕ → ℕ → ℕ
 counted count n = min (count + n) (2 ^ 64 - 1)
 
@@ -30,7 +30,7 @@ pub record RisesBy (n old new : ℕ) : Type 0 where
   pub least : old ≤ new
   pub most : new ≤ old + n
 
--- n characters were analysed, filled into lines, and these lines written
+-- n characters were analysed and filled into lines, and these lines were written
 pub record LaysOut (n : ℕ) (old new : Engine) : Type 0 where
   pub analysed : analysed_of new ≡ counted (analysed_of old) n
   pub filled : filled_of new ≡ counted (filled_of old) n
@@ -41,7 +41,7 @@ pub record LaysOutAtMost (n : ℕ) (old new : Engine) : Type 0 where
   pub filled : RisesBy n (filled_of old) (filled_of new)
   pub written : RisesBy n (written_of old) (written_of new)
 
--- n characters were filled into lines, and these lines written; none were analysed
+-- n characters were filled into lines, and these lines were written; no character was analysed
 pub record Fills (n : ℕ) (old new : Engine) : Type 0 where
   pub analysed : analysed_of new ≡ analysed_of old
   pub filled : filled_of new ≡ counted (filled_of old) n
@@ -63,7 +63,7 @@ pub record FindsExtentsAtMost (n : ℕ) (old new : Engine) : Type 0 where
   pub filled : RisesBy n (filled_of old) (filled_of new)
   pub written : written_of new ≡ written_of old
 
--- the lines of n characters were written again, and nothing else was done
+-- lines of n characters were written again; no character was analysed or filled
 pub record Rewrites (n : ℕ) (old new : Engine) : Type 0 where
   pub analysed : analysed_of new ≡ analysed_of old
   pub filled : filled_of new ≡ filled_of old
@@ -74,7 +74,8 @@ pub record RewritesAtMost (n : ℕ) (old new : Engine) : Type 0 where
   pub filled : filled_of new ≡ filled_of old
   pub written : RisesBy n (written_of old) (written_of new)
 
--- n characters were printed: all were analysed and, if lines are printed, filled into lines, and these lines written
+-- n characters were analysed. If lines are printed, these characters were also filled into lines, and the
+-- lines were written.
 pub record Prints (n : ℕ) (print : Print) (old new : Engine) : Type 0 where
   pub analysed : analysed_of new ≡ counted (analysed_of old) n
   pub filled : filled_of new ≡ (if skips_lines print then filled_of old else counted (filled_of old) n)

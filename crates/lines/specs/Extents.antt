@@ -1,4 +1,5 @@
--- Where the lines of a paragraph start, and how much of each is shown. Of a layout, only this depends on the width.
+-- Where the lines of a paragraph start, and how much of each is shown. A layout depends on the width only
+-- through these extents.
 use Rattle.std.specs.Prelude.{ℕ, List, [], ◌∷◌, length, map, slice_range}
 use Rattle.lines.specs.Filling.{columns, line_starts_of, shown}
 use Rattle.lines.specs.Layouts.{Layout, Rules, start_of}
@@ -17,7 +18,8 @@ shown_between infos s e =
     let part = shown (slice_range infos s e) in
     record { len = length part; columns = columns part }
 
--- the shown parts of the lines that start at these positions; each ends where the next one starts, the last one at n
+-- The shown parts of the lines that start at the given positions. Each line ends where the next one starts,
+-- and the last line ends at n.
 abbrev pub shown_from : ℕ → List CharInfo → List ℕ → List Shown
 shown_from n infos [] = []
 shown_from n infos (s ∷ []) = shown_between infos s n ∷ []
@@ -37,13 +39,13 @@ shown_in line = record { len = length line.levels; columns = line.columns }
 abbrev pub extents_in : List Line → LineExtents
 extents_in lines = record { starts = map start_of lines; shown = map shown_in lines }
 
--- a layout whose lines are replaced by the lines with these extents
+-- a layout with its lines replaced by the lines with these extents
 abbrev pub reflowed : Rules → Layout → LineExtents → Layout
 reflowed rules l extents =
     let infos = infos_of rules.tables rules.options.whole_numbers l.text in
     record l { lines = lines_from rules.tables rules.options l.base l.text l.levels infos extents.starts }
 
--- scratch space: its capacity in characters, and for how many characters lines were written with it
+-- Scratch space: its capacity in characters, and the number of characters whose lines were written with it.
 pub record ScratchState : Type 0 where
   pub len : ℕ
   pub written : ℕ

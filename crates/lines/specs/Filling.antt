@@ -11,7 +11,7 @@ use Rattle.lines.specs.declared.char_info.CharInfo.{CharInfo}
 abbrev pub columns : List CharInfo → ℕ
 columns piece = sum_by (λ p. p.columns) piece
 
--- The tail is the longest ending of characters that may be in a tail. The shown part is the rest.
+-- The tail is the longest suffix of characters that may all be in a tail. The shown part is the rest.
 abbrev pub shown : List CharInfo → List CharInfo
 shown piece = take (length piece - suffix_len (λ p. p.is_trailing) piece) piece
 
@@ -34,12 +34,12 @@ nothing = record { columns = 0; is_trailing = false; mark = Never; ends_cluster 
 abbrev pub place_at : List CharInfo → ℕ → CharInfo
 place_at rest k = slice_index_or rest k nothing
 
--- the first of two results that exists
+-- the first of two results that is not `None`
 abbrev pub or_else : Option ℕ → Option ℕ → Option ℕ
 or_else (Some k) other = Some k
 or_else None other = other
 
--- A line that starts at the first of these characters. A position is named by the character before it.
+-- A line that starts at the first character of `rest`. A position is the index of the character before it.
 module _ (rest : List CharInfo) where
   -- whether a line must or may end after a character, and whether a cluster ends there
   abbrev pub must_end : ℕ → Bool
@@ -51,21 +51,22 @@ module _ (rest : List CharInfo) where
   abbrev pub cluster_ends_at : ℕ → Bool
   cluster_ends_at k = (place_at rest k).ends_cluster
 
-  -- the first position at which a line must end, at the latest the end of the paragraph
+  -- the first position at which a line must end: at the first mandatory break, or else at the end of the
+  -- paragraph
   abbrev pub stop : ℕ
   stop = unwrap_or (least must_end 0 (length rest)) (length rest - 1)
 
-  -- the first position at which a line may end or a cluster ends
+  -- the first position at which a line may end or a cluster ends, or else the end of the paragraph
   abbrev pub first_end : ℕ
   first_end = unwrap_or (least (λ k. may_end k || cluster_ends_at k) 0 (length rest)) (length rest - 1)
 
--- whether the line up to a position fits
+-- whether the line up to a position fits the width
 abbrev pub fits_to : ℕ → List CharInfo → ℕ → Bool
 fits_to width rest k = fits width (take (suc k) rest)
 
--- A line ends at its last break opportunity up to which it fits, but not after its first mandatory break. If there is
--- none, it ends at its last cluster end up to which it fits. If there is none either, it ends at its first break
--- opportunity or cluster end.
+-- A line ends at the last break opportunity up to which it fits, and no later than its first mandatory break.
+-- If no break opportunity fits, the line ends at the last cluster end up to which it fits. If no cluster end
+-- fits either, the line ends at its first break opportunity or cluster end.
 abbrev pub by_break : ℕ → List CharInfo → Option ℕ
 by_break width rest = greatest (λ k. may_end rest k && fits_to width rest k) (suc (stop rest))
 
@@ -79,7 +80,8 @@ line_end width rest = unwrap_or (or_else (by_break width rest) (by_cluster width
 abbrev pub line_len : Bool → ℕ → List CharInfo → ℕ
 line_len nobreak width rest = suc (if nobreak then stop rest else line_end width rest)
 
--- the starts of the lines from a position on; the first `left` of the remaining characters belong to an earlier line
+-- The starts of the lines from a position on. The first `left` characters from that position on belong to an
+-- earlier line.
 abbrev pub starts : Bool → ℕ → ℕ → ℕ → List CharInfo → List ℕ
 starts nobreak width place left [] = []
 starts nobreak width place zero (p ∷ rest) = place ∷ starts nobreak width (suc place) (line_len nobreak width (p ∷ rest) - 1) rest

@@ -1,5 +1,5 @@
--- The lines of a paragraph as they are stored: in lists of the paragraph's length, in which the items of a line start
--- at the index of its first character.
+-- How the lines of a paragraph are stored: in lists of the paragraph's length, where the items of a line
+-- start at the index of its first character.
 use Rattle.std.specs.Prelude.{◌≡◌, ℕ, ◌+◌, ◌<◌, ◌≤◌, List, [], ◌∷◌, length, slice_index, slice_index_or, slice_range, All}
 use Rattle.ucd.specs.Within.{AreWithin}
 use Rattle.lines.specs.Visual.{Line}
@@ -24,7 +24,8 @@ module _ (levels ltov vtol chars : List ℕ) where
 abbrev pub lines_in : List ℕ → List Shown → List ℕ → List ℕ → List ℕ → List ℕ → List Line
 lines_in starts shown levels ltov vtol chars = lines_by levels ltov vtol chars starts shown
 
--- `shown` has one item per line, the other lists one per character, and each line's shown part is inside them
+-- `shown` has one item per line, and the other lists have one per character. The shown part of each line is
+-- inside the lists.
 pub record IsSound (starts : List ℕ) (shown : List Shown) (levels ltov vtol chars : List ℕ) : Type 0 where
   pub all_shown : length shown ≡ length starts
   pub ltov_len : length ltov ≡ length levels

@@ -14,7 +14,7 @@ use Rattle.lines.specs.Visual.{Line, Visual, lines_from, visual_of}
 use Rattle.lines.specs.declared.engine.TheConstants.{PARAGRAPH_LIMIT}
 use Rattle.lines.specs.declared.options.Options.{Options}
 
--- what a layout depends on, besides the width
+-- what a layout depends on, besides the text and the width
 pub record Rules : Type 0 where
   pub tables : Tables
   pub options : Options
@@ -49,7 +49,7 @@ layout_of rules width text = record {
 abbrev pub visuals : Layout → List Visual
 visuals layout = map (λ nth. visual_of layout.base layout.text layout.lines nth.0 nth.1) (enumerate_from 0 layout.lines)
 
--- lines, and the length of their paragraph
+-- lines, and the length of their paragraph in characters
 pub record Filled : Type 0 where
   pub lines : List Line
   pub len : ℕ
@@ -60,11 +60,11 @@ fill_of rules width text = record { lines = lines_of rules width text; len = len
 abbrev pub start_of : Line → ℕ
 start_of line = line.start
 
--- the shown part of each line is in the first n characters
+-- whether the shown part of each line is within the first n characters
 abbrev pub AreWithin : ℕ → List Line → Type 0
 AreWithin n lines = All (λ line. line.start + length line.levels ≤ n) lines
 
--- there is one line, no wider than the width
+-- whether there is exactly one line, and it is no wider than the width
 abbrev pub is_line_within : ℕ → List Line → Bool
 is_line_within width (line ∷ []) = nat_le line.columns width
 is_line_within width lines = false
@@ -73,23 +73,23 @@ is_line_within width lines = false
 abbrev pub cut_by : Rules → ℕ → ℕ → Bool
 cut_by rules = cut (class_of rules.tables)
 
--- a text is one paragraph, within the limit
+-- whether a text is one paragraph of at most `PARAGRAPH_LIMIT` characters
 pub record IsParagraph (rules : Rules) (text : List ℕ) : Type 0 where
   pub whole : paragraphs (cut_by rules) text ≡ text ∷ []
   pub within : length text ≤ PARAGRAPH_LIMIT
 
--- a layout is the fresh layout, at some width, of a text that is one paragraph
+-- whether a layout is the fresh layout, at some width, of a text that is one paragraph
 pub record IsLaidOut (rules : Rules) (layout : Layout) : Type 0 where
   pub width : ℕ
   pub paragraph : IsParagraph rules layout.text
   pub from_scratch : layout ≡ layout_of rules width layout.text
 
--- lines are those of a text at some width
+-- whether the lines are those of a text at some width
 pub record AreLinesOf (rules : Rules) (text : List ℕ) (fill : Filled) : Type 0 where
   pub width : ℕ
   pub from_scratch : fill ≡ fill_of rules width text
 
--- A layout and a fill exchange their lines, and with them the widths at which they are laid out.
+-- A layout and a fill exchange their lines, and with the lines their widths.
 pub record Exchanges (old new : Layout) (fill_old fill_new : Filled) : Type 0 where
   pub put : new ≡ record old { lines = fill_old.lines }
   pub taken : fill_new ≡ record { lines = old.lines; len = length old.text }
@@ -97,8 +97,8 @@ pub record Exchanges (old new : Layout) (fill_old fill_new : Filled) : Type 0 wh
       → (new ≡ layout_of rules other old.text) × (fill_new ≡ fill_of rules width old.text)
   pub stay : (rules : Rules) → IsLaidOut rules old → AreLinesOf rules old.text fill_old → IsLaidOut rules new × AreLinesOf rules new.text fill_new
 
--- The visible state of an engine: its rules, and how many characters it analysed, filled into lines, and wrote the
--- lines of.
+-- The visible state of an engine: its rules, and its counts of characters that were analysed, filled into
+-- lines, and written in lines.
 pub record EngineState : Type 0 where
   pub rules : Rules
   pub analysed : ℕ

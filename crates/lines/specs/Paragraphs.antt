@@ -1,5 +1,5 @@
--- What is known of a paragraph, or of one of its lines, before the lines are ordered. Only the code uses these
--- definitions.
+-- What is known about a paragraph, or about one of its lines, before the lines are reordered. No contract of
+-- an exported function uses these definitions.
 use Rattle.std.specs.Prelude.{◌≡◌, ℕ, ◌≤◌, List, length, map, take}
 use Rattle.ucd.specs.Properties.{properties_of}
 use Rattle.ucd.specs.Tables.{class_of}
@@ -21,7 +21,7 @@ use Rattle.lines.specs.declared.paragraph.Text.{Text}
 abbrev pub rules_in : LentRules → Rules
 rules_in rules = record { tables = rules.tables.now; options = rules.options }
 
--- the properties of a text are those of its characters
+-- whether the looked-up properties of a text are those of its characters
 abbrev pub IsLookedUp : Text → Type 0
 IsLookedUp text = text.properties.now ≡ map (properties_of text.rules.tables.now) text.characters.now
 

@@ -1,4 +1,5 @@
--- What the buffers hold for the lines of a paragraph, each line at the indices of its characters.
+-- What the buffers hold for the lines of a paragraph. The items of each line are at the indices of its
+-- characters.
 use Rattle.std.specs.Prelude.{◌≡◌, ℕ, ◌+◌, ◌<◌, ◌≤◌, List, [], ◌∷◌, length, map, take, slice_index, slice_index_or, slice_range}
 use Rattle.ucd.specs.Tables.{class_of}
 use Rattle.ucd.specs.declared.tables.Tables.{Tables}
@@ -11,7 +12,8 @@ use Rattle.lines.specs.Visual.{Line, end_of}
 use Rattle.lines.specs.declared.options.Options.{Options}
 use Rattle.lines.specs.declared.fill.Shown.{Shown}
 
--- what is written for one line, of which `part` is shown, given its levels before L1 in `old`
+-- whether the lists have the levels, position maps and characters of one line, given its shown part and, in
+-- `old`, its levels before L1
 pub record IsShown (tables : Tables) (options : Options) (base : ℕ) (line old : List ℕ) (part : Shown) (levels ltov vtol chars : List ℕ) : Type 0 where
   pub within : part.len ≤ length line
   pub levels_are : take part.len levels ≡ take part.len (line_levels base (map (class_of tables) line) old)
@@ -24,7 +26,7 @@ pub record IsShown (tables : Tables) (options : Options) (base : ℕ) (line old 
 abbrev pub nothing_shown : Shown
 nothing_shown = record { len = 0; columns = 0 }
 
--- the line from s to e, of which `part` is shown
+-- the line from s to e with the shown part `part`
 module _ (tables : Tables) (options : Options) (base : ℕ) (text levels : List ℕ) where
   abbrev pub line_showing : Shown → ℕ → ℕ → Line
   line_showing part s e =
@@ -41,8 +43,8 @@ module _ (tables : Tables) (options : Options) (base : ℕ) (text levels : List 
         chars = visual_chars tables part_levels (take part.len line) vtol;
       }
 
-  -- the lines that start at these positions, with these shown parts; each ends where the next one starts, the last one
-  -- at the end of the paragraph
+  -- The lines that start at the given positions, with the given shown parts. Each line ends where the next
+  -- one starts, and the last line ends at the end of the paragraph.
   abbrev pub lines_shown : List ℕ → List Shown → List Line
   lines_shown (s ∷ []) (part ∷ parts) = line_showing part s (length text) ∷ []
   lines_shown (s ∷ t ∷ starts) (part ∷ parts) = line_showing part s t ∷ lines_shown (t ∷ starts) parts

@@ -1,5 +1,5 @@
--- Where the lines of a paragraph start at a width, and how much of each is shown, in buffers that a line fits in. Only
--- the code uses this definition.
+-- The line starts and shown parts of a paragraph at a width, in buffers that have enough capacity for each
+-- line. No contract of an exported function uses this definition.
 use Rattle.std.specs.Prelude.{◌≡◌, ℕ, length}
 use Rattle.lines.specs.Buffers.{CanHold}
 use Rattle.lines.specs.CharInfos.{infos_of}

@@ -1,4 +1,4 @@
--- What the scan of a line keeps of the characters that it has read.
+-- The sums that the scan of a line keeps for the characters it has read.
 use Rattle.std.specs.Prelude.{◌≡◌, ◌+◌, List, if◌then◌else◌}
 use Rattle.lines.specs.Filling.{columns, shown}
 use Rattle.lines.specs.declared.filling.Sums.{Sums}
@@ -11,7 +11,7 @@ sums_after sums p = record {
   shown = if p.is_trailing then sums.shown else sums.columns + p.columns;
 }
 
--- the sums are the columns of a part of a line, and those of its shown part
+-- whether the sums are the columns of a part of a line and the columns of its shown part
 pub record AreSumsOf (piece : List CharInfo) (sums : Sums) : Type 0 where
   pub columns_are : sums.columns ≡ columns piece
   pub shown_are : sums.shown ≡ columns (shown piece)

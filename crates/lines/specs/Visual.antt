@@ -20,9 +20,9 @@ pub record Line : Type 0 where
   pub vtol : List ℕ
   pub chars : List ℕ
 
--- the lines of a paragraph, given its base level, its levels before L1, and what filling needs of its characters
+-- the lines of a paragraph, given its base level, its levels before L1, and the `CharInfo`s of its characters
 module _ (tables : Tables) (options : Options) (base : ℕ) (text levels : List ℕ) (infos : List CharInfo) where
-  -- L1 is applied to the whole line from s to e; L2, L3 and L4 to its shown part
+  -- L1 is applied to the whole line from s to e, and L2, L3 and L4 to its shown part
   abbrev pub line_between : ℕ → ℕ → Line
   line_between s e =
       let part = shown (slice_range infos s e) in
@@ -39,8 +39,8 @@ module _ (tables : Tables) (options : Options) (base : ℕ) (text levels : List 
         chars = visual_chars tables part_levels (take (length part) line) vtol;
       }
 
-  -- the lines that start at these positions; each ends where the next one starts, the last one at the end of the
-  -- paragraph
+  -- The lines that start at the given positions. Each line ends where the next one starts, and the last line
+  -- ends at the end of the paragraph.
   abbrev pub lines_from : List ℕ → List Line
   lines_from [] = []
   lines_from (s ∷ []) = line_between s (length text) ∷ []

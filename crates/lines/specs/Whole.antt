@@ -1,5 +1,6 @@
--- Paragraphs without a mandatory break before their end (UAX #14, LB4 and LB5). If lines end at mandatory breaks only,
--- each is one line. Only the code uses these definitions.
+-- Paragraphs without a mandatory break before their end (UAX #14, LB4 and LB5). If lines end only at
+-- mandatory breaks, each of these paragraphs is one line. No contract of an exported function uses these
+-- definitions.
 use Rattle.std.specs.Prelude.{◌≡◌, ℕ, ◌+◌, ◌-◌, ◌<◌, ◌≤◌, Bool, true, false, ◌||◌, List, [], ◌∷◌, length, slice_index}
 use Rattle.ucd.specs.declared.line_class.LineClass.{LineClass}
 use Rattle.ucd.specs.declared.line_class.LineClass.TheVariants.{BK, CR, LF, NL}
@@ -12,11 +13,11 @@ use Rattle.lines.specs.CharInfos.{is_trailing_in}
 abbrev pub ends_line : LineClass → Bool
 ends_line class = is_one_of (BK ∷ []) (base_class class) || is_one_of (CR ∷ LF ∷ NL ∷ []) (base_class class)
 
--- a line need not end after any character but the last
+-- whether no character except the last requires a line to end after it
 abbrev pub IsWhole : Tables → List ℕ → Type 0
 IsWhole t text = (j : ℕ) → j + 1 < length text → ends_line (character t (slice_index text j)).class ≡ false
 
--- `len` is the length of a text without its tail
+-- whether `len` is the length of a text without its tail
 pub record IsShownLen (t : Tables) (text : List ℕ) (len : ℕ) : Type 0 where
   pub within : len ≤ length text
   pub tail : (k : ℕ) → len ≤ k → k < length text → is_trailing_in t (slice_index text k) ≡ true

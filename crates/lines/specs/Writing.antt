@@ -2,12 +2,12 @@
 use Rattle.std.specs.Prelude.{◌≡◌, ℕ, ◌+◌, ◌-◌, ◌≤◌, List, length}
 use Rattle.device.specs.Device.{Device, Wrote, StoppedAt}
 
--- the part was written after `before` bytes, so that n bytes are written in all
+-- after `before` bytes, the whole part was written, which makes n bytes in total
 pub record PassedOn (part : List ℕ) (before : ℕ) (old new : Device) (n : ℕ) : Type 0 where
   pub count : n ≡ before + length part
   pub wrote : Wrote part old new
 
--- the sink failed within the part, after `written` bytes in all
+-- the sink failed within the part, after `written` bytes in total
 pub record StoppedIn (part : List ℕ) (before : ℕ) (old new : Device) (written : ℕ) : Type 0 where
   pub after : before ≤ written
   pub stopped : StoppedAt (written - before) part old new

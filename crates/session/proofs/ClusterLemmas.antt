@@ -14,7 +14,7 @@ use Rattle.session.specs.Touched.{start_of}
 use Rattle.session.proofs.EdgeLemmas.{chars_of, lines_of, front_is, start_of-is, sum_whole, item_read, text_read}
 use Rattle.session.proofs.PlaceLemmas.{count_paragraphs}
 
--- the state of a scan back from character k, and of one forward from it
+-- the states of two scans from character k: one back to the start of the cluster, and one forward to its end
 module _ (ends : List Bool) (k : ℕ) where
   abbrev pub BeginsBy : ℕ → Type 0
   BeginsBy start = greatest (ends_at ends) k ≡ greatest (ends_at ends) start

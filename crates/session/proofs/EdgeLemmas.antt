@@ -1,4 +1,4 @@
--- Sums of a store's paragraphs, as lengths of the text and of its lines, and what searches by these sums find.
+-- What sums over a store's paragraphs count, and what searches by these sums find.
 use Rattle.std.proofs.Common.{◌≡◌, ℕ, ◌+◌, ◌-◌, ◌<◌, ◌≤◌, List, [], ◌∷◌, ◌++◌, length, take, get_or, sum_by, Option, Some, None, unwrap_or, refl, sym, ap, ◌∙◌, inl, inr, arith}
 use Rattle.std.specs.List.{concat, enumerate_from, slice_get}
 use Rattle.std.specs.Option.{option_map}
@@ -23,7 +23,8 @@ chars_of l = length l.text
 abbrev pub lines_of : Layout → ℕ
 lines_of l = length l.lines
 
--- the number of characters and of lines of a text, and where paragraphs start, as sums
+-- sums over paragraphs give the number of characters of a text, its number of lines, and the start of each
+-- paragraph
 pub length-text : (kept : List Layout) → length (text_of kept) ≡ sum_by chars_of kept
 length-text [] = refl
 length-text (l ∷ kept) = length-append l.text (text_of kept) ∙ ap (λ n. length l.text + n) (length-text kept) ∙ sym (sum_by-cons chars_of l kept)
@@ -40,12 +41,12 @@ length-lines (l ∷ kept) =
 pub start_of-is : (kept : List Layout) (i : ℕ) → start_of (pars_of kept) i ≡ sum_by chars_of (take i kept)
 start_of-is kept i = ap (λ ps. length (concat ps)) (take-map (λ l. l.text) i kept) ∙ length-text (take i kept)
 
--- the text of a paragraph that was read
+-- paragraph i of the text is the text of the layout that was read at index i
 pub text_read : (kept : List Layout) (i : ℕ) (read : Option Layout) → read ≡ slice_get kept i → get_or (pars_of kept) i [] ≡ unwrap_or (option_map (λ l. l.text) read) []
 text_read kept i read e =
     sym (unwrap_or-slice_get (pars_of kept) i []) ∙ ap (λ o. unwrap_or o []) (slice_get-map (λ l. l.text) kept i) ∙ ap (λ o. unwrap_or (option_map (λ l. l.text) o) []) (sym e)
 
--- what a search found is the item at its index
+-- the item that a search finds is the item at the returned index
 slice_get_at : {A : Type 0} (before : List A) (x : A) (after : List A) → slice_get (before ++ x ∷ after) (length before) ≡ Some x
 slice_get_at [] x after = refl
 slice_get_at (y ∷ before) x after = slice_get_at before x after
@@ -124,7 +125,8 @@ IsBackEdge-end kept to count chars lines count-is chars-is lines-is at_end =
       after = λ more. absurd (omega arith);
     }
 
--- positions inside the text, and the sums up to the paragraph after them, are within the sums of the store
+-- Positions inside the text are within the store's sum of characters. The sums up to the end of a found
+-- paragraph are at most the store's sums.
 pub pos_within : (kept : List Layout) (pos : ℕ) → pos ≤ length (text_of kept) → (pos ≡ 0 → ⊥) → pos - 1 < sum_by chars_of kept
 pos_within kept pos within some = omega (arith, length-text kept, some)
 

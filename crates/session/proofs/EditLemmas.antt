@@ -47,7 +47,7 @@ Replaces-middle left mid right new old after first count many old-is after-is fi
 take_both : {A : Type 0} (xs : List A) (from to : ℕ) → from ≤ to → take to xs ≡ take from xs ++ slice_range xs from to
 take_both xs from to order = let n : to ≡ from + (to - from) = omega arith in ap (λ m. take m xs) n ∙ take-both from (to - from) xs
 
--- the paragraphs and the text of fresh layouts are those that were laid out
+-- fresh layouts have the paragraphs and the text from which they were made
 pub pars-layouts : (rules : Rules) (width : ℕ) (pars : List (List ℕ)) → pars_of (map (layout_of rules width) pars) ≡ pars
 pars-layouts rules width [] = refl
 pars-layouts rules width (p ∷ pars) = ap (λ ps. p ∷ ps) (pars-layouts rules width pars)
@@ -74,7 +74,7 @@ module _ (law : ParagraphsArePieces) (few : LinesAreFew) (rules : Rules) (width 
       let most : sum_by line_number kept ≤ sum_by chars_of kept = subst (λ ks. sum_by line_number ks ≤ sum_by chars_of ks) (sym laid) (few_of few rules width (paragraphs (cut_by rules) text)) in
       omega (arith, chars-laid)
 
--- a whole layout stays one for an engine with the same rules
+-- `IsWholeLayout` still holds if the engine is replaced by one with the same rules
 pub IsWholeLayout-same : (old new : Engine) (width : ℕ) (kept : List Layout) → SameRules old new
     → IsWholeLayout (record { engine = old; width = width; kept = kept })
     → IsWholeLayout (record { engine = new; width = width; kept = kept })
@@ -84,7 +84,7 @@ IsWholeLayout-same old new width kept same whole = record {
   filled = whole.filled;
 }
 
--- an edit fails and leaves the engine unchanged
+-- if an edit fails and leaves the session unchanged, `LaysOutAtMost` and `EditsNot` hold
 pub LaysOutAtMost-none : (n : ℕ) (engine : Engine) → LaysOutAtMost n engine engine
 LaysOutAtMost-none n engine = record {
   analysed = record { least = omega arith; most = omega arith };
@@ -108,12 +108,12 @@ pub refusal-past : (is_cut : ℕ → ℕ → Bool) (text : List ℕ) (edit : Rep
 refusal-past is_cut text edit past =
     cond-true (nat_lt (length text) (edit.pos + edit.count)) (Some OutOfRange) (text_refusal is_cut (replaced text edit)) (lt-ltb (length text) (edit.pos + edit.count) past)
 
--- a clause about success holds if there is no error
+-- if a result is not an error, the fact in `OnOk` holds
 pub at_ok : {X E Q : Type 0} (r : Result X E) → is_err r ≡ false → OnOk r Q → Q
 at_ok (Ok x) e h = h
 at_ok (Err e') e h = absurd (cc e)
 
--- the line sums of a store in which new paragraphs replace those between two edges
+-- facts about the line sums of a store before and after new paragraphs replace those between two edges
 pub record AreSums (front back : Edge) (new : List Layout) (total total_2 : ℕ) : Type 0 where
   pub order : front.lines ≤ back.lines
   pub within : back.lines - front.lines ≤ total
@@ -272,7 +272,7 @@ module _ (law : ParagraphsArePieces) (few : LinesAreFew) (engine : Engine) (widt
           counts = subst (λ n. LaysOutAtMost n engine new_engine) length-region counts;
         }
 
--- the outcome of an edit follows from that of its last call
+-- what an edit ensures follows from what its last call ensures
 pub ends_ok : (P : List Layout → Damage → Type 0) (r : Result Damage EditFault) (now made : List Layout) (d : Damage) → OnOk r (now ≡ made) → IfOk r (λ damage. damage ≡ d) → P made d → IfOk r (P now)
 ends_ok P (Ok x) now made d h e p = subst (λ ks. P ks x) (sym h) (subst (P made) (sym e) p)
 ends_ok P (Err x) now made d h e p = tt

@@ -1,4 +1,4 @@
--- A text that is given as three parts, and its paragraphs one by one.
+-- A text that is given in three parts, and the layout of a text one paragraph at a time.
 use Rattle.std.proofs.Common.{◌≡◌, ℕ, ◌<◌, ◌≤◌, Bool, true, false, not, ◌==◌, List, [], ◌∷◌, ◌++◌, length, map, take, drop, Some, None, nat_le, sym, ap, subst, ◌∙◌, arith}
 use Rattle.std.specs.Str.{chars, IsUtf8}
 use Rattle.std.proofs.Math.Utf8.{encodes, scalars}
@@ -29,7 +29,7 @@ module _ (is_cut : ℕ → ℕ → Bool) where
       let one : ArePieces is_cut (first ∷ []) = first_piece first pieces (subst (ArePieces is_cut) e (law.pieces is_cut text)) in
       ap (paragraphs is_cut) (sym (append-nil first)) ∙ law.only is_cut (first ∷ []) one
 
-  -- if no paragraph is too long, neither the first one nor any of the others is
+  -- if no paragraph of a text is too long, the first paragraph is within the limit, and so are the others
   pub within_parts : (text first : List ℕ) (pieces : List (List ℕ)) → paragraphs is_cut text ≡ first ∷ pieces
       → is_within_limit is_cut text ≡ true → (length first ≤ PARAGRAPH_LIMIT) × (are_within pieces ≡ true)
   within_parts text first pieces e within =
@@ -52,7 +52,8 @@ module _ (law : ParagraphsArePieces) (rules : Rules) (text : List ℕ) (within :
     within = (within_parts (cut_by rules) text text [] (split some) within).0;
   }
 
--- the layouts so far, with one more, followed by those of the remaining text, are the layouts of the whole text
+-- if the layouts so far, followed by those of the remaining text, are the layouts of the whole text, this
+-- stays true after one more paragraph is laid out
 pub layouts_more : (rules : Rules) (width : ℕ) (text rest first after : List ℕ) (kept more : List Layout) (one : Layout) → paragraphs (cut_by rules) rest ≡ first ∷ paragraphs (cut_by rules) after
     → one ≡ layout_of rules width first → more ≡ kept ++ one ∷ [] → kept ++ layouts_of rules width rest
     ≡ layouts_of rules width text → more ++ layouts_of rules width after ≡ layouts_of rules width text

@@ -1,4 +1,4 @@
--- A line of a text, as a line of one of its paragraphs.
+-- Each line of a text is a line of one of its paragraphs.
 use Rattle.std.proofs.Common.{◌≡◌, ℕ, zero, suc, zero-add, suc-add, ◌+◌, ◌<◌, ◌≤◌, List, [], ◌∷◌, ◌++◌, length, Some, None, refl, sym, ap, ap₂, ◌∙◌, arith}
 use Rattle.std.specs.List.{slice_get}
 use Rattle.std.proofs.lemmas.List.Concat.{flat_map-append}

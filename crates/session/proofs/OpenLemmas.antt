@@ -1,4 +1,4 @@
--- Opening a session, and why it fails.
+-- Opening a session, and the reasons why it can fail.
 use Rattle.std.proofs.Common.{◌≡◌, ℕ, ◌≤◌, ◌<◌, ◌^◌, ◌==◌, true, List, [], length, sum_by, Some, None, refl, sym, ap, subst, ◌∙◌, arith}
 use Rattle.std.specs.List.{splice}
 use Rattle.std.proofs.lemmas.Bool.{cond-true, cond-false, ne_eqb}

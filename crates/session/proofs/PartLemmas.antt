@@ -1,4 +1,5 @@
--- A text that is split at a paragraph boundary: paragraphs, layouts and printed bytes are those of the two parts.
+-- The paragraphs, layouts and printed bytes of a text that is split at a paragraph boundary are those of its
+-- two parts.
 use Rattle.std.proofs.Common.{◌≡◌, ◌∙◌, ℕ, Bool, List, ◌++◌, map, sym, ap, ap₂, subst}
 use Rattle.std.specs.List.{concat}
 use Rattle.std.proofs.lemmas.List.{map-append}

@@ -47,7 +47,7 @@ length-lines_from place (l ∷ kept) =
     ∙ ap₂ (λ n m. n + m) (length-map l.lines (λ line. place + line.start) ∙ sym (length-visuals l)) (length-lines_from (place + length l.text) kept)
     ∙ sym (length-append (visuals l) (lines_in kept))
 
--- the line starts of a text, before, in and after the paragraph that a search found
+-- the line starts of a text are those before, in and after the paragraph that a search found
 starts_whole : (size : Layout → ℕ) (kept : List Layout) (n : ℕ) (found : Found) (f : Finds size chars_of lines_of kept n found)
     → line_starts kept ≡ lines_from 0 f.before ++ (starts_at (sum_by chars_of f.before) f.item ++ lines_from (sum_by chars_of f.before + chars_of f.item) f.after)
 starts_whole size kept n found f =
@@ -72,7 +72,7 @@ start_read kept n found f l read =
     ∙ start_at before f.item.lines found.rest f.within
     ∙ ap₂ (λ (m : ℕ) (x : Layout). Some (m + get_or (map begins x.lines) found.rest 0)) (sym f.chars_before) (sym item)
 
--- what a search by lines found is within the text and its lines
+-- a search by lines finds a paragraph that starts within the text, and one of that paragraph's lines
 pub before_within : (kept : List Layout) (n : ℕ) (found : Found) → Finds lines_of chars_of lines_of kept n found → found.chars_before ≤ length (text_of kept)
 before_within kept n found f = omega (arith, f.chars_before, sum_whole lines_of kept n found f chars_of, length-text kept)
 
@@ -80,7 +80,7 @@ pub rest_within : (kept : List Layout) (n : ℕ) (found : Found) → Finds lines
     → found.rest < length (map begins l.lines)
 rest_within kept n found f l read = omega (arith, f.within, length-map l.lines begins, ap (λ (x : Layout). length x.lines) (item_read lines_of kept n found f l read))
 
--- ---- how many start at or before a position
+-- ---- the number of starts at or before a position
 
 count_cons : (pos s : ℕ) (starts : List ℕ) → count_to pos (s ∷ starts) ≡ cond (nat_le s pos) 1 0 + count_to pos starts
 count_cons pos s starts = sum_by-cons (λ k. cond (nat_le k pos) 1 0) s starts
@@ -337,7 +337,7 @@ last_below pos starts k below = elim (cases_lt k (length starts)) [
   | inr past ↦ omega (arith, get_or-eq_default starts 0 past)
 ]
 
--- the place after the last character
+-- the place after the last character is on the same line as that character, one character further
 pub place_after : (kept : List Layout) (pos : ℕ) → All IsLined kept → pos + 1 ≡ length (text_of kept) → (last : Place) → last ≡ place_in kept pos
     → let here : Place = record { paragraph = last.paragraph; line = last.line; offset = last.offset + 1 } in here ≡ place_in kept (length (text_of kept))
 place_after kept pos lined is last last-is =
@@ -358,7 +358,7 @@ pub text_append : (xs ys : List Layout) → text_of (xs ++ ys) ≡ text_of xs ++
 text_append [] ys = refl
 text_append (x ∷ xs) ys = ap (λ more. x.text ++ more) (text_append xs ys) ∙ sym (append_assoc x.text (text_of xs) (text_of ys))
 
--- a character that is read from a found paragraph is that of the text
+-- a character that is read from the found paragraph is the text's character at the searched position
 pub char_read : (kept : List Layout) (pos : ℕ) (found : Found) → Finds chars_of chars_of lines_of kept pos found → (l : Layout) → Some l ≡ slice_get kept found.index
     → (found.rest < length l.text) × (get_or l.text found.rest 0 ≡ get_or (text_of kept) pos 0)
 char_read kept pos found f l read =
@@ -371,7 +371,7 @@ char_read kept pos found f l read =
           ∙ get_or_append_left f.item.text (text_of f.after) 0 found.rest f.within ∙ ap (λ (x : Layout). get_or x.text found.rest 0) (sym item)),
     )
 
--- the kept layouts of a text are not empty, and their lines start in order
+-- each layout that a session keeps has a non-empty text, and its lines start in order
 pub lines_lined : ParagraphsArePieces → ((rules : Rules) (width : ℕ) (text : List ℕ) → BeginInOrder text (lines_at rules width text)) → (engine : Engine) (width : ℕ) (kept : List Layout)
     → IsWholeLayout (record { engine = engine; width = width; kept = kept }) → All IsLined kept
 lines_lined law begin engine width kept whole = λ k d within.
@@ -400,6 +400,6 @@ none_past xs n total is = elim (cases_lt n total) [
 pub none_place : (rules : Rules) (kept : List Layout) (pos : ℕ) → is_none (place_at rules kept pos) ≡ nat_lt (length (text_of kept)) pos
 none_place rules kept pos = none_if (nat_lt (length (text_of kept)) pos) (pos == length (text_of kept) && is_closed rules (text_of kept)) (next_place kept) (place_in kept pos)
 
--- the text of a session is not longer than the limit
+-- the text of a session is at most as long as the limit
 pub text_short : (state : SessionState) → IsWholeLayout state → length (text_at state) ≤ TEXT_LIMIT
 text_short state whole = allowed-length (cuts_at state) (text_at state) whole.allowed

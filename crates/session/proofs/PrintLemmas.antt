@@ -1,4 +1,4 @@
--- The bytes of all paragraphs in order.
+-- The printed bytes of a session's paragraphs and of its lines, in order.
 use Rattle.std.proofs.Common.{◌≡◌, ℕ, zero, suc, ◌+◌, ◌-◌, ◌<◌, ◌≤◌, min, List, [], ◌∷◌, ◌++◌, length, map, take, drop, get_or, Some, unwrap_or, inl, inr, arith, refl, sym, ap, ap₂, subst, ◌∙◌}
 use Rattle.std.specs.List.{concat, flat_map, slice_get}
 use Rattle.std.proofs.lemmas.List.{append-nil, append_assoc, drop_at, get_or-map, length-drop, length-map, length-take, take-append-le, take_all}
@@ -25,7 +25,7 @@ use Rattle.lines.specs.declared.bytes.WriteFault.{WriteFault}
 use Rattle.session.specs.Sessions.{SessionState, IsWholeLayout, cuts_at, page_at, text_at}
 
 module _ (width : ℕ) (print : Print) where
-  -- the bytes of each paragraph
+  -- the printed bytes of each paragraph
   abbrev pub pieces : List Layout → List (List ℕ)
   pieces kept = map (layout_bytes width print) kept
 
@@ -36,7 +36,7 @@ module _ (width : ℕ) (print : Print) where
   pub pieces_all : (kept : List Layout) (k : ℕ) → length kept ≤ k → concat (take k (pieces kept)) ≡ flat_map (layout_bytes width print) kept
   pieces_all kept k past = ap concat (take_all k (pieces kept) (rw (length-map kept (layout_bytes width print)) past)) ∙ pieces_whole kept
 
-  -- the bytes of a paragraph that was read
+  -- the printed bytes of the paragraph that was read at index k
   module _ (kept : List Layout) (k : ℕ) (l : Layout) (read : Some l ≡ slice_get kept k) where
     pub piece_within : k < length (pieces kept)
     piece_within = rw (length-map kept (layout_bytes width print)) (slice_get_within kept k l (sym read))
@@ -45,13 +45,13 @@ module _ (width : ℕ) (print : Print) where
     piece_read =
         sym (get_or-map (layout_bytes width print) kept k l [] (slice_get_within kept k l (sym read)) ∙ ap (layout_bytes width print) (get_or_from_slice_get kept k l l (sym read)))
 
--- the bytes of the kept layouts are the page of the text
+-- the printed bytes of the kept layouts are those of the fresh layout of the whole text
 pub page_of_kept : (state : SessionState) (print : Print) → IsWholeLayout state → flat_map (layout_bytes state.width print) state.kept ≡ page_at state print
 page_of_kept state print whole =
     ap (flat_map (layout_bytes state.width print)) whole.kept
     ∙ flat_map-map (layout_bytes state.width print) (layout_of (rules_of state.engine) state.width) (paragraphs (cuts_at state) (text_at state))
 
--- the page of a text is the bytes of its visual lines, in order
+-- the printed bytes of a layout are those of its visual lines, in order
 abbrev pub LinesArePrinted : Type 0
 LinesArePrinted = (width : ℕ) (print : Print) (layout : Layout) → layout_bytes width print layout ≡ flat_map (line_bytes width print) (visuals layout)
 
@@ -65,7 +65,7 @@ page_by_lines law state print whole = sym (page_of_kept state print whole) ∙ b
 
 -- ---- a range of lines
 
--- line n of a range that starts at `from` is line from + n
+-- item n of a range that starts at `from` is item from + n of the list
 part_get : {A : Type 0} (xs : List A) (from count n : ℕ) → n < count → slice_get (take count (drop from xs)) n ≡ slice_get xs (from + n)
 part_get [] zero zero n below = absurd (omega (arith, below))
 part_get [] zero (suc count) n below = refl
@@ -118,7 +118,7 @@ lines_begin kept first found f =
     ap (λ ks. drop found.rest (lines_in ks)) there
     ∙ sym (ap₂ (λ (n : ℕ) (vs : List Visual). drop n vs) (sym place) whole ∙ drop-append-add (lines_in f.before) (lines_in (f.item ∷ f.after)) found.rest)
 
--- the items of a range that spans a list and the list after it
+-- a range of two lists that starts in the first list is a part of that list, followed by a part of the second
 pub wanted_parts : {A : Type 0} (xs ys : List A) (from left part : ℕ) → from ≤ length xs → part ≡ min left (length xs - from)
     → take left (drop from (xs ++ ys)) ≡ take part (drop from xs) ++ take (left - part) ys
 wanted_parts xs ys from left part within part-is =
@@ -137,7 +137,8 @@ wanted_parts xs ys from left part within part-is =
           ∙ ap (λ n. take n (drop from xs)) all ∙ sym (append-nil (take part (drop from xs))) ∙ ap (λ n. take part (drop from xs) ++ take n ys) (sym none)
     ]
 
--- the lines written so far, with those of one more paragraph, and the rest of the range, are the whole range
+-- if the lines written so far, followed by the rest of the range, are the whole range, this stays true after
+-- the lines of one more paragraph are written
 pub front_more : (kept : List Layout) (i from left part : ℕ) (l : Layout) → Some l ≡ slice_get kept i → from ≤ length l.lines → part ≡ min left (length l.lines - from)
     → (front whole : List Visual) → front ++ take left (drop from (lines_in (drop i kept))) ≡ whole
     → (front ++ take part (drop from (visuals l))) ++ take (left - part) (lines_in (drop (i + 1) kept)) ≡ whole
@@ -149,13 +150,13 @@ front_more kept i from left part l read within part-is front whole so_far =
     ∙ wanted_parts (visuals l) rest from left part (omega (arith, within, length-visuals l)) (part-is ∙ ap (λ n. min left (n - from)) (sym (length-visuals l)))))
     ∙ so_far
 
--- the bytes of all lines are the page
+-- printing all lines gives the printed bytes of the whole text
 pub lines_page_all : (state : SessionState) (print : Print) (count : ℕ) → count ≡ length (lines_in state.kept) → page_at state print ≡ flat_map (line_bytes state.width print) (lines_in state.kept)
     → lines_page state 0 count print ≡ page_at state print
 lines_page_all state print count is law =
     ap (flat_map (line_bytes state.width print)) (take_all (0 + count - 0) (lines_in state.kept) (omega (arith, is))) ∙ sym law
 
--- after a `Write` fault, the sink failed
+-- if printing fails with `Write`, the sink failed
 pub fault_of_sink : (state : SessionState) (first count : ℕ) (untouched : Type 0) (stopped : ℕ → Type 0) (fault : RangeFault) (of_sink : WriteFault) → fault ≡ Write of_sink
     → PrintsNot state first count untouched stopped fault → stopped of_sink.written
 fault_of_sink state first count untouched stopped fault of_sink is h = (subst (PrintsNot state first count untouched stopped) is h).1

@@ -78,7 +78,7 @@ module _ (kept : List Layout) (pos at stop : ℕ) (begun : pos ≤ at) (more : a
       ∙ ap (λ cs. take (at - pos) (drop pos (text_of kept)) ++ cs)
       (ap (take (length part)) (drop-drop (at - pos) pos (text_of kept) ∙ ap (λ n. drop n (text_of kept)) place) ∙ sym part_front)
 
--- there is a part if the range is inside the text
+-- `text_part` returns a part if the range is inside the text
 pub part_there : (kept : List Layout) (at count : ℕ) → at + count ≤ length (text_of kept) → None ≡ text_part kept at count → ⊥
 part_there kept at count within none = let wrong = none ∙ part_within kept at count within in cc wrong
 
@@ -92,7 +92,7 @@ all_parts kept pos at stop begun more =
     ∙ ap (λ cs. take (at - pos) (drop pos (text_of kept)) ++ cs)
     (ap (take (stop - at)) (drop-drop (at - pos) pos (text_of kept) ∙ ap (λ n. drop n (text_of kept)) place))
 
--- the UTF-8 length of a range: none past the end, and otherwise the number of its bytes
+-- the UTF-8 length of a range is `None` if the range is past the end, and otherwise the number of its bytes
 pub len_past : (kept : List Layout) (pos count : ℕ) → length (text_of kept) < pos + count → utf8_len kept pos count ≡ None
 len_past kept pos count past = cond-true (nat_lt (length (text_of kept)) (pos + count)) None _ (lt-ltb (length (text_of kept)) (pos + count) past)
 

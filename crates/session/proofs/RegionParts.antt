@@ -1,4 +1,5 @@
--- The touched paragraphs of a text after an edit: the first one's front, the inserted text, and the last one's rest.
+-- The text that replaces the touched paragraphs has three parts: the front of the first one, the inserted
+-- text, and the rest of the last one.
 use Rattle.std.proofs.Common.{◌≡◌, ℕ, zero, suc, zero-add, suc-add, ◌+◌, ◌-◌, ◌<◌, ◌≤◌, List, [], ◌∷◌, ◌++◌, length, take, drop, get_or, refl, sym, ap, ap₂, ◌∙◌, ◌⊎◌, inl, inr, arith}
 use Rattle.std.specs.List.{concat, slice_range}
 use Rattle.std.proofs.lemmas.Bool.{cases_eq, cases_lt}
@@ -13,7 +14,7 @@ use Rattle.session.specs.declared.edge.Edge.{Edge}
 use Rattle.session.proofs.ReplacementLemmas.{region_of}
 use Rattle.session.proofs.TouchedLemmas.{start_of-more, start_of-le, start_of-end, AreTouched-from_walks}
 
--- the start of a later paragraph is that of an earlier one, plus the characters between them
+-- the start of a later paragraph is the start of an earlier one, plus the number of characters between them
 pub take-both : {A : Type 0} (m n : ℕ) (xs : List A) → take (m + n) xs ≡ take m xs ++ take n (drop m xs)
 take-both zero n xs = rw zero-add refl
 take-both (suc m) n [] = rw suc-add (sym (take_all n [] (omega arith)))
@@ -28,7 +29,7 @@ drop_after : (left rest : List ℕ) (n : ℕ) → drop (length left + n) (left +
 drop_after left rest n = sym (drop-drop n (length left) (left ++ rest)) ∙ ap (drop n) (drop_at left rest (length left) refl)
 
 module _ (pars : List (List ℕ)) (first last pos to : ℕ) (some : first < last) (within : last ≤ length pars) where
-  -- a prefix of these paragraphs that ends in the first one is a prefix of the first one
+  -- a prefix of the concatenated paragraphs that ends in the first paragraph is a prefix of that paragraph
   first_is : slice_range pars first last ≡ get_or pars first [] ∷ take (last - first - 1) (drop (first + 1) pars)
   first_is =
       let n : last - first ≡ suc (last - first - 1) = omega arith in
@@ -41,7 +42,7 @@ module _ (pars : List (List ℕ)) (first last pos to : ℕ) (some : first < last
       let size = start_of-more pars first [] (omega arith) in
       ap (λ ps. take (pos - start_of pars first) (concat ps)) first_is ∙ take-append-le (pos - start_of pars first) p (concat others) (omega arith)
 
-  -- a rest of these paragraphs that starts in the last one is a rest of the last one
+  -- a suffix of the concatenated paragraphs that starts in the last paragraph is a suffix of that paragraph
   last_is : slice_range pars first last ≡ take (last - first - 1) (drop first pars) ++ get_or pars (last - 1) [] ∷ []
   last_is =
       let i = last - first - 1 in
@@ -66,7 +67,7 @@ module _ (pars : List (List ℕ)) (first last pos to : ℕ) (some : first < last
       let left : to - start_of pars (last - 1) ≡ length q - (start_of pars last - to) = omega arith in
       ap₂ drop from whole ∙ drop_after (concat others) q (to - start_of pars (last - 1)) ∙ ap (λ n. drop n q) left
 
--- without paragraphs, prefix and rest are empty
+-- if there are no paragraphs, the prefix and the suffix are empty
 no_slice : (pars : List (List ℕ)) (first last : ℕ) → length pars ≡ 0 → concat (slice_range pars first last) ≡ []
 no_slice pars first last none =
     let nothing : drop first pars ≡ [] = drop_all first pars (omega arith) in
@@ -79,11 +80,12 @@ no_back : (pars : List (List ℕ)) (first last n m k : ℕ) → length pars ≡ 
 no_back pars first last n m k none =
     ap (drop n) (no_slice pars first last none) ∙ drop_all n [] (omega arith) ∙ sym (ap (drop m) (get_or_past pars k [] (omega arith)) ∙ drop_all m [] (omega arith))
 
--- the touched paragraphs, between two edges
+-- the touched paragraphs, given by the edges before and after them
 abbrev pub touched_by : Edge → Edge → Span
 touched_by front back = record { first = front.index; end = back.index; start = front.chars; stop = back.chars }
 
--- the text of the first touched paragraph before a position, and that of the last one after another position
+-- the text of the first touched paragraph up to a position, and the text of the last one from another
+-- position on
 abbrev pub front_of : List (List ℕ) → Edge → ℕ → List ℕ
 front_of pars front pos = take (pos - front.chars) (get_or pars front.index [])
 
@@ -107,7 +109,7 @@ module _ (kept : List Layout) (pos to : ℕ) (front back : Edge) (order : pos �
     | inr all ↦ omega (arith, b.edge_is.chars, start_of-end (pars_of kept) back.index (omega (arith, pars_number)))
   ]
 
-  -- an edit touches a paragraph, unless there is none
+  -- an edit touches at least one paragraph, unless the text has none
   some_or_none : (front.index < back.index) ⊎ (length (pars_of kept) ≡ 0)
   some_or_none = elim (cases_lt front.index back.index) [
     | inl some ↦ inl some

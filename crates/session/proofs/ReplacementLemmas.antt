@@ -1,4 +1,5 @@
--- The paragraphs of a text after an edit: those of the edited region replace the touched ones, and all others stay.
+-- The paragraphs of a text after an edit: those of the edited region replace the touched ones, and all others
+-- are unchanged.
 use Rattle.std.proofs.Common.{◌≡◌, ℕ, ◌+◌, ◌-◌, ◌≤◌, Bool, true, List, ◌++◌, length, take, drop, sym, ap, subst, ◌∙◌, arith}
 use Rattle.std.specs.List.{concat, slice_range}
 use Rattle.std.proofs.lemmas.List.{length-append, take-append-drop}
@@ -10,7 +11,7 @@ use Rattle.session.specs.Touched.{AreTouched, region_edit, Span}
 use Rattle.session.specs.Touched.{start_of, first_touched, touched_count, fresh}
 use Rattle.session.proofs.SpliceLemmas.{paragraphs-splice, replaced-middle, first-replaced, last-replaced, length-replaced, are_within-splice}
 
--- the new text of the touched paragraphs
+-- the text that replaces the touched paragraphs
 abbrev pub region_of : List (List ℕ) → Span → ℕ → ℕ → List ℕ → List ℕ
 region_of pars touched pos end piece =
     replaced (concat (slice_range pars touched.first touched.end)) (region_edit (pos - touched.start) (end - touched.start) piece)

@@ -1,4 +1,4 @@
--- Edits in order: the text and the width after each.
+-- Edits in order, and the text and the width after each edit.
 use Rattle.std.proofs.Common.{◌≡◌, ℕ, zero, suc, ◌+◌, ◌<◌, ◌≤◌, Bool, true, false, List, [], ◌∷◌, ◌++◌, length, take, drop, get_or, Option, None, Result, Ok, Err, is_none, if◌then◌else◌, refl, sym, ap, ap₂, subst, ◌∙◌, append_assoc, take-append-drop, arith}
 use Rattle.std.specs.Result.{IfOk, IfErr, result_eq}
 use Rattle.std.proofs.lemmas.Bool.{cond-true, cond-false, both_ways}
@@ -18,7 +18,7 @@ use Rattle.session.specs.declared.edits.Edit.{Edit}
 use Rattle.session.specs.declared.edits.EditFault.{EditFault}
 use Rattle.session.specs.declared.edits.EditFault.TheVariants.{OutOfRange, WidthOutOfRange, TextTooLong, ParagraphTooLong, NoMemory}
 
--- the state after an edit is the new one if there is no reason to refuse, and the old one otherwise
+-- After an accepted edit, the state is the new one. After a refused edit, the state is the old one.
 choice-accepted : {A : Type 0} (reason : Option EditFault) (new old : A) → reason ≡ None → (if is_none reason then new else old) ≡ new
 choice-accepted reason new old e = cond-true (is_none reason) new old (ap is_none e)
 
@@ -29,7 +29,7 @@ choice-refused reason new old TextTooLong e other = cond-false (is_none reason) 
 choice-refused reason new old ParagraphTooLong e other = cond-false (is_none reason) new old (ap is_none e)
 choice-refused reason new old NoMemory e other = absurd (other refl)
 
--- an edit was executed or refused, and the state is that after it
+-- whether the session is in the state after an edit that was executed or refused
 pub record HasMoved (after : Held) (old new : SessionState) : Type 0 where
   pub held : held_at new ≡ after
   pub laid_out : IsWholeLayout new
@@ -68,7 +68,8 @@ refilled_to width old new (Err fault) m r other = record {
   rules = r.rules;
 }
 
--- an edit failed because an allocation failed: it is not refused, and changed neither the text nor the width
+-- whether an edit failed only because an allocation failed: it is not refused, and the text and the width are
+-- unchanged
 pub record HasStayed (reason : Option EditFault) (old new : SessionState) : Type 0 where
   pub moved : HasMoved (held_at old) old new
   pub accepted : reason ≡ None
@@ -90,7 +91,8 @@ stays reason bound old new (Err TextTooLong) r e = absurd (cc e)
 stays reason bound old new (Err ParagraphTooLong) r e = absurd (cc e)
 stays reason bound old new (Err NoMemory) r e = record { moved = has_stayed reason bound old new NoMemory r; accepted = r.answer }
 
--- how much one edit worked: nothing if it was refused, and at most n and m characters otherwise
+-- How much work an edit did. A refused edit did no work. Any other edit analysed at most n characters, and
+-- filled and wrote lines of at most m.
 pub record Works (reason : Option EditFault) (n m : ℕ) (old new : Engine) : Type 0 where
   pub analysed : RisesBy (if is_none reason then n else 0) (analysed_of old) (analysed_of new)
   pub filled : RisesBy (if is_none reason then m else 0) (filled_of old) (filled_of new)
@@ -174,7 +176,7 @@ pub width_works : (width : ℕ) (old new : SessionState) (result : Result Damage
 width_works width old new result whole m r =
     subst (λ kept. Works (width_refusal width) 0 (changed width kept) old.engine new.engine) whole.kept (width_counted width old new result m r)
 
--- the state after the first n edits
+-- whether a session is in the state after the first n edits
 pub record HasRun (start : SessionState) (edits : List Edit) (n : ℕ) (now : SessionState) : Type 0 where
   pub held : held_at now ≡ after_all (cuts_at start) (held_at start) (take n edits)
   pub laid_out : IsWholeLayout now
@@ -185,7 +187,7 @@ after_all-push : (is_cut : ℕ → ℕ → Bool) (held : Held) (edits : List Edi
 after_all-push is_cut held [] edit = refl
 after_all-push is_cut held (first ∷ edits) edit = after_all-push is_cut (after_one is_cut held first) edits edit
 
--- the work of a list of edits with one more is their work, plus that of the last edit
+-- appending an edit to a list of edits adds the work of that edit to the work of the list
 work_of-push : (rules : Rules) (work : Held → Edit → ℕ) (held : Held) (edits : List Edit) (edit : Edit)
     → work_of_all rules work held (edits ++ edit ∷ []) ≡ work_of_all rules work held edits + work_of rules work (after_all (cut_by rules) held edits) edit
 work_of-push rules work held [] edit = omega arith
@@ -229,7 +231,7 @@ next_works start old new edits n d edit within read run works =
       written = RisesBy-more _ _ _ _ _ _ run.works.written works.written (sum_is filled_by);
     }
 
--- a run that ends at edit n stops there
+-- if edit n fails because memory ran out, the run stops at edit n
 pub HasRun-stops : (start old new : SessionState) (edits : List Edit) (n : ℕ) (d edit : Edit) → n < length edits → get_or edits n d ≡ edit → HasRun start edits n old
     → TakesMemory (rules_of old.engine) (held_at old) edit
     → HasStayed (edit_refusal (rules_of old.engine) (held_at old) edit) old new

@@ -1,4 +1,4 @@
--- The paragraphs of a text with one more character, and the state of a scan after that character.
+-- How one more character changes the paragraphs of a text and the state of a scan.
 use Rattle.std.proofs.Common.{◌≡◌, ℕ, ◌+◌, ◌-◌, ◌<◌, ◌≤◌, min, nat_le, Bool, true, false, not, ◌&&◌, List, [], ◌∷◌, ◌++◌, length, get_or, Option, Some, None, MatchOption, refl, sym, ap, subst, ◌∙◌, arith, sub-one, if◌then◌else◌}
 use Rattle.std.specs.List.{onto_first, slice_get}
 use Rattle.std.proofs.lemmas.Bool.{le-leb, lt-leb, leb-true, and_right}
@@ -10,7 +10,8 @@ use Rattle.session.specs.Scans.{HasScanned}
 use Rattle.session.specs.declared.scan.Scan.{Scan}
 use Rattle.lines.specs.declared.engine.TheConstants.{PARAGRAPH_LIMIT}
 
--- the last of several parts; and parts with one more character, which starts a part or is appended to the last
+-- The last of several parts, and parts with one more character. The character starts a part or is appended to
+-- the last one.
 last_of : List (List ℕ) → List ℕ
 last_of [] = []
 last_of (p ∷ []) = p
@@ -21,7 +22,7 @@ push starts c [] = (c ∷ []) ∷ []
 push starts c (p ∷ []) = if starts then p ∷ (c ∷ []) ∷ [] else (p ++ c ∷ []) ∷ []
 push starts c (p ∷ q ∷ ps) = p ∷ push starts c (q ∷ ps)
 
--- whether a character starts a part after the last one, if there is one
+-- whether a character starts a new part, given the character before it, if there is one
 pub starts_piece : (ℕ → ℕ → Bool) → Option ℕ → ℕ → Bool
 starts_piece is_cut None c = false
 starts_piece is_cut (Some a) c = is_cut a c
@@ -65,12 +66,12 @@ cond-filled true a ps = (a ∷ [], ps, refl)
 cond-filled false a ps = onto_first-filled a ps
 
 module _ (is_cut : ℕ → ℕ → Bool) where
-  -- a text that is not empty has a paragraph
+  -- a text that is not empty has at least one paragraph
   paragraphs-filled : (a : ℕ) (text : List ℕ) → (p : List ℕ) × (ps : List (List ℕ)) × (paragraphs is_cut (a ∷ text) ≡ p ∷ ps)
   paragraphs-filled a [] = (a ∷ [], [], refl)
   paragraphs-filled a (b ∷ text) = cond-filled (is_cut a b) a (paragraphs is_cut (b ∷ text))
 
-  -- the paragraphs of a text with one more character
+  -- a character that is appended to a text starts a paragraph or is appended to the last one
   paragraphs-push : (text : List ℕ) (c : ℕ)
       → paragraphs is_cut (text ++ c ∷ []) ≡ push (starts_piece is_cut (slice_get text (length text - 1)) c) c (paragraphs is_cut text)
   unfolding push starts_piece
@@ -117,7 +118,8 @@ and_assoc false b c = refl
 shorter_within : (p : List ℕ) (c : ℕ) → nat_le (length (p ++ c ∷ [])) PARAGRAPH_LIMIT ≡ true → nat_le (length p) PARAGRAPH_LIMIT ≡ true
 shorter_within p c h = le-leb (length p) PARAGRAPH_LIMIT (omega (arith, length_push p c, leb-true (length (p ++ c ∷ [])) PARAGRAPH_LIMIT h))
 
--- after one more character, no part is too long if none was before and the last one is not
+-- after one more character, no part is too long exactly if none was too long before and the last one is not
+-- too long now
 are_within-push : (starts : Bool) (c : ℕ) (ps : List (List ℕ)) → are_within (push starts c ps) ≡ (are_within ps && nat_le (length (last_of (push starts c ps))) PARAGRAPH_LIMIT)
 unfolding last_of push
 are_within-push starts c [] = refl
@@ -137,7 +139,8 @@ slice_get-push text c =
     let at_end : length (text ++ c ∷ []) - 1 ≡ length text = omega (arith, length_push text c) in
     rw at_end (sym (slice_get-get_or (text ++ c ∷ []) (length text) c (omega (arith, length_push text c)) ∙ ap (λ x. Some x) (get_or_push text c c (length text) refl)))
 
--- the length of the last paragraph before one more character, 0 if a new paragraph starts, and after it
+-- The length of the last paragraph before and after one more character. Before a character that starts a new
+-- paragraph, the length is 0.
 len_before : (starts : Bool) (m n : ℕ) → n ≡ min m PARAGRAPH_LIMIT → (if starts then 0 else n) ≡ min (if starts then 0 else m) PARAGRAPH_LIMIT
 len_before true m n h = refl
 len_before false m n h = h
@@ -169,7 +172,8 @@ module _ (is_cut : ℕ → ℕ → Bool) (text : List ℕ) (c : ℕ) where
     length_got : length (get_or (paragraphs is_cut (text ++ c ∷ [])) (length (paragraphs is_cut (text ++ c ∷ [])) - 1) []) ≡ before + 1
     length_got = ap length (get_or-last (paragraphs is_cut (text ++ c ∷ []))) ∙ length_last
 
-    -- the scan after one more character, if the last paragraph is then within the limit, and if it is past it
+    -- `HasScanned` holds after one more character, whether or not the last paragraph is then longer than the
+    -- limit
     pub scanned_within : (len : ℕ) (is_long : Bool) → n < PARAGRAPH_LIMIT → len ≡ n + 1 → is_long ≡ scan.is_long
         → HasScanned is_cut (text ++ c ∷ []) (record { last = Some c; len = len; is_long = is_long })
     scanned_within len is_long short len-is is_long-is = record {
@@ -187,7 +191,7 @@ module _ (is_cut : ℕ → ℕ → Bool) (text : List ℕ) (c : ℕ) where
           is_long-is ∙ ap not (sym (within_more ∙ ap (λ b. are_within (paragraphs is_cut text) && b) e ∙ and_right (are_within (paragraphs is_cut text)) false refl)));
     }
 
--- a scan of a text is a scan of an equal text
+-- `HasScanned` also holds for an equal text
 pub scanned_push : (is_cut : ℕ → ℕ → Bool) (text part more : List ℕ) (c : ℕ) (scan : Scan) → more ≡ part ++ c ∷ []
     → HasScanned is_cut (text ++ part ++ c ∷ []) scan → HasScanned is_cut (text ++ more) scan
 scanned_push is_cut text part more c scan more-is known =

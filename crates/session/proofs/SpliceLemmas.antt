@@ -1,4 +1,5 @@
--- A text whose middle is changed: if the middle keeps its first and last character, the paragraphs around it stay.
+-- Replacing the middle of a text: if the first and last characters of the middle stay the same, the
+-- paragraphs around it are unchanged.
 use Rattle.std.proofs.Common.{◌≡◌, ℕ, ◌+◌, ◌-◌, ◌<◌, ◌≤◌, Bool, true, ◌&&◌, List, [], ◌∷◌, ◌++◌, length, take, drop, slice_index, nat_le, zero-add, suc-add, add_assoc, refl, sym, ap, ◌∙◌, arith}
 use Rattle.std.specs.List.{concat}
 use Rattle.std.proofs.lemmas.List.{append-nil, append_assoc, get_or-append-add, get_or_append_left, length-append, length-drop, length-take-le, get_or-take, get_or-drop, take-append-le, drop-append-le}
@@ -11,7 +12,8 @@ use Rattle.session.specs.Edits.{replaced, replacing, are_within}
 use Rattle.lines.specs.declared.engine.TheConstants.{PARAGRAPH_LIMIT}
 use Rattle.session.specs.Kept.{IsCutAt}
 
--- the first character of two adjacent texts is that of the first one, and the last that of the second
+-- two concatenated texts start with the first character of the first text, and end with the last character of
+-- the second
 first-append : (before after : List ℕ) → 0 < length before → slice_index (before ++ after) 0 ≡ slice_index before 0
 first-append before after some = get_or_append_left before after 0 0 some
 
@@ -28,7 +30,8 @@ module _ (is_cut : ℕ → ℕ → Bool) where
   some-concat : (piece : List ℕ) (pieces : List (List ℕ)) → ArePieces is_cut (piece ∷ pieces) → 0 < length (concat (piece ∷ pieces))
   some-concat piece pieces h = let some = first_is_filled piece pieces h in rw (length-append piece (concat pieces)) (omega arith)
 
-  -- the pieces of two texts with a boundary between them are pieces of both together, and the reverse
+  -- if there is a paragraph boundary between two texts, their pieces together are the pieces of the
+  -- concatenated text, and vice versa
   pub ArePieces-append : (before after : List (List ℕ)) → ArePieces is_cut before → ArePieces is_cut after → IsCutAt is_cut (concat before) (concat after) → ArePieces is_cut (before ++ after)
   ArePieces-append [] after h g between = g
   ArePieces-append (piece ∷ []) [] h g between = h
@@ -62,7 +65,8 @@ module _ (is_cut : ℕ → ℕ → Bool) where
       let last = some-concat next before (ArePieces-before (next ∷ before) after h.2) in
       rw (last-append piece (concat (next ∷ before)) last) (ArePieces-between (next ∷ before) after h.2 last filled)
 
-  -- if a new text replaces the middle pieces, and keeps their first and last character, its paragraphs replace them
+  -- if a new text replaces the middle pieces and keeps their first and last characters, its paragraphs
+  -- replace these pieces
   pub paragraphs-splice : ParagraphsArePieces → (left mid right : List (List ℕ)) (new : List ℕ) → ArePieces is_cut (left ++ (mid ++ right))
       → (0 < length (concat left) → (0 < length (concat mid)) × (0 < length new) × (slice_index new 0 ≡ slice_index (concat mid) 0))
       → (0 < length (concat right) → (0 < length (concat mid)) × (0 < length new) × (slice_index new (length new - 1) ≡ slice_index (concat mid) (length (concat mid) - 1)))
@@ -85,7 +89,7 @@ module _ (is_cut : ℕ → ℕ → Bool) where
       concat-append left (paragraphs is_cut new ++ right) ∙ ap (λ t. concat left ++ t) text in
       ap (paragraphs is_cut) (sym whole) ∙ law.only is_cut (left ++ (paragraphs is_cut new ++ right)) all
 
--- an edit inside the middle of a text is an edit of the middle
+-- an edit inside the middle of a text changes only the middle
 take-add : (left rest : List ℕ) (n : ℕ) → take (length left + n) (left ++ rest) ≡ left ++ take n rest
 take-add [] rest n = rw zero-add refl
 take-add (x ∷ left) rest n = rw suc-add (ap (λ t. x ∷ t) (take-add left rest n))
@@ -103,7 +107,7 @@ replaced-middle left mid right piece from count within =
     ap (λ n. drop n (left ++ (mid ++ right))) (add_assoc (length left) from count) ∙ drop-add left (mid ++ right) (from + count) ∙ drop-append-le (from + count) mid right within in
     rw (front, back) (simp append_assoc)
 
--- an edit that does not reach the ends of a text keeps its first and last character
+-- an edit that does not reach the ends of a text keeps the text's first and last characters
 pub first-replaced : (mid piece : List ℕ) (from count : ℕ) → 0 < from → from + count ≤ length mid
     → (0 < length mid) × (0 < length (replaced mid (replacing from count piece))) × (slice_index (replaced mid (replacing from count piece)) 0 ≡ slice_index mid 0)
 first-replaced mid piece from count some within =
@@ -135,7 +139,7 @@ length-replaced mid piece from count within =
     let back : length (drop (from + count) mid) ≡ length mid - (from + count) = length-drop (from + count) mid in
     rw (length-append (take from mid) (piece ++ drop (from + count) mid), length-append piece (drop (from + count) mid)) (omega arith)
 
--- if the old paragraphs are not too long, new ones in the middle decide whether one is
+-- if no old paragraph is too long, the new ones in the middle decide whether any paragraph is too long
 pub are_within-splice : (left mid right new : List (List ℕ)) → are_within (left ++ (mid ++ right)) ≡ true → are_within (left ++ (new ++ right)) ≡ are_within new
 are_within-splice left mid right new h =
     let p : List ℕ → Bool = λ q. nat_le (length q) PARAGRAPH_LIMIT in

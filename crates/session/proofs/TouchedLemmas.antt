@@ -1,4 +1,5 @@
--- Where paragraphs start, and which ones an edit touches. These are adjacent, and two searches find them.
+-- Where paragraphs start, and which ones an edit touches. The touched paragraphs are adjacent, and two
+-- searches find them.
 use Rattle.std.proofs.Common.{◌≡◌, ℕ, zero, suc, ◌+◌, ◌-◌, ◌<◌, ◌≤◌, max, Bool, true, false, cond, List, [], ◌∷◌, ◌++◌, length, take, get_or, Some, unwrap_or, count_by, nat_le, sym, ap, ◌∙◌, inl, inr, arith}
 use Rattle.std.specs.List.{concat, range_with_len}
 use Rattle.std.proofs.lemmas.List.{append-nil, length-append, take_more, take_all}
@@ -10,7 +11,7 @@ use Rattle.session.specs.Edits.{Replacement}
 use Rattle.session.specs.Touched.{AreTouched, region_edit}
 use Rattle.session.specs.Touched.{start_of, is_touched, first_touched, touched_count}
 
--- `least` finds the first number of a range that passes
+-- `least` finds the first number of a range that passes a test
 least_found : (p : ℕ → Bool) (low count k : ℕ) → low ≤ k → k < low + count → p k ≡ true → ((m : ℕ) → low ≤ m → m < k → p m ≡ false) → least p low count ≡ Some k
 least_found p low zero k from to here before = absurd (omega arith)
 least_found p low (suc count) k from to here before =
@@ -20,7 +21,8 @@ least_found p low (suc count) k from to here before =
           ∙ least_found p (suc low) count k (omega arith) (omega arith) here (λ m above below. before m (omega arith) below)
     ]
 
--- if the numbers that pass are those of an interval, their count is its length inside the range
+-- if exactly the numbers of an interval pass a test, the count of passing numbers in a range is the size of
+-- its overlap with the interval
 count_of_interval : (p : ℕ → Bool) (low count first end : ℕ) → first ≤ end → end ≤ low + count
     → ((k : ℕ) → low ≤ k → first ≤ k → k < end → p k ≡ true) → ((k : ℕ) → low ≤ k → k < first → p k ≡ false) → ((k : ℕ) → low ≤ k → end ≤ k → k < low + count → p k ≡ false)
     → count_by p (range_with_len low count) ≡ end - max first low
@@ -61,7 +63,8 @@ start_of-le-length pars i =
     let last = start_of-le pars i (i + length pars) (omega arith) in
     let all = start_of-end pars (i + length pars) (omega arith) in omega arith
 
--- the paragraphs between those that two searches find are the touched ones
+-- if `first` and `last` are what the two searches find, the paragraphs from `first` up to `last` are the
+-- touched ones
 pub AreTouched-from_walks : (pars : List (List ℕ)) (pos end first last start stop : ℕ) → pos ≤ end → end ≤ length (concat pars)
     → start ≡ start_of pars first → stop ≡ start_of pars last → first ≤ last → last ≤ length pars
     → (0 < first → start < pos) → (first < length pars → pos ≤ start_of pars (first + 1))

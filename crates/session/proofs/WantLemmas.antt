@@ -10,7 +10,7 @@ use Rattle.lines.specs.declared.engine.Engine.{Engine}
 use Rattle.session.specs.Kept.{pars_of, text_of, layouts_of}
 use Rattle.session.specs.Sessions.{IsWholeLayout}
 
--- a fact holds after an error; and what holds after an error holds if the result is one
+-- If a fact holds, `OnErr` holds for that fact. If a result is an error, a fact in `OnErr` holds.
 pub on_err : {A E P : Type 0} (r : Result A E) → P → OnErr r P
 on_err (Ok x) p = tt
 on_err (Err e) p = p
@@ -26,7 +26,7 @@ none_kept engine width kept whole none = whole.kept ∙ ap (layouts_of (rules_of
 pub none_laid : (rules : Rules) (width : ℕ) (text : List ℕ) (kept : List Layout) → kept ≡ layouts_of rules width text → length text ≡ 0 → length kept ≡ 0
 none_laid rules width text kept laid none = ap length (laid ∙ ap (layouts_of rules width) (nil_from_length text none))
 
--- without paragraphs, a prefix and a rest of a paragraph's text are empty
+-- if there are no paragraphs, a prefix or suffix of a paragraph's text is empty
 no_part : (kept : List Layout) (i p : ℕ) → kept ≡ [] → length (take p (get_or (pars_of kept) i [])) ≡ 0
 no_part kept i p none = ap (λ (ks : List Layout). length (take p (get_or (pars_of ks) i []))) none ∙ ap length (take-nil p)
 

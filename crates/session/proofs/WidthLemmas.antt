@@ -23,12 +23,13 @@ use Rattle.session.proofs.OpenLemmas.{positive}
 use Rattle.session.proofs.RefusalLemmas.{allowed-length, allowed-within_limit}
 use Rattle.lines.specs.declared.engine.TheConstants.{PARAGRAPH_LIMIT}
 
--- `P` holds for each item of a list
+-- whether `P` holds for each item of a list
 abbrev pub Each : {A : Type 0} → (A → Type 0) → List A → Type 0
 Each P [] = Unit {0}
 Each P (x ∷ xs) = P x × Each P xs
 
--- each paragraph of a text without too long paragraphs is one paragraph, and is laid out
+-- if no paragraph of a text is too long, each one satisfies `IsParagraph`, and its fresh layout satisfies
+-- `IsLaidOut`
 rest_pieces : (is_cut : ℕ → ℕ → Bool) (piece : List ℕ) (pieces : List (List ℕ)) → ArePieces is_cut (piece ∷ pieces) → ArePieces is_cut pieces
 rest_pieces is_cut piece [] h = tt
 rest_pieces is_cut piece (next ∷ pieces) h = h.2
@@ -75,7 +76,7 @@ each_push : {A : Type 0} (P : A → Type 0) (xs : List A) (x : A) → Each P xs 
 each_push P [] x h this = (this, tt)
 each_push P (y ∷ xs) x h this = (h.0, each_push P xs x h.1 this)
 
--- the scratch space has the capacity for a paragraph
+-- whether the scratch space has enough capacity for a paragraph
 abbrev pub HasRoom : ℕ → Layout → Type 0
 HasRoom capacity l = length l.text ≤ capacity
 
@@ -91,7 +92,7 @@ roomy_more kept n most more l below item order this so_far =
 pub all_roomy : (kept : List Layout) (n most : ℕ) → length kept ≤ n → Each (HasRoom most) (take n kept) → All (HasRoom most) kept
 all_roomy kept n most last so_far = all_each (HasRoom most) kept (subst (Each (HasRoom most)) (take_all n kept last) so_far)
 
--- the items of a list of references
+-- the items to which a list of references refers
 abbrev pub values : List (Bor Layout) → List Layout
 values list = map (λ k. k.now) list
 
@@ -108,14 +109,14 @@ module _ (list : List (Bor Layout)) (n : ℕ) (x : Bor Layout) (l : Layout) (bel
   pub read_laid : (start now : Engine) → SameRules start now → All (IsLaidOut (rules_of start)) (values list) → IsLaidOut (rules_of now) l
   read_laid start now rules all = subst (λ r. IsLaidOut r l) (sym rules) (subst (IsLaidOut (rules_of start)) read_item (all n l read_here))
 
--- related lists are still related with one more pair of related items
+-- if two lists are related item by item, they are still related after a related pair is appended
 zip_push : {A B : Type 0} (R : A → B → Type 0) (xs : List A) (ys : List B) (x : A) (y : B) → AllZip R xs ys → R x y → AllZip R (xs ++ x ∷ []) (ys ++ y ∷ [])
 zip_push R [] [] x y all more = (more, tt)
 zip_push R [] (b ∷ ys) x y all more = absurd all
 zip_push R (a ∷ xs) [] x y all more = absurd all
 zip_push R (a ∷ xs) (b ∷ ys) x y all more = (all.0, zip_push R xs ys x y all.1 more)
 
--- a width change fills at most all characters again
+-- a width change fills at most all characters of the text again
 none_or_all : (keeps : Bool) (n : ℕ) → (if keeps then 0 else n) ≤ n
 none_or_all true n = omega arith
 none_or_all false n = omega arith
@@ -138,7 +139,8 @@ counted_twice count n m k once twice first second sum = omega (arith, first, sec
 rises_twice : (n m k a b c : ℕ) → RisesBy n a b → RisesBy m b c → n + m ≤ k → RisesBy k a c
 rises_twice n m k a b c r s e = record { least = omega (arith, r.least, s.least); most = omega (arith, r.most, s.most, e) }
 
--- for each of the first n paragraphs, the extents of its new lines were found, or none are needed
+-- for each of the first n paragraphs, the extents of its new lines were found, unless the paragraph keeps its
+-- line
 pub record AreFilled (start : Engine) (width : ℕ) (kept : List Layout) (n : ℕ) (fills : List (Option LineExtents)) (now : Engine) : Type 0 where
   pub made : AllZip (BringsTo (rules_of start) width) (take n kept) fills
   pub rules : SameRules start now
@@ -176,7 +178,7 @@ module _ (start now : Engine) (width : ℕ) (kept : List Layout) (n : ℕ) (fill
       written = counts.written ∙ so_far.counts.written;
     }
 
-    -- the counters stay within their bound if memory runs out after the next paragraph
+    -- if memory runs out after the next paragraph, the counters are still within their bound
     pub FindsExtentsAtMost-next : FindsExtentsAtMost (changed width kept) start next
     FindsExtentsAtMost-next = upto (changed width kept) (sum_by-take-le (changed_in width) kept (n + 1))
 
@@ -195,7 +197,7 @@ module _ (start now : Engine) (width : ℕ) (kept : List Layout) (n : ℕ) (fill
       counts = upto (changed width (take (n + 1) kept)) (omega arith);
     }
 
--- what an exchange of lines requires, and its result
+-- what an exchange of lines requires, and the layouts that result from it
 abbrev pub fits_any : Writer → List Layout → List (Option LineExtents) → Type 0
 fits_any writer kept parts = AllZip (λ l part. IfSome part (CanBePut writer l)) kept parts
 
@@ -222,7 +224,8 @@ all_fit rules same width capacity kept parts e laid has made =
     subst (λ (r : Rules). fits_any (record { rules = r; capacity = capacity }) kept parts) (sym e)
     (each_fit rules width capacity kept parts laid (each_all (HasRoom capacity) kept has) made)
 
--- the number of characters whose lines are written is the number that the width change fills again
+-- the number of characters whose lines are written is the number of characters that the width change fills
+-- again
 one_written : (rules : Rules) (width : ℕ) (l : Layout) (part : Option LineExtents) → BringsTo rules width l part → written_for l part ≡ changed_in width l
 one_written rules width l None brings = sym (cond-true (is_line_within width l.lines) 0 (length l.text) brings.0)
 one_written rules width l (Some extents) brings = sym (cond-false (is_line_within width l.lines) 0 (length l.text) brings.0)
@@ -241,7 +244,7 @@ written_is_changed rules width (l ∷ kept) (part ∷ parts) made =
       sum_by-cons (λ (n : ℕ). n) (written_for l part) (pairwise {P = Layout} {Part = Option LineExtents} {A = ℕ} written_for kept parts),
     )
 
--- the extents of lines were found, and then the lines were written: together, lines were filled
+-- if extents of lines are found and then these lines are written, the two steps together satisfy `Fills`
 pub Fills-written : (n m : ℕ) (old found new : Engine) → FindsExtents n old found → m ≡ n → Rewrites m found new → Fills n old new
 Fills-written n m old found new finds same writes = record {
   analysed = writes.analysed ∙ finds.analysed;

@@ -13,7 +13,8 @@ use Rattle.session.specs.declared.edits.Edit.TheVariants.{Delete, SetWidth}
 abbrev three : List (List ℕ)
 three = (97 ∷ 98 ∷ 10 ∷ []) ∷ (99 ∷ 100 ∷ 10 ∷ []) ∷ (101 ∷ 102 ∷ []) ∷ []
 
--- an insertion between two paragraphs touches both, one inside a paragraph only that one
+-- An insertion between two paragraphs touches both. An insertion inside a paragraph touches only that
+-- paragraph.
 between-two : (first_touched three (insertion 3 (120 ∷ [])) ≡ 0) × (touched_count three (insertion 3 (120 ∷ [])) ≡ 2) × (fresh three (insertion 3 (120 ∷ [])) ≡ 7)
 between-two = (refl, refl, refl)
 
@@ -27,7 +28,8 @@ over-three = (refl, refl, refl)
 in-nothing : (first_touched [] (insertion 0 (120 ∷ [])) ≡ 0) × (touched_count [] (insertion 0 (120 ∷ [])) ≡ 0) × (fresh [] (insertion 0 (120 ∷ [])) ≡ 1)
 in-nothing = (refl, refl, refl)
 
--- three paragraphs, the second in two lines: at width 2, only its characters are filled again; at width 1, all are
+-- Three paragraphs, the second with two lines. At width 2, only the characters of the second are filled
+-- again. At width 1, all characters are filled again.
 abbrev line_of : ℕ → ℕ → Line
 line_of start columns = record { start = start; columns = columns; levels = []; ltov = []; vtol = []; chars = [] }
 
@@ -53,6 +55,6 @@ four_edits = SetWidth 0 ∷ SetWidth 5 ∷ Delete 2 2 ∷ Delete 0 1 ∷ []
 after-four : after_all after_newline (record { text = 97 ∷ 10 ∷ 98 ∷ []; width = 80 }) four_edits ≡ record { text = 10 ∷ 98 ∷ []; width = 5 }
 after-four = refl
 
--- the maximum length of a text
+-- the greatest length of a text, in characters
 text_limit : TEXT_LIMIT ≡ 16777216
 text_limit = refl

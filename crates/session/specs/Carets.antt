@@ -25,11 +25,12 @@ caret_in line place =
     then record { line = place.line; column = leading_edge line place.offset; level = slice_index line.levels place.offset }
     else line_end place.line line
 
--- the caret at a place of a line, or at column 0 of the line after the last, where an empty paragraph would begin
+-- the caret at a place of a line, or at column 0 of the line after the last, where an empty paragraph would
+-- start
 abbrev pub caret_on : Rules → Option Visual → Place → Caret
 caret_on rules (Some line) place = caret_in line place
 caret_on rules None place = record { line = place.line; column = 0; level = base_of rules [] }
 
--- the caret before the character at a position, or at the end of the text; none past the end
+-- the caret before the character at a position, or at the end of the text; `None` past the end
 abbrev pub caret_at : Rules → List Layout → ℕ → Option Caret
 caret_at rules kept pos = option_map (λ place. caret_on rules (slice_get (lines_in kept) place.line) place) (place_at rules kept pos)

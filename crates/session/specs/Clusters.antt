@@ -12,12 +12,13 @@ use Rattle.session.specs.declared.clusters.Cluster.{Cluster}
 abbrev pub ends_at : List Bool → ℕ → Bool
 ends_at ends k = slice_index_or ends k false
 
--- the index after the given one, or `other` if there is none
+-- the index after the given one, or `other` for `None`
 abbrev pub after : Option ℕ → ℕ → ℕ
 after (Some k) other = k + 1
 after None other = other
 
--- the cluster of character k starts after the last cluster end before k, and ends at the first one from k on
+-- the cluster of character k starts after the last cluster end before k, and ends at the first cluster end at
+-- or after k
 abbrev pub cluster_begin : List Bool → ℕ → ℕ
 cluster_begin ends k = after (greatest (ends_at ends) k) 0
 
@@ -31,7 +32,7 @@ cluster_in start text pos = record {
   end = start + cluster_end (cluster_ends text) (pos - start);
 }
 
--- the cluster of the character at a position of a text; none past the last character
+-- the cluster of the character at a position of a text; `None` past the last character
 abbrev pub cluster_at : List Layout → ℕ → Option Cluster
 cluster_at kept pos =
     let i = count_to pos (paragraph_starts kept) - 1 in

@@ -1,4 +1,4 @@
--- The starts and ends of paragraphs as edges: how many paragraphs, characters and lines come before.
+-- The starts and ends of paragraphs as edges: how many paragraphs, characters and lines come before each.
 use Rattle.std.specs.Prelude.{◌≡◌, ℕ, ◌+◌, ◌-◌, ◌<◌, ◌≤◌, List, length, take}
 use Rattle.lines.specs.Layouts.{Layout}
 use Rattle.session.specs.Kept.{pars_of, lines_in}
@@ -12,19 +12,19 @@ pub record IsEdge (kept : List Layout) (edge : Edge) : Type 0 where
   pub chars : edge.chars ≡ start_of (pars_of kept) edge.index
   pub lines : edge.lines ≡ length (lines_in (take edge.index kept))
 
--- the start of the first paragraph whose closed span meets a range that starts at `pos`
+-- whether an edge is the start of the first paragraph touched by an edit whose range starts at `pos`
 pub record IsFrontEdge (kept : List Layout) (pos : ℕ) (edge : Edge) : Type 0 where
   pub edge_is : IsEdge kept edge
   pub before : 0 < edge.index → edge.chars < pos
   pub after : edge.index < length kept → pos ≤ start_of (pars_of kept) (edge.index + 1)
 
--- the end of the last paragraph whose closed span meets a range that ends at `to`
+-- whether an edge is the end of the last paragraph touched by an edit whose range ends at `to`
 pub record IsBackEdge (kept : List Layout) (to : ℕ) (edge : Edge) : Type 0 where
   pub edge_is : IsEdge kept edge
   pub before : (i : ℕ) → i < edge.index → start_of (pars_of kept) i ≤ to
   pub after : edge.index < length kept → to < edge.chars
 
--- the damage if new paragraphs replace those between two edges
+-- the damage of an edit that puts new paragraphs in place of those between two edges
 abbrev pub damage_between : Edge → Edge → List Layout → Damage
 damage_between front back fresh = record {
   first_line = front.lines;

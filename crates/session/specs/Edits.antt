@@ -22,14 +22,14 @@ replaced text edit = take edit.pos text ++ (edit.piece ++ drop (edit.pos + edit.
 abbrev pub replacing : ℕ → ℕ → List ℕ → Replacement
 replacing pos count piece = record { pos = pos; count = count; piece = piece }
 
--- an insert deletes nothing, and a delete inserts nothing
+-- an insertion deletes nothing, and a deletion inserts nothing
 abbrev pub insertion : ℕ → List ℕ → Replacement
 insertion pos piece = record { pos = pos; count = 0; piece = piece }
 
 abbrev pub deletion : ℕ → ℕ → Replacement
 deletion pos count = record { pos = pos; count = count; piece = [] }
 
--- no paragraph is longer than the limit
+-- whether no paragraph is longer than the limit
 abbrev pub are_within : List (List ℕ) → Bool
 are_within pars = list_all (λ p. nat_le (length p) PARAGRAPH_LIMIT) pars
 
@@ -37,17 +37,18 @@ are_within pars = list_all (λ p. nat_le (length p) PARAGRAPH_LIMIT) pars
 abbrev pub is_within_limit : (ℕ → ℕ → Bool) → List ℕ → Bool
 is_within_limit is_cut text = are_within (paragraphs is_cut text)
 
--- why the paragraphs of a text are refused
+-- the reason for refusing the paragraphs of a text, or `None`
 abbrev pub paragraphs_refusal : (ℕ → ℕ → Bool) → List ℕ → Option EditFault
 paragraphs_refusal is_cut text = if is_within_limit is_cut text then None else Some ParagraphTooLong
 
--- why a text is refused
+-- the reason for refusing a text, or `None`
 abbrev pub text_refusal : (ℕ → ℕ → Bool) → List ℕ → Option EditFault
 text_refusal is_cut text =
     if nat_lt TEXT_LIMIT (length text) then Some TextTooLong
     else (if is_within_limit is_cut text then None else Some ParagraphTooLong)
 
--- why an edit is refused: it reaches past the end of the text, or its result is refused
+-- the reason for refusing an edit, or `None`: the edit reaches past the end of the text, or its result is
+-- refused
 abbrev pub refusal : (ℕ → ℕ → Bool) → List ℕ → Replacement → Option EditFault
 refusal is_cut text edit =
     if nat_lt (length text) (edit.pos + edit.count) then Some OutOfRange
@@ -58,11 +59,11 @@ pub record Held : Type 0 where
   pub text : List ℕ
   pub width : ℕ
 
--- why a width is refused: it is 0
+-- the reason for refusing a width, or `None`: only a width of 0 is refused
 abbrev pub width_refusal : ℕ → Option EditFault
 width_refusal width = if width == 0 then Some WidthOutOfRange else None
 
--- the text, and the width, after an edit; a refused edit changes nothing
+-- The text and the width after an edit. A refused edit changes nothing.
 abbrev pub after_edit : (ℕ → ℕ → Bool) → List ℕ → Replacement → List ℕ
 after_edit is_cut text edit = if is_none (refusal is_cut text edit) then replaced text edit else text
 

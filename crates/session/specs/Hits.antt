@@ -8,13 +8,14 @@ use Rattle.session.specs.Kept.{lines_in}
 use Rattle.session.specs.Places.{line_starts}
 use Rattle.session.specs.declared.hits.Hit.{Hit}
 
--- the visual position whose character includes the last column of a line: the rightmost character of nonzero width
+-- the visual position of the character that covers the last column of a line, which is its rightmost
+-- character of nonzero width
 abbrev pub rightmost : Visual → Option ℕ
 rightmost line = covering line (columns_left line (length line.vtol) - 1)
 
--- The hit at a column of a line that starts at `start`. Right of the line, it is the line's rightmost character of
--- nonzero width, and trailing if the level of that character is even. In a line of width 0, it is the start of the
--- line.
+-- The hit at a column of a line that starts at `start`. To the right of the line, the hit is the line's
+-- rightmost character of nonzero width, and is trailing if the level of that character is even. In a line of
+-- width 0, the hit is the start of the line.
 abbrev pub hit_by : ℕ → Visual → Option ℕ → Option ℕ → Hit
 hit_by start line (Some place) last = record { pos = start + slice_index line.vtol place; trailing = false }
 hit_by start line None (Some place) = record {

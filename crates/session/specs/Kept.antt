@@ -1,4 +1,4 @@
--- What a session keeps of a text: the layouts of its paragraphs, as functions of the text alone.
+-- What a session keeps for a text: the layout of each of its paragraphs.
 use Rattle.std.specs.Prelude.{◌≡◌, ℕ, ◌-◌, ◌<◌, ◌≤◌, Bool, true, false, List, length, map, sum_by, slice_index, Option, Some, None, if◌then◌else◌, refl}
 use Rattle.std.specs.List.{concat, flat_map}
 use Rattle.bidi.specs.Cuts.{paragraphs}
@@ -6,11 +6,11 @@ use Rattle.lines.specs.Extents.{extents_in, extents_of, reflowed, LineExtents}
 use Rattle.lines.specs.Layouts.{Layout, Rules, IsLaidOut, cut_by, is_line_within, layout_of, lines_of, visuals}
 use Rattle.lines.specs.Visual.{Visual}
 
--- there is a boundary between two texts, unless one of them is empty
+-- whether there is a paragraph boundary between two texts, or one of them is empty
 abbrev pub IsCutAt : (ℕ → ℕ → Bool) → List ℕ → List ℕ → Type 0
 IsCutAt is_cut before after = 0 < length before → 0 < length after → is_cut (slice_index before (length before - 1)) (slice_index after 0) ≡ true
 
--- the paragraphs of layouts, the whole text, and its visual lines
+-- the paragraphs of a list of layouts, their whole text, and its visual lines
 abbrev pub pars_of : List Layout → List (List ℕ)
 pars_of kept = map (λ l. l.text) kept
 
@@ -42,8 +42,8 @@ pub record ReflowState : Type 0 where
   pub by : Writer
   pub written : ℕ
 
--- A layout whose lines are written again by the given extents, if there are any. The extents of its old lines are
--- returned.
+-- A layout after its lines are written again by the given extents, if there are any. The extents of its old
+-- lines are returned.
 abbrev pub put_into : Writer → Layout → Option LineExtents → Layout
 put_into writer kept None = kept
 put_into writer kept (Some extents) = reflowed writer.rules kept extents
@@ -61,13 +61,15 @@ pub chars_stay : (writer : Writer) (kept : Layout) (part : Option LineExtents) �
 chars_stay writer kept None = refl
 chars_stay writer kept (Some extents) = refl
 
--- the extents are those of the laid-out text at some width, and the scratch space is large enough for it
+-- whether the extents are those of the laid-out text at some width, and the scratch space is large enough for
+-- that text
 pub record CanBePut (writer : Writer) (kept : Layout) (extents : LineExtents) : Type 0 where
   pub laid_out : IsLaidOut writer.rules kept
   pub at_width : (width : ℕ) × (extents ≡ extents_of writer.rules width kept.text)
   pub capacity : length kept.text ≤ writer.capacity
 
--- the extents are those of the paragraph at a width; there are none if it has one line that fits, which then stays
+-- The extents are those of the paragraph at a width. If the paragraph is one line that fits, there are no
+-- extents, and the line is kept.
 abbrev pub BringsTo : Rules → ℕ → Layout → Option LineExtents → Type 0
 BringsTo rules width kept None = (is_line_within width kept.lines ≡ true) × (kept.lines ≡ lines_of rules width kept.text)
 BringsTo rules width kept (Some extents) = (is_line_within width kept.lines ≡ false) × (extents ≡ extents_of rules width kept.text)

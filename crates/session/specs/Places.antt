@@ -5,7 +5,8 @@ use Rattle.lines.specs.Layouts.{cut_by, Layout, Rules}
 use Rattle.session.specs.Kept.{lines_in, text_of}
 use Rattle.session.specs.declared.places.Place.{Place}
 
--- the starts of the lines, and of the paragraphs, of a list of paragraphs that starts at a position
+-- the starts of the lines and the starts of the paragraphs, in a list of paragraphs whose first one starts at
+-- `place`
 abbrev pub lines_from : ℕ → List Layout → List ℕ
 lines_from place [] = []
 lines_from place (l ∷ kept) = map (λ line. place + line.start) l.lines ++ lines_from (place + length l.text) kept
@@ -14,7 +15,7 @@ abbrev pub paragraphs_from : ℕ → List Layout → List ℕ
 paragraphs_from place [] = []
 paragraphs_from place (l ∷ kept) = place ∷ paragraphs_from (place + length l.text) kept
 
--- the starts of the lines, and of the paragraphs, of a text
+-- the starts of a text's lines, and the starts of its paragraphs
 abbrev pub line_starts : List Layout → List ℕ
 line_starts kept = lines_from 0 kept
 
@@ -37,21 +38,21 @@ place_in kept pos = record {
 abbrev pub next_place : List Layout → Place
 next_place kept = record { paragraph = length kept; line = length (lines_in kept); offset = 0 }
 
--- Whether a new paragraph would start at the end of a text. It would if the text is empty, or if there is a paragraph
--- boundary between its last character and a copy of it.
+-- Whether a new paragraph would start at the end of a text: if the text is empty, or if there is a paragraph
+-- boundary between two copies of its last character.
 abbrev pub is_closed : Rules → List ℕ → Bool
 is_closed rules text =
     let last = slice_index text (length text - 1) in
     length text == 0 || cut_by rules last last
 
--- The place of a position of a text. The end of the text is after its last character, or where the next paragraph would
--- start.
+-- The place of a position of a text. The place of the text's end is after its last character or, if a new
+-- paragraph would start there, at the start of that paragraph.
 abbrev pub place_at : Rules → List Layout → ℕ → Option Place
 place_at rules kept pos =
     if nat_lt (length (text_of kept)) pos then None
     else (if pos == length (text_of kept) && is_closed rules (text_of kept) then Some (next_place kept) else Some (place_in kept pos))
 
--- a paragraph is not empty, and its lines start in order
+-- whether a paragraph is not empty, and its lines start in order
 pub record IsLined (l : Layout) : Type 0 where
   pub some : 0 < length l.text
   pub lines : BeginInOrder l.text l.lines

@@ -1,4 +1,4 @@
--- The characters of a text: those of one paragraph at a time, or as UTF-8.
+-- Reading the characters of a text, one paragraph at a time or as UTF-8.
 use Rattle.std.specs.Prelude.{ℕ, ◌+◌, nat_lt, List, length, take, encode_utf8_all, Option, Some, None, if◌then◌else◌}
 use Rattle.std.specs.List.{slice_range}
 use Rattle.lines.specs.Layouts.{Layout}
@@ -10,7 +10,8 @@ use Rattle.session.specs.Touched.{start_of}
 abbrev pub paragraph_end : List Layout → ℕ → ℕ
 paragraph_end kept pos = start_of (pars_of kept) (count_to pos (paragraph_starts kept))
 
--- the characters of a range that are in the paragraph of its first one; none if the range is past the end
+-- the characters of a range that are in the same paragraph as its first character; `None` if the range is
+-- past the end
 abbrev pub text_part : List Layout → ℕ → ℕ → Option (List ℕ)
 text_part kept pos count =
     if nat_lt (length (text_of kept)) (pos + count) then None
@@ -20,6 +21,6 @@ text_part kept pos count =
 abbrev pub utf8_part : List Layout → ℕ → ℕ → List ℕ
 utf8_part kept pos count = encode_utf8_all (slice_range (text_of kept) pos (pos + count))
 
--- the length in bytes of a range as UTF-8; none if the range is past the end
+-- the length in bytes of a range as UTF-8; `None` if the range is past the end
 abbrev pub utf8_len : List Layout → ℕ → ℕ → Option ℕ
 utf8_len kept pos count = if nat_lt (length (text_of kept)) (pos + count) then None else Some (length (utf8_part kept pos count))

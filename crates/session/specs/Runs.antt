@@ -1,4 +1,4 @@
--- Where a list of edits stops after an allocation failure, and how much work the edits do at most.
+-- Where a list of edits stops after an allocation failure, and upper bounds on the work of the edits.
 use Rattle.std.specs.Prelude.{◌≡◌, ℕ, ◌+◌, ◌<◌, List, [], ◌∷◌, ◌++◌, length, Option, None, is_none, if◌then◌else◌}
 use Rattle.std.specs.Str.{chars}
 use Rattle.bidi.specs.Cuts.{paragraphs}
@@ -13,13 +13,14 @@ use Rattle.session.specs.declared.edits.Edit.TheVariants.{Insert, Delete, SetWid
 use Rattle.session.specs.declared.edits.EditFault.{EditFault}
 
 module _ (rules : Rules) where
-  -- why an edit is refused
+  -- the reason for refusing an edit, or `None`
   abbrev pub edit_refusal : Held → Edit → Option EditFault
   edit_refusal held (Insert pos text) = refusal (cut_by rules) held.text (insertion pos (chars text.now))
   edit_refusal held (Delete pos count) = refusal (cut_by rules) held.text (deletion pos count)
   edit_refusal held (SetWidth width) = width_refusal width
 
-  -- how many characters an edit that is not refused analyses at most, and how many it fills into lines and writes
+  -- upper bounds for an edit that is not refused: how many characters it analyses, and how many it fills into
+  -- lines and writes
   abbrev pub analysed_by : Held → Edit → ℕ
   analysed_by held (Insert pos text) = fresh (paragraphs (cut_by rules) held.text) (insertion pos (chars text.now))
   analysed_by held (Delete pos count) = fresh (paragraphs (cut_by rules) held.text) (deletion pos count)
@@ -30,11 +31,11 @@ module _ (rules : Rules) where
   filled_by held (Delete pos count) = fresh (paragraphs (cut_by rules) held.text) (deletion pos count)
   filled_by held (SetWidth width) = changed width (layouts_of rules held.width held.text)
 
-  -- how much an edit works; a refused edit does no work
+  -- the work of an edit, which is 0 if the edit is refused
   abbrev pub work_of : (Held → Edit → ℕ) → Held → Edit → ℕ
   work_of work held edit = if is_none (edit_refusal held edit) then work held edit else 0
 
-  -- how much the edits of a list work, in order
+  -- the total work of a list of edits that are executed in order
   abbrev pub work_of_all : (Held → Edit → ℕ) → Held → List Edit → ℕ
   work_of_all work held [] = 0
   work_of_all work held (edit ∷ edits) = work_of work held edit + work_of_all work (after_one (cut_by rules) held edit) edits
@@ -44,7 +45,7 @@ module _ (rules : Rules) where
     pub filled : RisesBy (work_of_all filled_by start edits) (filled_of old) (filled_of new)
     pub written : RisesBy (work_of_all filled_by start edits) (written_of old) (written_of new)
 
-  -- an edit may allocate: the text, or the text that it inserts, is not empty
+  -- whether an edit may allocate: only if the text or the inserted text is not empty
   abbrev pub TakesMemory : Held → Edit → Type 0
   TakesMemory held (Insert pos text) = 0 < length held.text + length (chars text.now)
   TakesMemory held (Delete pos count) = 0 < length held.text

@@ -8,8 +8,8 @@ use Rattle.lines.specs.declared.engine.TheConstants.{PARAGRAPH_LIMIT}
 abbrev pub is_long_scan : Scan → Bool
 is_long_scan scan = scan.is_long
 
--- a scan has the last character, the length of the last paragraph, capped at the limit, and whether a paragraph is too
--- long
+-- whether a scan has the last character of a text, the length of its last paragraph (capped at the limit),
+-- and whether any paragraph is too long
 pub record HasScanned (is_cut : ℕ → ℕ → Bool) (text : List ℕ) (scan : Scan) : Type 0 where
   pub last : scan.last ≡ slice_get text (length text - 1)
   pub len : scan.len ≡ min (length (slice_index_or (paragraphs is_cut text) (length (paragraphs is_cut text) - 1) [])) PARAGRAPH_LIMIT

@@ -30,17 +30,17 @@ cuts_at state = cut_by (rules_of state.engine)
 abbrev pub held_at : SessionState → Held
 held_at state = record { text = text_at state; width = state.width }
 
--- the bytes of a fresh layout of the whole text
+-- the printed bytes of the fresh layout of the whole text
 abbrev pub page_at : SessionState → Print → List ℕ
 page_at state print = page (rules_of state.engine) state.width print (paragraphs (cuts_at state) (text_at state))
 
--- the layouts are the fresh layouts of the text, and the text and the width are allowed
+-- whether the layouts are the fresh layouts of the text, and the text and the width are allowed
 pub record IsWholeLayout (state : SessionState) : Type 0 where
   pub kept : state.kept ≡ layouts_of (rules_of state.engine) state.width (text_at state)
   pub allowed : text_refusal (cuts_at state) (text_at state) ≡ None
   pub filled : 0 < state.width
 
--- why a session is not opened on a text at a width
+-- the reason for refusing to open a session on a text at a width, or `None`
 abbrev pub opening_refusal : (ℕ → ℕ → Bool) → List ℕ → ℕ → Option EditFault
 opening_refusal is_cut text width = if width == 0 then Some WidthOutOfRange else text_refusal is_cut text
 
@@ -49,12 +49,12 @@ abbrev pub IsAnswerFor : Option EditFault → EditFault → Type 0
 IsAnswerFor reason NoMemory = reason ≡ None
 IsAnswerFor reason fault = reason ≡ Some fault
 
--- after a refusal the engine is unchanged; after `NoMemory` its work is within a bound
+-- After a refusal, the engine is unchanged. After `NoMemory`, the engine's work is within a bound.
 abbrev pub IsCountedFor : EditFault → (Engine → Engine → Type 0) → Engine → Engine → Type 0
 IsCountedFor NoMemory bound old new = bound old new
 IsCountedFor fault bound old new = new ≡ old
 
--- a session is opened on a text at a width
+-- a session was opened on a text at a width
 pub record Opens (engine : Engine) (whole : List ℕ) (width : ℕ) (state : SessionState) : Type 0 where
   pub allowed : opening_refusal (cut_by (rules_of engine)) whole width ≡ None
   pub text : text_at state ≡ whole
@@ -63,13 +63,13 @@ pub record Opens (engine : Engine) (whole : List ℕ) (width : ℕ) (state : Ses
   pub rules : SameRules engine state.engine
   pub counts : LaysOutAtMost (length whole) engine state.engine
 
--- opening fails, and returns the engine and the fault
+-- opening a session failed, and returned the engine and the fault
 pub record OpensNot (engine : Engine) (whole : List ℕ) (width : ℕ) (back : Engine × EditFault) : Type 0 where
   pub reason : IsAnswerFor (opening_refusal (cut_by (rules_of engine)) whole width) back.1
   pub rules : SameRules engine back.0
   pub counts : IsCountedFor back.1 (LaysOutAtMost (length whole)) engine back.0
 
--- an edit is executed
+-- an edit was executed
 pub record Edits (edit : Replacement) (old new : SessionState) (answer : Damage) : Type 0 where
   pub accepted : refusal (cuts_at old) (text_at old) edit ≡ None
   pub text : text_at new ≡ replaced (text_at old) edit
@@ -79,7 +79,7 @@ pub record Edits (edit : Replacement) (old new : SessionState) (answer : Damage)
   pub damage : IsDamage edit old.kept new.kept answer
   pub counts : LaysOutAtMost (fresh (pars_of old.kept) edit) old.engine new.engine
 
--- the width is set, and the lines of paragraphs that are not one fitting line are filled again
+-- the width was set, and all paragraphs except those of one fitting line were filled again
 pub record SetsWidth (width : ℕ) (old new : SessionState) (answer : Damage) : Type 0 where
   pub accepted : width_refusal width ≡ None
   pub text : text_at new ≡ text_at old
@@ -90,7 +90,7 @@ pub record SetsWidth (width : ℕ) (old new : SessionState) (answer : Damage) : 
   pub counts : FillsAtMost (length (text_at old)) old.engine new.engine
   pub exact : Fills (changed width old.kept) old.engine new.engine
 
--- a failed edit changes nothing but the counters, and these only after `NoMemory`
+-- a failed edit changes nothing except the counters, and these only after `NoMemory`
 pub record Stays (reason : Option EditFault) (bound : Engine → Engine → Type 0) (old new : SessionState) (fault : EditFault) : Type 0 where
   pub answer : IsAnswerFor reason fault
   pub kept : new.kept ≡ old.kept

@@ -1,4 +1,4 @@
--- Which paragraphs an edit touches, where they are, and how many characters it analyses.
+-- Which paragraphs an edit touches, where they are, and how many characters the edit analyses.
 use Rattle.std.specs.Prelude.{◌≡◌, ℕ, ◌+◌, ◌-◌, ◌<◌, ◌≤◌, nat_le, Bool, ◌&&◌, List, [], length, take, count_by, unwrap_or}
 use Rattle.std.specs.List.{concat, range_with_len, slice_range}
 use Rattle.ucd.specs.Least.{least}
@@ -9,7 +9,7 @@ abbrev pub start_of : List (List ℕ) → ℕ → ℕ
 start_of pars i = length (concat (take i pars))
 
 module _ (pars : List (List ℕ)) (edit : Replacement) where
-  -- the closed span of a paragraph meets the closed range of the edit
+  -- whether the edited range overlaps a paragraph or is adjacent to it
   abbrev pub is_touched : ℕ → Bool
   is_touched i = nat_le (start_of pars i) (edit.pos + edit.count) && nat_le edit.pos (start_of pars (i + 1))
 
@@ -35,8 +35,9 @@ pub record Span : Type 0 where
   pub start : ℕ
   pub stop : ℕ
 
--- The paragraphs that an edit of the characters from `pos` to `end` touches. If another paragraph precedes or follows
--- them, a touched character on that side is outside the edited range.
+-- The paragraphs that an edit of the characters from `pos` to `end` touches. If another paragraph precedes
+-- them, they have a character before the edited range. If another paragraph follows them, they have a
+-- character after it.
 pub record AreTouched (pars : List (List ℕ)) (pos end : ℕ) (touched : Span) : Type 0 where
   pub first : touched.first ≡ first_touched pars (region_edit pos end [])
   pub count : touched.end ≡ touched.first + touched_count pars (region_edit pos end [])

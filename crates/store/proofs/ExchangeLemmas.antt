@@ -1,4 +1,4 @@
--- Exchanging items with parts pairwise: sums, costs, and the split of both lists at a node of the tree.
+-- Exchanging the parts of items pairwise: sums, costs, and how both lists are split at a node of a tree.
 use Rattle.std.proofs.Common.{◌≡◌, ℕ, zero, suc, ◌+◌, ◌<◌, ◌≤◌, List, [], ◌∷◌, ◌++◌, length, get_or, set, take, sum_by, refl, sym, ap, ◌∙◌, subst, arith}
 use Rattle.std.specs.List.{AllZip}
 use Rattle.std.proofs.lemmas.List.{take_all}
@@ -33,7 +33,8 @@ module _ {P Part : Type 0} (fits : P → Part → Type 0) where
   pairwise_at f (x ∷ xs) (p ∷ ps) zero d e a h g = refl
   pairwise_at f (x ∷ xs) (p ∷ ps) (suc k) d e a h g = pairwise_at f xs ps k d e a (omega arith) g.1
 
-  -- the total cost is the cost of the first items plus those of the others
+  -- The cost of the first k + 1 exchanges is the cost of the first k plus that of exchange k. The cost of all
+  -- exchanges is `total_cost`.
   pub cost_all : (cost : P → Part → ℕ) (items : List P) (parts : List Part) (k : ℕ) → length items ≤ k → AllZip fits items parts
       → sum_by (λ (n : ℕ). n) (take k (pairwise cost items parts)) ≡ total_cost cost items parts
   cost_all cost items parts k last g =
@@ -62,7 +63,7 @@ module _ {P Part : Type 0} (fits : P → Part → Type 0) where
       ∙ (let e : size (exchanged x p) + sum_by size (pairwise exchanged xs ps) ≡ size x + sum_by size xs = omega (arith, keeps x p h.0, same_sum size exchanged keeps xs ps h.1) in e)
       ∙ sym (sum_by-cons size x xs)
 
-  -- if two lists of parts fit two lists of items together, each list of parts fits its items
+  -- if two concatenated lists of parts fit two concatenated lists of items, each list of parts fits its items
   pub fit_front : (xs ys : List P) (ps qs : List Part) → length ps ≡ length xs → AllZip fits (xs ++ ys) (ps ++ qs) → AllZip fits xs ps
   fit_front [] ys [] qs l h = tt
   fit_front [] ys (p ∷ ps) qs l h = absurd (omega arith)
@@ -83,7 +84,7 @@ module _ {P Part A : Type 0} (f : P → Part → A) where
   pairwise-append (x ∷ xs) ys [] qs l = absurd (omega arith)
   pairwise-append (x ∷ xs) ys (p ∷ ps) qs l = ap (λ zs. f x p ∷ zs) (pairwise-append xs ys ps qs (omega arith))
 
-  -- pairing an item and others with a single part and others pairs the first item with that part
+  -- if the first of two lists of parts has one part, the first item is paired with this part
   pub pairwise_one : (x : P) (ys : List P) (one qs : List Part) (d : Part) → length one ≡ 1
       → pairwise f (x ∷ ys) (one ++ qs) ≡ f x (get_or one 0 d) ∷ pairwise f ys qs
   pairwise_one x ys [] qs d l = absurd (omega arith)
@@ -99,7 +100,8 @@ set_one (x ∷ z ∷ xs) y l = absurd (omega arith)
 pub raised_twice : (count n m k once twice : ℕ) → once ≡ raised count n → twice ≡ raised once m → k ≡ n + m → twice ≡ raised count k
 raised_twice count n m k once twice first second sum = omega (arith, first, second, sum)
 
--- The items and parts of a node: those of the left subtree, the node's own, and those of the right subtree.
+-- The items and parts of a node: those of its left subtree, its own item and part, and those of its right
+-- subtree.
 module _ {P Part : Type 0} (fits : P → Part → Type 0) (xs : List P) (x : P) (ys : List P) (ps rest one qs : List Part) where
   pub record AreParted (all : List Part) : Type 0 where
     pub all_is : all ≡ ps ++ rest
@@ -130,7 +132,8 @@ module _ {P Part : Type 0} (fits : P → Part → Type 0) (xs : List P) (x : P) 
       ap (pairwise f (xs ++ x ∷ ys)) p.all_is ∙ pairwise-append f xs (x ∷ ys) ps rest p.front_len
       ∙ ap (λ zs. pairwise f xs ps ++ pairwise f (x ∷ ys) zs) p.rest_is ∙ ap (λ zs. pairwise f xs ps ++ zs) (pairwise_one f x ys one qs d p.one_len)
 
-  -- the sum over a node's items is that of the left subtree, the node's own size, and that of the right subtree
+  -- the sum over a node's items is the sum of the left subtree, the size of the node's own item, and the sum
+  -- of the right subtree
   pub sum_parts : {A : Type 0} (size : A → ℕ) (f : P → Part → A) {all : List Part} (d : Part) → AreParted all
       → sum_by size (pairwise f (xs ++ x ∷ ys) all) ≡ sum_by size (pairwise f xs ps) + (size (f x (get_or one 0 d)) + sum_by size (pairwise f ys qs))
   sum_parts size f d p =

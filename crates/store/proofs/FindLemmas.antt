@@ -5,7 +5,7 @@ use Rattle.store.specs.Finding.{Finds}
 use Rattle.store.specs.declared.found.Found.{Found}
 
 module _ {P : Type 0} (size chars lines : P → ℕ) (l : List P) (x : P) (r : List P) where
-  -- a result in the items before x is a result in the whole list
+  -- if a search finds an item before x, a search in the whole list finds the same item
   pub found_before : (n : ℕ) (f g : Found) → g.index ≡ f.index → g.rest ≡ f.rest → g.chars_before ≡ f.chars_before → g.lines_before ≡ f.lines_before
       → Finds size chars lines l n f → Finds size chars lines (l ++ x ∷ r) n g
   found_before n f g index_is rest_is chars_is lines_is found = record {
@@ -20,7 +20,7 @@ module _ {P : Type 0} (size chars lines : P → ℕ) (l : List P) (x : P) (r : L
     lines_before = lines_is ∙ found.lines_before;
   }
 
-  -- the result is x if the number is inside x
+  -- if the searched number falls inside x, a search in the whole list finds x
   pub at_item : (n : ℕ) (g : Found) → g.index ≡ length l → sum_by size l + g.rest ≡ n → g.rest < size x → g.chars_before ≡ sum_by chars l → g.lines_before ≡ sum_by lines l
       → Finds size chars lines (l ++ x ∷ r) n g
   at_item n g index_is rest_is within_is chars_is lines_is = record {
@@ -35,7 +35,8 @@ module _ {P : Type 0} (size chars lines : P → ℕ) (l : List P) (x : P) (r : L
     lines_before = lines_is;
   }
 
-  -- a result in the items after x is a result in the whole list
+  -- if a search for the remaining number finds an item after x, a search in the whole list finds the same
+  -- item
   pub found_after : (n k : ℕ) (f g : Found) → g.index ≡ length l + 1 + f.index → g.rest ≡ f.rest → sum_by size l + size x + k ≡ n
       → g.chars_before ≡ sum_by chars l + chars x + f.chars_before → g.lines_before ≡ sum_by lines l + lines x + f.lines_before → Finds size chars lines r k f → Finds size chars lines (l ++ x ∷ r) n g
   found_after n k f g index_is rest_is sum_is chars_is lines_is found = record {

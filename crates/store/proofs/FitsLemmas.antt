@@ -1,10 +1,10 @@
--- If the sums of a list fit a usize, so do those of its parts.
+-- If the sums of a list fit in a `usize`, so do the sums of its parts.
 use Rattle.std.proofs.Common.{ℕ, ◌≤◌, List, ◌++◌, ◌∷◌, length, take, drop, sum_by, arith, length-append, append_assoc, subst, sym, length-take, length-drop}
 use Rattle.std.proofs.lemmas.List.Sums.{sum_by-append, sum_by-cons, sum_by-take-drop}
 use Rattle.store.specs.Subtrees.{Fits}
 
 module _ {P : Type 0} (chars lines : P → ℕ) where
-  -- a list with no more items, characters and lines than one that fits, fits too
+  -- if a list fits, so does any list with at most as many items, characters and lines
   pub fits_less : (xs ys : List P) → length ys ≤ length xs → sum_by chars ys ≤ sum_by chars xs → sum_by lines ys ≤ sum_by lines xs
       → Fits chars lines xs → Fits chars lines ys
   fits_less xs ys n c l f = record {
@@ -39,7 +39,7 @@ module _ {P : Type 0} (chars lines : P → ℕ) where
       (omega (arith, sum_by-append lines xs ys, sum_by-append lines (drop n xs) ys, sum_by-take-drop lines xs n))
       f
 
-  -- a list that fits, fits without some of its last items
+  -- if a list fits, so does the list without some of its last items
   pub fits_before : (xs ys : List P) (n : ℕ) → Fits chars lines (xs ++ ys) → Fits chars lines (xs ++ take n ys)
   fits_before xs ys n f =
       fits_less (xs ++ ys) (xs ++ take n ys)
@@ -48,7 +48,7 @@ module _ {P : Type 0} (chars lines : P → ℕ) where
       (omega (arith, sum_by-append lines xs ys, sum_by-append lines xs (take n ys), sum_by-take-drop lines ys n))
       f
 
-  -- the parts of a list in which a range was replaced fit
+  -- whether the new items, the front with the new items, and the whole list after a replacement fit
   pub record FitSpliced (front new back : List P) : Type 0 where
     pub new_fits : Fits chars lines new
     pub front_fits : Fits chars lines (front ++ new)

@@ -4,14 +4,14 @@ use Rattle.store.specs.Subtrees.{Fits}
 use Rattle.store.specs.Trees.{Tree, Fork, in_order}
 use Rattle.store.proofs.FitsLemmas.{fits_front, fits_rest}
 
--- the items of a tree, written around the root of an inner subtree
+-- the items of a tree are those before the root of an inner subtree, that root's item, and those after it
 pub lifted : {P : Type 0} (l r : List P) (x y m : P) (inner first second : Tree P) → inner ≡ Fork first m second
     → (l ++ x ∷ in_order inner) ++ y ∷ r ≡ (l ++ x ∷ in_order first) ++ m ∷ (in_order second ++ y ∷ r)
 lifted l r x y m inner first second e =
     ap (λ t. (l ++ x ∷ in_order t) ++ y ∷ r) e ∙ simp append_assoc
 
 module _ {P : Type 0} (chars lines : P → ℕ) where
-  -- the items before and after x fit, and so do all together
+  -- whether the items before x, the items after x, and all items together fit
   pub record FitAround (front : List P) (x : P) (back : List P) : Type 0 where
     pub front_fits : Fits chars lines front
     pub back_fits : Fits chars lines back
@@ -24,20 +24,20 @@ module _ {P : Type 0} (chars lines : P → ℕ) where
     all_fit = f;
   }
 
-  -- the items around the root of an inner subtree fit
+  -- if a tree's items fit, `FitAround` holds at the root of an inner subtree
   pub fit_lifted : (l r : List P) (x y m : P) (inner first second : Tree P) → inner ≡ Fork first m second
       → Fits chars lines ((l ++ x ∷ in_order inner) ++ y ∷ r) → FitAround (l ++ x ∷ in_order first) m (in_order second ++ y ∷ r)
   fit_lifted l r x y m inner first second e f =
       fit_around (l ++ x ∷ in_order first) (in_order second ++ y ∷ r) m (subst (Fits chars lines) (lifted l r x y m inner first second e) f)
 
-  -- the items around the root of the left tree fit
+  -- if all items fit, `FitAround` holds at the root of the left tree
   pub fit_before : (r : List P) (y m : P) (left outer inner : Tree P) → left ≡ Fork outer m inner → Fits chars lines (in_order left ++ y ∷ r)
       → FitAround (in_order outer) m (in_order inner ++ y ∷ r)
   fit_before r y m left outer inner e f =
       fit_around (in_order outer) (in_order inner ++ y ∷ r) m
       (subst (Fits chars lines) (ap (λ t. in_order t ++ y ∷ r) e ∙ append_assoc (in_order outer) (m ∷ in_order inner) (y ∷ r)) f)
 
-  -- the items around the root of the right tree fit
+  -- if all items fit, `FitAround` holds at the root of the right tree
   pub fit_after : (l : List P) (x m : P) (right inner outer : Tree P) → right ≡ Fork inner m outer → Fits chars lines (l ++ x ∷ in_order right)
       → FitAround (l ++ x ∷ in_order inner) m (in_order outer)
   fit_after l x m right inner outer e f =

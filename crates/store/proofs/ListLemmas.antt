@@ -18,7 +18,7 @@ module _ {A : Type 0} where
       let e : i + (j - i) ≡ j = omega arith in
       drop-drop (j - i) i xs ∙ ap (λ k. drop k xs) e
 
-  -- a list is the items before a range, those in it, and those after it
+  -- a list is the items before a range, those in the range, and those after it
   pub at_range : (xs : List A) (i j : ℕ) → i ≤ j → xs ≡ take i xs ++ (slice_range xs i j ++ drop j xs)
   at_range xs i j h =
       sym (take-append-drop i xs) ∙ ap (λ ys. take i xs ++ ys) (sym (take-append-drop (j - i) (drop i xs)) ∙ ap (λ ys. slice_range xs i j ++ ys) (drop_range xs i j h))
@@ -28,7 +28,7 @@ module _ {A : Type 0} where
       let e : j - i ≤ length (drop i xs) = omega (arith, length-drop i xs) in
       length-take-le (j - i) (drop i xs) e
 
-  -- two adjacent parts of a list are exchanged
+  -- rotating the items of a list from an index on exchanges the two parts after that index
   pub rotated : (a b c xs : List A) (i j : ℕ) → xs ≡ a ++ (b ++ c) → i ≡ length a → j ≡ length a + length b
       → take i xs ++ (drop j xs ++ slice_range xs i j) ≡ a ++ (c ++ b)
   rotated a b c xs i j e f g =
@@ -58,7 +58,7 @@ module _ {A : Type 0} where
       omega (arith, ap length kept_parts, length-append a (c ++ ys), length-append c ys) in
       (result_is ∙ rotated a c ys kept i n kept_parts (sym la) end_is, moved_parts)
 
-  -- copying one more item of a list over the items of another
+  -- if the first k items of a list are copied over another list, copying item k makes them the first k + 1
   pub set_next : (made xs now : List A) (k : ℕ) (y : A) → length made ≡ length xs → k < length xs
       → now ≡ take k made ++ drop k xs → y ≡ get_or made k y → set now k y ≡ take (k + 1) made ++ drop (k + 1) xs
   set_next made xs now k y l h now_is y_is =
@@ -84,12 +84,12 @@ module _ {A : Type 0} where
   made_all made xs k l h =
       ap (λ ys. take k made ++ ys) (drop_of_length-le xs h) ∙ append-nil (take k made) ∙ take_all k made (omega arith)
 
-  -- a list of the same length that is written over another replaces it
+  -- writing a list over another one of the same length replaces it
   pub overwritten : (now old : List A) (n : ℕ) → length now ≡ length old → n ≡ length old → take n (now ++ drop (length now) old) ≡ now
   overwritten now old n l n_is =
       ap (λ ys. take n (now ++ ys)) (drop_of_length-le old (omega arith)) ∙ ap (λ ys. take n ys) (append-nil now) ∙ take_all n now (omega arith)
 
-  -- taking items from the end of a list: some, one more, and some more
+  -- items are taken from the end of a list in three steps: some, one more, and some more
   pub taken : (xs front rest : List A) (top : A) (m b r : ℕ) → b + 1 + r ≡ m → m ≤ length xs → take (length xs - b) xs ≡ front
       → front ≡ rest ++ top ∷ []
       → (length rest + 1 ≡ length xs - b) × (take (length rest - r) rest ≡ take (length xs - m) xs)
@@ -113,7 +113,7 @@ module _ {A : Type 0} where
         ap reverse whole ∙ turned rest,
       )
 
-  -- a prefix that ends after x has x, all items before it, and a prefix of those after it
+  -- a prefix that ends after x consists of all items before x, x itself, and a prefix of the items after x
   pub take_far : (l r : List A) (x : A) (n : ℕ) → length l < n → take n (l ++ x ∷ r) ≡ l ++ x ∷ take (n - length l - 1) r
   take_far l r x n h =
       let e : n ≡ length l + suc (n - length l - 1) = omega arith in
@@ -124,7 +124,8 @@ module _ {A : Type 0} where
       let e : n ≡ length l + suc (n - length l - 1) = omega arith in
       ap (λ (m : ℕ). drop m (l ++ x ∷ r)) e ∙ drop-append-add l (x ∷ r) (suc (n - length l - 1))
 
--- the sum of the new list and that of the old items equal the sum of the old list and that of the new items
+-- the sum of the new list plus that of the replaced items is the sum of the old list plus that of the new
+-- items
 pub sum_around_splice : {A : Type 0} (f : A → ℕ) (xs : List A) (i j : ℕ) (ys : List A) → i ≤ j
     → sum_by f (splice xs i j ys) + sum_by f (slice_range xs i j) ≡ sum_by f xs + sum_by f ys
 sum_around_splice f xs i j ys h =
@@ -153,7 +154,8 @@ module _ {A : Type 0} (f : A → ℕ) where
         sum_by-append f (slice_range xs i j) (drop j xs),
       )
 
-  -- the sum over a list after a replacement, from the sums before
+  -- the sum over a list after a replacement is the old sum, minus that of the replaced items, plus that of
+  -- the new items
   pub sum_after : (xs ys zs old new : List A) (i j kept o n : ℕ) → i ≤ j → kept ≡ sum_by f xs → old ≡ slice_range xs i j → o ≡ sum_by f old
       → zs ≡ ys → n ≡ sum_by f zs → new ≡ splice xs i j ys → kept - o + n ≡ sum_by f new
   sum_after xs ys zs old new i j kept o n h kept_is old_is o_is zs_is n_is new_is =
@@ -179,7 +181,7 @@ one_over items front nodes more all x y items_is y_is more_is all_is =
 pub length_both : {A : Type 0} (items nodes all : List A) → items ++ reverse nodes ≡ all → length items + length nodes ≡ length all
 length_both items nodes all e = omega (arith, ap length e, length-append items (reverse nodes), length-reverse nodes)
 
--- the capacity of a list suffices for the items that have been moved out of it
+-- a list's capacity is enough for its remaining items and the items that were moved out of it
 pub room_after : {A : Type 0} (items nodes all now : List A) (len cap room : ℕ) → items ++ reverse nodes ≡ all → now ≡ items → len ≡ length all
     → len ≤ cap → room ≡ cap → length now + length nodes ≤ room
 room_after items nodes all now len cap room e now_is len_is within room_is = omega (arith, length_both items nodes all e, ap length now_is)

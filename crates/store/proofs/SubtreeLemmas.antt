@@ -1,18 +1,19 @@
--- The properties of a node that stay when its items exchange parts.
+-- The properties of a node that do not change when its items exchange parts.
 use Rattle.std.proofs.Common.{◌≡◌, ℕ, ◌+◌, ◌≤◌, ◌∷◌, ◌++◌, length, sum_by, arith, length-append}
 use Rattle.std.proofs.lemmas.List.Sums.{sum_by-append, sum_by-cons}
 use Rattle.store.specs.Subtrees.{IsSummed}
 use Rattle.store.specs.Trees.{Tree, Fork, in_order, height, IsBalanced}
 use Rattle.store.specs.declared.subtree.Node.{Node}
 
--- a balanced tree with the same height, item count and character count as another
+-- whether a tree is balanced, and has the same height, item count and character count as another
 pub record IsLike {P : Type 0} (chars : P → ℕ) (old new : Tree P) : Type 0 where
   pub balanced : IsBalanced new
   pub height_is : height new ≡ height old
   pub count_is : length (in_order new) ≡ length (in_order old)
   pub chars_is : sum_by chars (in_order new) ≡ sum_by chars (in_order old)
 
--- a tree whose subtrees are replaced by balanced ones of the same heights is balanced
+-- if the subtrees of a balanced tree are replaced by balanced ones of the same heights, the tree is still
+-- balanced
 pub balanced_again : {A : Type 0} (l r left right : Tree A) (x : A) → IsBalanced (Fork l x r) → IsBalanced left → IsBalanced right
     → height left ≡ height l → height right ≡ height r
     → IsBalanced left × IsBalanced right × (height left ≤ height right + 1) × (height right ≤ height left + 1)

@@ -1,4 +1,5 @@
--- The heights and items of trees, and the least number of nodes of a balanced tree of a height.
+-- The heights and items of trees, and the least number of nodes that a balanced tree of a given height can
+-- have.
 use Rattle.std.proofs.Common.{◌≡◌, ℕ, zero, suc, ◌+◌, ◌-◌, ◌/◌, ◌^◌, ◌<◌, ◌≤◌, max, ◌∷◌, length, cond, true, false, nat_lt, inl, inr, refl, arith, length-append, eq-or-lt_of_le, pow-suc, ◌⊎◌}
 use Rattle.std.proofs.Math.Nat.{pow-le-pow_right}
 use Rattle.store.specs.Trees.{Tree, Empty, Fork, in_order, height, IsBalanced, fewest_nodes, nodes_to}
@@ -9,7 +10,7 @@ module _ {A : Type 0} where
   height_le_length (Fork l x r) =
       omega (arith, height_le_length l, height_le_length r, length-append (in_order l) (x ∷ in_order r))
 
-  -- no path to an item is longer than the height
+  -- no path to an item is longer than the height of the tree
   pub nodes_low : (t : Tree A) (i : ℕ) → nodes_to t i ≤ height t
   nodes_low Empty i = omega arith
   nodes_low (Fork l x r) i =
@@ -28,7 +29,8 @@ fewest_rises : (h : ℕ) → fewest_nodes h ≤ fewest_nodes (suc h)
 fewest_rises zero = omega arith
 fewest_rises (suc h) = omega arith
 
--- the least number of nodes of a tree whose subtrees differ in height by at most 1
+-- if the heights of two subtrees differ by at most 1, the least number of nodes of their tree is at most one
+-- more than the sum of theirs
 fewest_over : (a b : ℕ) → b ≤ a → a ≤ b + 1 → fewest_nodes (suc a) ≤ fewest_nodes a + fewest_nodes b + 1
 fewest_over zero b h k = omega arith
 fewest_over (suc a) b h k = elim (eq-or-lt_of_le h) [
@@ -53,7 +55,7 @@ fewest_in Empty b = omega arith
 fewest_in (Fork l x r) b =
     omega (arith, fewest_in l b.0, fewest_in r b.1, fewest_fork (height l) (height r) b.2 b.3, length-append (in_order l) (x ∷ in_order r))
 
--- The least number of nodes doubles with every second level.
+-- The least number of nodes at least doubles with every two levels of height.
 pub fewest_double : (h : ℕ) → 2 ^ (h / 2) ≤ fewest_nodes h + 1
 fewest_double zero = omega arith
 fewest_double (suc zero) = omega arith
@@ -67,7 +69,7 @@ low t v b h =
     let two : zero < 2 = omega arith in
     omega (arith, pow-le-pow_right {n = 2} two e, fewest_double (height t), fewest_in t b)
 
--- A balanced tree of each height with the least number of nodes.
+-- A balanced tree of a given height with the least number of nodes.
 module _ {A : Type 0} (x : A) where
   abbrev thinnest : ℕ → Tree A
   thinnest zero = Empty

@@ -9,7 +9,8 @@ abbrev pub measure : {P : Type 0} → (P → ℕ) → (P → ℕ) → Counted �
 measure chars lines Char = chars
 measure chars lines Line = lines
 
--- The character or line with number n, counted through all items from 0, is number `rest` of the item at `index`.
+-- The character or line with number n, counted from 0 through all items, is number `rest` within the item at
+-- `index`.
 pub record Finds {P : Type 0} (size chars lines : P → ℕ) (items : List P) (n : ℕ) (found : Found) : Type 0 where
   pub before : List P
   pub item : P

@@ -4,7 +4,7 @@ use Rattle.std.specs.declared.alloc.Global.{Global}
 use Rattle.store.specs.Trees.{Tree, Empty, Fork, in_order, height, IsBalanced}
 use Rattle.store.specs.declared.subtree.Node.{Node}
 
--- the number of items, and the sums of their characters and lines, fit a usize
+-- whether the number of items, and the sums of their characters and lines, fit in a `usize`
 pub record Fits {P : Type 0} (chars lines : P → ℕ) (items : List P) : Type 0 where
   pub count : length items < 2 ^ 64
   pub chars_fit : sum_by chars items < 2 ^ 64
@@ -18,7 +18,8 @@ module _ {P : Type 0} where
   tree_of None = Empty
   tree_of (Some b) = tree_of_node b.value
 
--- A node stores the height of its tree, the number of its items, and their sums. The tree is balanced.
+-- A node stores the height of its tree, the number of its items, and the sums of their characters and lines.
+-- The tree is balanced.
 pub record IsSummed {P : Type 0} (chars lines : P → ℕ) (n : Node P) : Type 0 where
   pub height_is : n.height ≡ height (tree_of_node n)
   pub count_is : n.count ≡ length (in_order (tree_of_node n))

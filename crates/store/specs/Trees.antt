@@ -1,4 +1,5 @@
--- Binary trees of items, balanced trees, and the least number of nodes of a balanced tree of a height.
+-- Binary trees of items, balanced trees, and the least number of nodes that a balanced tree of a given height
+-- can have.
 use Rattle.std.specs.Prelude.{◌≡◌, ℕ, zero, suc, ◌+◌, ◌-◌, ◌≤◌, nat_lt, max, List, [], ◌∷◌, ◌++◌, length, Option, Some, None, refl, if◌then◌else◌}
 use Rattle.std.proofs.Common.{ap, ◌∙◌}
 use Rattle.std.specs.Coded.{Coded, code_by, coded_list, coded_option}
@@ -13,12 +14,12 @@ module _ {A : Type 0} where
   in_order Empty = []
   in_order (Fork l x r) = in_order l ++ x ∷ in_order r
 
-  -- the number of nodes on the longest path down
+  -- the number of nodes on the longest path from the root
   abbrev pub height : Tree A → ℕ
   height Empty = 0
   height (Fork l x r) = max (height l) (height r) + 1
 
-  -- in each node, the heights of the two subtrees differ by at most 1
+  -- whether, in each node, the heights of the two subtrees differ by at most 1
   abbrev pub IsBalanced : Tree A → Type 0
   IsBalanced Empty = Unit {0}
   IsBalanced (Fork l x r) = IsBalanced l × IsBalanced r × (height l ≤ height r + 1) × (height r ≤ height l + 1)
@@ -63,7 +64,7 @@ module _ {A : Type 0} where
   abbrev pub tree_code : Coded A → Coded (Tree A)
   tree_code c = code_by (List (Option A)) (coded_list (coded_option c)) listed (λ os. first (grown_all [] os)) (λ t. ap first (grown_listed t []))
 
--- the least number of nodes of a balanced tree of a height
+-- the least number of nodes of a balanced tree of the given height
 abbrev pub fewest_nodes : ℕ → ℕ
 fewest_nodes zero = 0
 fewest_nodes (suc zero) = 1

@@ -67,7 +67,7 @@ after (c ∷ cs) es b all is =
     let both = and_parts _ _ (ap scalars (sym later.1) ∙ all) in
     after cs later.0 b both.1 later.2
 
--- if a text begins with UTF-8, the rest of it is UTF-8
+-- if UTF-8 text starts with UTF-8 text, the text after it is UTF-8 too
 pub IsUtf8-after : (a b : List ℕ) → IsUtf8 (a ++ b) → IsUtf8 a → IsUtf8 b
 IsUtf8-after a b all front = after front.0 all.0 b all.1.0 (all.1.1 ∙ ap (λ t. t ++ b) (sym front.1.1))
 
@@ -84,7 +84,8 @@ valid_after a b v u valid = record {
       valid.longest (m - length a) (omega arith) (IsUtf8-after a (take (m - length a) b) (subst IsUtf8 (take_after a b m (omega arith)) all) u);
 }
 
--- bytes after UTF-8 add their own valid length to that of the UTF-8
+-- the valid length of UTF-8 text followed by other bytes is the length of the text plus the valid length of
+-- these bytes
 pub utf8_valid_len-after : (a b : List ℕ) → IsUtf8 a → utf8_valid_len (a ++ b) ≡ length a + utf8_valid_len b
 utf8_valid_len-after a b u = ⊎_elim
     (λ v.
@@ -104,7 +105,7 @@ take-valid-after a b u = ap (λ n. take n (a ++ b)) (utf8_valid_len-after a b u)
 pub is_bad-after : (a b : List ℕ) → IsUtf8 a → is_bad (a ++ b) ≡ is_bad b
 is_bad-after a b u = ap (λ t. is_some (utf8_error_len t)) (drop-valid-after a b u)
 
--- the valid prefix of a text is the whole text
+-- the valid prefix of UTF-8 text is the whole text
 pub whole_text : (bytes : List ℕ) → IsUtf8 bytes → take (utf8_valid_len bytes) bytes ≡ bytes
 whole_text bytes u = take_all (utf8_valid_len bytes) bytes (omega (arith, utf8_valid_len-IsUtf8 bytes u))
 
@@ -142,7 +143,7 @@ text_up_to bytes front cut parts u none fault few =
       few = omega (arith, len, ap length parts, length-append front cut);
     }
 
--- ---- bytes that can begin no character
+-- ---- bytes that cannot begin a character
 
 error_one : (a : ℕ) → 194 ≤ a → a ≤ 244 → utf8_error_len (a ∷ []) ≡ None
 unfolding utf8_error_len
@@ -207,7 +208,8 @@ second_of_4 c a b d e valid least low f g h is = go (cases_lt 240 a) (cases_lt a
 encode_filled : (c : ℕ) → 0 < length (encode c)
 encode_filled c = omega (arith, length-encode c, (len_utf8_bounds c).0)
 
--- the length of an encoding is the least that its code point allows
+-- if the encoding of a code point has more than one, two or three bytes, the code point is too large for
+-- fewer
 past_one : (c : ℕ) → 1 < length (encode c) → 128 ≤ c
 past_one c h = ⊎_elim (λ l. absurd (omega (arith, ap length (one c l)))) (λ l. l) (cases_lt c 128)
 
@@ -239,7 +241,8 @@ beginning_of c (suc (suc (suc zero))) valid (of4 a b d x l u f g h is e) less =
     ap (λ t. utf8_error_len (take 3 t)) e ∙ error_three a b d (omega arith) both.0 both.1 g
 beginning_of c (suc (suc (suc (suc n)))) valid (of4 a b d x l u f g h is e) less = absurd (omega (arith, ap length e))
 
--- bytes with an error and no valid prefix cannot begin with a character, or be the beginning of one, whatever follows
+-- if bytes have an error and no valid prefix, they neither start with a character nor are the start of one,
+-- whatever follows
 char_before : (x more r : List ℕ) (c : ℕ) → scalar c ≡ true → x ++ more ≡ encode c ++ r → utf8_valid_len x ≡ 0 → is_some (utf8_error_len x) ≡ true → ⊥
 char_before x more r c s is none fault = go (cases_lt (length x) (length (encode c)))
   where
@@ -258,7 +261,7 @@ char_before x more r c s is none fault = go (cases_lt (length x) (length (encode
         let len = utf8_valid_len-after (encode c) (drop n x) (IsUtf8-encode c s) in
         omega (arith, none, ap utf8_valid_len x_is, len, encode_filled c)
 
--- bytes with an error and no valid prefix have none, whatever follows them
+-- if bytes have an error and no valid prefix, they have no valid prefix whatever follows them
 pub bad_stays : (x more : List ℕ) → utf8_valid_len x ≡ 0 → is_some (utf8_error_len x) ≡ true → utf8_valid_len (x ++ more) ≡ 0
 bad_stays x more none fault = go (utf8_valid_len (x ++ more)) refl (utf8_front (x ++ more))
   where

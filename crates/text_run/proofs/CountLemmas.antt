@@ -80,7 +80,7 @@ module _ (print : Print) where
     skipped = λ skips. ((b.skipped skips).0 ∙ (a.skipped skips).0, (b.skipped skips).1 ∙ (a.skipped skips).1);
   }
 
-  -- if n characters were printed, at most n were
+  -- if `Prints` holds for n characters, so does `PrintsAtMost`
   pub at_most_printed : (old new : Engine) (n : ℕ) → Prints 0 print old old → Prints n print old new → PrintsAtMost n print old new
   at_most_printed old new n fits a = record {
     at_most = record {
@@ -94,7 +94,7 @@ module _ (print : Print) where
     );
   }
 
--- after any fault, `HasPrinted` follows from the number of printed characters
+-- after any fault, `Prints` implies `HasPrinted` for the same number of characters
 pub printed_as : (fault : RunFault) (n : ℕ) (print : Print) (old new : Engine) → Prints n print old new → HasPrinted (Some fault) n print old new
 printed_as f.Read n print old new counts = counts
 printed_as (f.Write m) n print old new counts = tt

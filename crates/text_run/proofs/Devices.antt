@@ -1,4 +1,4 @@
--- Sources and sinks to which nothing happened.
+-- Sources and sinks that have not changed.
 use Rattle.std.proofs.Common.{◌≡◌, ℕ, List, [], Option, Some, None, IfSome, unwrap_or, refl, sym, arith}
 use Rattle.std.specs.Io.KnownBytes.{Appends}
 use Rattle.std.proofs.lemmas.List.{append-nil}

@@ -1,4 +1,4 @@
--- The first paragraphs of a text, whatever follows it.
+-- The first paragraphs of a text, which are the same whatever text follows.
 use Rattle.std.proofs.Common.{◌≡◌, ℕ, ◌-◌, ◌<◌, ◌≤◌, Bool, ◌&&◌, List, [], ◌∷◌, ◌++◌, length, take, drop, Some, None, refl, sym, subst, ap, ap₂, ◌∙◌, arith}
 use Rattle.std.specs.List.{concat}
 use Rattle.std.proofs.lemmas.List.{append_assoc, append-nil, length-append, length-take-le, length-drop, take-append-drop}
@@ -11,7 +11,8 @@ use Rattle.text_run.specs.TextRun.{is_within}
 use Rattle.text_run.specs.Streaming.{IsFront, StartsLong}
 
 module _ (is_cut : ℕ → ℕ → Bool) where
-  -- a text without a paragraph boundary that is longer than the limit starts with a too long paragraph
+  -- if a text without a paragraph boundary is longer than the limit, its first paragraph is too long,
+  -- whatever follows
   pub long_uncut : (text : List ℕ) → SplitsAt is_cut text None → 1048576 < length text → StartsLong is_cut text
   long_uncut text uncut long =
       let n = length text - 1 in
@@ -30,7 +31,7 @@ module _ (is_cut : ℕ → ℕ → Bool) where
             grind (arith, nat_tests);
       }
 
-  -- a text that starts with a too long paragraph still does if more text follows
+  -- if the first paragraph of a text is too long, it is still too long when more text follows
   pub long_more : (text more : List ℕ) → StartsLong is_cut text → StartsLong is_cut (text ++ more)
   long_more text more starts = record {
     first = λ after. starts.first (more ++ after);
@@ -39,7 +40,7 @@ module _ (is_cut : ℕ → ℕ → Bool) where
     long = λ after. starts.long (more ++ after);
   }
 
-  -- no paragraphs are the first ones of a text, of which all remains
+  -- an empty list of paragraphs is a list of first paragraphs of any text, and the whole text remains
   pub front_none : (text : List ℕ) → IsFront is_cut [] text text
   front_none text = record { whole = refl; cuts = λ more. refl; within = refl; filled = λ some. some }
 
@@ -60,7 +61,8 @@ module _ (is_cut : ℕ → ℕ → Bool) where
         filled = λ some. omega (arith, ap length after_is, length-drop k text, splits.1);
       }
 
-  -- the first paragraphs of a text, followed by those of its rest, are first paragraphs of the text
+  -- the first paragraphs of a text, followed by the first paragraphs of the remaining text, are first
+  -- paragraphs of the text
   pub front_join : (ps qs : List (List ℕ)) (text rest last : List ℕ) → IsFront is_cut ps text rest → IsFront is_cut qs rest last → IsFront is_cut (ps ++ qs) text last
   front_join ps qs text rest last a b = record {
     whole = a.whole ∙ ap (λ t. concat ps ++ t) b.whole ∙ sym (append_assoc (concat ps) (concat qs) last) ∙ ap (λ t. t ++ last) (sym (concat-append ps qs));
@@ -69,7 +71,8 @@ module _ (is_cut : ℕ → ℕ → Bool) where
     filled = λ some. b.filled (a.filled some);
   }
 
-  -- the first paragraphs of a text are those of a longer text, whose rest is longer too
+  -- appending more text leaves the first paragraphs of a text unchanged, and appends the same text to the
+  -- remaining text
   pub front_more : (ps : List (List ℕ)) (text rest more : List ℕ) → IsFront is_cut ps text rest → IsFront is_cut ps (text ++ more) (rest ++ more)
   front_more ps text rest more a = record {
     whole = ap (λ t. t ++ more) a.whole ∙ append_assoc (concat ps) rest more;

@@ -29,7 +29,7 @@ last_within (a ∷ text) short =
 pub not_none : (text : List ℕ) → 0 < length text → (length text == 0) ≡ false
 not_none text some = grind (arith, nat_tests)
 
--- a valid UTF-8 prefix that is not empty has characters
+-- if the valid UTF-8 prefix of some bytes is not empty, it has at least one character
 pub front_some : (bytes : List ℕ) → 0 < utf8_valid_len bytes → 0 < length (front_of bytes)
 front_some bytes some = go (front_of bytes) refl
   where

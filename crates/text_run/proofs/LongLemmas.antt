@@ -17,7 +17,7 @@ use Rattle.text_run.proofs.StreamLemmas.{short_is}
 use Rattle.stream.proofs.Utf8Lemmas.{utf8_front}
 use lib.Utf8.{encode}
 
--- if all paragraphs together are within the limit, each one is
+-- if all paragraphs together are within the limit, each of them is
 few_within : (ps : List (List ℕ)) → length (concat ps) ≤ 1048576 → are_within ps ≡ true
 few_within [] few = refl
 few_within (p ∷ ps) few =
@@ -42,32 +42,32 @@ front_few bytes =
 
 -- ---- characters one after another
 
--- a text is its first n characters, the character at n, and the rest
+-- a text is its first n characters, followed by the character at index n and the rest
 next_of : (all : List ℕ) (n c : ℕ) → n < length all → c ≡ get_or all n c → all ≡ take n all ++ c ∷ drop (suc n) all
 next_of [] n c less is = absurd (omega arith)
 next_of (x ∷ all) zero c less is = ap (λ y. y ∷ all) (sym is)
 next_of (x ∷ all) (suc n) c less is = ap (λ t. x ∷ t) (next_of all n c (omega arith) is)
 
--- a text is the characters that were read, the current one, and the rest
+-- a text consists of the characters read so far, the current character, and the rest
 pub at_hand : (all taken : List ℕ) (c : ℕ) → map (λ x. x) taken ≡ take (length taken) all → (length taken < length all)
     × (c ≡ get_or all (length taken) c) → all ≡ taken ++ c ∷ drop (suc (length taken)) all
 at_hand all taken c so_far turn =
     next_of all (length taken) c turn.0 turn.1 ∙ ap (λ t. t ++ c ∷ drop (suc (length taken)) all) (sym so_far ∙ map-id taken)
 
--- a text with characters has a paragraph
+-- a text that is not empty has at least one paragraph
 some_pars : (pars : List (List ℕ)) → 0 < length (concat pars) → 0 < length pars
 some_pars [] some = absurd (omega (arith, some))
 some_pars (p ∷ pars) some = omega arith
 
 module _ (is_cut : ℕ → ℕ → Bool) where
-  -- the scan has read a text without a paragraph boundary that is within the limit
+  -- whether the scan has read a text that has no paragraph boundary and is within the limit
   pub record HasTaken (text : List ℕ) (last : Option ℕ) (len : ℕ) : Type 0 where
     pub uncut : SplitsAt is_cut text None
     pub last_is : last ≡ slice_get text (length text - 1)
     pub len_is : len ≡ length text
     pub short : len ≤ 1048576
 
-  -- one more character, with which the text is still within the limit
+  -- if the text is still within the limit with one more character, `HasTaken` still holds
   pub take_one : (text : List ℕ) (last : Option ℕ) (len c : ℕ) → HasTaken text last len → MatchOption last ⊤ (λ a. is_cut a c ≡ false) → len < 1048576 → HasTaken (text ++ c ∷ []) (Some c) (len + 1)
   take_one text last len c taken no_cut less = record {
     uncut = uncut_more is_cut text last c (sym taken.last_is) taken.uncut no_cut;
@@ -76,14 +76,14 @@ module _ (is_cut : ℕ → ℕ → Bool) where
     short = omega (arith, less);
   }
 
-  -- one more character, with which the first paragraph is too long
+  -- if the text exceeds the limit with one more character, its first paragraph is too long
   pub one_too_many : (text more : List ℕ) (last : Option ℕ) (len c : ℕ) → HasTaken text last len → MatchOption last ⊤ (λ a. is_cut a c ≡ false) → len ≡ 1048576 → StartsLong is_cut (text ++ c ∷ more)
   one_too_many text more last len c taken no_cut full =
       subst (λ (t : List ℕ). StartsLong is_cut t) (append_assoc text (c ∷ []) more)
       (long_more is_cut (text ++ c ∷ []) more
       (long_uncut is_cut (text ++ c ∷ []) (uncut_more is_cut text last c (sym taken.last_is) taken.uncut no_cut) (omega (arith, full, taken.len_is, length-append text (c ∷ [])))))
 
-  -- one more character, before which there is a paragraph boundary
+  -- if there is a paragraph boundary before the next character, the first paragraph ends within the text
   pub cut_before : ParagraphsArePieces → (text more : List ℕ) (last : Option ℕ) (len c a : ℕ) → HasTaken text last len
       → last ≡ Some a → is_cut a c ≡ true → length (c ∷ more) ≤ 1048576 → IsEnded is_cut (text ++ c ∷ more)
   cut_before law text more last len c a taken last_is cut few =
@@ -97,7 +97,7 @@ module _ (is_cut : ℕ → ℕ → Bool) where
         more = omega (arith, ap length split, some_pars (paragraphs is_cut (c ∷ more)) (omega (arith, ap length whole_more)));
       }
 
--- no paragraph of a text that has no boundary and is within the limit is too long
+-- if a text has no paragraph boundary and is within the limit, none of its paragraphs is too long
 pub open_within : (is_cut : ℕ → ℕ → Bool) (text : List ℕ) → IsOpen is_cut text → are_within (paragraphs is_cut text) ≡ true
 open_within is_cut [] is_open = refl
 open_within is_cut (a ∷ text) is_open = ap are_within (is_open.uncut (omega arith)) ∙ ap (λ (b : Bool). b && true) (short_is (a ∷ text) is_open.short)

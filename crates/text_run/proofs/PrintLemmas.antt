@@ -1,4 +1,4 @@
--- If nothing of a paragraph is printed, it has no bytes.
+-- If no part of a paragraph is printed, the paragraph has no printed bytes.
 use Rattle.std.proofs.Common.{◌≡◌, ◌∙◌, ℕ, ◌&&◌, Bool, true, false, List, [], ◌∷◌, ◌++◌, length, refl, ap, arith}
 use Rattle.std.specs.Prelude.{◌||◌, not}
 use Rattle.std.specs.List.{enumerate_from, flat_map}
@@ -14,7 +14,7 @@ use Rattle.lines.specs.declared.print.PrintFault.{PrintFault}
 use Rattle.lines.specs.declared.print.PrintFault.TheVariants.{Memory, Write}
 use Rattle.text_run.specs.Pages.{prints_some}
 
--- no part of a line is printed
+-- whether no part of a line is printed
 record AreOff (basedir novisual ltov vtol levels : Bool) : Type 0 where
   pub basedir_off : basedir ≡ false
   pub novisual_on : novisual ≡ true
@@ -48,7 +48,7 @@ or_true : (b : Bool) → (b || true) ≡ true
 or_true true = refl
 or_true false = refl
 
--- if printing fails, something is printed
+-- if printing a paragraph can fail, the options print some part of it
 pub some_printed : (rules : Rules) (width : ℕ) (print : Print) (text : List ℕ) (old new : Device) (fault : PrintFault)
     → FailedAs fault (paragraph_bytes rules width print text) old new → (fault ≡ Memory → skips_lines print ≡ false) → prints_some print ≡ true
 some_printed rules width print text old new Memory failed memory = ap (λ (b : Bool). print.basedir || not b) (memory refl) ∙ or_true print.basedir

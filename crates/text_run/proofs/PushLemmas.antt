@@ -1,4 +1,4 @@
--- The lines of the first paragraphs of a text, one paragraph after another.
+-- The lines of a text's first paragraphs are put on a page, one paragraph at a time.
 use Rattle.std.proofs.Common.{◌≡◌, ℕ, suc, ◌+◌, ◌<◌, ◌≤◌, Bool, true, List, [], ◌∷◌, ◌++◌, length, take, drop, Some, None, sym, subst, ap, ◌∙◌, arith}
 use Rattle.std.specs.List.{concat}
 use Rattle.std.proofs.lemmas.Bool.{and_parts, leb-true}
@@ -18,7 +18,7 @@ use Rattle.text_run.specs.Streaming.{IsFront, Pushed}
 use Rattle.text_run.proofs.CountLemmas.{at_most_more, prints_more}
 use Rattle.text_run.proofs.Fronts.{front_none, front_one, front_join}
 
--- if no paragraph is too long, the first ends within the limit, and none of the others is too long
+-- if no paragraph is too long, the first one ends within the limit, and none of the others is too long
 pub first_within : (is_cut : ℕ → ℕ → Bool) (rest : List ℕ) (k : ℕ) → are_within (paragraphs is_cut rest) ≡ true
     → SplitsAt is_cut rest (Some k) → (k ≤ 1048576) × (are_within (paragraphs is_cut (drop k rest)) ≡ true)
 first_within is_cut rest k within splits =
@@ -76,7 +76,7 @@ module _ (rules : Rules) (width : ℕ) (print : Print) (text : List ℕ) (before
   pushed_rest rest seen after engine splits so_far =
       record { pars = so_far.pars; front = so_far.front; lines = so_far.lines; counts = so_far.counts; left = record { uncut = splits; short = only_within (cut_by rules) rest so_far.within splits } }
 
-  -- the counters rise by at most the length of the text, even if memory runs out in the next paragraph
+  -- the counters rise by at most the length of the text, even if memory runs out during the next paragraph
   pub pushed_at_most : (rest : List ℕ) (seen n : ℕ) (after : List ℕ) (engine engine_new : Engine)
       → PushedSoFar rest seen after engine → PrintsAtMost n print engine engine_new → n ≤ length rest
       → PrintsAtMost (length text) print engine_old engine_new
@@ -84,7 +84,7 @@ module _ (rules : Rules) (width : ℕ) (print : Print) (text : List ℕ) (before
       at_most_more print engine_old engine engine_new (length (concat so_far.pars)) n (length text) so_far.at_most at_most
       (omega (arith, few, ap length so_far.front.whole, length-append (concat so_far.pars) rest))
 
--- a text without a paragraph boundary has no rest with one
+-- if a text has no paragraph boundary, the text after its first paragraphs has none
 pub rest_uncut : ParagraphsArePieces → (is_cut : ℕ → ℕ → Bool) (text rest : List ℕ) (pars : List (List ℕ)) (k : ℕ)
     → IsFront is_cut pars text rest → SplitsAt is_cut rest (Some k) → SplitsAt is_cut text None → ⊥
 rest_uncut law is_cut text rest pars k front splits none =

@@ -1,4 +1,4 @@
--- The start of a run, and its steps by the rules with which it started.
+-- The start of a run, and its steps, by the rules that the engine had at the start.
 use Rattle.std.proofs.Common.{◌≡◌, ℕ, Bool, List, [], length, take, Option, Some, None, Result, Err, vec_len, refl, sym, subst, ap, ◌∙◌, arith}
 use Rattle.std.specs.Str.{chars}
 use Rattle.std.specs.Io.KnownBytes.{Consumes}
@@ -83,7 +83,8 @@ module _ (rules : Rules) (width : ℕ) (print : Print) (reader writer : Device) 
       )
       fits none text lines room (omega (arith, ap length none, waiting))
 
--- a step of a run by the rules with which it started
+-- if the engine's rules are unchanged since the start of the run, a step by the current rules is a step by
+-- those at the start
 module _ (rules now : Rules) (width : ℕ) (print : Print) (reader_old writer_old : Device) (engine_old : Engine)
     (reader writer : Device) (engine : Engine) (reader_new writer_new : Device) (engine_new : Engine)
     (held held_new : Held) (kept : now ≡ rules)

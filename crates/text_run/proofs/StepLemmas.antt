@@ -1,4 +1,4 @@
--- One step of a run, by the results of its calls.
+-- One step of a run, as it follows from the results of the calls that it makes.
 use Rattle.std.proofs.Common.{◌≡◌, ◌⊎◌, inl, inr, ⊎_elim, ℕ, ◌+◌, ◌<◌, ◌≤◌, ◌==◌, Bool, true, false, List, [], ◌∷◌, ◌++◌, length, take, drop, min, Option, Some, None, unwrap_or, Result, Ok, Err, vec_len, Vec, Global, encode_utf8_all, refl, sym, subst, ap, ap₂, ◌∙◌, arith, true≢false, if◌then◌else◌}
 use Rattle.std.specs.Prelude.{is_none, is_some, IsErrOf, OnOk}
 use Rattle.std.specs.List.{concat}
@@ -40,7 +40,7 @@ module _ (rules : Rules) (width : ℕ) (print : Print) (reader_old writer_old : 
       × (held.decoded ≡ length at.decoded) × (held.written ≡ length (page rules width print at.sent))
       × IsOpen (cut_by rules) text × IsBeginning waiting × Prints (length (concat at.sent)) print engine_old engine
 
-  -- the state between two reads, given what the run holds
+  -- `Stands` holds between two reads, given what the run holds
   pub stands_by : (waiting text : List ℕ) → Holds waiting text → Prints 0 print engine_old engine_old
       → take held.waiting held.chunk.items ≡ waiting → held.text.items ≡ text → held.page.bytes.items ≡ []
       → vec_len held.chunk ≡ CHUNK
@@ -79,7 +79,7 @@ pub none_written : (rules : Rules) (width : ℕ) (print : Print) (held : Held) (
 none_written rules width print held old new fault is memory = (subst (λ (w : RunFault). Finishes rules width print held old new (Err w)) memory is).3
 
 module _ (rules : Rules) (width : ℕ) (print : Print) (reader_old writer_old : Device) (engine_old : Engine) (reader writer : Device) (engine : Engine) where
-  -- a run that stops with a fault has counted at most the characters that were read
+  -- if a run stops with a fault, and the counters include at most the characters that were read, `Ends` holds
   ended : (reader_new writer_new : Device) (engine_new : Engine) (fault : RunFault) (printed : ℕ)
       → Stops rules width print reader_old writer_old reader_new writer_new fault printed
       → HasPrinted (Some fault) printed print engine_old engine_new → PrintsNoMore print reader_old reader_new engine_old engine_new → (fault ≡ f.Memory → WantsMemory rules width print reader_old reader_new writer_old writer_new engine_old engine_new)
@@ -98,7 +98,7 @@ module _ (rules : Rules) (width : ℕ) (print : Print) (reader_old writer_old : 
         (at_most_none print engine_old) at_most (omega (arith, few)),
   )
 
-  -- the counters so far, and the number of characters in the valid UTF-8 prefix of the bytes so far
+  -- bounds on the counters so far, and the number of characters in the valid UTF-8 prefix of the bytes so far
   module _ (held : Held) (s : Stands rules width print reader_old writer_old engine_old reader writer engine held) where
     counted_now : PrintsAtMost (length (concat s.is_at.sent)) print engine_old engine
     counted_now = at_most_printed print engine_old engine (length (concat s.is_at.sent)) s.fits s.counts
@@ -115,13 +115,13 @@ module _ (rules : Rules) (width : ℕ) (print : Print) (reader_old writer_old : 
         let is = front_is rules width print reader_old reader writer_old writer (take held.waiting held.chunk.items) held.text.items [] s.is_at after in
         omega (arith, held_len, ap length is, length-append (chars s.is_at.decoded) (front_of after))
 
-    -- the bytes read so far, with an incomplete sequence at the end, are not invalid
+    -- the bytes read so far are not invalid, even if they end with an incomplete UTF-8 sequence
     no_bad : is_bad (s.is_at.decoded ++ take held.waiting held.chunk.items) ≡ false
     no_bad =
         let waiting = take held.waiting held.chunk.items in
         is_bad-after s.is_at.decoded waiting s.is_at.utf8 ∙ ap (λ n. is_some (utf8_error_len (drop n waiting))) s.beginning.none ∙ ap is_some s.beginning.fault
 
-  -- the state after some more bytes were read
+  -- if some more bytes are read, `IsAt` holds with these bytes after the waiting ones
   pub at_read : (reader_new : Device) (waiting text more : List ℕ)
       (at : IsAt rules width print reader_old reader writer_old writer waiting text []) → at.gathered ≡ []
       → length text ≤ 1048576 → length waiting < 4
@@ -165,7 +165,7 @@ module _ (rules : Rules) (width : ℕ) (print : Print) (reader_old writer_old : 
     refl,
   )
 
-  -- a failed read ends the run with `Read`, even if an incomplete sequence waits
+  -- a failed read ends the run with `Read`, even if an incomplete UTF-8 sequence is waiting
   pub ends_read : (reader_new : Device) (held : Held)
       → Stands rules width print reader_old writer_old engine_old reader writer engine held → Fails reader reader_new
       → Ends rules width print reader_old writer_old engine_old reader_new writer engine (Err f.Read)
@@ -210,7 +210,7 @@ module _ (rules : Rules) (width : ℕ) (print : Print) (reader_old writer_old : 
     sent_all : IsSent rules width print reader_old writer_old reader_new s.is_at.sent
     sent_all = record { ahead = omega (arith, gives.passes.passed, s.is_at.ahead) }
 
-    -- the text ends inside a UTF-8 sequence
+    -- if the text ends inside a UTF-8 sequence, the run stops with `NotUtf8`
     finish_inside : (n : ℕ) → 0 < length (take held.waiting held.chunk.items) → n ≡ held.decoded → Stops rules width print reader_old writer_old reader_new writer (f.NotUtf8 n) (length (concat s.is_at.sent))
     finish_inside n some n_is =
         let waiting = take held.waiting held.chunk.items in
@@ -224,7 +224,7 @@ module _ (rules : Rules) (width : ℕ) (print : Print) (reader_old writer_old : 
         (ap (λ (b : Bool). if b then None else Some (f.NotUtf8 (utf8_valid_len bytes))) (not_all (utf8_valid_len bytes) (length bytes) less) ∙ ap (λ k. Some (f.NotUtf8 k)) at)
         (λ written wrong is wrote. (is, wrote))
 
-    -- the text ends after a character
+    -- the text ends after a complete character
     module _ (none : held.waiting ≡ 0) where
       last : List (List ℕ)
       last = if length held.text.items == 0 then [] else held.text.items ∷ []
@@ -311,7 +311,7 @@ module _ (rules : Rules) (width : ℕ) (print : Print) (reader_old writer_old : 
           (pars_last ∙ sym (append-nil (s.is_at.sent ++ last))) (written_last ∙ sym (append-nil (s.is_at.sent ++ last))) s.is_at.wrote sent_all
           (subst (λ (t : List ℕ). StoppedAt m t writer writer_new) lines_last stopped) (omega (arith, n_is, s.written)) 0
 
-      -- the sink failed in the lines of the last paragraph
+      -- if the sink fails within the lines of the last paragraph, `HasStopped` holds
       finish_failed : (writer_new : Device) (engine_new : Engine) (m n : ℕ)
           → StoppedAt m (last_lines rules width print held) writer writer_new → n ≡ held.written + m
           → Prints (length held.text.items) print engine engine_new
@@ -328,7 +328,7 @@ module _ (rules : Rules) (width : ℕ) (print : Print) (reader_old writer_old : 
           (subst (λ k. Prints k print engine_old engine_new) all
           (prints_more print engine_old engine engine_new (length (concat sent)) (length held.text.items) s.counts counts))
 
-      -- the lines of the last paragraph are still to be written
+      -- if memory runs out before the last paragraph is written, its lines are still to be written
       left_over : (engine_new : Engine) → 0 < length held.text.items → prints_some print ≡ true
           → (k : ℕ) × Wrote (page rules width print (take k (front_paragraphs rules (s.is_at.decoded ++ take held.waiting held.chunk.items)))) writer_old writer
           × (prints_some print ≡ false
@@ -397,7 +397,7 @@ module _ (rules : Rules) (width : ℕ) (print : Print) (reader_old writer_old : 
     parts : bytes_read ≡ take held.waiting held.chunk.items ++ take n read.read.buffer
     parts = ap (λ (h : Held). take (h.waiting + n) held_read.chunk.items) read.same ∙ read.read.chunk
 
-    -- no bytes were read, because the source has ended
+    -- if no bytes were read because the source has ended, the run ends with the result of its last call
     pub read_nothing : n ≡ 0 → (writer_new : Device) (engine_new : Engine) (result : Result (Unit {0}) RunFault) → Finishes rules width print held_read writer writer_new result
         → OnOk result (Prints (length held_read.text.items) print engine engine_new) → PrintsAtMost (length held_read.text.items) print engine engine_new
         → (0 < held_read.waiting → engine_new ≡ engine)
@@ -432,7 +432,7 @@ module _ (rules : Rules) (width : ℕ) (print : Print) (reader_old writer_old : 
     room_is : vec_len held_read.chunk ≡ CHUNK
     room_is = read.room ∙ s.room
 
-    -- the bound on the counters, whatever was found in the chunk
+    -- bounds on the counters that hold whatever was found in the chunk
     module _ (engine_new : Engine) (at_most : PrintsAtMost (length (held_read.text.items ++ front_of bytes_read)) print engine engine_new) where
       has_read_more : HasRead reader_old reader_new (s.is_at.decoded ++ bytes_read)
       has_read_more = subst (λ (t : List ℕ). HasRead reader_old reader_new (t ++ bytes_read)) next_is.2 (next_is.0.read, next_is.0.passed)
@@ -499,7 +499,7 @@ module _ (rules : Rules) (width : ℕ) (print : Print) (reader_old writer_old : 
         let whole = ap utf8_valid_len (take-append-drop v bytes_read) in
         omega (arith, parts, whole, length-take-le v bytes_read (utf8_valid_len_le bytes_read))
 
-    -- the state after the valid UTF-8 prefix is decoded and the lines of some paragraphs are gathered
+    -- `IsAt` holds after the valid UTF-8 prefix is decoded and the lines of some paragraphs are gathered
     decoded_is : (pars : List (List ℕ)) (text_new lines_new : List ℕ) → IsFront (cut_by rules) pars (held.text.items ++ front_of bytes_read) text_new → lines_new ≡ page rules width print pars
         → (next : IsAt rules width print reader_old reader_new writer_old writer left text_new lines_new)
         × (length next.decoded ≡ length s.is_at.decoded + utf8_valid_len bytes_read) × (next.sent ≡ s.is_at.sent) × (next.gathered ≡ pars)
@@ -535,7 +535,7 @@ module _ (rules : Rules) (width : ℕ) (print : Print) (reader_old writer_old : 
     no_lines : held_read.page.bytes.items ≡ []
     no_lines = ap (λ (h : Held). h.page.bytes.items) same ∙ s.lines
 
-    -- the bytes after the valid UTF-8 prefix are invalid, so that the run ends with `NotUtf8`
+    -- if the bytes after the valid UTF-8 prefix are invalid, the run ends with `NotUtf8`
     ends_bad : (writer_new : Device) (text_new : List ℕ)
         (at : IsAt rules width print reader_old reader_new writer_old writer_new left text_new []) → at.gathered ≡ []
         → (place : ℕ) → length at.decoded ≡ place
@@ -557,7 +557,7 @@ module _ (rules : Rules) (width : ℕ) (print : Print) (reader_old writer_old : 
         ∙ ap (λ k. Some (f.NotUtf8 k)) here)
         (λ written wrong is wrote. (is, wrote))
 
-    -- a fault is found before the first paragraph ends, so that no more lines are written
+    -- a fault was found before the first paragraph ends, so no more lines are written
     module _ (held_new : Held) (engine_new : Engine) (fault : Option RunFault) (l : FindsFault rules bytes_read held_read held_new engine engine_new fault) where
       abbrev text_ahead : List ℕ
       text_ahead = held.text.items ++ front_of bytes_read
@@ -602,7 +602,7 @@ module _ (rules : Rules) (width : ℕ) (print : Print) (reader_old writer_old : 
         found_ends f.Memory is = absurd is
         found_ends f.TextTooLong is = absurd is
 
-        -- no more paragraphs were written, and no more characters counted, than before
+        -- no further paragraph was written, and no further character was counted
         found_sent : length (concat found_written.0.sent) ≡ length (concat s.is_at.sent)
         found_sent =
             let sent : found_written.0.sent ≡ s.is_at.sent = found_written.3 ∙ ap₂ (λ x y. x ++ y) found_at.2 found_at.3 ∙ append-nil s.is_at.sent in
@@ -736,7 +736,7 @@ module _ (rules : Rules) (width : ℕ) (print : Print) (reader_old writer_old : 
             go true bad same_fault = absurd cc
             go false good same_fault = stands_on g.pushed.left good
 
-    -- a step, whether it found a fault or gathered lines
+    -- a step that found a fault or gathered lines
     module _ (held_new : Held) (engine_new : Engine) (fault : Option RunFault) where
       abbrev Found : Type 0
       Found = FindsFault rules bytes_read held_read held_new engine engine_new fault ⊎ Gathers rules width print bytes_read held_read held_new engine engine_new fault
@@ -751,7 +751,7 @@ module _ (rules : Rules) (width : ℕ) (print : Print) (reader_old writer_old : 
           (no_more_read engine_new at_most) (λ is. absurd (cc (is, stops.1)))
           (λ n is. ⊎_elim (λ l. absurd (found_none held_new engine_new fault l writer_new wrong stops)) (λ g. gathers_failed held_new engine_new fault g writer_new wrong stops n is) found)
 
-      -- the sink failed: the paragraphs of the page were printed, and no others
+      -- if the sink failed, exactly the paragraphs of the page were printed
       pub read_failed : Found → (writer_new : Device) (wrong : RunFault) → StopsWriting held_new wrong writer writer_new → StopsAfter rules print held reader reader_new engine engine_new
       read_failed (inl l) writer_new wrong stops = absurd (found_none held_new engine_new fault l writer_new wrong stops)
       read_failed (inr g) writer_new wrong stops =

@@ -1,4 +1,4 @@
--- If a write fails, the paragraphs whose lines were to be written were printed.
+-- If a write fails, the counters include all paragraphs whose lines were being written.
 use Rattle.std.proofs.Common.{◌≡◌, ◌⊎◌, inl, inr, ⊎_elim, ℕ, ◌+◌, ◌*◌, ◌<◌, ◌≤◌, ◌==◌, Bool, true, false, List, [], ◌∷◌, ◌++◌, length, take, Option, Some, None, encode_utf8_all, refl, sym, subst, ap, ◌∙◌, arith, true≢false, if◌then◌else◌}
 use Rattle.std.specs.Prelude.{is_some}
 use Rattle.std.specs.List.{concat}
@@ -45,25 +45,26 @@ pub some_bad : (bytes : List ℕ) → is_some (utf8_error_len bytes) ≡ true �
 some_bad [] bad = absurd (true≢false (sym bad ∙ ap is_some utf8_error_len-nil))
 some_bad (b ∷ bytes) bad = omega arith
 
--- if a concatenation is empty, its second list is
+-- if a concatenation is empty, its second list is empty
 pub append_end : {A : Type 0} (xs ys : List A) → xs ++ ys ≡ [] → ys ≡ []
 append_end [] ys is = is
 append_end (x ∷ xs) ys is = absurd cc
 
--- the paragraph of a text without a boundary has all its characters
+-- a text without a paragraph boundary is empty, or has all its characters in one paragraph
 pub last_len : (text : List ℕ) → length (concat (if length text == 0 then [] else text ∷ [])) ≡ length text
 last_len [] = refl
 last_len (a ∷ text) =
     let filled : (length (a ∷ text) == 0) ≡ false = not_none (a ∷ text) (omega arith) in
     ap (λ (b : Bool). length (concat (if b then [] else (a ∷ text) ∷ []))) filled ∙ ap length (append-nil (a ∷ text))
 
--- a text without a boundary that is not empty is one paragraph
+-- a non-empty text without a paragraph boundary is one paragraph
 pub one_par : (rules : Rules) (text : List ℕ) → IsOpen (cut_by rules) text → 0 < length text → length (paragraphs (cut_by rules) text) ≡ 1
 one_par rules text is_open some =
     ap length (last_pars rules text is_open) ∙ ap (λ (b : Bool). length (if b then [] else text ∷ [])) (not_none text some)
 
 module _ (rules : Rules) (width : ℕ) (print : Print) (reader_old writer_old : Device) (engine_old : Engine) (reader_new writer_mid writer_new : Device) (engine_new : Engine) where
-  -- the lines of the first paragraphs were written, and the sink failed in the lines of the next ones
+  -- if the lines of the first paragraphs were written, and the sink failed within those of the next ones,
+  -- `HasStopped` holds
   pub stopped_in : (bytes : List ℕ) → HasRead reader_old reader_new bytes → (sent gathered others : List (List ℕ)) → front_paragraphs rules bytes ≡ (sent ++ gathered) ++ others
       → (length others ≡ 1) ⊎ ((length others ≡ 0) × IsAtEnd reader_new.bytes)
       → Wrote (page rules width print sent) writer_old writer_mid → (m n : ℕ) → StoppedAt m (page rules width print gathered) writer_mid writer_new

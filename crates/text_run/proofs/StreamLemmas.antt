@@ -1,4 +1,4 @@
--- A run that reads in chunks ends like one that has read everything at once.
+-- A run that reads in chunks ends like a run that reads everything at once.
 use Rattle.std.proofs.Common.{◌≡◌, ◌⊎◌, inl, inr, ⊎_elim, ℕ, suc, ◌+◌, ◌-◌, ◌<◌, ◌≤◌, ◌&&◌, Bool, true, false, List, [], ◌∷◌, ◌++◌, length, take, drop, min, Option, Some, None, IfSome, unwrap_or, Err, encode_utf8_all, refl, sym, subst, ap, ◌∙◌, arith, if◌then◌else◌}
 use Rattle.std.specs.Prelude.{take_while, is_none}
 use Rattle.std.specs.List.{concat, prefix_len}
@@ -45,7 +45,7 @@ all_but_last ps q qs =
     let n : length (ps ++ q ∷ qs) - 1 ≡ length ps + length qs = omega (arith, length-append ps (q ∷ qs)) in
     ap (λ k. take k (ps ++ q ∷ qs)) n ∙ take-append-add ps (q ∷ qs) (length qs)
 
--- paragraphs within the limit, other than the last one, are written
+-- if all paragraphs before some paragraph are within the limit, they are written
 written_begins : (ps : List (List ℕ)) (q : List ℕ) (qs : List (List ℕ)) (whole : Bool) → are_within ps ≡ true → (more : List (List ℕ)) × (written_of (ps ++ q ∷ qs) whole ≡ ps ++ more)
 written_begins ps q qs whole all = go (are_within (ps ++ q ∷ qs)) whole refl
   where
@@ -65,7 +65,7 @@ written_part ps q all short =
 pub written_whole : (ps : List (List ℕ)) → are_within ps ≡ true → written_of ps true ≡ ps
 written_whole ps all = ap (λ (b : Bool). if b then ps else take_while is_within ps) all
 
--- no paragraph from the first too long one on is written
+-- the first paragraph that is too long is not written, nor is any paragraph after it
 written_long : (ps : List (List ℕ)) (q : List ℕ) (qs : List (List ℕ)) (whole : Bool) → are_within ps ≡ true → is_within q ≡ false → written_of (ps ++ q ∷ qs) whole ≡ ps
 written_long ps q qs whole all long =
     let within : are_within (ps ++ q ∷ qs) ≡ false = within_more ps (q ∷ qs) all ∙ ap (λ (b : Bool). b && are_within qs) long in
@@ -118,8 +118,8 @@ had_all (Some us) (Some bs) xs p done = p ∙ ap (λ t. xs ++ t) done ∙ append
 
 -- ---- the run of a text so far
 
--- The run ends with this fault. If it is a fault of the input, this holds for each engine that has printed n
--- characters.
+-- The run ends with this fault, for any engine that `HasPrinted` allows. After a fault of the input,
+-- `HasPrinted` allows only an engine that has printed n characters.
 pub record Stops (rules : Rules) (width : ℕ) (print : Print) (reader_old writer_old reader_new writer_new : Device) (fault : RunFault) (n : ℕ) : Type 0 where
   pub run : (engine_old engine_new : Engine) → HasPrinted (Some fault) n print engine_old engine_new
       → IsTextRun rules width print reader_old reader_new writer_old writer_new engine_old engine_new (Err fault)
@@ -138,7 +138,7 @@ module _ (rules : Rules) (width : ℕ) (print : Print) (reader_old writer_old : 
         omega (arith, a.ahead, ap length bytes, length-append (encode_utf8_all (concat sent)) (encode_utf8_all (concat more)));
   }
 
-  -- the lines of these paragraphs were written, and a prefix of the lines of the next one
+  -- if the lines of these paragraphs and a prefix of the next one's lines were written, `ReadsAhead` holds
   ahead_at : (reader_new writer_new : Device) (ending : Ending) (bytes : List ℕ) (sent others : List (List ℕ)) (n : ℕ)
       → Gave reader_old reader_new ending bytes → front_paragraphs rules bytes ≡ sent ++ others
       → Took writer_old writer_new (page rules width print sent ++ take n (page rules width print (take 1 others)))
@@ -160,14 +160,14 @@ module _ (rules : Rules) (width : ℕ) (print : Print) (reader_old writer_old : 
         ),
       )
 
-  -- exactly the lines of these paragraphs were written
+  -- if exactly the lines of these paragraphs were written, `ReadsAhead` holds
   ahead_done : (reader_new writer_new : Device) (ending : Ending) (bytes : List ℕ) (sent others : List (List ℕ))
       → Gave reader_old reader_new ending bytes → front_paragraphs rules bytes ≡ sent ++ others
       → Wrote (page rules width print sent) writer_old writer_new → IsSent reader_new sent → ReadsAhead rules width print reader_old reader_new writer_old writer_new
   ahead_done reader_new writer_new ending bytes sent others gave pars wrote ahead =
       ahead_at reader_new writer_new ending bytes sent others 0 gave pars (subst (Took writer_old writer_new) (sym (append-nil (page rules width print sent))) wrote.0) ahead
 
-  -- the run ends with `Memory`
+  -- if memory runs out after the lines of `sent` were written, the run stops with `Memory`
   pub ends_memory : (reader_new writer_new : Device) (ending : Ending) (bytes : List ℕ)
       (sent others more : List (List ℕ)) → Gave reader_old reader_new ending bytes → front_paragraphs rules bytes
       ≡ sent ++ others
@@ -193,7 +193,8 @@ module _ (rules : Rules) (width : ℕ) (print : Print) (reader_old writer_old : 
     ahead = ahead_done reader_new writer_new ending bytes sent others gave pars wrote ahead;
   }
 
-  -- a prefix of the lines of some paragraphs is the lines of the first of them, and a prefix of the next one's lines
+  -- the first m bytes of the lines of some paragraphs are the lines of the first ones, followed by a prefix
+  -- of the next one's lines
   record IsWithin (gathered : List (List ℕ)) (m : ℕ) : Type 0 where
     pub before : List (List ℕ)
     pub next : List ℕ
@@ -231,7 +232,7 @@ module _ (rules : Rules) (width : ℕ) (print : Print) (reader_old writer_old : 
   within [] m less = absurd (omega arith)
   within (p ∷ ps) m less = within_step p ps m less (λ k less_2. within ps k less_2)
 
-  -- the sink failed within the lines of some more paragraphs
+  -- if the sink fails within the lines of some more paragraphs, the run stops with `Write`
   pub ends_write : (reader_new writer_mid writer_new : Device) (ending : Ending) (bytes : List ℕ) (sent gathered others more : List (List ℕ)) (m n : ℕ) → Gave reader_old reader_new ending bytes
       → front_paragraphs rules bytes ≡ (sent ++ gathered) ++ others
       → written_of (front_paragraphs rules bytes) (is_none (input_fault ending bytes)) ≡ (sent ++ gathered) ++ more
@@ -268,7 +269,7 @@ module _ (rules : Rules) (width : ℕ) (print : Print) (reader_old writer_old : 
             (subst (Took writer_old writer_new) took_2 took) (ahead_more reader_new sent at.before ahead);
       }
 
--- a text that has first paragraphs has a rest, and these paragraphs are written
+-- if a text has first paragraphs, some text remains after them, and these paragraphs are written
 pub gone_on : (is_cut : ℕ → ℕ → Bool) (ps : List (List ℕ)) (text rest : List ℕ) → IsFront is_cut ps text rest → (ps ≡ []) ⊎ (0 < length rest)
 gone_on is_cut ps [] rest front = inl (none ps (front.cuts []))
   where
@@ -293,7 +294,7 @@ begins_in is_cut ps (a ∷ rest) whole all (inr some) more =
 
 module _ (rules : Rules) (width : ℕ) (print : Print) (reader_old reader_new writer_old writer_new : Device) (waiting text lines : List ℕ)
     (at : IsAt rules width print reader_old reader_new writer_old writer_new waiting text lines) where
-  -- the characters and paragraphs of the decoded bytes, followed by any bytes
+  -- the characters and paragraphs of the decoded bytes when any other bytes follow
   pub front_is : (after : List ℕ) → front_of (at.decoded ++ after) ≡ chars at.decoded ++ front_of after
   front_is after = ap chars (take-valid-after at.decoded after at.utf8) ∙ chars-append at.decoded (take (utf8_valid_len after) after) at.utf8
 
@@ -305,7 +306,7 @@ module _ (rules : Rules) (width : ℕ) (print : Print) (reader_old reader_new wr
       let some = begins_in (cut_by rules) (at.sent ++ at.gathered) text whole at.front.within (gone_on (cut_by rules) (at.sent ++ at.gathered) (chars at.decoded) text at.front) (front_of after) in
       (some.0, ap (λ qs. written_of qs whole) (pars_are after) ∙ some.1)
 
-  -- all remaining bytes of the source, if it is known
+  -- the waiting bytes, followed by the remaining bytes of the source if they are known
   abbrev pub rest_of : List ℕ
   rest_of = waiting ++ unwrap_or reader_new.bytes []
 
@@ -335,7 +336,7 @@ module _ (rules : Rules) (width : ℕ) (print : Print) (reader_old reader_new wr
       ++ rest_of) at.sent at.gathered (paragraphs (cut_by rules) (text ++ front_of rest_of)) more.0 m n gave_all
       (pars_are rest_of) more.1 at.wrote sent_ahead (subst (λ (t : List ℕ). StoppedAt m t writer_new writer_last) at.lines_are stopped) n_is printed
 
-  -- the state after the gathered lines are written
+  -- after the gathered lines are written, `IsAt` holds without gathered lines
   pub at_written : (writer_last : Device) → Wrote lines writer_new writer_last
       → (next : IsAt rules width print reader_old reader_new writer_old writer_last waiting text []) × (next.gathered ≡ []) × (next.decoded ≡ at.decoded) × (next.sent ≡ at.sent ++ at.gathered)
   at_written writer_last wrote =
@@ -360,7 +361,7 @@ module _ (rules : Rules) (width : ℕ) (print : Print) (reader_old reader_new wr
         refl,
       )
 
-  -- the state if no lines are gathered
+  -- no lines are gathered
   module _ (nothing : at.gathered ≡ []) where
     sent_is : at.sent ++ at.gathered ≡ at.sent
     sent_is = ap (λ t. at.sent ++ t) nothing ∙ append-nil at.sent
@@ -371,7 +372,7 @@ module _ (rules : Rules) (width : ℕ) (print : Print) (reader_old reader_new wr
     pub sent_within : are_within at.sent ≡ true
     sent_within = ap are_within (sym sent_is) ∙ at.front.within
 
-    -- the run ends with `ParagraphTooLong` if the rest starts with a too long paragraph
+    -- if the first paragraph of the remaining text is too long, the run ends with `ParagraphTooLong`
     pub at_long : StartsLong (cut_by rules) text → Stops rules width print reader_old writer_old reader_new writer_new f.ParagraphTooLong (length (concat at.sent))
     at_long starts =
         let bytes = at.decoded ++ rest_of in
@@ -400,7 +401,8 @@ module _ (rules : Rules) (width : ℕ) (print : Print) (reader_old reader_new wr
           ahead = ahead_done rules width print reader_old writer_old reader_new writer_new AtEnd bytes at.sent (starts.first more ∷ starts.others more) gave_all pars at.wrote sent_ahead;
         }
 
-    -- a rest without a boundary is the last paragraph, which is not written if the input has a fault
+    -- if the remaining text has no paragraph boundary, it is the last paragraph, which is not written if the
+    -- input has a fault
     open_part : (rest : List ℕ) → IsOpen (cut_by rules) rest → (0 < length rest) ⊎ (at.sent ≡ [])
         → (written_of (at.sent ++ paragraphs (cut_by rules) rest) false ≡ at.sent)
         × (are_within (at.sent ++ paragraphs (cut_by rules) rest) ≡ true)
@@ -416,7 +418,7 @@ module _ (rules : Rules) (width : ℕ) (print : Print) (reader_old reader_new wr
     text_or_none : (0 < length text) ⊎ (at.sent ≡ [])
     text_or_none = ⊎_elim (λ none. inr (sym sent_is ∙ none)) (λ some. inl some) (gone_on (cut_by rules) (at.sent ++ at.gathered) (chars at.decoded) text at.front)
 
-    -- the run ends with the fault of an input that has no more valid characters
+    -- if no valid characters follow, the run ends with the fault of the input
     pub at_fault : (reader_last : Device) (ending : Ending) (after : List ℕ) (fault : RunFault)
         → Gave reader_old reader_last ending (at.decoded ++ after)
         → IsSent rules width print reader_old writer_old reader_last at.sent → IsOpen (cut_by rules) text

@@ -1,4 +1,4 @@
--- Worked examples of the definitions.
+-- The value of the constant `CHUNK`.
 use Rattle.std.proofs.Common.{◌≡◌, refl}
 use Rattle.stream.specs.declared.reading.TheConstants.{CHUNK}
 

@@ -1,8 +1,8 @@
--- What is printed of a paragraph.
+-- Whether any part of a paragraph is printed.
 use Rattle.std.specs.Prelude.{Bool, ◌||◌, not}
 use Rattle.lines.specs.Printing.{skips_lines}
 use Rattle.lines.specs.declared.print.Print.{Print}
 
--- whether anything of a paragraph is printed
+-- whether the options print any part of a paragraph
 abbrev pub prints_some : Print → Bool
 prints_some print = print.basedir || not (skips_lines print)

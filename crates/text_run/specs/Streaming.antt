@@ -22,8 +22,8 @@ use Rattle.stream.specs.declared.reading.TheConstants.{CHUNK}
 use Rattle.text_run.specs.declared.text.Held.{Held}
 
 module _ (is_cut : ℕ → ℕ → Bool) where
-  -- `pars` are the first paragraphs of a text, whatever follows the text. `rest` is the remaining text, which is empty
-  -- only if the text is.
+  -- `pars` are the first paragraphs of a text, whatever follows the text. `rest` is the remaining text, which
+  -- is empty only if the whole text is empty.
   pub record IsFront (pars : List (List ℕ)) (text rest : List ℕ) : Type 0 where
     pub whole : text ≡ concat pars ++ rest
     pub cuts : (more : List ℕ) → paragraphs is_cut (text ++ more) ≡ pars ++ paragraphs is_cut (rest ++ more)
@@ -37,18 +37,18 @@ module _ (is_cut : ℕ → ℕ → Bool) where
     pub splits : (more : List ℕ) → paragraphs is_cut (text ++ more) ≡ first more ∷ others more
     pub long : (more : List ℕ) → is_within (first more) ≡ false
 
-  -- a text has no paragraph boundary, and is not too long for a paragraph
+  -- whether a text has no paragraph boundary and is within the limit of a paragraph
   pub record IsOpen (text : List ℕ) : Type 0 where
     pub uncut : SplitsAt is_cut text None
     pub short : length text ≤ PARAGRAPH_LIMIT
 
-  -- no paragraph of a text is too long, and the first one ends within it
+  -- whether no paragraph of a text is too long, and the first one ends within the text
   pub record IsEnded (text : List ℕ) : Type 0 where
     pub within : are_within (paragraphs is_cut text) ≡ true
     pub more : 1 < length (paragraphs is_cut text)
 
-  -- The fault of a text that invalid UTF-8 follows, if `bad`. Either its first paragraph is too long, or the text has
-  -- no paragraph boundary before the invalid bytes.
+  -- A fault that is found before a text's first paragraph ends. Either the paragraph is too long, or invalid
+  -- UTF-8 follows the text, which has no paragraph boundary. `bad` tells whether invalid UTF-8 follows.
   abbrev pub IsFaultAhead : List ℕ → Bool → ℕ → RunFault → Type 0
   IsFaultAhead text bad place f.ParagraphTooLong = StartsLong text
   IsFaultAhead text bad place (f.NotUtf8 n) = IsOpen text × (bad ≡ true) × (n ≡ place)
@@ -63,21 +63,22 @@ pub record Pushed (rules : Rules) (width : ℕ) (print : Print) (text rest befor
   pub counts : Prints (length (concat pars)) print engine_old engine_new
   pub left : IsOpen (cut_by rules) rest
 
--- the bytes are an incomplete UTF-8 sequence, or empty
+-- whether the bytes are empty or an incomplete UTF-8 sequence
 pub record IsBeginning (bytes : List ℕ) : Type 0 where
   pub none : utf8_valid_len bytes ≡ 0
   pub fault : utf8_error_len bytes ≡ None
   pub few : length bytes < 4
 
--- n bytes were read, and follow the waiting ones in the buffer
+-- n bytes were read, and are after the waiting bytes in the buffer
 pub record IsRead (n : ℕ) (old new : Held) (reader_old reader_new : Device) : Type 0 where
   pub read : IsReadTo old.waiting n old.chunk.items new.chunk.items reader_old reader_new
   pub small : old.waiting + n ≤ vec_len old.chunk
   pub room : vec_len new.chunk ≡ vec_len old.chunk
   pub same : new ≡ record old { chunk = new.chunk }
 
--- The valid UTF-8 prefix of the bytes was decoded, and the lines of the paragraphs that have ended were appended to the
--- page. The bytes after this prefix wait. If they are invalid, the fault is `NotUtf8`.
+-- The valid UTF-8 prefix of the bytes was decoded, and the lines of the paragraphs that have ended were
+-- appended to the page. The bytes after this prefix wait for the next read. If these bytes are invalid, the
+-- fault is `NotUtf8`.
 pub record Gathers (rules : Rules) (width : ℕ) (print : Print) (bytes : List ℕ) (old new : Held) (engine_old engine_new : Engine) (fault : Option RunFault) : Type 0 where
   pub pushed : Pushed rules width print (old.text.items ++ front_of bytes) new.text.items old.page.bytes.items new.page.bytes.items engine_old engine_new
   pub fault_is : fault ≡ (if is_bad bytes then Some (f.NotUtf8 new.decoded) else None)
@@ -88,7 +89,7 @@ pub record Gathers (rules : Rules) (width : ℕ) (print : Print) (bytes : List �
   pub written : new.written ≡ old.written
   pub room : vec_len new.chunk ≡ vec_len old.chunk
 
--- A fault was found before any paragraph ends, and nothing has changed.
+-- A fault was found before the first paragraph ends, and nothing has changed.
 pub record FindsFault (rules : Rules) (bytes : List ℕ) (old new : Held) (engine_old engine_new : Engine) (fault : Option RunFault) : Type 0 where
   pub wrong : RunFault
   pub ahead : IsFaultAhead (cut_by rules) (old.text.items ++ front_of bytes) (is_bad bytes) (old.decoded + utf8_valid_len bytes) wrong
@@ -96,7 +97,7 @@ pub record FindsFault (rules : Rules) (bytes : List ℕ) (old new : Held) (engin
   pub same : new ≡ old
   pub engine : engine_new ≡ engine_old
 
--- the lines of the characters that are held at the end of a text
+-- the lines to write at the end of a text: those of the page, and those of the held characters
 abbrev pub last_lines : Rules → ℕ → Print → Held → List ℕ
 last_lines rules width print held =
     held.page.bytes.items ++ page rules width print (if length held.text.items == 0 then [] else held.text.items ∷ [])
@@ -112,12 +113,12 @@ pub record Writes (old new : Held) (writer_old writer_new : Device) : Type 0 whe
   pub empty : new.page.bytes.items ≡ []
   pub rest : new ≡ record old { page = new.page; written = old.written + length old.page.bytes.items }
 
--- the sink failed within the lines of the page
+-- the sink failed while the lines of the page were being written
 abbrev pub StopsWriting : Held → RunFault → Device → Device → Type 0
 StopsWriting held fault writer_old writer_new =
     (n : ℕ) × (fault ≡ f.Write (held.written + n)) × StoppedAt n held.page.bytes.items writer_old writer_new
 
--- The sink failed after some bytes were read. The paragraphs that had ended by then were printed, and no others.
+-- The sink failed after some bytes were read. Exactly the paragraphs that had ended by then were printed.
 pub record StopsAfter (rules : Rules) (print : Print) (held : Held) (reader_old reader_new : Device) (engine_old engine_new : Engine) : Type 0 where
   pub more : List ℕ
   pub read : HasRead reader_old reader_new more
@@ -127,7 +128,7 @@ pub record StopsAfter (rules : Rules) (print : Print) (held : Held) (reader_old 
   pub left : IsOpen (cut_by rules) rest
   pub counts : Prints (length (concat pars)) print engine_old engine_new
 
--- what is written at the end of a text, by the result of the run
+-- what is written at the end of a text, for each result of the run
 abbrev pub Finishes : Rules → ℕ → Print → Held → Device → Device → Result (Unit {0}) RunFault → Type 0
 Finishes rules width print held old new (Ok done) = (held.waiting ≡ 0) × Wrote (last_lines rules width print held) old new
 Finishes rules width print held old new (Err (f.NotUtf8 n)) = (0 < held.waiting) × (n ≡ held.decoded) × (new ≡ old)
@@ -136,9 +137,9 @@ Finishes rules width print held old new (Err (f.Write n)) =
 Finishes rules width print held old new (Err f.Memory) = (held.waiting ≡ 0) × (0 < length held.text.items) × (prints_some print ≡ true) × (new ≡ old)
 Finishes rules width print held old new (Err fault) = ⊥
 
--- What a run did between two states of its source and sink. It decoded the bytes that it read, except for `waiting` at
--- their end, and wrote the lines of the paragraphs `sent`. It holds the lines of `gathered`, and `text`, the characters
--- after the last paragraph boundary.
+-- What a run did between two states of its source and sink. It decoded the bytes that it read, except for
+-- `waiting` at their end. It wrote the lines of the paragraphs `sent`. It holds the lines of `gathered`, and
+-- `text`, the characters after the last paragraph boundary.
 pub record IsAt (rules : Rules) (width : ℕ) (print : Print) (reader_old reader_new writer_old writer_new : Device) (waiting text lines : List ℕ) : Type 0 where
   pub decoded : List ℕ
   pub sent : List (List ℕ)
@@ -166,7 +167,7 @@ pub record Stands (rules : Rules) (width : ℕ) (print : Print) (reader_old writ
   pub fits : Prints 0 print engine_old engine_old
   pub counts : Prints (length (concat is_at.sent)) print engine_old engine_new
 
--- how a run ends, by its result
+-- how a run ends, for each result
 pub record Ends (rules : Rules) (width : ℕ) (print : Print) (reader_old writer_old : Device) (engine_old : Engine)
     (reader_new writer_new : Device) (engine_new : Engine) (result : Result (Unit {0}) RunFault) : Type 0 where
   pub run : IsTextRun rules width print reader_old reader_new writer_old writer_new engine_old engine_new result

@@ -1,4 +1,4 @@
--- What is written for a text, and how its run ends.
+-- What is written for a text, and how the run ends.
 use Rattle.std.specs.Prelude.{◌≡◌, ◌≢◌, ◌⊎◌, ℕ, ◌+◌, ◌-◌, ◌*◌, ◌<◌, ◌==◌, nat_le, Bool, true, false, List, ◌++◌, ◌≤◌, length, take, drop, take_while, encode_utf8_all, Option, Some, None, IfSome, ⊤, is_none, Result, Ok, Err, if◌then◌else◌}
 use Rattle.std.specs.List.{concat, list_all}
 use Rattle.std.specs.Str.{chars}
@@ -19,27 +19,27 @@ use Rattle.stream.specs.Utf8.{front_of, is_bad}
 use Rattle.stream.specs.declared.reading.TheConstants.{CHUNK}
 use Rattle.device.specs.Device.{Device, FailedLast, Took, Wrote, StoppedAt}
 
--- how an input ended: the source had no more, or it failed
+-- how an input ended: either the source had no more bytes, or it failed
 pub data Ending : Type 0 where
   AtEnd : Ending
   AtFailure : Ending
 
--- The fault of an input: it is not UTF-8, or a read failed. At the end of the input, an incomplete UTF-8 sequence is
--- `NotUtf8` too.
+-- The fault of an input: it is not UTF-8, or a read failed. At the end of the input, an incomplete UTF-8
+-- sequence is reported as `NotUtf8` too.
 abbrev pub input_fault : Ending → List ℕ → Option RunFault
 input_fault AtEnd bytes =
     if utf8_valid_len bytes == length bytes then None else Some (fault.NotUtf8 (utf8_valid_len bytes))
 input_fault AtFailure bytes = if is_bad bytes then Some (fault.NotUtf8 (utf8_valid_len bytes)) else Some fault.Read
 
--- a paragraph is within the length limit
+-- whether a paragraph is within the length limit
 abbrev pub is_within : List ℕ → Bool
 is_within paragraph = nat_le (length paragraph) PARAGRAPH_LIMIT
 
 abbrev pub are_within : List (List ℕ) → Bool
 are_within pars = list_all is_within pars
 
--- The paragraphs that are written. If a paragraph is too long, these are the paragraphs before the first such one.
--- Otherwise these are all paragraphs, or all but the last if the input has a fault.
+-- The paragraphs that are written. If a paragraph is too long, the paragraphs before the first such paragraph
+-- are written. Otherwise all paragraphs are written, or all but the last if the input has a fault.
 abbrev pub written_of : List (List ℕ) → Bool → List (List ℕ)
 written_of pars is_whole =
     if are_within pars then (if is_whole then pars else take (length pars - 1) pars) else take_while is_within pars
@@ -48,18 +48,19 @@ written_of pars is_whole =
 abbrev pub ending_of : List (List ℕ) → Option RunFault → Option RunFault
 ending_of pars wrong = if are_within pars then wrong else Some fault.ParagraphTooLong
 
--- the paragraphs of the valid UTF-8 prefix of an input
+-- the paragraphs of the longest prefix of an input that is valid UTF-8
 abbrev pub front_paragraphs : Rules → List ℕ → List (List ℕ)
 front_paragraphs rules bytes = paragraphs (cut_by rules) (front_of bytes)
 
--- what a source returned between two states: all its bytes, or, if it failed, the bytes that were read before
+-- What a source returned between two states: all its bytes or, if it failed, the bytes that were read before
+-- the failure.
 abbrev pub Gave : Device → Device → Ending → List ℕ → Type 0
 Gave old new AtEnd bytes = IfSome old.bytes (λ all. all ≡ bytes) × (new.failures ≡ old.failures)
 Gave old new AtFailure bytes = Consumes old.bytes new.bytes bytes × (new.passed ≡ old.passed + length bytes) × FailedLast old new
 
--- How a run ended. Without a fault, or with a fault of the input, the page of all written paragraphs was written. After
--- a failed write, a prefix of that page was written, whose length is in the fault. After a failed allocation, the page
--- of the first k of these paragraphs was written.
+-- How a run ended. Without a fault, or with a fault of the input, the page of the paragraphs `written` was
+-- written to the sink. After a failed write, a prefix of that page was written, and the fault has the length
+-- of the prefix. After a failed allocation, the page of the first k of these paragraphs was written.
 abbrev pub EndsWith : (List (List ℕ) → List ℕ) → List (List ℕ) → Option RunFault → Device → Device → Option RunFault → Type 0
 EndsWith page_of written wrong old new (Some (fault.Write n)) = StoppedAt n (page_of written) old new
 EndsWith page_of written wrong old new (Some fault.Memory) = (k : ℕ) × Wrote (page_of (take k written)) old new
@@ -86,7 +87,8 @@ HasPrinted (Some (fault.Write m)) n print old new = ⊤
 HasPrinted (Some fault.Memory) n print old new = ⊤
 HasPrinted (Some wrong) n print old new = Prints n print old new
 
--- The run of a text. The paragraphs in the front of what was read are written, up to the first fault.
+-- The run of a text. The paragraphs of the valid UTF-8 prefix of the bytes read are written, up to the first
+-- fault.
 abbrev pub IsTextRun : Rules → ℕ → Print → Device → Device → Device → Device → Engine → Engine → Result (Unit {0}) RunFault → Type 0
 IsTextRun rules width print reader_old reader_new writer_old writer_new engine_old engine_new result =
     (ending : Ending) × (bytes : List ℕ) × Gave reader_old reader_new ending bytes
@@ -98,7 +100,7 @@ IsTextRun rules width print reader_old reader_new writer_old writer_new engine_o
     HasPrinted (fault_of result) (length (concat written)) print engine_old engine_new
     × EndsWith (page rules width print) written (ending_of pars wrong) writer_old writer_new (fault_of result))
 
--- A failed read is reported: with any other result, no call of the source failed.
+-- A failed read is always reported: if the result is not `Read`, no call of the source failed.
 abbrev pub TellsReads : {A : Type 0} → Result A RunFault → Device → Device → Type 0
 TellsReads result old new = result ≢ Err fault.Read → new.failures ≡ old.failures
 
@@ -106,9 +108,9 @@ TellsReads result old new = result ≢ Err fault.Read → new.failures ≡ old.f
 abbrev pub HasRead : Device → Device → List ℕ → Type 0
 HasRead old new bytes = Consumes old.bytes new.bytes bytes × (new.passed ≡ old.passed + length bytes)
 
--- A run that ended with `Memory`. No paragraph of what was read is too long. Unless nothing was read, the lines of one
--- paragraph are still to be written. If invalid UTF-8 follows, that paragraph ends before it. If nothing is printed,
--- that paragraph is still to be counted.
+-- A run that ended with `Memory`. No paragraph of the bytes read is too long. Unless nothing was read, the
+-- lines of at least one paragraph are still to be written. If invalid UTF-8 follows, that paragraph ends
+-- before it. If nothing is printed, that paragraph is still to be counted.
 abbrev pub WantsMemory : Rules → ℕ → Print → Device → Device → Device → Device → Engine → Engine → Type 0
 WantsMemory rules width print reader_old reader_new writer_old writer_new engine_old engine_new =
     (bytes : List ℕ) × HasRead reader_old reader_new bytes
@@ -118,13 +120,14 @@ WantsMemory rules width print reader_old reader_new writer_old writer_new engine
     × (prints_some print ≡ false → Prints (length (concat (take k pars))) print engine_old engine_new)
     × (0 < length bytes → (if is_bad bytes then k + 1 else k) < length pars)))
 
--- at most the characters before the first byte that is not UTF-8 were printed
+-- at most the characters of the valid UTF-8 prefix of the bytes read were printed
 abbrev pub PrintsNoMore : Print → Device → Device → Engine → Engine → Type 0
 PrintsNoMore print reader_old reader_new engine_old engine_new =
     (bytes : List ℕ) × HasRead reader_old reader_new bytes × PrintsAtMost (length (front_of bytes)) print engine_old engine_new
 
--- After a failed write, all paragraphs of what was read but the last were printed; or all were, and the source had no
--- more bytes. The sink failed in their lines, after n bytes.
+-- After a failed write, all paragraphs that were read were printed, except possibly the last. The last was
+-- printed only if the source had no more bytes. The sink failed within the lines of the printed paragraphs,
+-- after n bytes.
 abbrev pub HasStopped : Rules → ℕ → Print → Device → Device → Device → Device → Engine → Engine → ℕ → Type 0
 HasStopped rules width print reader_old reader_new writer_old writer_new engine_old engine_new n =
     (bytes : List ℕ) × HasRead reader_old reader_new bytes
@@ -138,8 +141,8 @@ HasStopped rules width print reader_old reader_new writer_old writer_new engine_
 abbrev pub read_ahead : ℕ
 read_ahead = 4 * (PARAGRAPH_LIMIT + 1) + CHUNK
 
--- After a fault, the lines of the first k paragraphs of the input were written, and n bytes of the next one's. At most
--- `read_ahead` bytes after these k paragraphs were read.
+-- After a fault, the lines of the first k paragraphs of the input were written, and n bytes of the next
+-- paragraph's lines. At most `read_ahead` bytes after these k paragraphs were read.
 abbrev pub ReadsAhead : Rules → ℕ → Print → Device → Device → Device → Device → Type 0
 ReadsAhead rules width print reader_old reader_new writer_old writer_new =
     (ending : Ending) × (bytes : List ℕ) × Gave reader_old reader_new ending bytes

@@ -1,4 +1,4 @@
--- What a session returns for an edit is what a script replies.
+-- The reply to an edit command follows from what the session's edit returns.
 use Rattle.std.proofs.Common.{◌≡◌, ℕ, false, true, Option, Some, None, Result, Ok, Err, IfOk, IfErr, sym, subst, ap, ◌∙◌, if◌then◌else◌}
 use Rattle.std.specs.Prelude.{is_none}
 use Rattle.std.proofs.lemmas.Bool.{true≢false}
@@ -17,7 +17,7 @@ use Rattle.text_run.specs.declared.faults.RunFault.{RunFault}
 use Rattle.text_run.specs.declared.faults.RunFault.TheVariants as f
 
 module _ (rules : Rules) (print : Print) (command : Command) (old new : Held) where
-  -- the text and the width after a command, and the reply to it, are those that the edit's result gives
+  -- whether the text, the width and the reply after a command are those that the edit's result gives
   record Told (edit : Result Damage EditFault) : Type 0 where
     pub held : new ≡ after_command rules old command
     pub text : answer_to rules print old command ≡ answer_text edit
@@ -60,7 +60,7 @@ module _ (rules : Rules) (print : Print) (command : Command) (old new : Held) wh
     stops (Ok n) stopped = tt
     stops (Err fault) stopped = stops_at fault stopped
 
-  -- if an allocation failed, the command is not refused, may allocate, and changed nothing
+  -- if an allocation failed, the command is not refused and may allocate, and nothing was changed
   pub wants : (edit : Result Damage EditFault) → Edited rules command old new edit → lacks_memory edit ≡ true → (command_refusal rules old command ≡ None) × TakesMemory old command × (new ≡ old)
   wants (Ok damage) replaced short = absurd (true≢false (sym short))
   wants (Err e.NoMemory) replaced short = replaced

@@ -1,4 +1,4 @@
--- The characters that a text represents, one after another.
+-- Decoding the characters that a text represents, one at a time.
 use Rattle.std.proofs.Common.{◌≡◌, ℕ, zero, suc, ◌+◌, ◌-◌, ◌<◌, ◌≤◌, true, false, List, [], ◌∷◌, ◌++◌, length, get_or, drop, Option, Some, None, option_map, encode_utf8, refl, add-one, sym, ap, ◌∙◌, arith}
 use Rattle.std.specs.Prelude.{is_some}
 use Rattle.std.specs.Char.{IsScalar}
@@ -8,7 +8,7 @@ use Rattle.std.proofs.lemmas.Str.{chars-append, chars-encodes}
 use Rattle.std.proofs.lemmas.Bool.{true≢false}
 use Rattle.tool.specs.Scripts.{LacksText, onto, unescaped, unescaped_after, written}
 
--- the characters after an escape are decoded from its end on
+-- `unescaped_after` decodes the text after its first n characters
 skipped : (n : ℕ) (text : List ℕ) → unescaped_after n text ≡ unescaped (drop n text)
 unfolding unescaped_after
 skipped zero text = refl
@@ -38,7 +38,7 @@ chars-push bytes c utf8 is =
     chars-append bytes (encode_utf8 c) utf8 ∙ ap (λ t. chars bytes ++ t) one
 
 module _ (text : List ℕ) (n d : ℕ) (within : n < length text) where
-  -- the next character or escape is decoded
+  -- if the next character or escape is valid, its character is decoded, and decoding goes on after it
   pub next_written : (front : List ℕ) (c len : ℕ) → written (get_or text n d) (drop (n + 1) text) ≡ Some (c, len) → 0 < len
       → option_map (λ cs. front ++ cs) (unescaped (drop n text)) ≡ option_map (λ cs. (front ++ c ∷ []) ++ cs) (unescaped (drop (n + len) text))
   next_written front c len is some =
@@ -49,7 +49,7 @@ module _ (text : List ℕ) (n d : ℕ) (within : n < length text) where
       ap unescaped (begins_at text n d within) ∙ one (get_or text n d) (drop (n + 1) text) (Some (c, len)) is ∙ ap (option_map (λ cs. c ∷ cs)) rest in
       ap (option_map (λ cs. front ++ cs)) here ∙ joined front c (unescaped (drop (n + len) text))
 
-  -- or it is invalid
+  -- if the next escape is invalid, decoding the text gives `None`
   pub none_written : (front : List ℕ) → written (get_or text n d) (drop (n + 1) text) ≡ None → option_map (λ cs. front ++ cs) (unescaped (drop n text)) ≡ None
   none_written front is =
       ap (option_map (λ cs. front ++ cs)) (ap unescaped (begins_at text n d within) ∙ one (get_or text n d) (drop (n + 1) text) None is)
@@ -67,20 +67,20 @@ is_some_map f None = refl
 is_some_map f (Some a) = refl
 
 module _ (text : List ℕ) (n d : ℕ) (within : n < length text) where
-  -- if the next character or escape is valid, the text is valid exactly if its rest is
+  -- if the next character or escape is valid, the text is valid exactly if the text after it is valid
   pub next_right : (c len : ℕ) → written (get_or text n d) (drop (n + 1) text) ≡ Some (c, len) → 0 < len → is_some (unescaped (drop n text)) ≡ is_some (unescaped (drop (n + len) text))
   next_right c len is some =
       sym (is_some_map (λ cs. [] ++ cs) (unescaped (drop n text))) ∙ ap is_some (next_written text n d within [] c len is some)
       ∙ is_some_map (λ cs. ([] ++ c ∷ []) ++ cs) (unescaped (drop (n + len) text))
 
-  -- if the next escape is not valid, the text is not
+  -- if the next escape is invalid, the text is invalid
   pub none_right : written (get_or text n d) (drop (n + 1) text) ≡ None → is_some (unescaped (drop n text)) ≡ false
   none_right is = sym (is_some_map (λ cs. [] ++ cs) (unescaped (drop n text))) ∙ ap is_some (none_written text n d within [] is)
 
 pub all_right : (text : List ℕ) (n : ℕ) → length text ≤ n → is_some (unescaped (drop n text)) ≡ true
 all_right text n past = sym (is_some_map (λ cs. [] ++ cs) (unescaped (drop n text))) ∙ ap is_some (all_written text [] n past)
 
--- the kept characters lack the one that is decoded next
+-- before the next decoded character is appended, fewer characters are kept than the text represents
 pub lacks_next : (text front : List ℕ) (c : ℕ) (rest : Option (List ℕ)) → unescaped text ≡ option_map (λ cs. (front ++ c ∷ []) ++ cs) rest → is_some (unescaped text) ≡ true
     → LacksText text front
 lacks_next text front c None is right = absurd (true≢false (sym right ∙ ap is_some is))

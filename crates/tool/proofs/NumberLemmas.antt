@@ -2,13 +2,13 @@
 use Rattle.std.proofs.Common.{ℕ, suc, ◌+◌, ◌*◌, ◌^◌, ◌<◌, ◌≤◌, arith, lit<}
 use Rattle.std.proofs.Math.Nat.{mul-le-mul_left, mul-le-mul_right, pow-le-pow_left, pow-le-pow_right, pow-succ'}
 
--- a number of i digits, with one more digit, has i + 1 digits
+-- if a number has at most i digits, it has at most i + 1 after a digit is appended
 pub more_digits : (radix n d i : ℕ) → n < radix ^ i → d < radix → radix * n + d < radix ^ suc i
 more_digits radix n d i below digit =
     let whole : radix * suc n ≤ radix * radix ^ i = mul-le-mul_left radix below in
     omega (arith, whole, pow-succ' radix i)
 
--- the powers and products that occur in numbers of a radix of at most 16
+-- bounds on the powers and products that occur while a number of a radix up to 16 is computed
 pub digits_fit : (radix i most : ℕ) → 2 ≤ radix → radix ≤ 16 → i ≤ most → radix ^ i ≤ 16 ^ most
 digits_fit radix i most low high few =
     let radix_up : radix ^ i ≤ 16 ^ i = pow-le-pow_left high i in

@@ -1,4 +1,4 @@
--- Replies to queries that are written in parts.
+-- Replies to queries, which are written in parts.
 use Rattle.std.proofs.Common.{◌≡◌, ℕ, ◌+◌, ◌≤◌, Bool, true, false, List, [], ◌∷◌, ◌++◌, length, codes, nat_lt, Some, None, unwrap_or, Result, Ok, Err, IfErr, IsErrAnd, if◌then◌else◌, sym, subst, ap}
 use Rattle.std.specs.List.{flat_map, slice_range}
 use Rattle.std.proofs.lemmas.Bool.{cond-false, le-ltb}
@@ -19,7 +19,7 @@ use Rattle.text_run.specs.declared.faults.RunFault.TheVariants as f
 use Rattle.tool.specs.Queries.{lines_text, out_of_range, part_text, told}
 use Rattle.tool.specs.Reading.{Stops}
 
--- a write that failed within a part failed within a longer reply
+-- if a write failed within the first part of a reply, it failed within the reply
 pub stops-before : (old new : Device) (xs ys : List ℕ) (done : ℕ) (fault : RunFault) → Stops xs done old new fault → Stops (xs ++ ys) done old new fault
 stops-before old new xs ys done (f.Write n) stopped = stopped-before ys stopped
 stops-before old new xs ys done f.Read stopped = absurd stopped
@@ -29,7 +29,7 @@ stops-before old new xs ys done (f.BadLine n) stopped = absurd stopped
 stops-before old new xs ys done f.Memory stopped = absurd stopped
 stops-before old new xs ys done f.TextTooLong stopped = absurd stopped
 
--- one part was written, and a write failed within the next
+-- if one part was written and a write failed within the next part, it failed within the two parts together
 pub stops-after : (old mid new : Device) (xs ys : List ℕ) (done n : ℕ) (fault : RunFault) → PassedOn xs done old mid n → Stops ys n mid new fault → Stops (xs ++ ys) done old new fault
 stops-after old mid new xs ys done n (f.Write m) first stopped = stopped-after first stopped
 stops-after old mid new xs ys done n f.Read first stopped = absurd stopped
@@ -44,7 +44,7 @@ pub each_stops-after : (old mid new : Device) (xs ys : List ℕ) (done n : ℕ) 
 each_stops-after old mid new xs ys done n (Ok m) first stops = tt
 each_stops-after old mid new xs ys done n (Err fault) first stops = stops-after old mid new xs ys done n fault first stops
 
--- the fault of a part is that of the whole
+-- if a function returns `fault` unchanged, what holds for `fault` holds for the returned fault
 pub same_stop : {T : Type 0} (r : Result T RunFault) (fault : RunFault) (Q : RunFault → Type 0) → IsErrAnd r (λ y. y ≡ fault) → Q fault → IfErr r Q
 same_stop (Ok x) fault Q is holds = tt
 same_stop (Err y) fault Q is holds = rw is holds
@@ -61,7 +61,7 @@ part_within kept pos count len is = go (nat_lt (length (text_of kept)) (pos + co
     go true none = cc
     go false some = ap (λ o. told (unwrap_or o 0 ∷ []) ++ utf8_part kept pos count ++ codes "\n") (sym some)
 
--- after a `Write` fault, the sink failed
+-- if printing fails with `Write`, the sink failed
 pub of_sink : (size first count : ℕ) (untouched : Type 0) (stopped : ℕ → Type 0) (fault : RangeFault) (sink : WriteFault) → fault ≡ Write sink
     → WritesNot size first count untouched stopped fault → stopped sink.written
 of_sink size first count untouched stopped fault sink is h = (subst (WritesNot size first count untouched stopped) is h).1

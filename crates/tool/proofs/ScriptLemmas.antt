@@ -1,4 +1,4 @@
--- A script that is read in chunks ends like one that is read at once.
+-- A script that is read in chunks ends like a script that is read at once.
 use Rattle.std.proofs.Common.{inr, ◌<◌, ◌≡◌, ℕ, suc, ◌+◌, ◌-◌, ◌≤◌, ◌&&◌, Bool, true, false, List, [], ◌∷◌, ◌++◌, length, take, min, Option, Some, None, Ok, Err, refl, sym, subst, ap, ◌∙◌, arith, if◌then◌else◌}
 use Rattle.std.specs.List.{list_all, prefix_len, slice_split}
 use Rattle.std.specs.Io.KnownBytes.{IsAtEnd}
@@ -40,7 +40,7 @@ parts_some (b ∷ bytes) =
 no_end_tail : (b : ℕ) (bytes : List ℕ) → NoEnd (b ∷ bytes) → NoEnd bytes
 no_end_tail b bytes none = λ k e within. none (suc k) e (omega (arith, within))
 
--- bytes without a line end belong to the first part of the bytes after them
+-- prepending bytes without a line end to other bytes prepends them to the first part of those bytes
 pub first_part : (front bytes p : List ℕ) (ps : List (List ℕ)) → NoEnd front → slice_split is_line_end bytes ≡ p ∷ ps → slice_split is_line_end (front ++ bytes) ≡ (front ++ p) ∷ ps
 first_part [] bytes p ps none parts = parts
 first_part (b ∷ front) bytes p ps none parts =
@@ -48,13 +48,13 @@ first_part (b ∷ front) bytes p ps none parts =
     let later = first_part front bytes p ps (no_end_tail b front none) parts in
     rw (isnt, later) refl
 
--- a part that another one follows is a line
+-- every part except the last one is a line
 pub lines_after : (ending : Ending) (done : List (List ℕ)) (p : List ℕ) (ps : List (List ℕ)) → lines_among ending (done ++ p ∷ ps) ≡ done ++ lines_among ending (p ∷ ps)
 lines_after ending [] p ps = refl
 lines_after ending (d ∷ []) p ps = refl
 lines_after ending (d ∷ e ∷ done) p ps = ap (λ l. d ∷ l) (lines_after ending (e ∷ done) p ps)
 
--- ---- which lines are replied to
+-- ---- the lines that are replied to
 
 module _ (queries : Bool) where
   take_while_more : (ls ms : List (List ℕ)) → list_all (is_good queries) ls ≡ true → good_lines queries (ls ++ ms) ≡ ls ++ good_lines queries ms
@@ -82,7 +82,7 @@ module _ (queries : Bool) where
       go true later = later
       go false later = refl
 
--- ---- the lines and replies of two lists of lines
+-- ---- executing two lists of lines in order
 
 module _ (rules : Rules) (options : ScriptOptions) where
   pub after_more : (held : Held) (ls ms : List (List ℕ)) → after_lines rules options.queries held (ls ++ ms) ≡ after_lines rules options.queries (after_lines rules options.queries held ls) ms
@@ -110,7 +110,7 @@ module _ (rules : Rules) (options : ScriptOptions) (start now : SessionState) (r
   abbrev After : List (List ℕ) → Option RunFault → ℕ → Option RunFault → Type 0
   After lines wrong k stop = EndsAfter rules options start now lines wrong k reader_old reader_new writer_old writer_new stop
 
-  -- the run ends after the lines `done`
+  -- conditions under which `EndsAfter` holds for the lines `done`
   ends_after : (lines done others : List (List ℕ)) (wrong stop : Option RunFault) → lines ≡ done ++ others → IsDone done
       → Answered rules options before (done ++ others) wrong (length done) writer_old writer_new stop
       → held_at now ≡ after_lines rules options.queries before (executed_lines (done ++ others) (length done) stop)
@@ -127,7 +127,7 @@ module _ (rules : Rules) (options : ScriptOptions) (start now : SessionState) (r
         wants = subst (λ (ls : List (List ℕ)). WantsMore ls reader_old reader_new stop) (sym first) wants;
       })
 
-  -- these lines were executed, and their replies were written
+  -- the lines `done` were executed, and their replies were written
   pub record IsAll (done : List (List ℕ)) : Type 0 where
     pub done_is : IsDone done
     pub wrote : Wrote (answers rules options before done) writer_old writer_new
@@ -149,7 +149,7 @@ module _ (rules : Rules) (options : ScriptOptions) (start now : SessionState) (r
   works_all : (done : List (List ℕ)) → IsAll done → LinesWork rules options.queries before (done ++ []) start.engine now.engine
   works_all done all = subst (λ (ls : List (List ℕ)). LinesWork rules options.queries before ls start.engine now.engine) (sym (append-nil done)) all.works
 
-  -- all lines of a script that ended were executed
+  -- if all lines of a complete script were executed, the run ends with `Ok`
   pub ends_whole : (bytes : List ℕ) (done : List (List ℕ)) → Gave reader_old reader_new AtEnd bytes → script_lines AtEnd bytes ≡ done → list_all (is_good options.queries) done ≡ true
       → IsAtEnd reader_new.bytes → reader_new.passed ≡ reader_old.passed + length bytes → IsAll done
       → IsScriptRun rules options start now reader_old reader_new writer_old writer_new (Ok tt)
@@ -164,7 +164,7 @@ module _ (rules : Rules) (options : ScriptOptions) (start now : SessionState) (r
         (length done, ends_after _ done [] _ None are all.done_is (none, size_all done, wrote_all done all) (held_all done all) (works_all done all) tt),
       )
 
-  -- a read failed after all complete lines were executed
+  -- if a read fails after all complete lines were executed, the run ends with `Read`
   pub ends_at_failure : (bytes : List ℕ) (done : List (List ℕ)) → Gave reader_old reader_new AtFailure bytes → script_lines AtFailure bytes ≡ done → list_all (is_good options.queries) done ≡ true
       → IsAll done → IsScriptRun rules options start now reader_old reader_new writer_old writer_new (Err f.Read)
   ends_at_failure bytes done gave lines good all =
@@ -178,7 +178,7 @@ module _ (rules : Rules) (options : ScriptOptions) (start now : SessionState) (r
         (length done, ends_after _ done [] _ (Some f.Read) are all.done_is (fault, size_all done, wrote_all done all) (held_all done all) (works_all done all) tt),
       )
 
-  -- the next line is not valid
+  -- if the next line is not valid, the run ends with `BadLine`
   ends_bad : (ending : Ending) (bytes : List ℕ) (done : List (List ℕ)) (line : List ℕ) (others : List (List ℕ)) (n : ℕ)
       → Gave reader_old reader_new ending bytes → script_lines ending bytes ≡ done ++ line ∷ others
       → list_all (is_good options.queries) done ≡ true
@@ -198,7 +198,7 @@ module _ (rules : Rules) (options : ScriptOptions) (start now : SessionState) (r
         (length done, ends_after _ done [] _ (Some (f.BadLine n)) are all.done_is (fault, size_all done, wrote_all done all) (held_all done all) (works_all done all) tt),
       )
 
-  -- an allocation failed, after these lines or during the next one
+  -- if an allocation fails after these lines or during the next one, the run ends with `Memory`
   pub ends_short : (ending : Ending) (bytes : List ℕ) (done others : List (List ℕ))
       → Gave reader_old reader_new ending bytes → script_lines ending bytes ≡ done ++ others
       → list_all (is_good options.queries) done ≡ true
@@ -223,7 +223,7 @@ module _ (rules : Rules) (options : ScriptOptions) (start now : SessionState) (r
         ),
       )
 
-  -- the reply to a line was written in part
+  -- if only a part of the reply to a line was written, the run ends with `Write`
   ends_write : (ending : Ending) (bytes : List ℕ) (done : List (List ℕ)) (line : List ℕ) (others : List (List ℕ))
       (held : Held) (written n : ℕ) (writer_mid : Device) → Gave reader_old reader_new ending bytes
       → script_lines ending bytes ≡ done ++ line ∷ others → list_all (is_good options.queries) done ≡ true
@@ -273,7 +273,7 @@ module _ (rules : Rules) (options : ScriptOptions) (start now : SessionState) (r
         (length done, ends_after _ done (line ∷ good_lines options.queries others) _ (Some (f.Write n)) are ahead (least, whole) held_now works tt),
       )
 
-  -- a line failed, with any of these faults
+  -- if a line fails with one of these faults, the run ends with that fault
   pub ends_line : (ending : Ending) (bytes : List ℕ) (done : List (List ℕ)) (line : List ℕ) (others : List (List ℕ))
       (mid : SessionState) (reading : Reading) (lines written : ℕ) (writer_mid : Device) (fault : RunFault)
       → Gave reader_old reader_new ending bytes

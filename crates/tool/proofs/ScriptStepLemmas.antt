@@ -33,7 +33,8 @@ with_ends_more : (ls : List (List ℕ)) (l : List ℕ) → length (with_ends (ls
 with_ends_more [] l = omega (arith, length-append (l ++ 10 ∷ []) [], length-append l (10 ∷ []))
 with_ends_more (m ∷ ls) l = omega (arith, with_ends_more ls l, length-append (m ++ 10 ∷ []) (with_ends (ls ++ l ∷ [])), length-append (m ++ 10 ∷ []) (with_ends ls))
 
--- a line that ends in a chunk is the unfinished line, followed by the first bytes of the chunk
+-- a line that ends within a chunk is the unfinished line, followed by the bytes of the chunk before the line
+-- end
 pub ended_first : (line piece front after more : List ℕ) → NoEnd line → EndsIn piece front after
     → slice_split is_line_end (line ++ (piece ++ more)) ≡ (line ++ front) ∷ slice_split is_line_end (after ++ more)
 ended_first line piece front after more none ends =
@@ -41,7 +42,7 @@ ended_first line piece front after more none ends =
     ap (λ t. line ++ (t ++ more)) ends.whole ∙ ap (λ t. line ++ t) (append_assoc front (10 ∷ after) more) ∙ sym (append_assoc line front (10 ∷ (after ++ more))) in
     ap (slice_split is_line_end) place ∙ slice_split_at is_line_end (line ++ front) 10 (after ++ more) (All-append (λ b. is_line_end b ≡ false) line front none ends.none) refl
 
--- a part over the length limit is a line, and not a valid one
+-- a part that exceeds the length limit is a line, but not a valid one
 some_bytes : (p : List ℕ) → LINE_LIMIT < length p → nat_lt 0 (length p) ≡ true
 some_bytes p long = grind (arith, nat_tests)
 
@@ -198,7 +199,7 @@ module _ (rules : Rules) (options : ScriptOptions) (start : SessionState) (reade
           ≡ p ∷ ps → script_lines AtEnd (at.bytes ++ rest) ≡ at.done ++ lines_among AtEnd (p ∷ ps)
       lines_are p ps parts = ap (lines_among AtEnd) (at.parts rest ∙ ap (λ t. at.done ++ t) parts) ∙ lines_after AtEnd at.done p ps
 
-      -- an allocation failed, and bytes wait
+      -- if an allocation fails while bytes are waiting, the run ends with `Memory`
       pub ends_memory : 0 < length waiting → IsScriptRun rules options start now reader_old reader writer_old writer (Err f.Memory)
       ends_memory some_wait =
           let some = parts_some (reading.line.items ++ (waiting ++ rest)) in
@@ -209,7 +210,7 @@ module _ (rules : Rules) (options : ScriptOptions) (start : SessionState) (reade
           (lines_work_front rules options.queries before at.done (take 1 (good_lines options.queries others)) start.engine now.engine at.works)
           (inr (omega (arith, some_wait, at.passed, at.size)))
 
-      -- the run ends at a complete line
+      -- if a complete line fails, the run ends with the fault of that line
       ends_ended : (state : SessionState) (new : Reading) (writer_new : Device) (fault : RunFault) → FailsLine rules options waiting now state reading new writer writer_new fault
           → IsScriptRun rules options start state reader_old reader writer_old writer_new (Err fault)
       ends_ended state new writer_new fault failed =
@@ -223,7 +224,7 @@ module _ (rules : Rules) (options : ScriptOptions) (start : SessionState) (reade
           gave (lines_are line (some.0 ∷ some.1) parts) at.good at.held_is at.lines at.written at.wrote at.works failed.fails failed.works (ahead_now state writer_new)
           (omega (arith, at.passed, at.size, ap length failed.ends.whole, length-append failed.front (10 ∷ failed.after)))
 
-      -- the run ends at a line that is too long, wherever it ends
+      -- if a line is too long, the run ends with `BadLine`, wherever the line ends
       ends_long : (n : ℕ) (front after : List ℕ) → waiting ≡ front ++ after → NoEnd front → LINE_LIMIT < length (reading.line.items ++ front) → n ≡ reading.lines + 1
           → IsScriptRun rules options start now reader_old reader writer_old writer (Err (f.BadLine n))
       ends_long n front after whole none long number =
@@ -271,7 +272,7 @@ module _ (rules : Rules) (options : ScriptOptions) (start : SessionState) (reade
       all_lines : (ending : Ending) → script_lines ending at.bytes ≡ at.done ++ (if is_last_line ending reading.line.items then reading.line.items ∷ [] else [])
       all_lines ending = ap (lines_among ending) all_parts ∙ lines_after ending at.done reading.line.items []
 
-      -- a read failed
+      -- if a read fails, the run ends with `Read`
       pub ends_read : (reader_new : Device) → Fails reader reader_new → IsScriptRun rules options start now reader_old reader_new writer_old writer (Err f.Read)
       ends_read reader_new fails =
           let short : nat_lt LINE_LIMIT (length reading.line.items) ≡ false = grind (arith, nat_tests, at.short) in
@@ -366,7 +367,7 @@ module _ (rules : Rules) (options : ScriptOptions) (start : SessionState)
   pub written_fits : reading.written ≤ writer.passed
   written_fits = omega (arith, at.written, at.wrote.0.passed)
 
--- the run ends with its last line, which was executed or failed
+-- the run ends after its last line was executed or failed
 pub ends_finish : (rules : Rules) (options : ScriptOptions) (start : SessionState)
     (reader_old reader writer_old writer : Device) (now state : SessionState) (reading new : Reading)
     (writer_new : Device) → IsAt rules options start reader_old reader writer_old writer now reading []
@@ -380,7 +381,7 @@ ends_finish rules options start reader_old reader writer_old writer now state re
 ends_finish rules options start reader_old reader writer_old writer now state reading new writer_new at finished some (Err fault) executes fails works =
     ends_last_not rules options start reader_old reader writer_old writer now reading at finished some new state writer_new fault fails works
 
--- ---- a part of a chunk, by the rules with which the run started
+-- ---- a part of a chunk, by the rules at the start of the run
 module _ (rules held_rules : Rules) (options : ScriptOptions) (start : SessionState)
     (reader_old reader writer_old writer writer_new : Device) (now state : SessionState) (reading new : Reading)
     (piece part : List ℕ) (n at : ℕ)
@@ -407,7 +408,7 @@ module _ (rules held_rules : Rules) (options : ScriptOptions) (start : SessionSt
   fails_lines (inl failed) = failed.lines
   fails_lines (inr not) = not.grows.3
 
-  -- an allocation failed for a line in this part
+  -- if an allocation failed for a line in this part of the chunk, `WantsIn` holds
   pub wants_part : FailsIn held_rules options part now state reading new writer writer_new f.Memory → WantsIn rules options start reader_old reader writer_old writer_new state new
   wants_part fails =
       let failed = failed_here f.Memory fails in
@@ -421,7 +422,7 @@ module _ (rules held_rules : Rules) (options : ScriptOptions) (start : SessionSt
         fails = failed;
       }
 
--- the fault with which a run ends
+-- the fault with which a run ended
 abbrev fault_in : {T : Type 0} → Result T RunFault → RunFault
 fault_in (Ok done) = f.Read
 fault_in (Err fault) = fault
@@ -432,7 +433,7 @@ same_fault one other is = ap (λ (x : RunFault). Err x) (ap fault_in is)
 pub wants_memory : {T : Type 0} (P : RunFault → Type 0) (fault : RunFault) → IsErrOf {T = T} {E = RunFault} (Err fault) f.Memory → P fault → P f.Memory
 wants_memory P fault is p = subst P (ap fault_in is) p
 
--- of a chunk that is not empty, at least one byte is read
+-- at least one byte of a non-empty chunk is read
 pub takes_some : (rules : Rules) (options : ScriptOptions) (piece : List ℕ) (n : ℕ) (now state : SessionState)
     (reading new : Reading) (writer writer_new : Device) → 0 < length piece
     → Takes rules options piece n now state reading new writer writer_new → (0 < n) × (n ≤ length piece)
@@ -450,7 +451,8 @@ at_none rules options start reader_old reader writer_old writer now reading read
     subst (IsAt rules options start reader_old reader_new writer_old writer now reading) (ap (λ k. take k buffer) none)
     (at_read rules options start reader_old reader writer_old writer now reading reader_new n buffer at gives (omega (arith, none)) (omega (arith, none)))
 
--- a step of a run by the rules with which it started
+-- if the session's rules are unchanged since the start of the run, a step by the current rules is a step by
+-- those at the start
 module _ (rules held_rules : Rules) (options : ScriptOptions) (start : SessionState)
     (reader_old writer_old reader writer reader_new writer_new : Device) (now state : SessionState)
     (reading new : Reading) (kept : held_rules ≡ rules)
@@ -464,7 +466,7 @@ module _ (rules held_rules : Rules) (options : ScriptOptions) (start : SessionSt
   pub script_stepped : (is : Result Bool RunFault) → result ≡ is → Steps rules options start reader_old writer_old reader_new writer_new state new is
   script_stepped is same = subst (Steps rules options start reader_old writer_old reader_new writer_new state new) same stepped
 
--- an allocation failed before anything was read
+-- if an allocation fails before anything is read, the run ends with `Memory`
 pub ends_at_once : (rules : Rules) (options : ScriptOptions) (start : SessionState) (reader writer : Device) → IsScriptRun rules options start start reader reader writer writer (Err f.Memory)
 ends_at_once rules options start reader writer =
     let some = parts_some (unwrap_or reader.bytes []) in

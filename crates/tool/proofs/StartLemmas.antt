@@ -1,4 +1,4 @@
--- Why no session was opened on some bytes.
+-- The reasons why no session was opened on the bytes of a text.
 use Rattle.std.proofs.Common.{◌≡◌, ℕ, ◌<◌, ◌==◌, Bool, true, false, List, length, Option, Some, None, nat_lt, refl, sym, ap, ◌∙◌, arith, if◌then◌else◌}
 use Rattle.std.specs.Str.{chars}
 use Rattle.std.specs.Str.Lossy.{utf8_valid_len}
@@ -11,7 +11,7 @@ use Rattle.session.specs.declared.edits.EditFault.TheVariants as e
 use Rattle.tool.specs.Starts.{IsStartFault, start_fault}
 use Rattle.session.specs.declared.edits.TheConstants.{TEXT_LIMIT}
 
--- whether a refusal is about the width or a position, and not about the text
+-- whether a refusal concerns the width or a position, and not the text
 abbrev is_width : Option EditFault → Bool
 is_width (Some e.WidthOutOfRange) = true
 is_width (Some e.OutOfRange) = true

@@ -1,4 +1,4 @@
--- How much a session works for a command, and for several lines in order.
+-- How much work a session does for a command, and for several lines in order.
 use Rattle.std.proofs.Common.{◌≡◌, ℕ, ◌+◌, ◌≤◌, Bool, List, [], ◌∷◌, ◌++◌, length, map, Option, Some, None, Result, Ok, Err, IfOk, IfErr, is_none, is_some, false, nat_lt, if◌then◌else◌, refl, sym, ap, subst, ◌∙◌, arith}
 use Rattle.std.proofs.lemmas.Bool.{cond-true, true≢false}
 use Rattle.std.proofs.lemmas.List.{append-nil}
@@ -27,7 +27,7 @@ more_rise n m k a b c r s e = record { least = omega (arith, r.least, s.least); 
 within_rise : (n m a b : ℕ) → n ≤ m → RisesBy n a b → RisesBy m a b
 within_rise n m a b le r = record { least = r.least; most = omega (arith, r.most, le) }
 
--- an unchanged engine has worked within any bound
+-- if an engine is unchanged, its work is within any bound
 pub works_none : (rules : Rules) (most : (Held → Command → ℕ) → ℕ) (old new : Engine) → new ≡ old → Works rules most old new
 works_none rules most old new e = record {
   analysed = same_rise _ (analysed_of old) (analysed_of new) (ap analysed_of e);
@@ -166,7 +166,7 @@ module _ (rules : Rules) (queries : Bool) where
         written = more_rise _ _ _ _ _ _ before.written works.written (sum (filled_by rules));
       }
 
-  -- a line that is not valid does no work
+  -- a line that is not valid causes no work
   no_work : (work : Held → Command → ℕ) (held : Held) (command : Option Command) → is_some command ≡ false → work_of_line rules work held command ≡ 0
   no_work work held None bad = refl
   no_work work held (Some command) bad = absurd (true≢false bad)

@@ -22,7 +22,7 @@ use Rattle.text_run.specs.declared.faults.RunFault.TheVariants as f
 use Rattle.tool.specs.declared.queries.Query.{Query}
 use Rattle.tool.specs.declared.queries.Query.TheVariants as ask
 
--- the reply with these numbers: `=`, each number after a space, and a newline
+-- the reply that consists of `=`, each of these numbers after a space, and a newline
 abbrev pub told : List ℕ → List ℕ
 told numbers = codes "=" ++ flat_map (λ n. codes " " ++ decimal n) numbers ++ codes "\n"
 
@@ -34,8 +34,8 @@ abbrev pub told_of : Option (List ℕ) → List ℕ
 told_of (Some numbers) = told numbers
 told_of None = out_of_range
 
--- The number of columns of the screen to the left of a line's shown part. For a line that does not exist yet, it
--- depends on the base level.
+-- The number of columns of the screen to the left of a line's shown part. For a line that does not exist yet,
+-- the number depends on the base level.
 abbrev pub screen_left : Print → ℕ → Visual → ℕ
 screen_left print width line = if print.nopad then 0 else padding_of width line
 
@@ -46,8 +46,8 @@ abbrev pub left_of : Print → ℕ → Option Visual → ℕ → ℕ
 left_of print width (Some line) level = screen_left print width line
 left_of print width None level = empty_left print width level
 
--- The hit at a column to the left of the shown part: the leftmost character of nonzero width, trailing if its level is
--- odd. In a line of width 0, it is the start of the line.
+-- The hit at a column to the left of the shown part: the leftmost character of nonzero width, trailing if its
+-- level is odd. In a line of width 0, the hit is the start of the line.
 abbrev pub is_odd_at : Visual → Option ℕ → Bool
 is_odd_at line (Some place) = is_odd (slice_index line.levels (slice_index line.vtol place))
 is_odd_at line None = false
@@ -104,7 +104,7 @@ query_text rules print width kept (ask.Cluster pos) = cluster_text kept pos
 query_text rules print width kept ask.Size = size_text kept
 query_text rules print width kept (ask.Text pos count) = part_text kept pos count
 
--- a query allocates: it is `cluster`, for a character that exists
+-- whether a query allocates: only `cluster` does, for a character that exists
 abbrev pub AsksMemory : List ℕ → Query → Type 0
 AsksMemory text (ask.Cluster pos) = pos < length text
 AsksMemory text query = ⊥

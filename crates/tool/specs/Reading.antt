@@ -25,7 +25,8 @@ use Rattle.text_run.specs.declared.faults.RunFault.TheVariants as f
 use Rattle.tool.specs.declared.script.Reading.{Reading}
 use Rattle.tool.specs.declared.script.ScriptOptions.{ScriptOptions}
 
--- A command allocates: it is an edit, and the text or the inserted text is not empty; or it is a query that allocates.
+-- Whether a command may allocate. An edit may allocate if the text or the inserted text is not empty. A query
+-- may allocate if `AsksMemory` holds.
 abbrev pub TakesMemory : Held → Command → Type 0
 TakesMemory held (Insert pos piece) = 0 < length held.text + length piece
 TakesMemory held (Delete pos count) = 0 < length held.text
@@ -33,8 +34,9 @@ TakesMemory held (SetWidth width) = 0 < length held.text
 TakesMemory held Show = ⊥
 TakesMemory held (Ask query) = AsksMemory held.text query
 
--- The result of an edit. With `Ok`, it was executed, and this is its damage. With `NoMemory`, it is not refused, may
--- allocate, and changed nothing. With another fault, it was refused, and changed nothing.
+-- The result of an edit. After `Ok`, the edit was executed with the returned damage. After `NoMemory`, the
+-- edit is not refused and may allocate, and nothing was changed. After any other fault, the edit was refused,
+-- and nothing was changed.
 abbrev pub Edited : Rules → Command → Held → Held → Result Damage EditFault → Type 0
 Edited rules command old new (Ok damage) =
     (command_refusal rules old command ≡ None) × (new ≡ executed old command)
@@ -61,8 +63,8 @@ pub record Executes (rules : Rules) (print : Print) (command : Command) (written
   pub held : held_new ≡ after_command rules held_old command
   pub wrote : PassedOn (answer_to rules print held_old command) written old new n
 
--- A command failed. With `Write`, it was executed, and the sink failed within its reply. With `Memory`, it is not
--- refused, may allocate, and changed nothing.
+-- A command failed. After `Write`, the command was executed, and the sink failed within its reply. After
+-- `Memory`, the command is not refused and may allocate, and nothing was changed.
 abbrev pub ExecutesNot : Rules → Print → Command → ℕ → Held → Held → Device → Device → RunFault → Type 0
 ExecutesNot rules print command written held_old held_new old new (f.Write n) =
     (held_new ≡ after_command rules held_old command) × StoppedIn (answer_to rules print held_old command) written old new n
@@ -78,8 +80,9 @@ pub record ExecutesLine (rules : Rules) (options : ScriptOptions) (line : List �
   pub lines : new.lines ≡ old.lines + 1
   pub empty : new.line.items ≡ []
 
--- An allocation failed for a line that is UTF-8. Fewer characters were kept than the line has, or fewer of an insert's
--- text than the line represents. Or it failed for the line's command, which is not refused.
+-- An allocation failed for a line that is valid UTF-8. Fewer characters were kept than the line has, or fewer
+-- characters of an insert's text than the line represents. Or the allocation failed for the line's command,
+-- which is not refused.
 abbrev pub WantsMemory : Rules → Bool → List ℕ → Reading → Held → Type 0
 WantsMemory rules queries line reading held =
     (length reading.text.items < length (chars line))
@@ -113,15 +116,16 @@ pub record Grows (bytes : List ℕ) (old new : Reading) : Type 0 where
   pub lines : new.lines ≡ old.lines
   pub written : new.written ≡ old.written
 
--- bytes were not appended to the unfinished line: it would be too long, or otherwise an allocation failed
+-- bytes were not appended to the unfinished line, because it would be too long or because an allocation
+-- failed
 abbrev pub GrowsNot : List ℕ → Reading → Reading → RunFault → Type 0
 GrowsNot bytes old new (f.BadLine n) = (LINE_LIMIT < length (old.line.items ++ bytes)) × (n ≡ old.lines + 1)
 GrowsNot bytes old new f.Memory =
     (length (old.line.items ++ bytes) ≤ LINE_LIMIT) × (0 < length bytes) × (new.line.items ≡ old.line.items) × (new.lines ≡ old.lines)
 GrowsNot bytes old new fault = ⊥
 
--- The first n bytes of a chunk were read. With `GoesOn`, the whole chunk continues the unfinished line. With
--- `EndsLine`, a line ended and was executed.
+-- The first n bytes of a chunk were read. In the case `GoesOn`, the whole chunk continues the unfinished
+-- line. In the case `EndsLine`, a line ended and was executed.
 pub record GoesOn (piece : List ℕ) (n : ℕ) (state_old state_new : SessionState) (old new : Reading) (writer_old writer_new : Device) : Type 0 where
   pub all : n ≡ length piece
   pub none : NoEnd piece
@@ -141,7 +145,7 @@ abbrev pub Takes : Rules → ScriptOptions → List ℕ → ℕ → SessionState
 Takes rules options piece n state_old state_new old new writer_old writer_new =
     GoesOn piece n state_old state_new old new writer_old writer_new ⊎ EndsLine rules options piece n state_old state_new old new writer_old writer_new
 
--- a line that ends in a chunk failed
+-- a line that ends within a chunk failed
 pub record FailsLine (rules : Rules) (options : ScriptOptions) (piece : List ℕ) (state_old state_new : SessionState) (old new : Reading) (writer_old writer_new : Device) (fault : RunFault) : Type 0 where
   pub front : List ℕ
   pub after : List ℕ
@@ -150,7 +154,7 @@ pub record FailsLine (rules : Rules) (options : ScriptOptions) (piece : List ℕ
   pub works : LineWorks rules options.queries (held_at state_old) (old.line.items ++ front) state_old.engine state_new.engine
   pub lines : new.lines ≡ old.lines
 
--- the part of a line that is in a chunk was not appended to the unfinished line
+-- the part of a line that a chunk contains was not appended to the unfinished line
 pub record IsNotKept (piece : List ℕ) (state_old state_new : SessionState) (old new : Reading) (writer_old writer_new : Device) (fault : RunFault) : Type 0 where
   pub front : List ℕ
   pub after : List ℕ
@@ -166,8 +170,8 @@ FailsIn rules options piece state_old state_new old new writer_old writer_new fa
     FailsLine rules options piece state_old state_new old new writer_old writer_new fault
     ⊎ IsNotKept piece state_old state_new old new writer_old writer_new fault
 
--- What a run did between two states of its source, sink and session: it read some bytes and executed the lines `done`.
--- It holds the unfinished line after these, and the bytes that wait.
+-- What a run did between two states of its source, sink and session: it read some bytes and executed the
+-- lines `done`. The run holds the unfinished line after these lines, and the waiting bytes.
 pub record IsAt (rules : Rules) (options : ScriptOptions) (start : SessionState)
     (reader_old reader_new writer_old writer_new : Device) (now : SessionState) (reading : Reading)
     (waiting : List ℕ) : Type 0 where
@@ -200,7 +204,7 @@ pub record WantsIn (rules : Rules) (options : ScriptOptions) (start : SessionSta
   pub lines : reading.lines ≡ before.lines
   pub fails : FailsIn rules options waiting state_before state before reading writer_before writer f.Memory
 
--- the state of a run, whose counters do not overflow
+-- the state of a run whose counters do not overflow
 abbrev pub CanFeed : Rules → ScriptOptions → SessionState → Reading → Device → List ℕ → Type 0
 CanFeed rules options now reading writer_new waiting =
     (start : SessionState) × (reader_old : Device) × (writer_old : Device) × (reader_new : Device)

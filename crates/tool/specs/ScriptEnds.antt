@@ -12,9 +12,9 @@ use Rattle.tool.specs.ScriptRun.{after_lines, answers, good_lines, line_read_ahe
 use Rattle.tool.specs.Scripts.{script_lines}
 use Rattle.tool.specs.Work.{LinesWork}
 
--- What a run wrote: the replies to the first k lines. After a failed write, n bytes were written, and the sink failed
--- within the reply to the next line. Without a failed write or allocation, these are all lines, and the run ends with
--- the fault of the input, if any.
+-- What a run wrote: the replies to the first k lines. After a failed write, n bytes were written, and the
+-- sink failed within the reply to the next line. If no write and no allocation failed, the first k lines are
+-- all lines, and the run ends with the fault of the input, if any.
 abbrev pub Answered : Rules → ScriptOptions → Held → List (List ℕ) → Option RunFault → ℕ → Device → Device → Option RunFault → Type 0
 Answered rules options held lines wrong k old new (Some (fault.Write n)) =
     (length (answers rules options held (take k lines)) ≤ n) × StoppedAt n (answers rules options held (take (k + 1) lines)) old new
@@ -26,15 +26,16 @@ abbrev pub executed_lines : List (List ℕ) → ℕ → Option RunFault → List
 executed_lines lines k (Some (fault.Write n)) = take (k + 1) lines
 executed_lines lines k stop = take k lines
 
--- an allocation failed before anything was read, or for bytes after the lines that were replied to
+-- an allocation failed, either before anything was read or after bytes beyond the lines that were replied to
+-- were read
 abbrev pub WantsMore : List (List ℕ) → Device → Device → Option RunFault → Type 0
 WantsMore done old new (Some fault.Memory) =
     ((length done ≡ 0) × (new.passed ≡ old.passed)) ⊎ (old.passed + length (with_ends done) < new.passed)
 WantsMore done old new stop = ⊤
 
--- A run ended after the first k lines. Only these lines were executed, and the next one if a write failed within its
--- reply. At most `line_read_ahead` bytes after the k lines were read. The session worked at most as much as these lines
--- and the next one require.
+-- A run ended after the first k lines. Only these lines were executed, and the next one if a write failed
+-- within its reply. At most `line_read_ahead` bytes after the k lines were read. The session did at most the
+-- work that these lines and the next one require.
 pub record EndsAfter (rules : Rules) (options : ScriptOptions) (old new : SessionState) (lines : List (List ℕ))
     (wrong : Option RunFault) (k : ℕ) (reader_old reader_new writer_old writer_new : Device)
     (stop : Option RunFault) : Type 0 where
@@ -44,8 +45,8 @@ pub record EndsAfter (rules : Rules) (options : ScriptOptions) (old new : Sessio
   pub wants : WantsMore (take k lines) reader_old reader_new stop
   pub works : LinesWork rules options.queries (held_at old) (take (k + 1) lines) old.engine new.engine
 
--- The run of a script in a session. The lines of what was read are executed and replied to one after another, up to the
--- first one that is not valid.
+-- The run of a script in a session. The lines that were read are executed and replied to in order, up to the
+-- first line that is not valid.
 abbrev pub IsScriptRun : Rules → ScriptOptions → SessionState → SessionState → Device → Device → Device → Device → Result (Unit {0}) RunFault → Type 0
 IsScriptRun rules options old new reader_old reader_new writer_old writer_new result =
     (ending : Ending) × (bytes : List ℕ) × Gave reader_old reader_new ending bytes

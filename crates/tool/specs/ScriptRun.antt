@@ -1,4 +1,4 @@
--- What an edit script changes and replies, and how its run ends.
+-- What an edit script changes, what it replies, and how its run ends.
 use Rattle.std.specs.Prelude.{ℕ, ◌+◌, ◌-◌, nat_lt, Bool, List, [], ◌∷◌, ◌++◌, length, map, take, take_while, codes, slice_range, Option, Some, None, is_some, is_none, if◌then◌else◌}
 use Rattle.std.specs.Fmt.{decimal}
 use Rattle.std.specs.List.{concat, list_all}
@@ -22,7 +22,7 @@ use Rattle.tool.specs.declared.script.TheConstants.{LINE_LIMIT}
 
 -- ---- one command
 
--- why a command is refused
+-- the reason for refusing a command, or `None`
 abbrev pub command_refusal : Rules → Held → Command → Option EditFault
 command_refusal rules held (Insert pos piece) = refusal (cut_by rules) held.text (insertion pos piece)
 command_refusal rules held (Delete pos count) = refusal (cut_by rules) held.text (deletion pos count)
@@ -45,7 +45,7 @@ after_command rules held command = if is_none (command_refusal rules held comman
 abbrev pub layouts_at : Rules → Held → List Layout
 layouts_at rules held = layouts_of rules held.width held.text
 
--- the reply to an edit: `new` lines replace `old` lines from `first` on
+-- the reply to an edit in which `new` lines replace `old` lines from `first` on
 abbrev pub damage_text : ℕ → ℕ → ℕ → List ℕ
 damage_text first old new = codes "@ " ++ decimal first ++ codes " " ++ decimal old ++ codes " " ++ decimal new ++ codes "\n"
 
@@ -64,7 +64,7 @@ executed_text rules print held (SetWidth width) = damage_text 0 (length (lines_i
 executed_text rules print held Show = page rules held.width print (paragraphs (cut_by rules) held.text)
 executed_text rules print held (Ask query) = query_text rules print held.width (layouts_at rules held) query
 
--- The reply to a refused command.
+-- the reply to a refused command
 abbrev pub refusal_text : EditFault → List ℕ
 refusal_text refused.OutOfRange = codes "! range\n"
 refusal_text refused.WidthOutOfRange = codes "! width\n"
@@ -81,8 +81,8 @@ answer_to rules print held command = answer_by (command_refusal rules held comma
 
 -- ---- lines
 
--- The text and the width after lines are executed one after another, and the replies. A line without a command changes
--- nothing.
+-- The text and the width after lines are executed in order, and the replies to these lines. A line without a
+-- command changes nothing.
 abbrev pub after_line : Rules → Held → Option Command → Held
 after_line rules held None = held
 after_line rules held (Some command) = after_command rules held command
@@ -102,7 +102,7 @@ answers rules options held (line ∷ lines) =
 
 -- ---- the run
 
--- the lines before the first one that is not valid
+-- whether a line is valid, and the lines before the first one that is not
 abbrev pub is_good : Bool → List ℕ → Bool
 is_good queries line = is_some (command_of_line queries line)
 
@@ -118,7 +118,8 @@ abbrev pub script_fault : Bool → Ending → List (List ℕ) → Option RunFaul
 script_fault queries ending lines =
     if list_all (is_good queries) lines then input_fault ending else Some (fault.BadLine (length (good_lines queries lines) + 1))
 
--- the maximum number of bytes that a run reads after the lines it has replied to: a line with its end, and one chunk
+-- the maximum number of bytes that a run reads after the lines it has replied to: a line with its line end,
+-- and one chunk
 abbrev pub line_read_ahead : ℕ
 line_read_ahead = LINE_LIMIT + 1 + CHUNK
 

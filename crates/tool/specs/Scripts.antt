@@ -16,13 +16,13 @@ use Rattle.text_run.specs.TextRun.{Ending, AtEnd, AtFailure}
 abbrev pub is_line_end : ℕ → Bool
 is_line_end b = b == 10
 
--- The bytes after the last line end are a line if the script has ended and they are not empty. If the source failed,
--- they are a line only if they are over the length limit already.
+-- The bytes after the last line end are a line if the script has ended and there is at least one. If the
+-- source failed, these bytes are a line only if they already exceed the length limit.
 abbrev pub is_last_line : Ending → List ℕ → Bool
 is_last_line AtEnd rest = nat_lt 0 (length rest)
 is_last_line AtFailure rest = nat_lt LINE_LIMIT (length rest)
 
--- the lines among the parts between line ends
+-- the lines among the parts into which line ends split a script
 abbrev pub lines_among : Ending → List (List ℕ) → List (List ℕ)
 lines_among ending [] = []
 lines_among ending (rest ∷ []) = if is_last_line ending rest then rest ∷ [] else []
@@ -33,8 +33,8 @@ script_lines ending bytes = lines_among ending (slice_split is_line_end bytes)
 
 -- ---- commands
 
--- Inserts a text before the character at a position, deletes characters from a position on, sets the width, prints all
--- lines, or replies to a query.
+-- A command inserts a text before the character at a position, deletes characters from a position on, sets
+-- the width, prints all lines, or replies to a query.
 pub data Command : Type 0 where
   Insert : (pos : ℕ) (piece : List ℕ) → Command
   Delete : (pos count : ℕ) → Command
@@ -52,8 +52,9 @@ are_digits radix text = list_all (λ c. is_digit c radix) text
 abbrev pub number_in : List ℕ → Option ℕ
 number_in text = if nat_lt 0 (length text) && (nat_le (length text) 9 && are_digits 10 text) then Some (number_by 10 text) else None
 
--- An escape is a backslash and `n`, `r`, another backslash, or `u{H}`. H is the number of a character, 1 to 6
--- hexadecimal digits. Given the text after the backslash: the character, and the length of the whole escape.
+-- An escape is a backslash and `n`, `r`, another backslash, or `u{H}`. H is a Unicode scalar value in 1 to 6
+-- hexadecimal digits. From the text after the backslash, these definitions compute the character and the
+-- length of the whole escape.
 abbrev pub is_character : ℕ → Bool
 is_character n = nat_lt n 0xD800 || (nat_le 0xE000 n && nat_le n 0x10FFFF)
 
@@ -76,7 +77,7 @@ escaped text =
 abbrev pub written : ℕ → List ℕ → Option (ℕ × ℕ)
 written c after = if c == 92 then escaped after else Some (c, 1)
 
--- the characters that a text represents, after the first `skip`, which belong to an escape
+-- the characters that a text represents after its first `skip` characters, which belong to an escape
 abbrev pub onto : Option (ℕ × ℕ) → (ℕ → Option (List ℕ)) → Option (List ℕ)
 onto None others = None
 onto (Some (c, len)) others = option_map (λ cs. c ∷ cs) (others len)
@@ -89,14 +90,14 @@ unescaped_after zero (c ∷ text) = onto (written c text) (λ len. unescaped_aft
 abbrev pub unescaped : List ℕ → Option (List ℕ)
 unescaped text = unescaped_after 0 text
 
--- the parts before and after the first space
+-- the parts of a text before and after its first space
 abbrev pub is_space : ℕ → Bool
 is_space c = c == 32
 
 abbrev pub parted : List ℕ → Option (List ℕ × List ℕ)
 parted text = if nat_lt (position_or_len is_space text) (length text) then Some (before_first is_space text, after_first is_space text) else None
 
--- the rest of a text after a prefix, if it has that prefix
+-- the rest of a text after a prefix, if the text starts with that prefix
 abbrev pub stripped : List ℕ → List ℕ → Option (List ℕ)
 stripped word text = if pointwise (◌==◌) (take (length word) text) word then Some (drop (length word) text) else None
 
@@ -174,7 +175,7 @@ query_in line =
     query_by (stripped (codes "lines ") line) (stripped (codes "caret ") line) (stripped (codes "hit ") line) (stripped (codes "cluster ") line)
     (stripped (codes "size") line) (stripped (codes "text ") line)
 
--- a line that is no other command is a query, if queries are allowed
+-- if queries are allowed, a line that is no other command may be a query
 abbrev pub or_query : Option Command → Option Query → Option Command
 or_query (Some command) query = Some command
 or_query None query = option_map Ask query
@@ -182,7 +183,7 @@ or_query None query = option_map Ask query
 abbrev pub command_in : Bool → List ℕ → Option Command
 command_in queries line = or_query (edit_command_in line) (if queries then query_in line else None)
 
--- the command of the bytes of a line, if they are UTF-8 and not over the limit
+-- the command of the bytes of a line, if these are valid UTF-8 and within the length limit
 abbrev pub command_of_line : Bool → List ℕ → Option Command
 command_of_line queries line =
     if nat_le (length line) LINE_LIMIT && utf8_valid_len line == length line then command_in queries (chars line) else None

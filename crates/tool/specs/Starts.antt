@@ -16,8 +16,8 @@ pub record Starts (engine : Engine) (bytes : List ℕ) (width : ℕ) (state : Se
   pub valid : utf8_valid_len bytes ≡ length bytes
   pub opens : Opens engine (chars bytes) width state
 
--- Why no session was opened: the bytes are not UTF-8, or else the text is too long, or else one of its paragraphs is.
--- If an allocation failed, none of these applies, and the text is not empty.
+-- Why no session was opened: the bytes are not UTF-8, or else the text is too long, or else one of its
+-- paragraphs is too long. If an allocation failed, none of these applies, and the text is not empty.
 abbrev pub IsStartFault : Rules → List ℕ → RunFault → Type 0
 IsStartFault rules bytes (f.NotUtf8 n) = (n ≡ utf8_valid_len bytes) × (n < length bytes)
 IsStartFault rules bytes f.TextTooLong = (utf8_valid_len bytes ≡ length bytes) × (text_refusal (cut_by rules) (chars bytes) ≡ Some e.TextTooLong)

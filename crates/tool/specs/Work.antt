@@ -1,5 +1,5 @@
--- The maximum work of a script's lines. A command works at most as much as its edit in a session, and not at all if it
--- is refused.
+-- Upper bounds on the work of a script's lines. A command does at most the work of its edit in a session, and
+-- no work if it is refused.
 use Rattle.std.specs.Prelude.{ℕ, ◌+◌, Bool, List, [], ◌∷◌, Option, Some, None, is_none, if◌then◌else◌}
 use Rattle.bidi.specs.Cuts.{paragraphs}
 use Rattle.lines.specs.Engine.{analysed_of, filled_of, written_of, RisesBy}
@@ -12,7 +12,8 @@ use Rattle.tool.specs.ScriptRun.{after_line, layouts_at, command_refusal}
 use Rattle.tool.specs.Scripts.{Command, Insert, Delete, SetWidth, Show, Ask, command_of_line}
 
 module _ (rules : Rules) where
-  -- the maximum numbers of characters that a command analyses, and fills into lines and writes, if it is not refused
+  -- upper bounds for a command that is not refused: how many characters it analyses, and how many it fills
+  -- into lines and writes
   abbrev pub analysed_by : Held → Command → ℕ
   analysed_by held (Insert pos piece) = fresh (paragraphs (cut_by rules) held.text) (insertion pos piece)
   analysed_by held (Delete pos count) = fresh (paragraphs (cut_by rules) held.text) (deletion pos count)

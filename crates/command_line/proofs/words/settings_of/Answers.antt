@@ -10,13 +10,13 @@ use Rattle.std.proofs.lemmas.List.{length-map}
 use Rattle.command_line.proofs.DefaultLemmas.{number_read}
 use Rattle.command_line.proofs.words.settings_of.Goals as goal
 
--- the texts of an optional list, none if it is missing
+-- the texts of an optional list, or no texts if the list is missing
 texts_or_none : (o : Option (Bor (List (Bor Text)))) (none : Bor (List (Bor Text))) → none.now ≡ []
     → map (λ s. s.now) (unwrap_or o none).now ≡ unwrap_or (option_map (λ s. map (λ v. v.now) s.now) o) []
 texts_or_none None none empty = ap (map (λ s. s.now)) empty
 texts_or_none (Some s) none empty = refl
 
--- whether the number of texts fits a script, and whether queries have one, computed from the matches
+-- whether a script has exactly one text, and whether queries have a script, computed from the matches
 some_told : (o : Option (Bor Text)) → is_some (option_map (λ s. s.now) o) ≡ is_some o
 some_told None = refl
 some_told (Some s) = refl

@@ -8,7 +8,7 @@ use Rattle.command_line.proofs.words.with_flags.Goals as goal
 abbrev rule : Bor (List ℕ) × Bor (List ℕ) → Rule
 rule f = flag_rule f.0.now
 
--- the rules of the options so far, and of one more
+-- adding one more option appends its rule to the rules of the options so far
 one_more : (app : App) (flags : List (Bor (List ℕ) × Bor (List ℕ))) (k : ℕ) (d : Bor (List ℕ) × Bor (List ℕ)) → k < length flags → (old new : App)
     → old ≡ fold with_rule app (map rule (take k flags)) → new ≡ with_rule old (rule (get_or flags k d)) → new ≡ fold with_rule app (map rule (take (k + 1) flags))
 one_more app flags k d lt old new so_far added =

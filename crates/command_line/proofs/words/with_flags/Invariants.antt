@@ -3,6 +3,6 @@ use Rattle.clap.specs.Words.{app_of, with_rule}
 use Rattle.command_line.specs.CommandLine.{flag_rule}
 use Rattle.command_line.proofs.words.with_flags.Given as goal
 
--- the command has the options so far
+-- the command has all options so far
 abbrev pub invariant-loop-name : goal.invariant-loop-name
 invariant-loop-name l = app_of l.command ≡ fold with_rule (app_of l.fn.command) (map (λ f. flag_rule f.0.now) (take l.name-index l.flags))

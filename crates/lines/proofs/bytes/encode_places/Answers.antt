@@ -4,7 +4,7 @@ use Rattle.ucd.specs.Within.{AreWithin}
 use Rattle.lines.proofs.WriteLemmas.{encoded-more, part-more}
 use Rattle.lines.proofs.bytes.encode_places.Goals as goal
 
--- the character at the k-th place is the k-th of the characters at all places
+-- the character at the k-th place is item k of the list of characters at all places
 module _ (text places : List ℕ) (k : ℕ) (within : k < length places) where
   inside : k < length (map (slice_index text) places)
   inside = rw (length-map places (slice_index text)) within
@@ -13,7 +13,7 @@ module _ (text places : List ℕ) (k : ℕ) (within : k < length places) where
   read c are_within c_is =
       c_is ∙ get_or_default text (slice_index places k) c 0 (are_within k within) ∙ sym (get_or-map (slice_index text) places k 0 c within)
 
--- the invariant holds after one more character
+-- encoding one more character preserves the loop invariant
 pub loop-next-preserved : goal.loop-next-preserved
 loop-next-preserved c =
     let text = c.args.text.now in

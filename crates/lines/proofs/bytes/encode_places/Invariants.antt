@@ -1,7 +1,7 @@
 use Rattle.std.proofs.Common.{◌≡◌, ◌++◌, ◌≤◌, ◌-◌, ◌*◌, length, map, take, encode_utf8_all, slice_index}
 use Rattle.lines.proofs.bytes.encode_places.Given as goal
 
--- the buffer holds the bytes of the characters so far
+-- the buffer holds the bytes of the characters encoded so far
 abbrev pub invariant-loop-next : goal.invariant-loop-next
 invariant-loop-next l =
     let chars = map (slice_index l.text) l.places in

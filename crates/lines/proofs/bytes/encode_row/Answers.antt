@@ -4,7 +4,7 @@ use Rattle.std.specs.List.{join_with_byte}
 use Rattle.lines.proofs.WriteLemmas.{joined-more, part-more}
 use Rattle.lines.proofs.bytes.encode_row.Goals as goal
 
--- the row with one more number
+-- appending a number to a row appends its text, after a space unless the number is the first
 more : {I : Type 0} (text : I → List ℕ) (numbers : List I) (k : ℕ) (n : I) → k < length numbers → n ≡ get_or numbers k n
     → join_with_byte 32 (take (k + 1) (map text numbers)) ≡ join_with_byte 32 (take k (map text numbers)) ++ ((if k == 0 then [] else 32 ∷ []) ++ text n)
 more text numbers k n within is =

@@ -2,7 +2,7 @@ use Rattle.std.proofs.Common.{◌≡◌, ◌++◌, ◌≤◌, ◌-◌, ◌*◌, 
 use Rattle.std.specs.List.{join_with_byte}
 use Rattle.lines.proofs.bytes.encode_row.Given as goal
 
--- the buffer holds the bytes of the numbers so far
+-- the buffer holds the bytes of the numbers encoded so far
 abbrev pub invariant-loop-next : goal.invariant-loop-next
 invariant-loop-next g l =
     let row = map g.I.Integer.text l.numbers in

@@ -3,7 +3,7 @@ use Rattle.lines.specs.Writing.{StoppedIn}
 use Rattle.lines.proofs.WriteLemmas.{encoded-part, encoded-rest, passed-append, same_fault, stopped-before, stopped-after}
 use Rattle.lines.proofs.bytes.write_chars.Goals as goal
 
--- the invariant holds after one more part
+-- writing one more buffer of characters preserves the loop invariant
 pub loop-at-preserved : goal.loop-at-preserved
 loop-at-preserved g c =
     let chars = c.args.chars.now in

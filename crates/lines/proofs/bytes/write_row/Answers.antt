@@ -5,7 +5,7 @@ use Rattle.lines.specs.Writing.{StoppedIn}
 use Rattle.lines.proofs.WriteLemmas.{joined-rest, passed-append, same_fault, spaced, stopped-before, stopped-after}
 use Rattle.lines.proofs.bytes.write_row.Goals as goal
 
--- the invariant holds after one more part
+-- writing one more buffer of numbers preserves the loop invariant
 pub loop-at-preserved : goal.loop-at-preserved
 loop-at-preserved g c = record {
   within = c.encode_row-next.ensures.next.1;

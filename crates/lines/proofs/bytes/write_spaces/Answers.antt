@@ -3,7 +3,7 @@ use Rattle.lines.specs.Writing.{StoppedIn}
 use Rattle.lines.proofs.WriteLemmas.{all_spaces, more_spaces, some_spaces, passed-append, stopped-before, stopped-after, same_fault}
 use Rattle.lines.proofs.bytes.write_spaces.Goals as goal
 
--- the invariant holds after some more spaces
+-- writing some more spaces preserves the loop invariant
 pub loop-left-preserved : goal.loop-left-preserved
 loop-left-preserved g c =
     let m = c.min-some.ensures in

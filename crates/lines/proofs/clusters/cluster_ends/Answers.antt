@@ -19,7 +19,7 @@ returns-then-are_alone-clause-ends c =
     let all : replicate (length c.args.text.now) true ≡ cluster_ends c.args.text.now = ends_alone c.args.text.now (sym c.are_alone.ensures ∙ c.if-are_alone.true) in
     search rules
 
--- at the start, all clusters are left
+-- before the loop, all clusters of the text remain
 pub loop-cluster-init : goal.loop-cluster-init
 loop-cluster-init c =
     let ran = c.in_ok-utf8.ensures.ran in
@@ -27,7 +27,7 @@ loop-cluster-init c =
     ap₂ ◌++◌ c.in_ok-ends.ensures.items (ap (flat_map ends_of) (ap graphemes_left c.into_iter-cluster-iterator.ensures.into_iter_gives ∙ c.graphemes-cluster-items.ensures.left))
     ∙ ends_of_graphemes c.deref.result.now c.deref.utf8 ∙ ap cluster_ends (spelled _ _ _ _ same (c.deref.ensures ∙ ran.2) c.deref.utf8)
 
--- at the end, no cluster is left
+-- after the loop, no cluster remains
 pub returns : goal.returns
 returns c =
     let ends = c.loop-cluster.ends.items in

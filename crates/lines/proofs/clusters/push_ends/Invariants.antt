@@ -2,7 +2,8 @@ use Rattle.std.proofs.Common.{◌-◌, ◌≡◌, ◌++◌, [], ◌∷◌, true,
 use Rattle.lines.specs.Clusters.{ends_of}
 use Rattle.lines.proofs.clusters.push_ends.Given as goal
 
--- the ends so far, followed by those of the characters that are left, are the old ones followed by those of the cluster
+-- the ends so far, followed by those of the remaining characters, are the ends before the call followed by
+-- those of the cluster
 abbrev pub invariant-loop-left : goal.invariant-loop-left
 invariant-loop-left l = l.ends.items ++ (replicate (l.left - 1) false ++ true ∷ []) ≡ l.fn.ends.items ++ ends_of l.cluster
 

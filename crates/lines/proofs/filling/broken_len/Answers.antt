@@ -5,7 +5,7 @@ use Rattle.lines.proofs.FillingLemmas.{found_within}
 use Rattle.lines.proofs.filling.broken_len.Goals as goal
 use Rattle.lines.proofs.filling.broken_len.Goals.{In-Some-default}
 
--- the break opportunity is inside the line
+-- the break opportunity that was found is after one of the remaining characters
 found : (c : In-Some-default) → c.in-Some-default.k < length c.args.rest.now
 found c =
     found_within c.args.rest.now (λ k. may_end c.args.rest.now k && fits_to c.args.width c.args.rest.now k) c.in-Some-default.k c.requires.0

@@ -22,7 +22,7 @@ returns-in-Some-clause-line c =
 sizes : (c : After-line_end) → length (cluster_ends c.args.text.now) ≡ length c.args.infos.now
 sizes c = length-cluster_ends c.args.text.now ∙ sym c.requires.len
 
--- once cluster ends are known, the items have those of the text
+-- once cluster ends are known, the items have the cluster ends of the text
 known : (c : After-line_end) → c.if-not-is_known.infos ≡ with_ends c.args.infos.now (cluster_ends c.args.text.now)
 known c = elim c.if-not-is_known.branch [
   | then-not-is_known+in_ok-mark_clusters w ↦ w.infos-is ∙ w.in_ok-mark_clusters.ensures

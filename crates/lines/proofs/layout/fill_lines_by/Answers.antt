@@ -10,7 +10,7 @@ use Rattle.lines.proofs.BareLemmas.{same_lines, with_alike}
 use Rattle.lines.proofs.ClusterLemmas.{length-cluster_ends}
 use Rattle.lines.proofs.layout.fill_lines_by.Goals as goal
 
--- the lines are those with cluster ends, which are computed only if they are needed
+-- Cluster ends are computed only if they are needed. The lines are the same as if all had been computed.
 pub returns-clause-lines : goal.returns-clause-lines
 returns-clause-lines c =
     let text = c.args.paragraph.now.text in

@@ -11,7 +11,7 @@ use Rattle.lines.specs.Whole.{ends_line}
 use Rattle.lines.proofs.WholeLemmas.{looked_up}
 use Rattle.lines.proofs.whole.is_whole.Goals as goal
 
--- whether a line must end after a character follows from its looked-up line breaking class
+-- the looked-up line breaking class of a character tells whether a line must end after it
 end_after : (t : Tables) (chars : List ℕ) (k : ℕ) (p : Properties) (class : LineClass) (ends : Bool) → p ≡ properties_of t (get_or chars k 0) → class ≡ p.line_class
     → ((is_mark : Bool) → ends ≡ ends_line (resolved class is_mark)) → ends_line (character t (get_or chars k 0)).class ≡ ends
 end_after t chars k p class ends known is found =

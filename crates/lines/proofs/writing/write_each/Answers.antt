@@ -33,7 +33,7 @@ write_line-requires-clause-shown g c =
     length_range text start c.end_of-end.result (omega (arith, ends.0)) ends.1 in
     omega (arith, within, line)
 
--- the invariant holds after one more line
+-- writing one more line preserves the loop invariant
 pub loop-k-preserved : goal.loop-k-preserved
 loop-k-preserved g c =
     let text = c.args.text.now in
@@ -80,7 +80,7 @@ returns-in_err-written-clause-err g c =
     same_fault _ _ (λ w. StoppedIn _ _ _ _ w) c.from_residual.ensures.1
     (rw (sym (pieces_whole form.width form.print.now text.base text.characters.now lines)) stopped)
 
--- all lines are written
+-- after the loop, all lines are written
 pub returns-clause-ok : goal.returns-clause-ok
 returns-clause-ok g c =
     let text = c.args.text.now in

@@ -7,7 +7,7 @@ use Rattle.lines.specs.Writing.{PassedOn, StoppedIn}
 use Rattle.reorder.proofs.PlainLemmas.{plain_chars}
 use Rattle.lines.proofs.writing.write_line.Goals as goal
 
--- the characters of an empty shown part
+-- an empty shown part has no visual characters
 pub write_ordered-requires-clause-chars : goal.write_ordered-requires-clause-chars
 write_ordered-requires-clause-chars g c = λ on.
     let text = c.args.line.now.text in

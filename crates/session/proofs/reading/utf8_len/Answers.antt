@@ -23,7 +23,7 @@ unreachable-requires g c =
     let size : c.total_chars-len.result ≡ length (text_of kept) = c.total_chars-len.ensures ∙ sym (length-text kept) in
     part_there kept c.loop-at.at (c.args.pos + c.args.count - c.loop-at.at) (omega (arith, size, c.if-pos-len.false, c.if-count-len.false, c.loop-at.invariant.within)) c.in_default.ensures.part
 
--- the invariant holds after one more part
+-- adding the bytes of one more part does not overflow, and preserves the loop invariant
 pub overflow_add-bytes : goal.overflow_add-bytes
 overflow_add-bytes g c =
     let kept = g.S.ParagraphStore.items c.args.store.now in

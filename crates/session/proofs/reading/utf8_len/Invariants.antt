@@ -3,7 +3,7 @@ use Rattle.std.specs.List.{slice_range}
 use Rattle.session.specs.Kept.{text_of}
 use Rattle.session.proofs.reading.utf8_len.Given as goal
 
--- the number of bytes of the parts so far
+-- `bytes` is the number of UTF-8 bytes of the parts so far
 abbrev pub invariant-loop-at : goal.invariant-loop-at
 invariant-loop-at g l =
     let kept = g.S.ParagraphStore.items l.store in

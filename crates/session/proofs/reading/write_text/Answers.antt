@@ -24,7 +24,7 @@ overflow_add-at g c =
     let few = part_few kept c.args.pos c.loop-at.at (c.args.pos + c.args.count) c.loop-at.invariant.begun c.loop-at.invariant.within c.requires.within part c.in-Some.ensures.part in
     omega (arith, few, c.loop-at.invariant.within, c.requires.within, c.total_chars-chars.ensures, c.total_chars-chars.type_inv, length-text kept)
 
--- the invariant holds after one more part
+-- writing one more part preserves the loop invariant
 pub loop-at-preserved : goal.loop-at-preserved
 loop-at-preserved g c =
     let kept = g.S.ParagraphStore.items c.args.store.now in

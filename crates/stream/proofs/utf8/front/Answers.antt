@@ -3,7 +3,7 @@ use Rattle.std.proofs.lemmas.List.{take-append-drop}
 use Rattle.stream.proofs.Utf8Lemmas.{IsTextUpTo, text_up_to}
 use Rattle.stream.proofs.utf8.front.Goals as goal
 
--- all bytes are text, except the beginning of a character at the end
+-- all bytes are valid text, except for the beginning of a character at the end
 is_text : (c : goal.After-text-then-is_beginning-1) → IsTextUpTo c.args.bytes.now c.in-Ok.text.now
 is_text c =
     let whole = c.split_at.result.0.now in

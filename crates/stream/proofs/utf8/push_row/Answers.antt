@@ -11,7 +11,7 @@ returns-then-not-begins_between-clause-pushed c =
     c.loop-c.invariant.moved c.push_reserved.ensures.items c.loop-c.invariant.utf8
     (sym c.chars-left.ensures.rest ∙ c.in-Some.ensures.steps.0 ∙ ap (λ t. encode c.in-Some.c ++ t) (sym c.as_str-rest.ensures))
 
--- one more character is moved to the list
+-- moving one more character to the list preserves the loop invariant
 pub loop-c-preserved : goal.loop-c-preserved
 loop-c-preserved c =
     let taken : length c.loop-c.rest.now ≡ length (encode c.in-Some.c ++ c.as_str-rest.result.now) =

@@ -31,7 +31,7 @@ returns-then-after-char_len-clause-cut c = λ less. record {
   short = omega (arith, c.char_len.ensures, c.if-after-char_len.true, c.if-after-bytes.false);
 }
 
--- the character that begins at this index is whole, and none begins after it
+-- the character that starts at this index is complete, and no multi-byte character starts after it
 pub returns-else-after-char_len-clause-whole : goal.returns-else-after-char_len-clause-whole
 returns-else-after-char_len-clause-whole c = λ same k lt cut.
     let bytes = c.args.bytes.now in

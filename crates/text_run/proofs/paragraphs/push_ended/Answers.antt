@@ -53,7 +53,7 @@ loop-end-smaller c =
     ap (λ t. t ++ chars c.split_at.result.1.now) c.clear.ensures.items ∙ ap chars c.split_at.ensures.back ∙ parts.1 in
     omega (arith, ap length after_is, length-drop k (held ++ chars rest), ends.splits.0, ends.splits.1)
 
--- the invariant holds after one more paragraph
+-- pushing one more paragraph preserves the loop invariant
 pub loop-end-preserved : goal.loop-end-preserved
 loop-end-preserved c =
     let held = c.loop-end.held.items in

@@ -9,7 +9,7 @@ use Rattle.text_run.specs.Pages.{prints_some}
 use Rattle.text_run.proofs.PushLemmas.{PushedSoFar}
 use Rattle.text_run.proofs.paragraphs.push_ended.Given as goal
 
--- the lines of the paragraphs so far are on the page, and the rest has no too long paragraph
+-- the lines of the paragraphs so far are on the page, and no paragraph of the rest is too long
 abbrev pub invariant-loop-end : goal.invariant-loop-end
 invariant-loop-end l =
     let rules = rules_of l.fn.engine in

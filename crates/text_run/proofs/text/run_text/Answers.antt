@@ -95,7 +95,7 @@ returns-in-Err-clause-stopped g c =
     c.loop-held.invariant.kept c.loop-held.invariant.stands c.step.result
     (c.step.ensures.steps (g.R.Source.state c.args.reader.now) (g.W.Sink.state c.args.writer.now) c.args.engine.now) (Err c.in-Err.fault) c.in-Err.is).stopped
 
--- a step with another result than `Read` adds no read failure, and neither did the steps before it
+-- if a step's result is not `Read`, neither that step nor any step before it had a failed read
 pub returns-in-Ok-false-clause-reads : goal.returns-in-Ok-false-clause-reads
 returns-in-Ok-false-clause-reads g c = λ other.
     c.step.ensures.reads (λ e. cc (e, c.in-Ok-false.is)) ∙ c.loop-held.invariant.stands.is_at.failures

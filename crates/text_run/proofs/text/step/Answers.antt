@@ -62,7 +62,7 @@ pub returns-in-Some-clause-memory : goal.returns-in-Some-clause-memory
 returns-in-Some-clause-memory g c = λ is.
     absurd (no_memory (rules_of c.args.engine.now) c.args.width c.args.print.now _ _ _ _ _ _ c.in-Some.fault c.in-Ok-gather.ensures.gathers c.in-Some.is (cc is))
 
--- if the sink failed, the paragraphs that end in what was read were printed
+-- if the sink failed, the paragraphs that ended within the bytes read so far were printed
 pub returns-in-Err-finish-clause-stopped : goal.returns-in-Err-finish-clause-stopped
 returns-in-Err-finish-clause-stopped g c = λ n is rises.
     absurd (omega (arith, rises, c.in-Ok.ensures.ok.read.gives.passes.passed, c.if-len-eq0.true))

@@ -8,7 +8,7 @@ use Rattle.tool.specs.Scripts.{unescaped, written}
 use Rattle.tool.proofs.EscapeLemmas.{all_written, chars-push, lacks_next, next_written, none_written}
 use Rattle.tool.proofs.commands.unescape.Goals as goal
 
--- an empty prefix adds nothing
+-- prepending an empty list changes nothing
 id_map : (o : Option (List ℕ)) → option_map (λ cs. [] ++ cs) o ≡ o
 id_map None = refl
 id_map (Some cs) = refl
@@ -52,7 +52,7 @@ returns-in-None-clause-ok c =
 pub returns-clause-ok : goal.returns-clause-ok
 returns-clause-ok c = sym (all_written c.args.text.now (chars (string_bytes c.loop-at.piece)) c.loop-at.at (omega (arith, c.loop-at-test.false))) ∙ c.loop-at.invariant.whole
 
--- an escape is not valid
+-- if an escape is not valid, `unescaped` gives `None`
 none_is : (o : Option (List ℕ)) → is_some o ≡ false → None ≡ o
 none_is None none = refl
 none_is (Some cs) none = absurd (true≢false none)

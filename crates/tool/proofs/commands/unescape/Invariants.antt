@@ -3,7 +3,8 @@ use Rattle.std.specs.Str.{chars}
 use Rattle.tool.specs.Scripts.{unescaped}
 use Rattle.tool.proofs.commands.unescape.Given as goal
 
--- the characters so far, followed by those that the rest represents, are those that the whole text represents
+-- the characters so far, followed by those that the remaining text represents, are those that the whole text
+-- represents
 abbrev pub invariant-loop-at : goal.invariant-loop-at
 invariant-loop-at l = record {
   within : l.at ≤ length l.text;

@@ -6,7 +6,7 @@ use Rattle.std.proofs.lemmas.List.{take_rest}
 use Rattle.tool.specs.Scripts.{is_space, parted}
 use Rattle.tool.proofs.commands.words.Goals as goal
 
--- the parts of a text before and after a position, if the position is inside it
+-- the parts of a text before and after the character at a position, if the position is inside the text
 abbrev sides : List ℕ → ℕ → Bool → Option (List ℕ × List ℕ)
 sides text n within = if within then Some (take n text, drop (n + 1) text) else None
 

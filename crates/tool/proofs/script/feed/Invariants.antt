@@ -5,7 +5,7 @@ use Rattle.session.specs.Sessions.{SessionState}
 use Rattle.tool.specs.Reading.{IsAt}
 use Rattle.tool.proofs.script.feed.Given as goal
 
--- for any start of the run, its state after the part of the chunk that was read
+-- wherever the run started, `IsAt` holds after the part of the chunk that was read
 abbrev pub invariant-loop-at : goal.invariant-loop-at
 invariant-loop-at g l =
     let state = g.W.Sink.state in

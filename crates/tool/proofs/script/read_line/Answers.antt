@@ -12,7 +12,7 @@ use Rattle.tool.specs.Scripts.{LacksPiece, Command, command_in, command_of_line}
 use Rattle.tool.proofs.script.read_line.Goals as goal
 use Rattle.tool.specs.declared.script.TheConstants.{LINE_LIMIT}
 
--- a fact holds after an error
+-- if a fact holds, `OnErr` holds for that fact
 on_err : {A E : Type 0} (P : Type 0) (r : Result A E) → P → OnErr r P
 on_err P (Ok done) p = tt
 on_err P (Err error) p = p
@@ -23,7 +23,7 @@ returns-in_err-push_characters-clause-err c =
     let within : utf8_valid_len line ≤ length line = utf8_valid_len_le line in
     on_err _ c.from_residual.result (omega (arith, within, ap length c.front.ensures.text, length-take-le (utf8_valid_len line) line within, c.if-characters-line.false))
 
--- the kept characters were cleared, and the line is not empty
+-- if an allocation failed, the kept characters had been cleared, and the line is not empty
 pub returns-in_err-push_characters-clause-part : goal.returns-in_err-push_characters-clause-part
 returns-in_err-push_characters-clause-part c =
     let line = c.args.line.now in
@@ -58,7 +58,7 @@ returns-clause-ok c =
     short ∙ ap (λ (b : Bool). if b then command_in queries (chars line) else None) valid) in
     subst (λ (o : Option Command). IfOk c.read_command.result (λ command. option_map (command_of (string_bytes c.read_command.new.piece)) command ≡ o)) is c.read_command.ensures.ok
 
--- a line without characters has no inserted text
+-- a line that contains an inserted text is not empty
 piece_some : (text kept : List ℕ) → LacksPiece text kept → 0 < length text
 piece_some [] kept has = let none = has.word in cc none
 piece_some (c ∷ text) kept has = omega arith

@@ -31,7 +31,7 @@ returns-in-Err-clause-run g c =
     c.loop-reading.session c.step.new.session c.loop-reading.reading c.step.new.reading c.loop-reading.invariant.kept c.loop-reading.invariant.stands c.step.result
     (c.step.ensures.steps c.args.session.now (g.R.Source.state c.args.reader.now) (g.W.Sink.state c.args.writer.now)) (Err c.in-Err.fault) c.in-Err.is
 
--- a step with another result than `Read` adds no read failure, and neither did the steps before it
+-- if a step's result is not `Read`, neither that step nor any step before it had a failed read
 pub returns-in-Ok-false-clause-reads : goal.returns-in-Ok-false-clause-reads
 returns-in-Ok-false-clause-reads g c = λ other.
     c.step.ensures.reads (λ e. cc (e, c.in-Ok-false.is)) ∙ c.loop-reading.invariant.stands.failures
@@ -40,7 +40,7 @@ pub returns-in-Err-clause-reads : goal.returns-in-Err-clause-reads
 returns-in-Err-clause-reads g c = λ other.
     c.step.ensures.reads (λ e. other (cc (e, c.in-Err.is))) ∙ c.loop-reading.invariant.stands.failures
 
--- each step continues the run from its start
+-- before each step, `IsAt` holds from the start of the run
 pub step-requires-clause-stands : goal.step-requires-clause-stands
 step-requires-clause-stands g c = (
   c.args.session.now,

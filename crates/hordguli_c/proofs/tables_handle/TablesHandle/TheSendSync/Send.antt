@@ -1,4 +1,4 @@
--- Tables may be moved to another thread, and so may a handle of them.
+-- Tables may be moved to another thread, and so may a handle that owns them.
 use base.Shift.{Keyless}
 use mir.Raw.{raw}
 use denote.Memory.{lone}

@@ -1,4 +1,4 @@
--- `of_raw` stores the pointer, with what it owns, in the handle.
+-- `of_raw` stores a pointer, with what the pointer owns, in the handle.
 use Rattle.std.proofs.Common.{List, [], ◌∷◌, ◌++◌, refl, sym, subst}
 use mir.Val.{Val}
 use base.Logic.{ent, emp, id⊢}

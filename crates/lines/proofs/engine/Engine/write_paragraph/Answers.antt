@@ -8,7 +8,7 @@ use Rattle.lines.specs.Printing.{FailedAs}
 use Rattle.lines.proofs.SkippedLemmas.{direction_only, on_ok}
 use Rattle.lines.proofs.engine.Engine.write_paragraph.Goals as goal
 
--- if no line is printed, at most the base direction is
+-- if no line is printed, nothing or only the base direction is written
 pub returns-then-skips_lines-clause-ok : goal.returns-then-skips_lines-clause-ok
 returns-then-skips_lines-clause-ok g c =
     let text = c.args.text.now in

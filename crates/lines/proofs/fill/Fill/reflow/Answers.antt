@@ -67,7 +67,7 @@ returns-clause-within c =
     let chars_len : length c.show_each.new.chars ≡ length c.args.text.now.characters.now = omega (arith, len, c.self.invariant.chars_len) in
     rw (l, t, v, h, starts, parts) (all_within _ _ _ _ _ _ _ _ _ _ _ c.requires.starts count levels_len shown)
 
--- the extents that are returned are those of the old lines
+-- the returned extents are those of the old lines
 pub returns-clause-extents : goal.returns-clause-extents
 returns-clause-extents c =
     let f = c.self.inside in

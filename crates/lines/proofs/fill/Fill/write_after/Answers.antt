@@ -6,7 +6,7 @@ use Rattle.lines.proofs.PageLemmas.{pieces, piece_at, piece_within, pieces_all, 
 use Rattle.lines.proofs.WriteLemmas.{pieces-more, pieces-stopped, same_fault}
 use Rattle.lines.proofs.fill.Fill.write_after.Goals as goal
 
--- the invariant holds after one more line
+-- writing one more line preserves the loop invariant
 pub loop-n-preserved : goal.loop-n-preserved
 loop-n-preserved g c =
     let lines = c.args.self.now.lines in
@@ -32,7 +32,7 @@ returns-in_err-written-clause-err g c =
     same_fault _ _ (λ w. StoppedIn _ _ _ _ w) c.from_residual.ensures.1
     (rw (sym (pieces_whole c.args.width c.args.print.now c.args.base c.args.text.now lines)) stopped)
 
--- all lines are written
+-- after the loop, all lines are written
 pub returns-clause-ok : goal.returns-clause-ok
 returns-clause-ok g c =
     let lines = c.args.self.now.lines in

@@ -27,7 +27,7 @@ returns-clause-err g c =
     let before = passed-append (passed-append c.in_ok-shown.ensures.ok c.in_ok-direction.ensures.ok) c.in_ok-ltov.ensures.ok in
     last_stopped (passed-append before c.in_ok-vtol.ensures.ok) _ _ c.write_levels.result c.write_levels.ensures.err
 
--- all parts are written
+-- all parts of the visual line are written
 pub returns-clause-ok : goal.returns-clause-ok
 returns-clause-ok g c =
     let before = passed-append (passed-append c.in_ok-shown.ensures.ok c.in_ok-direction.ensures.ok) c.in_ok-ltov.ensures.ok in

@@ -6,7 +6,8 @@ use Rattle.session.proofs.ScanLemmas.{starts_piece, starts_piece_from, scanned_w
 use Rattle.session.proofs.scan.Scan.take.Goals as goal
 use Rattle.session.proofs.scan.Scan.take.Goals.{then-starts_paragraph, else-starts_paragraph, then-self-lt-PARAGRAPH_LIMIT, else-self-lt-PARAGRAPH_LIMIT}
 
--- the length before the character is that of the last paragraph, or 0 if a new one starts
+-- before the character is counted, `len` is the length of the last paragraph, or 0 if the character starts a
+-- new one
 pub returns : goal.returns
 returns c =
     let is_cut = cut_by (rules_of c.args.engine.now) in

@@ -253,7 +253,8 @@ returns-clause-balanced g t c =
     balanced_again n.left n.right c.exchange_all.new.self c.exchange_all-2.new.self n.item summed.balanced
     c.exchange_all.ensures.balanced c.exchange_all-2.ensures.balanced c.exchange_all.ensures.height c.exchange_all-2.ensures.height
 
--- the cost of exchanging a node's parts is that of the left subtree, of the node, and of the right subtree
+-- the cost of exchanging a node's parts is the sum of the costs of the left subtree, of the node's own item,
+-- and of the right subtree
 pub returns-clause-worked : goal.returns-clause-worked
 returns-clause-worked g t c =
     let by = g.E.Exchanger.kind c.args.by.now in

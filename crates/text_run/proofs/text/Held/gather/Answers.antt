@@ -12,7 +12,7 @@ use Rattle.text_run.proofs.LongLemmas.{front_few}
 use Rattle.std.specs.Str.{chars}
 use Rattle.text_run.proofs.text.Held.gather.Goals as goal
 
--- the length of the valid UTF-8 prefix of some bytes
+-- the valid UTF-8 prefix of some bytes is `utf8_valid_len` bytes long
 front_len : (bytes front : List ℕ) → front ≡ take (utf8_valid_len bytes) bytes → length front ≡ utf8_valid_len bytes
 front_len bytes front is = ap length is ∙ length-take-le (utf8_valid_len bytes) bytes (utf8_valid_len_le bytes)
 

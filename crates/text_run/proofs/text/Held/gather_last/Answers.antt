@@ -8,7 +8,7 @@ use Rattle.text_run.proofs.text.Held.gather_last.Goals as goal
 nothing : (n : ℕ) → (n == 0) ≡ true → 0 ≡ n
 nothing n is = grind (arith, nat_tests)
 
--- the text has no last paragraph
+-- if no characters are held, there is no last paragraph, and no character is counted
 pub returns-then-is_empty-clause-counts : goal.returns-then-is_empty-clause-counts
 returns-then-is_empty-clause-counts c =
     let text = c.args.self.now.text.items in
