@@ -40,7 +40,7 @@
  *
  * POINTERS
  *
- * A pointer may be NULL if the function says so, or if the length or capacity of its array is 0. The arrays, output
+ * A pointer may be NULL if the function allows it, or if the length or capacity of its array is 0. The arrays, output
  * parameters and handles of a call must not overlap, but input arrays may overlap each other. An array of more than
  * PTRDIFF_MAX bytes counts as overlapping. The library cannot check the following:
  *   - A non-NULL pointer must point to as many elements as the length or capacity passed with it.
