@@ -1,9 +1,9 @@
 /* The functions of the proved crate hordguli_c, on which hordguli.c is built. Each implements the public function of the
- * same name, except for the checks that it cannot make: pointers that are not NULL, widths below 65,536, arrays that do
- * not overlap.
+ * same name, but relies on hordguli.c to check that pointers are not NULL, widths are below 65,536, and arrays do not
+ * overlap.
  *
  * An array is a pointer and a length. The pointer is never NULL and is aligned for its type, even if the length is 0. A
- * status is a number of hordguli.h, from 0 to 12. */
+ * status is one of the numbers 0 to 12 in hordguli.h. */
 #ifndef HORDGULI_CORE_H
 #define HORDGULI_CORE_H
 
@@ -39,7 +39,7 @@ uint32_t hordguli_core_caret_at(hordguli_session *session, size_t pos, hordguli_
 uint32_t hordguli_core_hit_at(hordguli_session *session, size_t line, size_t column, hordguli_hit *hit);
 uint32_t hordguli_core_cluster_at(hordguli_session *session, size_t pos, hordguli_cluster *cluster);
 
-/* Bits of `wanted`: which arrays are requested. The others have length 0 and are ignored. */
+/* Bits of `wanted`, which select the requested arrays. The other arrays have length 0 and are ignored. */
 #define HORDGULI_CORE_CHARACTERS UINT32_C(1)
 #define HORDGULI_CORE_LEVELS UINT32_C(2)
 #define HORDGULI_CORE_LTOV UINT32_C(4)

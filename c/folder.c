@@ -1,4 +1,4 @@
-/* Implements hordguli_tables_open_folder, which needs files and so is not in the proved crate. */
+/* Implements hordguli_tables_open_folder, which is not in the proved crate because it reads files. */
 #include "hordguli.h"
 
 #include <errno.h>

@@ -12,7 +12,7 @@ typedef struct part {
     size_t size;
 } part;
 
-/* Returns whether two parts overlap. A part that is longer than any object can be overlaps with everything. */
+/* Returns whether two parts overlap. A part of more than PTRDIFF_MAX bytes counts as overlapping. */
 static int overlap(const part *parts, size_t count) {
     for (size_t i = 0; i < count; i++) {
         uintptr_t a = (uintptr_t)parts[i].at;
@@ -33,7 +33,7 @@ static size_t times(size_t count, size_t size) { return count > SIZE_MAX / size 
 #define ARRAY(pointer, count) {(pointer), (pointer) == NULL ? 0 : times((count), sizeof *(pointer))}
 #define LACKS(pointer, count) ((pointer) == NULL && (count) != 0)
 
-/* The crate needs pointers that are not NULL, also for arrays without elements. It does not read or write there. */
+/* The crate needs a non-NULL pointer even for an empty array. It does not read or write there. */
 #define BYTES(pointer) ((const uint8_t *)((pointer) == NULL ? (const void *)"" : (const void *)(pointer)))
 #define ROOM(type, pointer, none) ((pointer) == NULL ? (none) : (type *)(pointer))
 #define LENGTH(pointer, count) ((pointer) == NULL ? 0 : (count))

@@ -3,11 +3,11 @@
  *     cc -o editor examples/editor.c $(pkg-config --cflags --libs hordguli) \
  *         -DUCDDIR=\"$(pkg-config --variable=ucddir hordguli)\"
  *
- * It knows nothing of directions, line breaks or columns. A session as wide as the window keeps the text. A key edits
- * the session, and the damage tells which lines to draw again. The session also finds carets, clicks and clusters.
+ * It knows nothing about directions, line breaks or columns. A session as wide as the window holds the text. Keys edit
+ * the session, and the damage says which lines to redraw. The session also finds carets, hits and clusters.
  *
  * Keys: arrows, Home and End (the left and the right end of a line), Page Up and Page Down, Backspace, Delete, Ctrl-S
- * saves, Ctrl-Q quits. */
+ * (save) and Ctrl-Q (quit). */
 #define _XOPEN_SOURCE 700
 #define _DEFAULT_SOURCE
 #include <errno.h>
@@ -22,9 +22,9 @@
 
 static hordguli_session session = HORDGULI_SESSION_INIT;
 static size_t pos, top;              /* the caret's position, and the first line on the screen */
-static size_t height = 1, width = 1; /* of the text, which is above a status row */
+static size_t height = 1, width = 1; /* the size of the text area, which is above a status row */
 static char *stale;                  /* for each row, whether it must be drawn */
-static unsigned long drawn;          /* how many lines the last key drew */
+static unsigned long drawn;          /* how many lines were drawn for the last key */
 static const char *path, *note = "";
 static FILE *log_file;
 static struct termios before;
@@ -61,7 +61,7 @@ static hordguli_line_info info_of(size_t line) {
     return info;
 }
 
-/* ---- Places: columns are those of the screen, with the padding to the left of some lines ---- */
+/* ---- Places: columns are screen columns, which include the padding on the left of some lines ---- */
 
 static hordguli_caret caret_at(size_t at) {
     hordguli_caret caret;
@@ -84,7 +84,7 @@ static int position_at(size_t line, size_t column, size_t *found) {
     }
     hordguli_line_info info = info_of(line);
     check(hordguli_hit_at(&session, line, column < info.padding ? 0 : column - info.padding, &hit));
-    /* a right-to-left letter ends on its left */
+    /* the end of a right-to-left letter is on its left */
     if (column < info.padding && info.columns > 0) hit.trailing = caret_at(hit.pos).level % 2;
     if (hordguli_cluster_at(&session, hit.pos, &cluster) != HORDGULI_OK) {
         *found = hit.pos;
@@ -94,7 +94,7 @@ static int position_at(size_t line, size_t column, size_t *found) {
     return 1;
 }
 
-/* Moves the caret to the next place on the right or left of the screen, on this line or the next one. */
+/* Moves the caret to the next place to the right or left on the screen, on this line or an adjacent one. */
 static void sideways(int step) {
     hordguli_caret from = caret_at(pos);
     size_t to;
@@ -117,7 +117,7 @@ static void go(size_t line, size_t column) {
 
 /* ---- The screen ---- */
 
-/* Replaces rows of the screen by new ones; the rows below move. */
+/* Replaces rows of the screen with new ones, and moves the rows below. */
 static void shift(size_t row, size_t out, size_t in) {
     if (out > height - row) out = height - row;
     if (in > height - row) in = height - row;
@@ -158,7 +158,7 @@ static void scroll_to(size_t line) {
     }
 }
 
-/* Removes control characters, which a terminal would execute. They have no columns. */
+/* Removes control characters, which a terminal would execute. They have width 0. */
 static size_t without_controls(char *bytes, size_t length) {
     size_t kept = 0;
     for (size_t k = 0; k < length; k++) {
@@ -225,7 +225,7 @@ static void insert(const char *text, size_t length) {
     pos += count;
 }
 
-/* Deletes the grapheme cluster of a character. */
+/* Deletes the grapheme cluster that contains a character. */
 static void take_out(size_t at) {
     hordguli_cluster cluster;
     hordguli_damage damage;
@@ -253,7 +253,7 @@ static void save(void) {
 
 /* ---- Keys ---- */
 
-/* Reads a byte from the keyboard. Returns -1 if the window has changed its size. */
+/* Reads a byte from the keyboard. Returns -1 if the window has been resized. */
 static int next_byte(void) {
     unsigned char byte;
     for (;;) {
@@ -321,7 +321,7 @@ static void on_resize(int signal) {
     resized = 1;
 }
 
-/* Reads a file, with tabs as spaces. A missing file is empty. */
+/* Reads a file, with each tab replaced by four spaces. A missing file is read as an empty text. */
 static char *read_text(size_t *length) {
     FILE *file = fopen(path, "rb");
     size_t room = 1 << 16;

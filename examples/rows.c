@@ -1,7 +1,7 @@
 /* Prints a text in the rows of a terminal: rows COLUMNS < TEXT
  *
  * A terminal breaks a line where it is full, not between words. So the levels are found for the whole paragraph, and then
- * each row is reordered by itself. The functions are FriBidi's, from the library that is linked first:
+ * each row is reordered separately. The functions are FriBidi's, and come from the library that is linked first:
  *
  *     cc -o rows examples/rows.c $(pkg-config --cflags fribidi) -Lbin -Wl,-rpath,$PWD/bin -lhordguli_fribidi -lfribidi
  */
@@ -37,7 +37,7 @@ static void add(FriBidiChar c) {
     text[length++] = c;
 }
 
-/* The columns of a character. Control characters, which a terminal would execute, have none. */
+/* Returns the width of a character in columns. Control characters, which a terminal would execute, have width 0. */
 static int cells(FriBidiChar c) {
     int width = wcwidth((wchar_t)c);
     return width < 0 ? 0 : width;

@@ -7,8 +7,8 @@
  * UNITS
  *
  * A character is a Unicode scalar value. Positions and lengths are in characters. Lengths of `char` arrays are in
- * bytes. Positions, lines, paragraphs and columns start at 0. Text is UTF-8, in and out. It has no NUL terminator, and
- * U+0000 is an ordinary character.
+ * bytes. Positions, lines, paragraphs and columns start at 0. Input and output text is UTF-8. It has no NUL
+ * terminator, and U+0000 is an ordinary character.
  *
  * PARAGRAPHS AND LINES
  *
@@ -16,34 +16,34 @@
  * separator. A separator at the end of the text starts no new paragraph. An empty text has no paragraphs and no lines.
  *
  * A line ends at the end of its paragraph, after U+000B, U+000C or U+2028, or at a break opportunity (UAX #14). If none
- * of these fits the width, the line ends inside a word, at the last grapheme cluster boundary that fits. If none of
- * those fits either, the line is wider than the width.
+ * of these fits the width, the line ends inside a word, at the last grapheme cluster boundary that fits. If no such
+ * boundary fits either, the line is wider than the width.
  *
- * The tail of a line is not shown: all U+0020, U+000A to U+000D, U+0085, U+2028 and U+2029 at its end. The rest of the
- * line is its shown part.
+ * The tail of a line is all U+0020, U+000A to U+000D, U+0085, U+2028 and U+2029 at its end. It is not shown. The rest
+ * of the line is its shown part.
  *
  * COLUMNS
  *
  * A column is a terminal cell. The width of a line, in columns, is the sum of the widths of its shown characters.
  * Widths are those of the Unicode version that `fribidi --version` prints last. Tabs and other control characters have
- * width 0 and are written unchanged. A program that writes to a terminal has to remove or replace them.
+ * width 0 and are written unchanged. A program that writes to a terminal must remove or replace them.
  *
  * ERRORS
  *
  * A function that can fail returns a status. HORDGULI_OK is 0. On any other status, nothing has changed, not even
- * output parameters, unless the function says otherwise.
+ * output parameters, unless documented otherwise.
  *
  * `Errors` lists the other statuses of a function, without `HORDGULI_`, in the order in which they are checked. The
- * first that applies is returned. NO_MEMORY is the last one, unless the function says otherwise. A function that does
- * not list it allocates nothing. `Cost` is the running time, and the memory if it says so; n is the number of
- * paragraphs in the session.
+ * first that applies is returned. NO_MEMORY comes last, unless documented otherwise. A function that does not list
+ * NO_MEMORY allocates nothing. `Cost` is the running time, and also the memory if it says so, for a session of n
+ * paragraphs.
  *
  * POINTERS
  *
- * A pointer may be NULL if the function says so, or if the length or capacity of its array is 0. The arrays, output
+ * A pointer may be NULL if the function allows it, or if the length or capacity of its array is 0. The arrays, output
  * parameters and handles of a call must not overlap, but input arrays may overlap each other. An array of more than
  * PTRDIFF_MAX bytes counts as overlapping. The library cannot check the following:
- *   - A non-NULL pointer must point to as many elements as the call says.
+ *   - A non-NULL pointer must point to as many elements as the length or capacity passed with it.
  *   - A handle must be initialized with `HORDGULI_TABLES_INIT` or `HORDGULI_SESSION_INIT`, and must not be copied.
  *
  * BUFFERS
@@ -63,15 +63,16 @@
  * THREADS, SIGNALS AND FORK
  *
  *   - Use a handle in one call at a time, even if the calls only read. A call moves the object out of its handle and
- *     back, which the proof of the library depends on. This is why handles are not `const`.
+ *     back, and the proof of the library depends on this. This is why handles are not `const`.
  *   - Different handles may be used in different threads at the same time. Sessions and tables share only memory that
  *     is never written, and an atomic reference count.
  *   - Several threads may use the same tables if their calls are serialized, by a lock or by creating or joining a
  *     thread.
  *   - Use and close a session in the thread that opened it. Nothing in a session is known to depend on the thread, but
  *     the proof does not cover other threads.
- *   - Do not call the library in a signal handler that can interrupt the library or malloc.
- *   - After `fork`, the child has its own handles. It must not use one that was in a call of another thread.
+ *   - Do not call the library from a signal handler that can interrupt the library or malloc.
+ *   - After `fork`, the child has its own handles. It must not use a handle that another thread was using during the
+ *     fork.
  *
  * MEMORY
  *
@@ -144,7 +145,7 @@ const char *hordguli_unicode_version(void);
 
 /* ---- Session options ----
  *
- * One base direction, combined with any of the other options by bitwise OR (`|`). */
+ * Options are one base direction and any of the other options, combined by bitwise OR (`|`). */
 
 /* The direction of a paragraph's first strong character, or LTR if there is none. */
 #define HORDGULI_WEAK_LTR UINT32_C(0)
@@ -160,7 +161,7 @@ const char *hordguli_unicode_version(void);
  * mark onto the cell to its left. For example, RTL text `A mark B` is written as `B mark A` by default, so such a
  * terminal draws the mark on B. With this option, it is written as `B A mark`. */
 #define HORDGULI_REORDER_NSM UINT32_C(8)
-/* Does not break inside a number, such as `$(1,200)`. Instead of LB25 (UAX #14), there is no break inside a match of
+/* Does not break inside a number, such as `$(1,200)`. This replaces LB25 (UAX #14): there is no break inside a match of
  * `(PR|PO)? (OP|HY)? NU (NU|SY|IS)* (CL|CP)? (PR|PO)?`. */
 #define HORDGULI_WHOLE_NUMBERS UINT32_C(16)
 
@@ -233,11 +234,11 @@ typedef struct hordguli_bytes {
 
 /* Why a line is malformed. If several causes apply, the first in the order 1, 4, 2, 3, 5, 6 is reported. */
 #define HORDGULI_CAUSE_NOT_ASCII 1     /* a byte above 7F before the `#` */
-#define HORDGULI_CAUSE_CODE_POINT 2    /* the first field is not a code point, nor a range in a file that has ranges */
+#define HORDGULI_CAUSE_CODE_POINT 2    /* the first field is not a code point (or a range, where allowed) */
 #define HORDGULI_CAUSE_REVERSED 3      /* a range ends before it starts */
 #define HORDGULI_CAUSE_FIELD_COUNT 4   /* the wrong number of fields */
 #define HORDGULI_CAUSE_VALUE 5         /* a value that the file does not allow */
-#define HORDGULI_CAUSE_NAMED_BEFORE 6  /* a character that an earlier line names */
+#define HORDGULI_CAUSE_NAMED_BEFORE 6  /* an earlier line names one of its characters */
 
 /* The first malformed line, by file and then by line. */
 typedef struct hordguli_table_fault {
@@ -278,7 +279,7 @@ typedef struct hordguli_damage {
 } hordguli_damage;
 
 /* Opens a session on a text. `width` is in columns. The session shares the tables, so their handle may be closed
- * before it. NO_MEMORY comes directly after CLOSED if 2^63 sessions share the tables.
+ * before the session. NO_MEMORY comes directly after CLOSED if 2^63 sessions share the tables.
  * Errors: NULL, OVERLAP, WIDTH_OUT_OF_RANGE (above 65,535), UNKNOWN_OPTION, NOT_UTF8, ALREADY_OPEN (the session),
  * CLOSED (the tables), WIDTH_OUT_OF_RANGE (0), TEXT_TOO_LONG, PARAGRAPH_TOO_LONG, NO_MEMORY.
  * Cost: time and memory proportional to `length`. */
@@ -288,9 +289,9 @@ hordguli_status hordguli_session_open(hordguli_session *session, hordguli_tables
 /* Frees the session and closes the handle. Safe on a closed handle or NULL. */
 void hordguli_session_close(hordguli_session *session);
 
-/* Inserts text before the character at `pos`, or at the end of the text. Stores in `*damage` which lines it replaced.
+/* Inserts text before the character at `pos`, or at the end of the text. Stores in `*damage` which lines were replaced.
  * Errors: NULL, OVERLAP, NOT_UTF8, CLOSED, OUT_OF_RANGE, TEXT_TOO_LONG, PARAGRAPH_TOO_LONG, NO_MEMORY.
- * Cost: O(log n), plus O(1) per replaced paragraph, plus the layout of the new ones. */
+ * Cost: O(log n), plus O(1) per replaced paragraph, plus the layout of the new paragraphs. */
 hordguli_status hordguli_insert(hordguli_session *session, size_t pos, const char *text, size_t length,
                                 hordguli_damage *damage);
 
@@ -317,7 +318,7 @@ typedef struct hordguli_counts {
     size_t width;
 } hordguli_counts;
 
-/* Stores in `*counts` the size of a session.
+/* Stores the size of a session in `*counts`.
  * Errors: NULL, OVERLAP, CLOSED.
  * Cost: O(1). */
 hordguli_status hordguli_session_counts(hordguli_session *session, hordguli_counts *counts);
@@ -330,14 +331,14 @@ typedef struct hordguli_work {
     uint64_t written;   /* put into visual order */
 } hordguli_work;
 
-/* Stores in `*work` the work counters. Calls that fail with NO_MEMORY can increase them too.
+/* Stores the work counters in `*work`. Calls that fail with NO_MEMORY can increase them too.
  * Errors: NULL, OVERLAP, CLOSED.
  * Cost: O(1). */
 hordguli_status hordguli_session_work(hordguli_session *session, hordguli_work *work);
 
 /* ---- Carets and hit testing ---- */
 
-/* Stores in `*start` the position of the first character of a line.
+/* Stores the position of a line's first character in `*start`.
  * Errors: NULL, OVERLAP, CLOSED, OUT_OF_RANGE.
  * Cost: O(log n). */
 hordguli_status hordguli_line_start(hordguli_session *session, size_t line, size_t *start);
@@ -345,19 +346,19 @@ hordguli_status hordguli_line_start(hordguli_session *session, size_t line, size
 typedef struct hordguli_place {
     size_t paragraph;
     size_t line;
-    size_t offset;  /* characters before it in the line */
+    size_t offset;  /* characters of the line before the place */
 } hordguli_place;
 
-/* Stores in `*place` the place of the character at `pos`. At the end of the text this is after the last character. But
- * if the text is empty or ends with a separator, it is the start of the next paragraph, which does not exist yet. Then
- * `paragraph` and `line` are the counts of paragraphs and lines.
+/* Stores the place of the character at `pos` in `*place`. If `pos` is the end of the text, the place is after the last
+ * character. But if the text is empty or ends with a separator, the place is the start of the next paragraph, which
+ * does not exist yet. Then `paragraph` and `line` are the numbers of paragraphs and lines in the text.
  * Errors: NULL, OVERLAP, CLOSED, OUT_OF_RANGE.
  * Cost: O(log n + log m) in a paragraph of m lines. */
 hordguli_status hordguli_place_of(hordguli_session *session, size_t pos, hordguli_place *place);
 
 typedef struct hordguli_caret {
     size_t line;
-    size_t column;   /* columns left of it, without padding */
+    size_t column;   /* columns left of the caret, without padding */
     uint32_t level;  /* level of the character if shown, else base level */
     uint32_t zero;   /* always 0 */
 } hordguli_caret;
@@ -366,8 +367,8 @@ typedef struct hordguli_caret {
  *   - Before a shown character: at its left edge if its level is even, else at its right edge.
  *   - Before the tail or inside it, and at the end of the text: at the end of the line. That is right of all columns in
  *     an LTR paragraph, and column 0 in an RTL one.
- *   - At the start of a paragraph that does not exist yet (see `hordguli_place_of`): at column 0. If `level`, the base
- *     level of an empty paragraph, is odd, draw the caret at the right edge of the screen.
+ *   - At the start of a paragraph that does not exist yet (see `hordguli_place_of`): at column 0. `level` is then the
+ *     base level of an empty paragraph. If it is odd, draw the caret at the right edge of the screen.
  *
  * Errors: NULL, OVERLAP, CLOSED, OUT_OF_RANGE.
  * Cost: as `hordguli_place_of`, plus O(length of the line). */
@@ -385,7 +386,7 @@ typedef struct hordguli_hit {
  *     0.
  *   - In a line of width 0: the first character, with `trailing` 0.
  *
- * So `trailing` is 0 everywhere but right of the text. To place the caret at screen column `x` of a padded line:
+ * So `trailing` is 0 except right of the text. To place the caret at screen column `x` of a padded line:
  *
  *     status = hordguli_hit_at(&session, line, x - info.padding, &hit);
  *     if (!status) status = hordguli_cluster_at(&session, hit.pos, &cluster);
@@ -398,13 +399,13 @@ typedef struct hordguli_hit {
  * Cost: O(log n), plus O(length of the line). */
 hordguli_status hordguli_hit_at(hordguli_session *session, size_t line, size_t column, hordguli_hit *hit);
 
-/* The characters from `start` up to, but not including, `end`. */
+/* The characters from `start` up to but not including `end`. */
 typedef struct hordguli_cluster {
     size_t start;
     size_t end;
 } hordguli_cluster;
 
-/* Stores in `*cluster` the grapheme cluster of the character at `pos`. Fails with OUT_OF_RANGE if `pos` is the end of
+/* Stores the grapheme cluster of the character at `pos` in `*cluster`. Fails with OUT_OF_RANGE if `pos` is the end of
  * the text.
  * Errors: NULL, OVERLAP, CLOSED, OUT_OF_RANGE, NO_MEMORY.
  * Cost: O(log n), plus time and memory proportional to the whole paragraph. */
@@ -417,7 +418,7 @@ typedef struct hordguli_line_info {
     size_t length;     /* characters, including the tail */
     size_t shown;      /* characters in the shown part */
     size_t columns;    /* columns of the shown part */
-    size_t padding;    /* spaces left of it when printed padded */
+    size_t padding;    /* spaces left of the shown part if it is padded */
     uint32_t base;     /* base level of its paragraph, 0 or 1 */
     uint32_t first;    /* 1 for the first line of a paragraph, else 0 */
 } hordguli_line_info;
@@ -457,7 +458,7 @@ hordguli_status hordguli_lines_utf8(hordguli_session *session, size_t first, siz
 hordguli_status hordguli_text(hordguli_session *session, size_t pos, size_t count, size_t capacity, char *buffer,
                               size_t *length);
 
-/* Stores in `*length` the size in bytes of the `count` characters that start at `pos`, as UTF-8.
+/* Stores in `*length` how many bytes of UTF-8 the `count` characters that start at `pos` need.
  * Errors: NULL, OVERLAP, CLOSED, OUT_OF_RANGE.
  * Cost: O(log n) per paragraph, plus O(count). */
 hordguli_status hordguli_utf8_length(hordguli_session *session, size_t pos, size_t count, size_t *length);

@@ -24,7 +24,7 @@ list=$prefix/share/hordguli/installed
 
 if [ $task = uninstall ]; then
     [ -f "$list" ] || { echo "install.sh: there is no $list: nothing is installed there"; exit 1; }
-    # (files come before their folder, which stays if it has other files)
+    # (files are removed before their folder, which stays if it has other files)
     sort -r "$list" | while IFS= read -r path; do
         case $path in
             */) rmdir "$path" 2> /dev/null || true ;;
@@ -37,7 +37,7 @@ fi
 
 made=$(mktemp)
 trap 'rm -f "$made"' EXIT
-make_folder() { # FOLDER: makes it and its parents, and records the new ones
+make_folder() { # FOLDER: makes the folder and its parents, and records those that are new
     if [ -d "$1" ]; then return; fi
     make_folder "$(dirname "$1")"
     mkdir "$1"

@@ -20,10 +20,10 @@ void hordguli_fribidi_core_brackets(const uint8_t index[static 4352], const uint
                                     const uint32_t numbers[static 512], const uint32_t *characters, size_t length,
                                     const uint32_t *types, size_t types_length, uint32_t *brackets, size_t room);
 
-/* The index of a type's number among those that have names; 26 if it has none. */
+/* Returns the index of a type among those that have names, or 26 if it has no name. */
 uint32_t hordguli_fribidi_core_name(uint32_t type);
 
-/* Paragraphs and lines. 0 means that an allocation failed or lengths differ, and changes nothing. Lines need no memory. */
+/* Paragraphs and lines. If an allocation fails or lengths differ, they return 0 and change nothing. Lines allocate nothing. */
 uint32_t hordguli_fribidi_core_direction(const uint32_t *types, size_t length);
 uint32_t hordguli_fribidi_core_levels(const uint32_t *types, size_t length, const uint32_t *brackets,
                                       size_t brackets_length, uint32_t *direction, uint8_t *levels, size_t room);

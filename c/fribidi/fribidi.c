@@ -1,12 +1,12 @@
 /* FriBidi's functions on types, levels and lines, on top of the proved crate hordguli_fribidi and the tables of
- * tools/generate_fribidi_tables. This file checks what the crate cannot: NULL pointers and negative lengths. It is written from FriBidi's
- * header and manual; docs/fribidi-compat.md lists the differences. */
+ * tools/generate_fribidi_tables. This file checks what the crate cannot: NULL pointers and negative lengths. It follows FriBidi's header
+ * and manual. docs/fribidi-compat.md lists the differences. */
 #include "core.h"
 #include "tables.h"
 
 #define PUBLIC __attribute__((visibility("default")))
 
-/* The types of FriBidi's header by their size in its ABI. Its enumerations have 32 bits. */
+/* The types of FriBidi's header, with their sizes in FriBidi's ABI. Enumerations have 32 bits. */
 typedef uint32_t type_number;
 typedef uint32_t direction_number;
 typedef uint32_t bracket_number;
@@ -18,7 +18,7 @@ typedef signed char level_number;
 #define BRACKETS sign_index, sign_pages, brackets
 #define MIRRORS sign_index, sign_pages, mirrors
 
-/* Pointer and length of an array that may be NULL: then of an empty one. */
+/* The pointer and length of an array. A NULL pointer stands for an empty array. */
 static const uint32_t none[1];
 static uint32_t nothing[1];
 #define GIVEN(pointer, length) ((pointer) == NULL ? none : (pointer)), ((pointer) == NULL ? 0 : (length))
