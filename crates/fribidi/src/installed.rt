@@ -34,7 +34,7 @@ fn folder_beside(rt: &HostRuntime, program: Path<'_>) -> Result<Option<PathBuf>,
     }
 }
 
-/// Returns arguments, with `--ucd` and a folder before them.
+/// Returns the arguments, with `--ucd` and the folder before them.
 pub fn with_folder<'a>(
     alloc: Global,
     folder: &'a str,

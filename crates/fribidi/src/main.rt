@@ -50,8 +50,8 @@ fn run(rt: &HostRuntime) -> Result<(), ProgramFault> {
     run_words(rt, &words)
 }
 
-// Executes arguments. This function and those that it calls own one allocated value each, since all that is
-// dropped when one of many calls fails makes the proof longer.
+// Executes the arguments. This function and those that it calls own one allocated value each, since each
+// value that is dropped when one of many calls fails makes the proof longer.
 fn run_words(rt: &HostRuntime, words: &[&str]) -> Result<(), ProgramFault> {
     match settings(rt.alloc(), words) {
         Ok(settings) => run_settings(rt, &settings),
@@ -60,7 +60,7 @@ fn run_words(rt: &HostRuntime, words: &[&str]) -> Result<(), ProgramFault> {
     }
 }
 
-// Without `--ucd`, executes the arguments with the installed folder before them, if there is one.
+// Executes arguments without `--ucd`, with the installed folder of tables if there is one.
 fn run_installed(rt: &HostRuntime, words: &[&str], fault: LineFault) -> Result<(), ProgramFault> {
     match installed_folder(rt)? {
         Some(folder) => run_over(rt, folder.as_str(), words),
@@ -95,7 +95,7 @@ fn words(rt: &HostRuntime) -> io::Result<Vec<String>> {
     Ok(words.collect(rt.alloc())?)
 }
 
-// An argument that is not UTF-8 cannot be read.
+// Returns the fault of arguments that cannot be read, because one of them is not UTF-8 or memory ran out.
 fn word_fault(error: io::Error) -> ProgramFault {
     if error.kind() == ErrorKind::OutOfMemory {
         ProgramFault::Line(LineFault::NoMemory)

@@ -1,4 +1,4 @@
-//! Makes every call that never allocates, on tables, engines, stores and sessions made before.
+//! Makes every call that never allocates, on tables, engines, stores and sessions that were made before.
 //!
 //! `no_allocation ROUNDS` makes all of them ROUNDS times, and prints a digest of what they return for each
 //! group of calls. `tests/fault_injection/run` checks that more rounds allocate no more, and print the same.

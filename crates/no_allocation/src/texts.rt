@@ -36,7 +36,7 @@ pub fn mixed_flag(sum: u64, flag: bool) -> u64 {
     mixed(sum, u64::from(flag))
 }
 
-/// Adds a position that may be missing to a digest.
+/// Adds an optional position to a digest.
 pub fn mixed_place(sum: u64, place: Option<usize>) -> u64 {
     match place {
         Some(place) => mixed(sum, (place as u64).wrapping_add(1)),

@@ -1,5 +1,5 @@
-//! The public calls of `lines` and `session`: one test each, which calls it by its path, names its types, and
-//! checks one example.
+//! Tests the public calls of `lines` and `session`. Each call has one test, which uses its path, names its
+//! types, and checks one example.
 ghost use Rattle.std.specs.Prelude.{◌<◌, IfSome};
 ghost use Rattle.lines.specs.Engine.{rules_of, SameRules};
 ghost use Rattle.lines.specs.Layouts.{AreLinesOf, IsLaidOut};
@@ -428,8 +428,8 @@ enum Call {
 }
 
 // Whether the example of a call holds in a session on "ab\ncd\nef", of 80 columns. False after an allocation
-// failure. Only the functions below that open a session name its store, since each of them takes long to
-// prove.
+// failure. Only the functions below that open a session name its store, since each function that does is slow
+// to prove.
 fn holds(alloc: Global, call: Call) -> bool {
     match open(alloc, "ab\ncd\nef", 80) {
         Ok(session) => holds_in(session, call),
@@ -512,7 +512,7 @@ fn opens(alloc: Global, text: &str) -> bool {
     }
 }
 
-// Returns why no session is opened.
+// Returns the error from opening a session, or `None` if it opens.
 fn fault_of(alloc: Global, text: &str, width: u16) -> Option<session::EditFault> {
     match open(alloc, text, width) {
         Ok(_) => None,

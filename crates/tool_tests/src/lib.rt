@@ -1,4 +1,4 @@
-//! Tests of `tool`: each of its public calls, by its path and with its types.
+//! Tests of `tool`: each of its public calls is made by its path and with its types.
 #![tactic(auto)]
 
 #[cfg(test)]

@@ -36,7 +36,7 @@ fn mark_after(before: BidiClass) -> BidiClass {
     }
 }
 
-// The nearest type that is not NSM, after a character of this type.
+// Returns the nearest type that is not NSM, after a character of type `class`.
 fn unmarked_after(class: BidiClass, before: BidiClass) -> BidiClass {
     match class {
         BidiClass::NSM => before,
@@ -61,7 +61,7 @@ fn w2_type(class: BidiClass, strong: BidiClass) -> BidiClass {
     }
 }
 
-// The nearest strong type, after a character of this type.
+// Returns the nearest strong type, after a character of type `class`.
 fn strong_after(class: BidiClass, strong: BidiClass) -> BidiClass {
     match class {
         BidiClass::L | BidiClass::R | BidiClass::AL => class,
@@ -110,7 +110,8 @@ pub fn type_or(types: &[BidiClass], at: usize, other: BidiClass) -> BidiClass {
 // W5: a run of European terminators next to a European number becomes European numbers.
 fn w5(types: &mut [BidiClass]) {
     let mut before = BidiClass::ON;
-    // The nearest index after this one that has no terminator. It stays until it is passed.
+    // The nearest index after the current terminators that has no terminator. It is found once for a run of
+    // terminators.
     let mut end = 0;
     for at in 0..types.len() {
         let class = types[at];
@@ -129,7 +130,7 @@ fn is_terminator(class: BidiClass) -> bool {
     matches!(class, BidiClass::ET)
 }
 
-// The least index from `from` on that has no terminator, or the length.
+// Returns the least index from `from` on that has no terminator, or the length.
 fn after_terminators(types: &[BidiClass], from: usize) -> usize {
     for at in from..types.len() {
         if !is_terminator(types[at]) {
@@ -139,7 +140,7 @@ fn after_terminators(types: &[BidiClass], from: usize) -> usize {
     types.len()
 }
 
-// The type of a terminator between two types.
+// Returns the type of a terminator between two other types.
 fn w5_type(before: BidiClass, after: BidiClass) -> BidiClass {
     match (before, after) {
         (BidiClass::EN, _) | (_, BidiClass::EN) => BidiClass::EN,

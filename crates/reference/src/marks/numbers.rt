@@ -15,7 +15,7 @@ enum Place {
     End,
 }
 
-/// Whether some bases directly before an index and some from it on form a number.
+/// Whether the index is inside a number: some bases directly before it and some from it on form one.
 pub fn is_in_number(classes: &[LineClass], place: usize) -> bool {
     for start in 0..place {
         if begins_number(classes, start, place) {
@@ -25,7 +25,7 @@ pub fn is_in_number(classes: &[LineClass], place: usize) -> bool {
     false
 }
 
-// Whether a number that begins at a base continues past another base.
+// Whether a number that begins with the base at `start` contains the base at `place`.
 fn begins_number(classes: &[LineClass], start: usize, place: usize) -> bool {
     let mut at = Place::Start;
     for i in start..classes.len() {

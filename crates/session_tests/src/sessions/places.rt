@@ -1,4 +1,4 @@
-//! Where lines start, and on which line each character is.
+//! Tests of where lines start, and of the line that each character is on.
 use super::{Check, Pair, check_in_tree, renew};
 use session::{EditFault, Kept, Place, Session};
 use std::process::Abort;
