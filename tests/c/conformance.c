@@ -1,6 +1,6 @@
-/* Prints break marks or lines, as computed by the C library, in the format of the program `conformance`. Unicode's
- * conformance tests use it. Usage: conformance marks-of FOLDER, or conformance lines-of FOLDER DIRECTION. Each line of
- * standard input is a paragraph.
+/* Prints break marks or lines, as computed by the C library, in the format of the program `conformance`.
+ * tests/conformance/run can run it instead of that program. Usage: conformance marks-of FOLDER, or conformance
+ * lines-of FOLDER DIRECTION. Each line of standard input is a paragraph.
  *
  * Each paragraph is laid out in a session, as a single line. In some tests a paragraph contains a separator, at which
  * a session would split it. For these, hordguli_levels finds the levels, and this program applies L1 and L2. */

@@ -106,8 +106,8 @@ static int is_neutral(FriBidiCharType type) {
 }
 static int is_any(FriBidiCharType type, FriBidiCharType a, FriBidiCharType b, FriBidiCharType c) { return type == a || type == b || type == c; }
 
-/* Applies W1 to a mark that begins an isolate, if that is joined with the isolate before it. The mark's type replaces those of the marks
- * after it. Unless it is AN, it also replaces those of the next characters whose type is the one that ended the isolate before. */
+/* Applies W1 to a mark that begins an isolate, if that is joined with the isolate before it. The marks after it get the mark's new type.
+ * Unless that is AN, the characters after these marks get it too, as long as they have the type that ended the isolate before. */
 static void join_mark(sequence *s, int k, int after_arabic) {
     FriBidiCharType *t = s->type, before = t[k - 1];
     FriBidiCharType own = before == FRIBIDI_TYPE_EN && after_arabic ? FRIBIDI_TYPE_AN : s->opener[k] != FRIBIDI_TYPE_ON ? FRIBIDI_TYPE_NSM : FRIBIDI_TYPE_ON;

@@ -1,5 +1,5 @@
 //! Measures what the command itself cannot show, for the scripts of `bench/`. Times are in nanoseconds. UCD
-//! is the folder of the table files; KIND is `list` or `tree`, the store of the paragraphs.
+//! is the folder of the table files. KIND is `list` or `tree`, which says how the paragraphs are stored.
 //!
 //! - `bench edits KIND PARAGRAPHS EDITS` makes edits in a session, and prints the counts of its contents.
 //! - `bench session UCD KIND PARAGRAPHS EDITS` times opening a session and making an edit.

@@ -154,7 +154,7 @@ fn sign(mark: Mark) -> char {
     }
 }
 
-// Lays out paragraphs, and prints each as one line, or where its lines start at a width.
+// Lays out paragraphs, and prints each as one line or, if a width is given, prints where its lines start.
 fn tell_by_engine(
     rt: &HostRuntime,
     folder: &str,

@@ -4,7 +4,7 @@ use Rattle.std.specs.Io.KnownBytes.{Keeps, Appends, Consumes, IsAtEnd}
 
 -- The state of a source or sink. `bytes` are the bytes that a source still has or that a sink holds, if it
 -- reports them. `passed` counts all bytes that passed. `failures` counts failed calls, up to 2^64 - 1.
--- `failed_at` is `passed` at the last failure.
+-- `failed_at` is the value of `passed` at the last failure.
 pub record Device : Type 0 where
   pub bytes : Option (List ℕ)
   pub passed : ℕ

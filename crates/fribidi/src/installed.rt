@@ -8,8 +8,8 @@ use tool::ProgramFault;
 
 const FOLDER: &str = "../share/hordguli/ucd";
 
-/// Returns the folder of the installed table files, if there is one. A program whose own path is unknown is
-/// not installed.
+/// Returns the folder of the installed table files, if there is one. A program whose own path is unknown
+/// counts as not installed.
 pub fn installed_folder(rt: &HostRuntime) -> Result<Option<PathBuf>, ProgramFault> {
     match env::current_exe(rt) {
         Ok(program) => folder_beside(rt, program.as_path()),

@@ -34,7 +34,7 @@ fn main(rt: HostRuntime) -> ExitCode {
     ExitCode::from(fault.status())
 }
 
-// Writes help and the version to standard output, all other messages to standard error.
+// Writes help and the version to standard output, and all other messages to standard error.
 fn report(rt: &HostRuntime, fault: &ProgramFault) -> io::Result<()> {
     match fault {
         ProgramFault::Line(LineFault::Words(error)) => error.print(rt),
@@ -171,7 +171,7 @@ fn write_text<R: Read + Drop>(
     .map_err(ProgramFault::Run)
 }
 
-// Runs an edit script over its text, which is read first.
+// Reads the text of an edit script, and then runs the script on it.
 fn execute(
     rt: &HostRuntime,
     script: &str,

@@ -4,7 +4,7 @@ use Rattle.std.specs.List.{AllZip}
 use Rattle.std.proofs.lemmas.List.Sums.{sum_by-cons}
 use Rattle.store.specs.Exchanging.{pairwise}
 
--- each part fits its item, since every part does
+-- every part fits its item, since any part fits any item
 pub all_fit : {P : Type 0} (xs : List P) (ps : List ℕ) → length ps ≡ length xs → AllZip (λ _ _. Unit {0}) xs ps
 all_fit [] [] h = tt
 all_fit [] (p ∷ ps) h = absurd (omega arith)

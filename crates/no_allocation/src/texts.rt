@@ -1,4 +1,4 @@
-//! Lookups, paragraph boundaries and base levels.
+//! The calls for lookups, paragraph boundaries and base levels.
 use bidi::{Base, base_level, first_cut, is_cut};
 use lines::{Engine, Options};
 use oom_calls::Wrong;

@@ -10,5 +10,5 @@ pub mod tables;
 
 pub use page::{Printed, Writer};
 
-/// What is wrong with a result.
+/// A message that says what is wrong with a result.
 pub type Wrong = &'static str;

@@ -38,7 +38,7 @@ fn execute(rt: &HostRuntime, text: &str, script: &str) -> ExitCode {
     ExitCode::from(fault.status())
 }
 
-// The calls that are made.
+// The groups of calls that are made.
 #[derive(Clone, Copy)]
 enum Trial {
     Tables,

@@ -114,8 +114,8 @@ fn all_start(
     Ok(all_right)
 }
 
-// Whether the lines of each paragraph start at the listed positions, with an engine that has the option
-// `nobreak` or not.
+// Whether the lines of each paragraph start at the listed positions, with an engine with or without the
+// option `nobreak`.
 fn all_start_by(alloc: Global, nobreak: bool, rows: &[(&str, u16, &[u32])]) -> Result<bool, Fail> {
     let mut engine = engine(alloc, nobreak)?;
     let result = all_start(alloc, &mut engine, rows);
@@ -176,8 +176,8 @@ fn counts(engine: &Engine, analysed: u64, filled: u64) -> bool {
     engine.analysed() == analysed && engine.filled() == filled && engine.written() == filled
 }
 
-// Whether exchanging a paragraph's lines for those at another width, and exchanging them again, leaves the
-// right lines.
+// Whether a paragraph has the right lines after they are exchanged for those at another width, and after they
+// are exchanged back.
 fn exchanges(
     alloc: Global,
     engine: &mut Engine,

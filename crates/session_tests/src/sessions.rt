@@ -33,7 +33,7 @@ fn session<S: ParagraphStore<Kept> + Drop>(
     Ok(without_engine(opened)?)
 }
 
-// Returns the session, or why there is none.
+// Returns the session, or the error from opening it.
 fn without_engine<S: ParagraphStore<Kept> + Drop>(
     opened: Result<Session<S>, (Engine, EditFault)>,
 ) -> Result<Session<S>, EditFault> {

@@ -1,5 +1,5 @@
-//! Tests the public calls of `lines` and `session`. Each call has one test, which uses its path, names its
-//! types, and checks one example.
+//! Tests the public calls of `lines` and `session`. Each call has one test, which makes the call by its full
+//! path, names the types, and checks one example.
 ghost use Rattle.std.specs.Prelude.{◌<◌, IfSome};
 ghost use Rattle.lines.specs.Engine.{rules_of, SameRules};
 ghost use Rattle.lines.specs.Layouts.{AreLinesOf, IsLaidOut};
@@ -388,7 +388,7 @@ fn write_writes_the_line_in_visual_order_and_a_newline(rt: HostRuntime) {
     );
 }
 
-// Returns the fault of a line that is written to a sink of two bytes.
+// Returns the error from writing a line to a sink of two bytes.
 fn fault_after_two_bytes(line: &lines::VisualLine<'_>) -> Option<lines::WriteFault> {
     let mut room: [u8; 2] = [0; 2];
     let mut sink = device::ToWrite::new(room.as_mut_slice());
@@ -440,7 +440,7 @@ fn holds(alloc: Global, call: Call) -> bool {
     }
 }
 
-// Opens a session, or returns its engine and why it is refused.
+// Opens a session. If it is refused, returns the engine and the reason.
 fn open(
     alloc: Global,
     text: &str,

@@ -120,7 +120,7 @@ fn are_from(levels: &[u8], place: usize, wanted: &[u8]) -> bool {
     }
 }
 
-// Whether a resolver finds these levels of a list, from an index on, by its characters.
+// Whether a resolver finds these levels of a list, from an index on, given the list's characters.
 fn is_found_of_text(
     alloc: Global,
     resolver: &mut Resolver,
@@ -135,7 +135,8 @@ fn is_found_of_text(
     Ok(is_base && are_from(&levels, place, wanted))
 }
 
-// Whether a resolver finds these levels of a list, from an index on, by its classes and bracket types.
+// Whether a resolver finds these levels of a list, from an index on, given the list's classes and bracket
+// types.
 fn is_found_by(
     alloc: Global,
     resolver: &mut Resolver,
@@ -150,8 +151,8 @@ fn is_found_by(
     Ok(is_base && are_from(&levels, place, wanted))
 }
 
-// Whether a resolver finds these levels of a list, from an index on, both by its characters and by its
-// classes and bracket types.
+// Whether a resolver finds these levels of a list, from an index on, both given the list's characters and
+// given its classes and bracket types.
 fn is_found(
     alloc: Global,
     resolver: &mut Resolver,
@@ -313,7 +314,7 @@ fn finds(
     Ok(is_base && are_digits(&levels, digits.as_bytes()))
 }
 
-// Whether a resolver finds these levels of a text by its classes and bracket types.
+// Whether a resolver finds these levels of a text, given its classes and bracket types.
 fn finds_by(
     alloc: Global,
     resolver: &mut Resolver,
@@ -383,7 +384,7 @@ fn a_resolver_serves_again(rt: HostRuntime) -> Result<(), Fail> {
     Ok(())
 }
 
-// A paragraph with its separator, whose level no line shows.
+// A paragraph with its separator. No line shows the separator's level.
 static SEPARATED: [(&[char], Base, &str); 3] = [
     (&['\u{5D0}', '\n'], Base::WeakLtr, "11"),
     (&['\u{202E}', 'a', '\n'], Base::WeakLtr, "010"),

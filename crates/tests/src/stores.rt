@@ -182,7 +182,7 @@ fn small_items(alloc: Global, count: usize) -> Result<Vec<Item>, AllocError> {
     Ok(items)
 }
 
-// Whether two searches find the same, apart from the visits.
+// Whether two searches find the same, apart from the number of visits.
 fn is_same(found: Found, other: Found) -> bool {
     Found { visits: 0, ..found } == Found { visits: 0, ..other }
 }
@@ -427,7 +427,7 @@ fn two_items_take_the_place_of_three(rt: HostRuntime) -> Result<(), Fail> {
     Ok(check_stores(&rt, rt.alloc(), Check::ThreeByTwo)?)
 }
 
-// Whether each item has the lines of its part and seven more, and its part has the old lines.
+// Whether each item has as many lines as its part had, plus seven, and its part has as many as the item had.
 fn are_exchanged<S: ParagraphStore<Item>>(store: &S, parts: &[usize]) -> bool {
     let mut all_right = parts.len() == store.count();
     for (index, lines) in parts.iter().enumerate() {
@@ -486,7 +486,8 @@ fn parts_are_exchanged_in_the_order_of_the_items(rt: HostRuntime) -> Result<(), 
     Ok(check_stores(&rt, rt.alloc(), Check::Exchanges)?)
 }
 
-// Returns the greatest number of visits of a search, for every `step`-th character and the last one.
+// Returns the greatest number of items that a search visits, over searches for every `step`-th character and
+// for the last one.
 fn most_visits<S: ParagraphStore<Item>>(store: &S, step: usize) -> usize {
     let mut most = 0;
     let total = store.total_chars();

@@ -1,5 +1,5 @@
 //! Tests the public calls of `device`, `ucd`, `bidi`, `breaks` and `store`. Each call has one test, which
-//! uses its path, names its types, and checks one example.
+//! makes the call by its full path, names the types, and checks one example.
 ghost use Rattle.std.specs.Prelude.{◌<◌, ◌^◌};
 
 use crate::files::{FILES, read};

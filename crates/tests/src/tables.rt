@@ -264,7 +264,8 @@ fn lines_reach_both_ends_and_across_the_surrogates(rt: HostRuntime) -> Result<()
     Ok(())
 }
 
-// A range that ends after the surrogates, a surrogate, and a last line with U+000D and without U+000A.
+// A range that ends after the surrogates, a surrogate, and a last line that ends with U+000D and has no
+// U+000A.
 const FILES_OF_CLASSES: UcdFiles<'_> = UcdFiles {
     bidi_class: b"D800..E000;R\nD800;L\n0041;AL\r",
     ..FILES

@@ -1,5 +1,5 @@
-//! Tests the public calls of `tool`. Each call has one test, which uses its path, names its types, and checks
-//! one example.
+//! Tests the public calls of `tool`. Each call has one test, which makes the call by its full path, names the
+//! types, and checks one example.
 use device::{FromRead, ToWrite};
 use oom_calls::sessions::open;
 use oom_calls::tables::{engine, let_go};

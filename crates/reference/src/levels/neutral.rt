@@ -6,8 +6,7 @@ use ucd::BidiClass;
 /// embedding direction. This direction is also sos and eos.
 pub fn resolve_neutral(types: &mut [BidiClass], side: BidiClass) {
     let mut before = side;
-    // The nearest index after the current neutrals whose type is not neutral. It is found once for a run of
-    // neutrals.
+    // The index after the current run of neutrals. It is found once per run.
     let mut end = 0;
     for at in 0..types.len() {
         let class = types[at];

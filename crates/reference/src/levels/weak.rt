@@ -110,8 +110,7 @@ pub fn type_or(types: &[BidiClass], at: usize, other: BidiClass) -> BidiClass {
 // W5: a run of European terminators next to a European number becomes European numbers.
 fn w5(types: &mut [BidiClass]) {
     let mut before = BidiClass::ON;
-    // The nearest index after the current terminators that has no terminator. It is found once for a run of
-    // terminators.
+    // The index after the current run of terminators. It is found once per run.
     let mut end = 0;
     for at in 0..types.len() {
         let class = types[at];

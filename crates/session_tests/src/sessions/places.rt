@@ -26,7 +26,7 @@ fn is_place(place: Option<Place>, [paragraph, line, offset]: [usize; 3]) -> bool
         })
 }
 
-// Whether these are the places of the positions, and the only ones.
+// Whether the positions have these places, and no other position has one.
 fn stand_at<S: ParagraphStore<Kept>>(session: &Session<S>, places: &[[usize; 3]]) -> bool {
     let mut all = session.place(places.len()).is_none();
     for pos in 0..places.len() {

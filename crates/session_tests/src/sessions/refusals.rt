@@ -92,7 +92,8 @@ fn open_refuses_a_width_of_zero_and_text_that_is_too_long(rt: HostRuntime) -> Re
     check_open(&rt, alloc, 1_048_577, 80, EditFault::ParagraphTooLong)
 }
 
-// Whether a paragraph of maximum length before a separator accepts no more characters.
+// Whether an insert that makes a paragraph too long is refused, and a paragraph of the maximum length accepts
+// no more characters.
 fn is_full<S: ParagraphStore<Kept>>(
     edited: &mut Session<S>,
     long: &str,

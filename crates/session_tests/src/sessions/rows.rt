@@ -165,7 +165,8 @@ pub(super) static ROWS: [Row<'_>; 20] = [
         [0, 11],
         "abc def ghi",
     ),
-    // A line that just fits is kept. Then the width is one column less, and the old one again.
+    // The first of these rows keeps a line that just fits. The others set the width to one column less, and
+    // set it back.
     (
         "ab cd \nef",
         80,
