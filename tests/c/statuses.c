@@ -412,8 +412,8 @@ typedef struct arguments {
     void *arrays[5]; /* the arrays that are written */
 } arguments;
 
-/* What a way to make errors apply determines, as bits. Two ways can be combined if they have no bit in common. X_IS
- * stands for whether the pointer X is NULL. */
+/* The parts of a call's arguments that a `way` determines, as bits. Two ways can be combined if they have no bit in
+ * common. X_IS stands for whether the pointer X is NULL. */
 enum {
     TABLES = 1 << 0,
     TABLES_IS = 1 << 1,

@@ -176,8 +176,8 @@ fn counts(engine: &Engine, analysed: u64, filled: u64) -> bool {
     engine.analysed() == analysed && engine.filled() == filled && engine.written() == filled
 }
 
-// Whether a paragraph has the right lines after they are exchanged for those at another width, and after they
-// are exchanged back.
+// Whether a paragraph has the right lines after an exchange for the lines at another width, and again after
+// the exchange is undone.
 fn exchanges(
     alloc: Global,
     engine: &mut Engine,

@@ -36,7 +36,7 @@ fn mark_after(before: BidiClass) -> BidiClass {
     }
 }
 
-// Returns the nearest type that is not NSM, after a character of type `class`.
+// Returns the last type so far that is not NSM: `class`, or `before` if `class` is NSM.
 fn unmarked_after(class: BidiClass, before: BidiClass) -> BidiClass {
     match class {
         BidiClass::NSM => before,
@@ -61,7 +61,7 @@ fn w2_type(class: BidiClass, strong: BidiClass) -> BidiClass {
     }
 }
 
-// Returns the nearest strong type, after a character of type `class`.
+// Returns the last strong type so far: `class`, or `strong` if `class` is not strong.
 fn strong_after(class: BidiClass, strong: BidiClass) -> BidiClass {
     match class {
         BidiClass::L | BidiClass::R | BidiClass::AL => class,
@@ -83,7 +83,7 @@ fn w3_type(class: BidiClass) -> BidiClass {
     }
 }
 
-// W4: a single separator between two numbers becomes such a number.
+// W4: a single separator between two numbers of the same type becomes a number of that type.
 fn w4(types: &mut [BidiClass]) {
     let mut before = BidiClass::ON;
     for at in 0..types.len() {
