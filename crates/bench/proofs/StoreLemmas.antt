@@ -1,4 +1,4 @@
--- Lemmas on sums over paragraphs that have at most one character and one line.
+-- Sums of paragraphs of at most one character and line.
 use Rattle.std.proofs.Common.{ℕ, ◌+◌, ◌≤◌, Bool, true, false, cond, List, [], ◌∷◌, ◌++◌, length, take, drop, sum_by, arith, length-append, length-take, length-drop}
 use Rattle.std.specs.List.{splice}
 use Rattle.std.proofs.lemmas.List.Sums.{sum_by-cons}

@@ -1,4 +1,4 @@
--- Lemmas on calls of a sink, one after another.
+-- Calls of a sink, one after another.
 use Rattle.std.proofs.Common.{◌≡◌, ℕ, ◌+◌, ◌≤◌, ◌==◌, false, List, ◌++◌, length, take, drop, Option, Some, None, ap, ◌∙◌, arith}
 use Rattle.std.specs.Io.KnownBytes.{Appends}
 use Rattle.std.proofs.lemmas.List.{append_assoc, length-take-le}
@@ -26,6 +26,6 @@ Took-more old mid new bytes w n part part_is within first next =
           omega (arith, next.passes.passed, first.passed);
     }
 
--- if a write returned n > 0, it has not failed: the sink took the first n bytes
+-- a write of at least one byte has not failed
 pub Takes-some : (old new : Device) (n : ℕ) (given : List ℕ) → (n ≡ 0 → ⊥) → MatchBool (n == 0) (Fails old new) (Takes old new n given) → Takes old new n given
 Takes-some old new n given some which = let not_none : (n == 0) ≡ false = grind (arith, nat_tests) in rw not_none at which

@@ -2,9 +2,9 @@
 use Rattle.std.specs.Prelude.{◌≡◌, ℕ, ◌+◌, ◌-◌, ◌^◌, ◌<◌, ◌≤◌, ◌==◌, min, List, length, take, Option, Result, MatchResult, MatchBool}
 use Rattle.std.specs.Io.KnownBytes.{Keeps, Appends, Consumes, IsAtEnd}
 
--- The state of a source or sink. `bytes` are the bytes that a source still has or that a sink holds, if it
--- reports them. `passed` counts all bytes that passed. `failures` counts failed calls, up to 2^64 - 1.
--- `failed_at` is the value of `passed` at the last failure.
+-- The state of a source or sink. `bytes` are those that a source still has or a sink holds, if it reports them.
+-- `passed` counts all bytes that passed. `failures` counts failed calls, up to 2^64 - 1. `failed_at` is `passed` at the
+-- last failure.
 pub record Device : Type 0 where
   pub bytes : Option (List ℕ)
   pub passed : ℕ
@@ -32,7 +32,7 @@ pub record Fails (old new : Device) : Type 0 where
   pub failures : new.failures ≡ min (old.failures + 1) greatest
   pub failed_at : new.failed_at ≡ old.passed
 
--- a read put the next n bytes at the front of a buffer; n is 0 only if the source has no bytes left
+-- a read put these bytes at the front of a buffer; it reads none only if the source has none left
 pub record Gives (old new : Device) (n : ℕ) (buffer : List ℕ) : Type 0 where
   pub bytes : Consumes old.bytes new.bytes (take n buffer)
   pub end : n ≡ 0 → IsAtEnd new.bytes
@@ -61,14 +61,13 @@ pub record Took (old new : Device) (given : List ℕ) : Type 0 where
   pub bytes : Appends old.bytes new.bytes given
   pub passed : new.passed ≡ old.passed + length given
 
--- all of the bytes were taken, and no call failed
+-- all of the bytes were taken, or the sink failed after a number of them
 abbrev pub Wrote : List ℕ → Device → Device → Type 0
 Wrote given old new = Took old new given × (new.failures ≡ old.failures)
 
--- the sink took the first n bytes and not all, and a call failed after that
 abbrev pub StoppedAt : ℕ → List ℕ → Device → Device → Type 0
 StoppedAt n given old new = (n < length given) × Took old new (take n given) × FailedLast old new
 
--- if bytes passed, the count of bytes that passed is at most its maximum
+-- if bytes passed, their count is at most the greatest
 abbrev pub StaysCounted : Device → Device → Type 0
 StaysCounted old new = old.passed < new.passed → new.passed ≤ greatest

@@ -1,5 +1,4 @@
--- The state of a source or sink that wraps a reader or a writer of std. It is given by the state of the
--- reader or writer.
+-- The state of a source or sink that wraps a reader or a writer of std, from the state of the reader or writer.
 use Rattle.std.specs.Prelude.{ℕ, List, Option}
 use Rattle.device.specs.Device.{Device}
 use Rattle.device.specs.declared.from_read.FromRead.{FromRead}

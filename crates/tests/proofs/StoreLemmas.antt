@@ -1,10 +1,10 @@
--- Lemmas on exchanging the parts of the tests' items.
+-- What the tests' items make with their parts.
 use Rattle.std.proofs.Common.{◌≡◌, ℕ, ◌+◌, ◌<◌, ◌≤◌, List, [], ◌∷◌, length, sum_by, arith}
 use Rattle.std.specs.List.{AllZip}
 use Rattle.std.proofs.lemmas.List.Sums.{sum_by-cons}
 use Rattle.store.specs.Exchanging.{pairwise}
 
--- if the sum of all parts, each plus `more`, is below the limit, then each part plus `more` is
+-- each part fits, where with some more for each their sum does
 pub all_fit : {P : Type 0} (more limit : ℕ) (xs : List P) (ps : List ℕ) → length ps ≡ length xs → sum_by (λ n. n + more) ps < limit
     → AllZip (λ _ n. n + more < limit) xs ps
 all_fit more limit [] [] h s = tt
@@ -14,7 +14,7 @@ all_fit more limit (x ∷ xs) (p ∷ ps) h s =
     let e = sum_by-cons (λ (n : ℕ). n + more) p ps in
     (omega (arith, e), all_fit more limit xs ps (omega arith) (omega (arith, e)))
 
--- if the sum of all parts is below the limit, then each part is
+-- and by itself
 pub all_small : {P : Type 0} (limit : ℕ) (xs : List P) (ps : List ℕ) → length ps ≡ length xs → sum_by (λ n. n + 0) ps < limit
     → AllZip (λ _ n. n < limit) xs ps
 all_small limit [] [] h s = tt
@@ -24,8 +24,7 @@ all_small limit (x ∷ xs) (p ∷ ps) h s =
     let e = sum_by-cons (λ (n : ℕ). n + 0) p ps in
     (omega (arith, e), all_small limit xs ps (omega arith) (omega (arith, e)))
 
--- if an exchange sets the lines of an item to its part plus `more`, the new sum of lines is at most the sum
--- of the parts, each plus `more`
+-- the new sum of lines is that of the parts with some more for each
 pub sum_of_parts : {P : Type 0} (lines : P → ℕ) (more : ℕ) (put : P → ℕ → P) → ((x : P) (n : ℕ) → lines (put x n) ≡ n + more)
     → (xs : List P) (ps : List ℕ) → sum_by lines (pairwise put xs ps) ≤ sum_by (λ n. n + more) ps
 sum_of_parts lines more put e [] ps = omega arith

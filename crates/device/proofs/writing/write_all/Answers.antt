@@ -3,7 +3,7 @@ use Rattle.std.proofs.lemmas.List.{take_rest}
 use Rattle.device.proofs.SinkLemmas.{Took-more, Takes-some}
 use Rattle.device.proofs.writing.write_all.Goals as goal
 
--- after each write, the sink has taken the bytes that are counted as written
+-- the sink took more bytes
 pub loop-written-preserved : goal.loop-written-preserved
 loop-written-preserved g c =
     let takes = Takes-some _ _ c.in-Ok.n _ c.in-Ok.n-test.1 c.in-Ok.ensures.writes in

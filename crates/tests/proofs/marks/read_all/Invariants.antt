@@ -2,6 +2,6 @@ use Rattle.std.proofs.Common.{◌≡◌, map, take}
 use Rattle.ucd.specs.Properties.{properties_of}
 use Rattle.tests.proofs.marks.read_all.Given as goal
 
--- the list has the properties of the characters read so far
+-- what is read of the characters so far
 abbrev pub invariant-loop-c : goal.invariant-loop-c
 invariant-loop-c l = l.properties.items ≡ map (properties_of l.tables) (take l.c-index l.text)
