@@ -17,14 +17,14 @@
 #   make            Proves and builds the command and the programs that make check runs.
 #   make check      Runs the tests that need no new proof, in about a minute. Run it before each commit.
 #   make test       Runs CI: every proof, the must-fail edits and all tests. tests/README.md lists them.
-#   make attack     Runs the mutation tests over what make has built: make attack CRATES="lines session".
-#   make conformance  Runs Unicode's conformance tests over the proved library.
+#   make attack     Runs the mutation tests on the crates that make has built, or on some: make attack CRATES="lines session".
+#   make conformance  Runs Unicode's conformance tests on the proved library.
 #   make fribidi-compare  Compares FriBidi's interface with FriBidi on a million random lists.
-#   make callers    Runs pyfribidi, Pango, a VTE terminal and libass over FriBidi's interface (installs Debian packages).
+#   make callers    Runs pyfribidi, Pango, a VTE terminal and libass with FriBidi's interface (installs Debian packages).
 #   make deb        Builds the Debian packages of packaging/debian from what make install needs, and runs lintian (DIST=dist).
 #   make dist       Builds hordguli-VERSION-linux-x86_64.tar.gz from the same files (DIST=dist).
 #   make test-packages  Tests the packages in new Debian 12 and 13 systems (debootstrap, as root): four minutes.
-#   make test-reproducible  Builds all packages in two folders, compiled both times, and compares them byte by byte.
+#   make test-reproducible  Compiles and builds all packages in two folders, and compares them byte by byte.
 #   make test-hosts Runs examples/many on three hosts on the loopback address, and kills one during a run.
 #   make release    Checks the version, runs CI, builds and tests all packages, and writes them to dist/.
 #   make bench      Runs all benchmarks of bench/, which compare with Debian's fribidi, with ICU and with Rust crates.
@@ -44,7 +44,7 @@ program: programs = fribidi
 bench-program: programs = fribidi bench
 conformance-program: programs = conformance
 
-# Proves the crates that have changed, independent ones in parallel, and runs the programs, which are kept in out/.
+# Proves the crates that have changed, and proves independent ones in parallel. Runs the programs, which are kept in out/.
 all program bench-program conformance-program:
 	$(MAKE) --no-print-directory --jobs=$(JOBS) $(programs:%=run-%)
 	mkdir -p bin
@@ -68,7 +68,7 @@ run-oom_driver run-no_allocation: lib-oom_calls
 lib-tables: lib-ucd
 run-bench: lib-session lib-tables
 run-conformance: lib-lines lib-tables
-# (waits for session: until then all processors are busy, and beside tool they are not)
+# Waits for session: until then all processors are busy, but while tool is proved some are idle.
 run-conformance: $(if $(filter run-fribidi,$(MAKECMDGOALS)),lib-session)
 
 run-fribidi: words = -- --help
@@ -85,8 +85,8 @@ run-%:
 ucd:
 	@tools/collect_ucd '$(UNICODE)'
 
-# Runs the command in a new folder with copies of the table files. With --cases FOLDER, it is run once for each text there, with the
-# arguments in the .args file of the text.
+# Runs the command in a new folder with copies of the table files. With --cases FOLDER, runs it once for each text in FOLDER, with
+# the arguments in the text's .args file.
 try = cd crates/fribidi && rt try $(foreach table,$(TABLES),--data ucd/$(table).txt=$(CURDIR)/ucd/$(table).txt)
 
 quick: ucd
@@ -104,11 +104,11 @@ endif
 check: ucd tmux parallel
 	tools/check
 
-# tests/examples drives the editors in it.
+# tests/examples/run drives the editors under tmux.
 tmux:
 	@command -v tmux > /dev/null || { apt-get update -q && apt-get install -qy tmux; }
 
-# examples/many needs it.
+# examples/many needs GNU parallel.
 parallel:
 	@command -v parallel > /dev/null || { apt-get update -q && apt-get install -qy parallel; }
 
@@ -129,7 +129,7 @@ fribidi-compare: fribidi
 callers: fribidi
 	tests/fribidi/callers
 
-# (by the environment, so that a path may have spaces)
+# The environment passes these variables, so that paths may have spaces.
 install uninstall: export PREFIX := $(PREFIX)
 install uninstall: export LIBDIR := $(LIBDIR)
 install uninstall: export DESTDIR := $(DESTDIR)

@@ -1,4 +1,4 @@
-/* Measures FriBidi's functions, in FriBidi's library and in ours: callers OURS. */
+/* Measures FriBidi's functions, in FriBidi's library and in the library OURS. Usage: callers OURS. */
 #include "both.h"
 #include <time.h>
 
@@ -50,7 +50,8 @@ static double took(const calls *of, int call, int length) {
     return (now() - begun) / (double)times;
 }
 
-/* Texts of words in the scripts of a kind, with numbers, brackets and spaces between them. */
+/* The kinds of texts. A text has words in the scripts of its kind, with numbers, brackets and spaces between
+ * them. */
 static const char *const kinds[] = {"Latin", "Hebrew", "Arabic", "mixed", "embedded"};
 static void make(int kind, int length) {
     state = 88172645463325252u + (uint64_t)kind;

@@ -1,5 +1,5 @@
-/* Does the work of `bin/fribidi --novisual --basedir` with ICU4C. Standard input is UTF-8. For each paragraph it prints LTR or
- * RTL, by the first strong character. */
+/* Does the work of `bin/fribidi --novisual --basedir` with ICU4C. Standard input is UTF-8. For each paragraph, it prints LTR
+ * or RTL, by the first strong character. */
 #include "icu_text.h"
 
 int main(void) {

@@ -1,6 +1,6 @@
-/* Finds the lines of a paragraph with ICU4C's ubidi and ubrk. A line ends at the last break up to which it fits, without the
- * spaces at its end; a longer piece is broken between grapheme clusters. The including file defines `put_line`, which is called
- * for each line. */
+/* Finds the lines of a paragraph with ICU4C's ubidi and ubrk. A line ends at the last break opportunity at which it fits, not
+ * counting the spaces at its end. Text that does not fit without a break opportunity is broken between grapheme clusters. The
+ * including file defines `put_line`, which is called for each line. */
 #ifndef ICU_FILL_H
 #define ICU_FILL_H
 #include "icu_text.h"
@@ -31,7 +31,7 @@ static int columns_of(UChar32 c) {
     return width == U_EA_WIDE || width == U_EA_FULLWIDTH ? 2 : 1;
 }
 
-/* Whether a character is not shown at the end of a line: spaces and separators. */
+/* Whether a character is a space or separator, which is not shown at the end of a line. */
 static UBool is_tail(UChar c) {
     return c == 0x20 || (c >= 0x0A && c <= 0x0D) || c == 0x85 || c == 0x2028 || c == 0x2029;
 }
@@ -51,7 +51,8 @@ static int columns_between(int32_t from, int32_t to) {
     return columns;
 }
 
-/* Finds the lines of the paragraph in `text`. `start` is the start of a line, `end` the last break up to which it fits. */
+/* Finds the lines of the paragraph in `text`. `start` is the start of a line, and `end` the last break opportunity at which
+ * it fits. */
 static void fill_paragraph(int32_t length) {
     UErrorCode status = U_ZERO_ERROR;
     UBool has_clusters = false;

@@ -1,5 +1,5 @@
 /* Does the work of `bin/fribidi --novisual --levels` with ICU4C. Standard input is UTF-8. Lines have 80 columns (icu_fill.h), or,
- * with the argument `nobreak`, end at mandatory breaks only. For each line it prints the levels of the shown part after L1. */
+ * with the argument `nobreak`, end at mandatory breaks only. For each line, it prints the levels of the shown part after L1. */
 #include "icu_fill.h"
 #include <string.h>
 
@@ -26,8 +26,9 @@ static UBool is_blank(UChar32 c) {
     }
 }
 
-/* ICU's levels of the whole paragraph include L1 before separators and at its end. ubidi_setLine changes levels if all are even:
- * those of a number after Hebrew become 0. So L1 at the line's end is applied here. */
+/* ICU's levels of a whole paragraph are those after L1 before separators and at the paragraph's end. ubidi_setLine changes the
+ * levels of a line if all are even: those of a number after Hebrew become 0. So this function applies L1 at the line's end
+ * itself. */
 static void put_line(int32_t from, int32_t to) {
     UErrorCode status = U_ZERO_ERROR;
     int32_t shown = shown_end(from, to), reset = shown;
@@ -49,7 +50,7 @@ static void put_line(int32_t from, int32_t to) {
     put('\n');
 }
 
-/* Whether a line must end after a character that is no paragraph separator. */
+/* Whether a line must end after a character that is not a paragraph separator. */
 static UBool ends_line(UChar c) {
     return c == 0x0B || c == 0x0C || c == 0x2028;
 }

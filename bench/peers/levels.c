@@ -1,6 +1,7 @@
-/* Measures the levels of each paragraph of standard input, by hordguli_levels, FriBidi's library and ICU: levels FOLDER, where
- * FOLDER has the table files. Prints nanoseconds per character, the least of five runs in turn. Also prints how many paragraphs
- * have the same levels in all three, except for spaces, which L1 changes in the others' results. */
+/* Measures finding the levels of each paragraph of standard input, with hordguli_levels, FriBidi's library and ICU. Prints
+ * nanoseconds per character, the least of five alternating runs. Also prints how many paragraphs have the same levels in all
+ * three, except for spaces, which L1 changes in the results of the other two. Usage: levels FOLDER, where FOLDER has the table
+ * files. */
 #define _POSIX_C_SOURCE 200809L
 #include <fribidi/fribidi.h>
 #include <hordguli.h>
@@ -65,7 +66,7 @@ static FriBidiBracketType *brackets;
 static FriBidiLevel *found;
 static UBiDi *bidi;
 
-/* Finds the levels of a paragraph by one of the libraries, one per character. */
+/* Finds the level of each character of a paragraph with one of the libraries. */
 static void levels_by(int peer, size_t paragraph, uint8_t *levels) {
     const uint32_t *at = text + starts[paragraph];
     size_t length = starts[paragraph + 1] - starts[paragraph];

@@ -1,5 +1,5 @@
-/* Does the work of `bin/fribidi --width 80` with a session of libhordguli: lines FOLDER, where FOLDER has the table files. Standard
- * input is the text. */
+/* Does the work of `bin/fribidi --width 80` with a session of libhordguli. Standard input is the text. Usage: lines FOLDER, where
+ * FOLDER has the table files. */
 #include <hordguli.h>
 #include <stdio.h>
 #include <stdlib.h>

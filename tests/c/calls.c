@@ -1,4 +1,5 @@
-/* Tests each function's results, and each status that it returns: calls FOLDER, where FOLDER has the table files. */
+/* Tests what each function returns, and each of its statuses. Usage: calls FOLDER, where FOLDER has the table
+ * files. */
 #include "test.h"
 
 #include <limits.h>
@@ -113,7 +114,8 @@ static void opened_by_folder(const char *folder) {
 
 /* ---- Sessions ---- */
 
-/* abc, a space and three Hebrew letters; a right-to-left line; a last paragraph without a separator. */
+/* Three paragraphs: abc, a space and three Hebrew letters; a right-to-left line; and one without a
+ * separator. */
 static const char text[] = "abc \u05d0\u05d1\u05d2\n(\u05d0) 12\nx y";
 
 static void opened(void) {
@@ -217,7 +219,7 @@ static void changed(void) {
     IS(hordguli_set_width(&session, UINT32_MAX, &damage), WIDTH_OUT_OF_RANGE);
     damaged(&damage, 7, 7, 7, 7, 7, 7);
     counted(18, 3, 3, 80);
-    /* accepted edits: of the second line, of two lines, of all lines */
+    /* accepted edits, which change the second line, two lines and all lines */
     OK(hordguli_insert(&session, 9, "", 0, &damage));
     damaged(&damage, 1, 1, 1, 1, 1, 1);
     OK(hordguli_insert(&session, 9, NULL, 0, &damage));

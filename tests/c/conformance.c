@@ -1,8 +1,9 @@
-/* Prints break marks or lines by the C library, in the format of the program `conformance`, for Unicode's conformance
- * tests: conformance marks-of FOLDER, or conformance lines-of FOLDER DIRECTION. Each line of standard input is a paragraph.
+/* Prints break marks or lines, as computed by the C library, in the format of the program `conformance`.
+ * tests/conformance/run can run it instead of that program. Usage: conformance marks-of FOLDER, or conformance
+ * lines-of FOLDER DIRECTION. Each line of standard input is a paragraph.
  *
- * A paragraph is laid out in a session, in one line. In some tests a paragraph has a separator inside, where a session
- * splits it. For these, hordguli_levels gives the levels, and this program applies L1 and L2. */
+ * Each paragraph is laid out in a session, as a single line. In some tests a paragraph contains a separator, at which
+ * a session would split it. For these, hordguli_levels finds the levels, and this program applies L1 and L2. */
 #include "test.h"
 
 enum { MOST = 4096 };
@@ -19,7 +20,7 @@ static void check(hordguli_status status) {
     if (status != HORDGULI_OK) fail(hordguli_status_text(status));
 }
 
-/* Reads the hexadecimal code points of a line. Returns 0 at the end. */
+/* Reads the hexadecimal code points of the next line of standard input. Returns 0 at its end. */
 static int next(void) {
     static char line[MOST * 8];
     char *at = line, *end;

@@ -1,4 +1,4 @@
-/* Makes random edits in a session. After each, the session must equal one that is opened on the whole text:
+/* Makes random edits in a session. After each edit, the session must equal a new session on the whole text. Usage:
  * random FOLDER CHANGES, where FOLDER has the table files. */
 #include "test.h"
 

@@ -1,6 +1,6 @@
-/* Lets each allocation fail in turn: refuse FOLDER, where FOLDER has small table files. A call without memory must return
- * NO_MEMORY and change nothing, and then succeed with memory. At the end all memory must be freed. Linked with
- * --wrap=malloc, --wrap=realloc and --wrap=free. */
+/* Makes each allocation fail in turn. A call whose allocation fails must return NO_MEMORY and change nothing. The same
+ * call must then succeed when its allocations do. At the end, all memory must be freed. Usage: refuse FOLDER, where
+ * FOLDER has small table files. Link it with --wrap=malloc, --wrap=realloc and --wrap=free. */
 #include "test.h"
 
 void *__real_malloc(size_t size);
@@ -35,7 +35,7 @@ void __wrap_free(void *block) {
 
 enum { BYTES = 1 << 14 };
 
-/* The state of a session: its printed lines and its text as bytes, and its counts. */
+/* The state of a session: the bytes of its printed lines and of its text, and its counts. */
 typedef struct shape {
     char bytes[BYTES];
     size_t length;
@@ -102,7 +102,7 @@ int main(int count, char **words) {
     uint8_t levels[9], marks[9];
     if (count != 2) return 2;
     folder = words[1];
-    for (long at = 0; at <= most + 1; at++, runs++) { /* no allocation fails in the first run, which counts them, and in the last */
+    for (long at = 0; at <= most + 1; at++, runs++) { /* no allocation fails in the first run, which counts them, nor in the last */
         int refusals = 0;
         long before = live;
         asked = 0;
@@ -134,7 +134,7 @@ int main(int count, char **words) {
             }
             HOLDS(step(k) == HORDGULI_OK);
         }
-        /* (the library does without some allocations) */
+        /* at most one call fails per run, or none if the library can do without the failed allocation */
         HOLDS(refusals <= (at > 0 && at <= most));
         if (at == 0) {
             most = asked;

@@ -1,7 +1,7 @@
-/* Measures the C library, as `bench calls` measures the Rattle crates, for bench/c: speed FOLDER FILE INSERTS.
+/* Measures the C library for bench/c, as `bench calls` measures the Rattle crates. Usage: speed FOLDER FILE INSERTS.
  *
- * Prints nanoseconds for opening a session on the text of FILE, for INSERTS inserts of a letter at random positions, and
- * for reading starts, characters and levels of all lines. The last number is a checksum of what was read. */
+ * Prints the nanoseconds for opening a session on the text of FILE, for inserting a letter at INSERTS random positions,
+ * and for reading the starts, characters and levels of all lines. The last number is a checksum of what was read. */
 #include "test.h"
 
 #include <time.h>

@@ -1,12 +1,12 @@
-/* Numbers, fields, parameters and statuses of hordguli.h: statuses FOLDER HEADER. FOLDER has the table files, HEADER is
- * hordguli.h.
+/* Tests the constants, fields, parameters and statuses of hordguli.h. Usage: statuses FOLDER HEADER. FOLDER has the
+ * table files; HEADER is hordguli.h.
  *
  * - Each status, option, flag and other constant has the expected value.
- * - Each field of each struct is at its offset, and gets the value that belongs to it. Parameters of one type are not
- *   exchanged.
- * - If two errors of a call apply, it returns the one that the header lists first, and changes nothing. It returns the
- *   same if every allocation fails, unless the header says that NO_MEMORY comes first. (tests/c/refuse.c lets each
- *   allocation of a call without other errors fail.) */
+ * - Each field of each struct is at its expected offset, and receives the right value. Parameters of the same type are
+ *   not swapped.
+ * - If two errors of a call apply, the call returns the one that the header lists first, and changes nothing. It
+ *   returns the same error if every allocation fails, unless the header lists NO_MEMORY first. (tests/c/refuse.c makes
+ *   each allocation of a call without other errors fail.) */
 #include "test.h"
 
 #include <stddef.h>
@@ -19,7 +19,7 @@ static hordguli_tables tables = HORDGULI_TABLES_INIT;
 
 /* ---- Numbers ---- */
 
-/* The index is the number. */
+/* The index of each status is its number. */
 #define STATUS(name) {#name, HORDGULI_##name}
 static const struct {
     const char *name;
@@ -125,14 +125,15 @@ FIELD(paragraph_info, base, WORDS(2), uint32_t);
 FIELD(paragraph_info, zero, WORDS(2) + 4, uint32_t);
 SIZE(paragraph_info, WORDS(2) + 8);
 
-/* Two lines, two right-to-left lines, of which the second has two marks of width 0 and a number, and one line. */
+/* A paragraph of two lines; a right-to-left paragraph of two lines, the second with two marks of width 0 and a number;
+ * and a paragraph of one line. */
 static const char mixed[] =
     "one two three\n\u05d0\u05d1\u05d2\u05d3\u05d4\u05d5 \u05d3\u05b0\u05d4\u05b0\u05d5 12\nlast";
 
 /* Paragraphs of 3, 2, 3, 2, 2 and 1 lines of at most 4 columns. They start at 0, 12, 20, 32, 40 and 48. */
 static const char words[] = "aaa bbb ccc\naaa bbb\naaa bbb ccc\naaa bbb\naaa bbb\naaa";
 
-/* Opens a session that is closed, or closes it before. */
+/* Opens a session on a text, after closing the old one if it is open. */
 static void reopen(hordguli_session *session, const char *text, uint32_t width) {
     hordguli_session_close(session);
     OK(hordguli_session_open(session, &tables, 0, width, text, strlen(text)));
@@ -158,7 +159,8 @@ static hordguli_status read_files(hordguli_tables *none, const char *const lines
     return hordguli_tables_read(none, files, fault);
 }
 
-/* Of the first four files, a line of one is malformed in the others. The last three change one break mark each. */
+/* A line of one of the first four files is malformed in the other three. Each of the last three files changes one
+ * break mark. */
 static void files_have_their_indexes(void) {
     static const char *const own_lines[7] = {
         "0041;EN\n",
@@ -254,13 +256,14 @@ static void counts_and_work_have_each_value_in_their_field(void) {
     reopen(&session, mixed, 8);
     OK(hordguli_session_counts(&session, &counts));
     HOLDS(counts.characters == 34), HOLDS(counts.lines == 5), HOLDS(counts.paragraphs == 3), HOLDS(counts.width == 8);
-    /* Another width fills and writes the first 30 characters again. The last paragraph is one line and fits. */
+    /* A change of width fills and writes the first 30 characters again, but not the last paragraph, whose one line
+     * still fits. */
     OK(hordguli_set_width(&session, 6, &damage));
     OK(hordguli_session_work(&session, &work));
     HOLDS(work.analysed == 34), HOLDS(work.filled == 64), HOLDS(work.written == 64);
 #ifdef WRAPPED
-    /* Filled and written differ only after a call that failed: the last allocation is made after filling, before
-     * writing. */
+    /* The counters `filled` and `written` differ only after a failed call. The last allocation is made after filling
+     * and before writing. */
     reopen(&session, mixed, 8);
     allocations = 0;
     OK(hordguli_set_width(&session, 6, &damage));
@@ -340,7 +343,7 @@ static void paragraphs_have_each_value_in_its_field(void) {
     hordguli_session_close(&session);
 }
 
-/* In each call, parameters of one type have different values, with which an exchange gives another result. */
+/* In each call, parameters of the same type have different values, chosen so that swapping them changes the result. */
 static void parameters_are_not_exchanged(void) {
     hordguli_session session = HORDGULI_SESSION_INIT;
     char bytes[64];
@@ -389,7 +392,7 @@ typedef struct memory {
 
 static memory own, before;
 
-/* Arguments of all calls. Each call uses those that it has. */
+/* The arguments of all calls. Each call uses the ones it has a parameter for. */
 typedef struct arguments {
     hordguli_tables *tables;
     hordguli_session *session;
@@ -409,8 +412,8 @@ typedef struct arguments {
     void *arrays[5]; /* the arrays that are written */
 } arguments;
 
-/* What an error sets. Two errors apply at the same time if they have nothing in common. X_IS means that the pointer X
- * is not NULL. */
+/* The parts of a call's arguments that a `way` determines, as bits. Two ways can be combined if they have no bit in
+ * common. X_IS stands for whether the pointer X is NULL. */
 enum {
     TABLES = 1 << 0,
     TABLES_IS = 1 << 1,
@@ -434,7 +437,8 @@ enum {
 
 typedef struct call call;
 
-/* A way to make errors apply, for each `which` from `first` to `last`. `errors` are items of the call's list. */
+/* A way to make errors apply, with a variant for each `which` from `first` to `last`. `errors` lists items of the
+ * call's own list. */
 typedef struct way {
     const char *errors;
     uint32_t sets;
@@ -445,12 +449,12 @@ typedef struct way {
 struct call {
     const char *name;
     hordguli_status (*make)(const arguments *a);
-    const char *errors; /* as in the header */
-    const char *order;  /* the errors, with what else the header says about their order, or NULL */
+    const char *errors; /* the list in the header */
+    const char *order;  /* the errors in the order that the header states in words, or NULL if that of `errors` */
     const char *never;  /* pairs that cannot apply at the same time, or NULL */
     const way *ways[4];
     size_t out_size;       /* of the output parameter */
-    size_t at, count, end; /* arguments that are in range; the first that is not, if the count is 0 */
+    size_t at, count, end; /* `at` and `count` are in range; with a count of 0, `end` is the least `at` that is not */
     size_t needed;         /* capacity */
     uint32_t flags;
 };
@@ -517,7 +521,7 @@ WAY(array_at_characters, a->arrays[which] = (void *)(uintptr_t)a->characters)
 WAY(array_at_other, a->arrays[which / 5] = a->arrays[which % 5 == which / 5 ? (which + 1) % 5 : which % 5])
 WAY(array_at_first, a->arrays[1] = (char *)a->arrays[0] + a->capacity - 1)
 WAY(long_arrays, a->capacity = which == 0 ? (size_t)PTRDIFF_MAX + 1 : SIZE_MAX)
-/* the size in bytes of one array is more than SIZE_MAX, and 4 or 8 modulo SIZE_MAX + 1 */
+/* the size of one array in bytes exceeds SIZE_MAX, and wraps around to 4 or 8 */
 WAY(wrapping_array, {
     a->capacity = SIZE_MAX / (which == 4 ? sizeof(size_t) : 4) + 2;
     for (size_t k = 0; k < 5; k++) a->arrays[k] = k == which ? a->arrays[k] : NULL;
@@ -801,7 +805,7 @@ MAKE(base, a->tables, a->flags, a->characters, a->count, a->out)
 MAKE(levels, a->tables, a->flags, a->characters, a->count, a->capacity, a->arrays[0])
 MAKE(marks, a->tables, a->flags, a->characters, a->count, a->capacity, a->arrays[0])
 
-/* An overlap of a handle and an output parameter needs both, so neither is NULL. */
+/* For a handle and an output parameter to overlap, neither may be NULL. */
 #define NOT_BOTH "NULL + OVERLAP"
 #define ORDER_OF_FILE(k) "NULL (file " #k "), OVERLAP (file " #k "), "
 
@@ -822,7 +826,7 @@ static const call calls[] = {
          .ways = {of_open}, .never = "WIDTH_OUT_OF_RANGE (above 65,535) + WIDTH_OUT_OF_RANGE (0)"),
     CALL(insert, INSERTING, .ways = {of_session, of_inserted_text, of_at}, .out_size = sizeof(hordguli_damage), .at = 2,
          .end = 19),
-    /* A closed session has no paragraphs to join, and a range past the end is not deleted. */
+    /* A deletion makes no paragraph too long if the session is closed or the range is past the end. */
     CALL(delete, "NULL, OVERLAP, CLOSED, OUT_OF_RANGE, PARAGRAPH_TOO_LONG, NO_MEMORY",
          .ways = {of_session, of_range, of_delete}, .out_size = sizeof(hordguli_damage), .at = 2, .count = 3, .end = 19,
          .never = NOT_BOTH ", CLOSED + PARAGRAPH_TOO_LONG, OUT_OF_RANGE + PARAGRAPH_TOO_LONG"),
@@ -864,7 +868,7 @@ static const call calls[] = {
 
 enum { CALLS = sizeof calls / sizeof *calls, MOST = 24 };
 
-/* The items of a list, which may be NULL. */
+/* The items of a list of errors. The list may be NULL. */
 typedef struct items {
     char words[MOST][64];
     size_t count;
@@ -884,7 +888,7 @@ static items items_of(const char *list) {
     return found;
 }
 
-/* The bits of some errors in a list. */
+/* Returns some errors as a set of bits. Bit k stands for item k of `order`. */
 static uint32_t bits_of(const char *errors, const items *order) {
     items some = items_of(errors);
     uint32_t bits = 0;
@@ -900,7 +904,7 @@ static uint32_t bits_of(const char *errors, const items *order) {
     return bits;
 }
 
-/* The status of an item, which is its first word. */
+/* Returns the status that the first word of an item names. */
 static hordguli_status status_of(const char *item) {
     size_t length = strcspn(item, " ");
     for (hordguli_status status = 0; status < STATUSES; status++)
@@ -910,7 +914,8 @@ static hordguli_status status_of(const char *item) {
 
 static const char session_text[] = "abc \u05d0\u05d1\u05d2\n(\u05d0) 12\nx y";
 
-/* What the session has: its text, lines, counts and work. Of the long one, counts and work. */
+/* The contents of the session: its text, lines, counts and work counters. Also the counts and work counters of the
+ * long session. */
 typedef struct content {
     char bytes[200];
     hordguli_counts counts, long_counts;
@@ -933,7 +938,8 @@ static content content_now(void) {
     return found;
 }
 
-/* Opens the handles and makes arguments with which the call succeeds. */
+/* Returns arguments with which the call succeeds. If `is_new`, first closes the handles that must be closed, and
+ * reopens the session. */
 static arguments good_arguments(const call *c, int is_new) {
     arguments a;
     int opens_tables = strncmp(c->name, "tables_", 7) == 0, opens_session = strcmp(c->name, "session_open") == 0;
@@ -971,7 +977,8 @@ static arguments good_arguments(const call *c, int is_new) {
     return a;
 }
 
-/* Checks what belongs to a status, and restores it. All other memory is as it was before the call. */
+/* Checks the output that a call sets for its status, and restores the old contents. The caller checks all other
+ * memory. */
 static int is_set_as_promised(const call *c, hordguli_status status) {
     int is_set = 1;
     if (status == HORDGULI_NO_ROOM && c->out_size != 0) { /* the required capacity */
@@ -989,14 +996,14 @@ static int is_set_as_promised(const call *c, hordguli_status status) {
 }
 
 #ifdef WRAPPED
-/* Whether an error is found only after allocating. */
+/* Whether a call allocates before it finds an error. */
 static int allocates_first(const call *c, hordguli_status error) {
     if (error == HORDGULI_NO_ROOM) return c->make == make_lines_utf8 || c->make == make_text;
     return error == HORDGULI_TABLE_FAULT || error == HORDGULI_UNREAD_FILE;
 }
 #endif
 
-/* Makes a call in which the errors of one or two ways apply. */
+/* Makes a call to which the errors of one or two ways apply, and checks its result. */
 static void is_refused(const call *c, const items *order, uint32_t bits, const way *x, size_t i, const way *y,
                        size_t j) {
     static int is_new = 1;
@@ -1035,14 +1042,14 @@ static void is_refused(const call *c, const items *order, uint32_t bits, const w
     EXPECT(memcmp(&now, &kept, sizeof now) == 0, "changes no session");
 }
 
-/* Notes which error, or which two, applied in a call. */
+/* Records which error or pair of errors applied to a call. */
 static void cover(uint32_t covered[MOST], size_t count, uint32_t bits) {
     for (size_t at = 0; at < count; at++)
         for (size_t to = at; to < count; to++)
             if (bits == (UINT32_C(1) << at | UINT32_C(1) << to)) covered[at] |= UINT32_C(1) << to;
 }
 
-/* Makes a call with each of its errors, and with each pair that can apply at the same time. */
+/* Makes a call with each of its errors, and with each pair of them that can apply at the same time. */
 static void first_listed_error_is_returned(const call *c) {
     items order = items_of(c->order != NULL ? c->order : c->errors), never = items_of(c->never);
     uint32_t covered[MOST] = {0};

@@ -1,4 +1,4 @@
-/* What the tests of the C library share. */
+/* Shared by the tests of the C library. */
 #ifndef HORDGULI_TEST_H
 #define HORDGULI_TEST_H
 
@@ -27,7 +27,7 @@ static inline int finish(const char *name) {
     return failed != 0;
 }
 
-/* A pseudorandom number below a bound. */
+/* Returns a pseudorandom number below a bound. */
 static uint64_t seed = 88172645463325252u;
 static inline size_t below(size_t bound) {
     seed ^= seed << 13;

@@ -1,5 +1,6 @@
-/* Makes the same edits on several threads at the same time, each in a session of its own: threads FOLDER THREADS CHANGES.
- * All must end with the same lines. Half of the sessions are opened, under a lock, on tables that the threads share. */
+/* Makes the same edits on several threads at the same time, each in a session of its own. All sessions must end with the
+ * same lines. Half of them are opened on tables that the threads share, under a lock. Usage: threads FOLDER THREADS
+ * CHANGES. */
 #include "test.h"
 
 #include <pthread.h>
@@ -17,7 +18,7 @@ typedef struct work {
 
 static work works[MOST_THREADS];
 
-/* Opened on one thread and closed on another. */
+/* Tables that are opened on one thread and closed on another. */
 static hordguli_tables shared = HORDGULI_TABLES_INIT;
 static pthread_mutex_t lock = PTHREAD_MUTEX_INITIALIZER;
 
@@ -29,7 +30,7 @@ static hordguli_status open_on_shared(hordguli_session *session) {
     return status;
 }
 
-/* A thread. Every other one uses the shared tables. */
+/* Runs one thread. Every other thread uses the shared tables. */
 static void *run(void *given) {
     work *at = given;
     hordguli_tables tables = HORDGULI_TABLES_INIT;

@@ -1,11 +1,11 @@
-"""Runs programs with failing calls of the C library (faults.c). Shared by the scripts that do so."""
+"""Runs programs in which calls of the C library fail (faults.c). Shared by several scripts."""
 import os, re, shutil, subprocess, sys, tempfile
 
 ROOT = os.path.dirname(os.path.dirname(os.path.dirname(os.path.abspath(__file__))))
 FOLDER = tempfile.TemporaryDirectory()
 PART, NOTHING = -1, 0
-# malloc gets its memory from the system once, which makes thousands of short runs a third faster. Symbols are bound at the start, since
-# late binding uses an amount of stack that depends on the processor.
+# With these settings, malloc gets its memory from the system in one step, which makes thousands of short runs a third faster. Symbols
+# are bound at the start, since the stack that lazy binding uses depends on the processor.
 SAME = {"MALLOC_MMAP_THRESHOLD_": "100000000", "MALLOC_TOP_PAD_": "8000000", "LD_BIND_NOW": "1"}
 TABLES = "DerivedBidiClass BidiBrackets BidiMirroring LineBreak DerivedGeneralCategory EastAsianWidth emoji-data".split()
 
@@ -27,13 +27,13 @@ def compiled():
 
 
 def environment(fault):
-    """The environment of a run with this fault, if any."""
+    """Returns the environment of a run with this fault, which may be empty."""
     given = {f"FAULT_{key.upper()}": str(value) for key, value in fault.items()}
     return {"PATH": os.environ["PATH"], **SAME, **({"LD_PRELOAD": LIBRARY, **given} if given else {})}
 
 
 def run(words, input=b"", stdin=None, cwd=None, program=None, **fault):
-    """Returns output, messages and exit status. `program` replaces the executable that the first word names."""
+    """Runs a program. Returns its output, messages and exit status. `program` replaces the executable that the first word names."""
     source = {"stdin": stdin} if stdin else {"input": input}
     pipes = {"stdout": subprocess.PIPE, "stderr": subprocess.PIPE}
     ran = subprocess.run(words, executable=program, **source, **pipes, cwd=cwd, env=environment(fault), timeout=60)
@@ -41,14 +41,14 @@ def run(words, input=b"", stdin=None, cwd=None, program=None, **fault):
 
 
 def counted(words, input=b"", **given):
-    """Returns the result of a run, and the counts of faults.c by name."""
+    """Runs a program. Returns its result, and the counts of faults.c by name."""
     with tempfile.NamedTemporaryFile(dir=FOLDER.name) as file:
         ending = run(words, input, count=file.name, **given)
         return ending, {name: int(number) for name, number in map(str.split, file.read().decode().splitlines())}
 
 
 def finish(passed, failed, log):
-    """Prints how many passed and failed, plus the counts of a log's last line, and exits."""
+    """Adds the counts in a log's last line, if there is a log, prints how many checks passed and failed, and exits."""
     if log:
         before = re.findall(r"(?m)^(\d+) passed, (\d+) failed$", open(log).read())[-1]
         passed, failed = passed + int(before[0]), failed + int(before[1])

@@ -1,17 +1,18 @@
-/* Makes a chosen call of the C library fail, and counts calls (LD_PRELOAD). Only writes to standard output count.
+/* Makes a chosen call of the C library fail, and counts calls, in a program that preloads it (LD_PRELOAD). Only
+ * writes to standard output count.
  *
  * FAULT_CALL  the call that fails: malloc, read, read-table (of a file named .txt), write or open
  * FAULT_AT    the number of the call, from 1
  * FAULT_AS    the error number; 0: the call transfers no byte; -1: it transfers one byte
- * FAULT_MOST  the most bytes that a read or write transfers, except of files named .txt
- * FAULT_COUNT a file for the counts, one name and number per line:
+ * FAULT_MOST  the maximum number of bytes per read or write, except for files named .txt
+ * FAULT_COUNT the file to write the counts to, one name and number per line:
  *             calls   calls of FAULT_CALL
  *             takes   calls of malloc and realloc
- *             bytes   bytes that these requested
+ *             bytes   the bytes that these calls requested
  *             opens   opened files
  *             reads   reads
  *             ends    reads that transferred no byte
- *             late    reads of a file after one that transferred no byte
+ *             late    reads of a file after a read of it that transferred no byte
  *             writes  writes
  *             start   bytes of the stack that were used before the first read of a file not named .txt
  *             stack   bytes of the stack that were used from then on */
@@ -57,7 +58,7 @@ static const char *word(const char *name, const char *otherwise) {
     return value ? value : otherwise;
 }
 
-/* Fills the stack below, so that later use of it can be measured. */
+/* Fills the unused stack with a pattern, so that its later use can be measured. */
 static __attribute__((noinline)) void mark_stack(void) {
     volatile uint64_t below[WORDS];
     for (size_t k = 0; k < WORDS; k++)

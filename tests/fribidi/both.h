@@ -1,5 +1,5 @@
-/* FriBidi's functions, of libfribidi.so.0 and of our library. Each has a dlopen handle of its own, so that neither replaces the
- * other. Also the 23 types, and pseudorandom numbers. */
+/* FriBidi's functions, loaded from libfribidi.so.0 and from our library. Each library has its own dlopen handle, so neither
+ * replaces the other's functions. Also the 23 types, and pseudorandom numbers. */
 #ifndef TESTS_BOTH_H
 #define TESTS_BOTH_H
 
@@ -34,7 +34,7 @@ static void *found(void *handle, const char *name) {
     return call;
 }
 
-/* The functions of the library at a path. */
+/* Loads the functions of the library at a path. */
 static calls calls_of(const char *path) {
     void *handle = dlopen(path, RTLD_NOW | RTLD_LOCAL);
     calls all;
@@ -65,7 +65,7 @@ static const FriBidiCharType all_types[23] = {
 
 static const FriBidiParType all_bases[5] = {FRIBIDI_PAR_LTR, FRIBIDI_PAR_RTL, FRIBIDI_PAR_ON, FRIBIDI_PAR_WLTR, FRIBIDI_PAR_WRTL};
 
-/* A pseudorandom number (xorshift64*) below a bound. */
+/* Returns a pseudorandom number (xorshift64*) below a bound. */
 static uint64_t state;
 static inline uint32_t below(uint32_t bound) {
     state ^= state >> 12;

@@ -1,5 +1,5 @@
-/* Tests each function through FriBidi's header, also with unusual arguments: calls, linked with the library. With -DREFUSES, and
- * linked with --wrap of malloc, realloc and free, it lets each allocation fail in turn. */
+/* Tests each function through FriBidi's header, also with unusual arguments. Link it with the library. Compiled with -DREFUSES,
+ * and linked with --wrap for malloc, realloc and free, it also makes allocations fail, from each one on in turn. */
 #include <fribidi.h>
 #include <stdint.h>
 #include <stdio.h>
@@ -18,7 +18,7 @@ static void so(int is, const char *what) {
 }
 #define SO(condition) so(condition, #condition)
 
-static long left = -1, alive; /* how many allocations succeed before one fails, or -1; how many are not freed */
+static long left = -1, alive; /* how many allocations succeed before the others fail, or -1 if none fails; how many are not freed */
 #ifdef REFUSES
 void *__real_malloc(size_t);
 void *__real_realloc(void *, size_t);
@@ -118,7 +118,7 @@ static void lines(void) {
 }
 
 #ifdef REFUSES
-/* If an allocation fails, the result is 0 and nothing has changed. Reordering a line allocates nothing. */
+/* If an allocation fails, a function must return 0 and change nothing. Reordering a line must allocate nothing. */
 static void refusals(void) {
     const FriBidiCharType types[] = {R, FRIBIDI_TYPE_RLI, L, ON, R, ON, FRIBIDI_TYPE_LRE, FRIBIDI_TYPE_AN, FRIBIDI_TYPE_PDF, FRIBIDI_TYPE_PDI, FRIBIDI_TYPE_EN, WS};
     const FriBidiBracketType brackets[12] = {0, 0, 0, FRIBIDI_BRACKET_OPEN_MASK | '(', 0, '('};

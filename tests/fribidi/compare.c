@@ -1,7 +1,9 @@
-/* Compares FriBidi's functions with ours, on COUNT random lists of types: compare OURS COUNT [SEED]. A list has 1 to 200 of the 23
- * types, brackets, and one of the five base directions. Half of the lists have no type that X9 removes.
+/* Compares FriBidi's functions with those of the library OURS, on COUNT random lists of types. A list has 1 to 200 of the 23 types,
+ * some brackets, and one of the five base directions. Half of the lists have no type that X9 removes. Usage: compare OURS COUNT
+ * [SEED].
  *
- * Both must agree if no predicate of docs/fribidi-compat.md holds. Of the inputs that meet exactly one, at least half must differ. */
+ * The results must be equal if no predicate of docs/fribidi-compat.md holds for a list. For each predicate, they must differ on at
+ * least half of the lists for which it alone holds. */
 #include "both.h"
 
 #define MOST 200
@@ -11,7 +13,7 @@ typedef struct input {
     FriBidiCharType types[MOST];
     FriBidiBracketType brackets[MOST];
     FriBidiParType base;
-    int off, part; /* a line, with the levels and the direction that are passed */
+    int off, part; /* a line: `levels` and `resolved` are passed for it */
     FriBidiFlags flags;
     FriBidiLevel levels[MOST];
     FriBidiParType resolved;
@@ -76,8 +78,8 @@ static unsigned met(int call, const input *one) {
 
 /* ---- Random lists ---- */
 
-/* The first separator at which an isolate is open, or -1. FriBidi writes to freed memory for such lists, so they are not passed to
- * it. Nor are those that nest too deep, for which it may end the program. */
+/* Returns the index of the first separator inside an open isolate, or -1. FriBidi writes to freed memory for lists with such a
+ * separator, so they are not passed to it. Neither are lists that nest too deeply, for which it may end the program. */
 static int open_at_separator(const input *one) {
     for (int k = 0, open = 0; k < one->length; k++) {
         if (one->types[k] == FRIBIDI_TYPE_BS && open > 0) return k;
@@ -87,7 +89,7 @@ static int open_at_separator(const input *one) {
     return -1;
 }
 
-/* A line's levels are those of our library for both, so that both reorder the same. */
+/* Sets the levels that both libraries get for a line. They are those of our library, so both reorder the same line. */
 static void prepare(input *one) {
     one->resolved = one->base;
     memset(one->levels, 0, sizeof one->levels);
@@ -178,7 +180,7 @@ int main(int argc, char **argv) {
         input one;
         memset(&one, 0, sizeof one);
         draw(&one);
-        if (!separator_inside(&one)) { /* the levels of reference.h are the annex's */
+        if (!separator_inside(&one)) { /* our levels must be the annex's, which reference.h finds */
             int annex[MOST], same = 1;
             plain_levels(&one, 0, annex);
             for (int k = 0; k < one.length; k++) same = same && annex[k] == one.levels[k];

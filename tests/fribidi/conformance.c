@@ -1,6 +1,6 @@
-/* Runs Unicode's BidiTest.txt and BidiCharacterTest.txt: conformance LIBRARY FOLDER. Levels are those of
- * fribidi_get_par_embedding_levels_ex after fribidi_reorder_line. The order is the map that fribidi_reorder_line makes of 0, 1, ..
- * Characters that X9 removes, whose level is an `x`, are skipped. */
+/* Runs Unicode's BidiTest.txt and BidiCharacterTest.txt. The levels are those of fribidi_get_par_embedding_levels_ex, as
+ * fribidi_reorder_line leaves them. The order is what fribidi_reorder_line makes of the map 0, 1, .. Characters that X9 removes
+ * have the level `x` in the files, and are skipped. Usage: conformance LIBRARY FOLDER. */
 #include "both.h"
 
 #define MOST 256
@@ -9,7 +9,7 @@ static calls ours;
 static long cases, wrong;
 
 typedef struct wanted {
-    int count, levels[MOST], shown, order[MOST]; /* a level of -1 is an x */
+    int count, levels[MOST], shown, order[MOST]; /* a level of -1 stands for an x */
 } wanted;
 
 static int numbers(const char *text, int *into, int base) {
@@ -30,7 +30,7 @@ static int numbers(const char *text, int *into, int base) {
     return count;
 }
 
-/* Checks one paragraph in one direction. `level` is the expected paragraph level, or -1 if none is. */
+/* Checks one paragraph in one direction. `level` is the expected paragraph level, or -1 if the file gives none. */
 static void check(const char *name, long line, const FriBidiCharType *types, const FriBidiBracketType *brackets, int count, FriBidiParType base,
                   int level, const wanted *want) {
     FriBidiLevel levels[MOST];

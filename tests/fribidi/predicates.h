@@ -1,5 +1,5 @@
-/* The rows of the table in docs/fribidi-compat.md. Each is a predicate on the input alone: types, brackets, the requested base direction,
- * and the levels and direction that are passed for a line. */
+/* The rows of the table in docs/fribidi-compat.md. Each row is a predicate on the input alone: the types, the brackets, the requested base
+ * direction, and the levels and the direction that are passed for a line. */
 typedef struct predicate {
     const char *name;
     int call;
@@ -14,7 +14,7 @@ static int is_removed(FriBidiCharType type) {
         || type == FRIBIDI_TYPE_PDF;
 }
 
-/* The direction of the first strong type, of all or of those outside all isolates; 0 if there is none. */
+/* Returns the direction of the first strong type, or 0 if there is none. If `outside`, only types outside all isolates count. */
 static unsigned first_direction(const input *one, int outside) {
     int depth = 0;
     for (int k = 0; k < one->length; k++) {
@@ -26,13 +26,14 @@ static unsigned first_direction(const input *one, int outside) {
     return 0;
 }
 
-/* P2 skips isolates. FriBidi's fribidi_get_par_direction does not, and an isolate gives another direction. */
+/* P2 skips isolates. FriBidi's fribidi_get_par_direction does not. Holds if an isolate changes the direction. */
 static int first_strong_in_isolate(const input *one) { return first_direction(one, 0) != first_direction(one, 1); }
 
-/* P3 gives a paragraph without strong characters a level. FriBidi leaves the requested weak direction. */
+/* P3 gives a level even to a paragraph without strong characters. FriBidi returns the requested weak direction. */
 static int no_strong(const input *one) { return one->base != FRIBIDI_PAR_LTR && one->base != FRIBIDI_PAR_RTL && first_direction(one, 1) == 0; }
 
-/* P1: a separator ends a paragraph. Our library treats the list as one paragraph; FriBidi continues at level 0, with nothing open. */
+/* P1: a separator ends a paragraph. If a list goes on after a separator, our library still treats it as one paragraph. FriBidi continues
+ * at level 0, with no open embedding or isolate. */
 static int separator_inside(const input *one) {
     for (int k = 0; k + 1 < one->length; k++)
         if (one->types[k] == FRIBIDI_TYPE_BS) return 1;
@@ -41,9 +42,9 @@ static int separator_inside(const input *one) {
 
 #include "reference.h"
 
-/* Whether one of FriBidi's ways in reference.h, alone or with the others, changes a level, or the greatest level. */
+/* Whether one of FriBidi's deviations in reference.h, alone or with all others, changes a level or, if `greatest`, the greatest level. */
 static int changes(const input *one, int way, int greatest) {
-    input plain = *one; /* for the function without brackets */
+    input plain = *one; /* for the function that takes no brackets */
     memset(plain.brackets, 0, sizeof plain.brackets);
     for (int k = 0; k < 4; k++) {
         int with[MOST], without[MOST], others = k & 1 ? ALL & ~way : 0;
@@ -54,9 +55,9 @@ static int changes(const input *one, int way, int greatest) {
     return 0;
 }
 
-/* Whether an opening bracket in one isolate and a closing bracket of its number in a later isolate of the same depth may pair. Either the
- * characters of this depth between them are not all at one level, or those between the isolates are not all neutral. One of the two
- * brackets is at level `least` or above. */
+/* Whether an opening bracket in one isolate may be paired with a closing bracket of the same number in a later isolate of the same depth.
+ * The characters of this depth between them must not all have the level of the opening bracket, or the characters between the isolates
+ * must not all be neutral. At least one of the two brackets must have level `least` or above. */
 static int pair_over_isolates(const input *one, int least) {
     static plain p;
     int isolate[MOST];
@@ -95,7 +96,8 @@ static int too_deep(const input *one) {
     return 0;
 }
 
-/* N0: the strong type before a pair is sought in its sequence, and else is sos. FriBidi also looks before the sequence. */
+/* N0: the strong type before a pair is looked up in the pair's sequence. If there is none, sos counts. FriBidi also looks before the
+ * sequence. */
 static int context_before_run(const input *one) { return changes(one, CONTEXT, 0); }
 static int context_before_run_top(const input *one) { return changes(one, CONTEXT, 1); }
 
@@ -103,13 +105,13 @@ static int context_before_run_top(const input *one) { return changes(one, CONTEX
 static int bracket_after_mark(const input *one) { return changes(one, MERGED, 0); }
 static int bracket_after_mark_top(const input *one) { return changes(one, MERGED, 1); }
 
-/* X6a: an override changes the type of each PDI. In FriBidi an unmatched PDI keeps its type, and then has the direction of the runs next
+/* X6a: an override changes the type of each PDI. In FriBidi, an unmatched PDI keeps its type, and so gets the direction of the runs next
  * to it. */
 static int pdi_between_runs(const input *one) { return changes(one, BARE, 0); }
 static int pdi_between_runs_top(const input *one) { return changes(one, BARE, 1); }
 
-/* L1: isolate initiators and PDI at a line's end have the paragraph level too. FriBidi's fribidi_reorder_line resets neither these nor
- * what precedes them. */
+/* L1: isolate initiators and PDIs at a line's end get the paragraph level too. FriBidi's fribidi_reorder_line resets neither these nor the
+ * spaces before them. */
 static int isolate_at_end(const input *one) {
     int level = (int)one->resolved & 1, seen = 0;
     for (int k = one->off + one->part - 1; k >= one->off; k--) {
@@ -121,7 +123,7 @@ static int isolate_at_end(const input *one) {
     return 0;
 }
 
-/* L3 is about marks with a base. FriBidi puts marks without one into reading order too. */
+/* L3 concerns marks that follow a base. FriBidi also puts marks without a base into reading order. */
 static int has_base(const input *one, const FriBidiLevel *levels, int k) {
     for (; k > one->off && levels[k] == levels[k - 1] && (levels[k] & 1); k--)
         if (one->types[k - 1] != FRIBIDI_TYPE_NSM) return 1;
@@ -136,7 +138,7 @@ static int marks_without_base(const input *one) {
     return 0;
 }
 
-/* L3: a mark's base directly precedes it. FriBidi skips characters that X9 removes. */
+/* L3: a mark's base directly precedes it. FriBidi skips characters between them that X9 removes. */
 static int mark_after_removed(const input *one) {
     if (!(one->flags & FRIBIDI_FLAG_REORDER_NSM)) return 0;
     for (int k = one->off; k + 1 < one->off + one->part; k++)

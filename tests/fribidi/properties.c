@@ -1,5 +1,5 @@
-/* Prints the type of each code point that is not LTR, its bracket and its mirror: properties LIBRARY. Fails if a function on one
- * character and that on a string differ. */
+/* Prints the properties of each code point: its type, unless that is LTR, its bracket and its mirror. Fails if the function for
+ * one character and the one for a string disagree. Usage: properties LIBRARY. */
 #include "both.h"
 
 int main(int argc, char **argv) {

@@ -1,13 +1,14 @@
-/* The levels of UAX #9, rule by rule, for the predicates. Each bit selects a way in which FriBidi differs:
+/* Finds the levels of UAX #9, rule by rule, for the predicates. Each bit selects a way in which FriBidi deviates:
  *
- * - AS_ONE: all isolates of a depth are one sequence, in logical order. Brackets pair across its runs, by the level of the opening one,
- *   except across runs that are adjacent. A mark at the start of a later isolate is ON, so what follows does not take the type that ended
- *   the isolate before. After an EN that W2 changes, the mark is AN. If an override changes the initiator, the mark stays NSM and counts as L.
+ * - AS_ONE: all isolates of a depth form one sequence, in logical order. Brackets are paired across its runs, except across adjacent runs.
+ *   The level of the opening bracket counts. A mark at the start of a later isolate becomes ON, so the characters after it do not get the
+ *   type that ended the isolate before. After an EN that W2 changes, the mark becomes AN. If an override changes the initiator, the mark
+ *   stays NSM and counts as L.
  * - LATER: an FSI whose isolate has no strong type takes its direction from a later isolate of its depth.
  * - DEEP: an overflow isolate increases the isolate depth. An isolate whose level is at most 125 is valid even after an overflow.
- * - CONTEXT: the strong type before a pair of brackets is sought beyond the level run too.
- * - MERGED: a neutral directly after a neutral's marks is merged with that neutral. It does not count as a bracket, and takes the
- *   direction of a bracket before it.
+ * - CONTEXT: the strong type before a pair of brackets is also looked for before the level run.
+ * - MERGED: a neutral directly after a neutral's marks is merged with that neutral. It does not count as a bracket, and gets the direction
+ *   of a bracket before it.
  * - BARE: an unmatched PDI keeps its type under an override.
  *
  * A list has no separator except at its end. */
@@ -18,7 +19,7 @@ enum { DEEPEST = 125, AS_ONE = 1, DEEP = 2, CONTEXT = 4, MERGED = 8, BARE = 16, 
 
 typedef struct plain {
     int too_deep; /* whether an embedding, override or isolate overflows */
-    int level[MOST], depth[MOST], opened[MOST], match[MOST]; /* per character; `match` is the PDI of an initiator, the initiator of a PDI, or -1 */
+    int level[MOST], depth[MOST], opened[MOST], match[MOST]; /* per character; `match` is the PDI of an initiator or the initiator of a PDI, or -1 */
     FriBidiCharType type[MOST];
 } plain;
 
@@ -34,7 +35,8 @@ static void find_matches(const input *one, plain *p) {
     }
 }
 
-/* The level by the first strong type from a position on, up to the isolate's end, or also in later isolates of its depth. */
+/* Returns the level for the first strong type from a position on, up to the isolate's end, or -1 if there is none. If `joined`, looks in
+ * later isolates of its depth too. */
 static int first_level(const input *one, const plain *p, int from, int joined) {
     int depth = 0, end = from > 0 && p->match[from - 1] >= 0 ? p->match[from - 1] : one->length;
     for (int k = from; k < (joined ? one->length : end); k++) {
@@ -95,8 +97,8 @@ static void find_explicit(const input *one, int base, int ways, plain *p) {
 typedef struct sequence {
     int count, at[MOST], level;
     FriBidiCharType sos, eos, before; /* `before`: the last strong type in the earlier runs, or 0 (N0) */
-    FriBidiCharType was[MOST], marked[MOST], type[MOST]; /* before W1, after it, and now */
-    FriBidiCharType opener[MOST]; /* the type of the initiator right before it, or 0 */
+    FriBidiCharType was[MOST], marked[MOST], type[MOST]; /* the types before W1, after it, and now */
+    FriBidiCharType opener[MOST]; /* for each character, the type of the initiator right before it, or 0 */
 } sequence;
 
 static int is_neutral(FriBidiCharType type) {
@@ -104,7 +106,8 @@ static int is_neutral(FriBidiCharType type) {
 }
 static int is_any(FriBidiCharType type, FriBidiCharType a, FriBidiCharType b, FriBidiCharType c) { return type == a || type == b || type == c; }
 
-/* W1 for a mark that begins an isolate which is joined with the one before it, and for what follows with the type that ended that one. */
+/* Applies W1 to a mark that begins an isolate, if that is joined with the isolate before it. The marks after it get the mark's new type.
+ * Unless that is AN, the characters after these marks get it too, as long as they have the type that ended the isolate before. */
 static void join_mark(sequence *s, int k, int after_arabic) {
     FriBidiCharType *t = s->type, before = t[k - 1];
     FriBidiCharType own = before == FRIBIDI_TYPE_EN && after_arabic ? FRIBIDI_TYPE_AN : s->opener[k] != FRIBIDI_TYPE_ON ? FRIBIDI_TYPE_NSM : FRIBIDI_TYPE_ON;
@@ -149,7 +152,7 @@ static void weak(sequence *s, int ways) {
     }
 }
 
-/* L or R if neutral types treat the type as that, else 0. */
+/* Returns L or R if the neutral rules treat the type as that direction, and 0 otherwise. */
 static FriBidiCharType seen(FriBidiCharType type) {
     if (type == FRIBIDI_TYPE_LTR) return type;
     return is_any(type, FRIBIDI_TYPE_RTL, FRIBIDI_TYPE_EN, FRIBIDI_TYPE_AN) ? FRIBIDI_TYPE_RTL : 0;
@@ -162,7 +165,7 @@ static void set_bracket(const input *one, sequence *s, int k, FriBidiCharType ty
     for (int first = 1; ways & MERGED && marks && k < s->count && s->was[k] == FRIBIDI_TYPE_ON && (first || one->brackets[s->at[k]] == 0); k++) s->type[k] = type, first = 0;
 }
 
-/* N0, across some runs. */
+/* Applies N0 across some runs. */
 static void pair_brackets(const input *one, sequence *runs, int many, int ways) {
     int open[63], opened = 0, count = 0, closer[MOST], place[MOST];
     sequence *of[MOST];
@@ -201,7 +204,7 @@ static void pair_brackets(const input *one, sequence *runs, int many, int ways) 
     }
 }
 
-/* The type next to neutral types. An NSM that remains after W1 has no direction. */
+/* Returns what N1 compares of a type next to neutral types. An NSM that remains after W1 has no direction. */
 static FriBidiCharType side_of(FriBidiCharType type) { return type == FRIBIDI_TYPE_NSM ? type : seen(type); }
 
 static void resolve(sequence *s, int *levels) {
@@ -221,7 +224,7 @@ static void resolve(sequence *s, int *levels) {
 
 static int higher(int a, int b) { return a > b ? a : b; }
 
-/* The nearest neighbour that X9 does not remove, or -1. */
+/* Returns the index of the nearest neighbour that X9 does not remove, or -1. */
 static int beside(const input *one, int k, int step) {
     for (k += step; k >= 0 && k < one->length; k += step)
         if (!is_removed(one->types[k])) return k;
@@ -237,7 +240,7 @@ static void put(sequence *s, const input *one, const plain *p, int k) {
     s->count++;
 }
 
-/* The isolate of each character: the last initiator before it whose isolate has not ended. With AS_ONE, the depth. */
+/* Finds the isolate of each character: the last initiator before it whose isolate has not ended. With AS_ONE, stores the depth instead. */
 static void find_isolates(const input *one, const plain *p, int ways, int *isolate) {
     int open[MOST + 1] = {-1}, count = 0;
     for (int k = 0; k < one->length; k++) {
@@ -291,7 +294,7 @@ static void resolve_runs(const input *one, const plain *p, int base, int ways, i
     for (int r = 0; r < count; r++) resolve(&runs[r], levels);
 }
 
-/* Finds the levels after L1. Returns the greatest level before it. */
+/* Finds the levels after L1. Returns the greatest level before L1. */
 static int plain_levels(const input *one, int ways, int *levels) {
     static plain p;
     int base = one->base == FRIBIDI_PAR_RTL, first, greatest, resets = 1;

@@ -38,7 +38,7 @@ fn measure_on(rt: &HostRuntime, engine: Engine, text: &str, inserts: usize) -> R
     answer
 }
 
-// `start` is when the opening of the session began. It has just ended.
+// `start` is the time at which opening the session began. The session has just been opened.
 fn measure_calls(
     rt: &HostRuntime,
     session: &mut Session<TreeStore<Kept>>,

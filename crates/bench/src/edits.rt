@@ -1,4 +1,4 @@
-//! Edits at pseudorandom positions of a session's text of many paragraphs.
+//! Makes edits at pseudorandom positions in a session with many paragraphs.
 use crate::numbers::Numbers;
 use crate::paragraphs::let_go;
 use anyhow::Result;
@@ -22,14 +22,15 @@ const FILES: UcdFiles<'_> = UcdFiles {
 const PARAGRAPH: &str =
     "the quick brown fox jumps over שלום עולם and (then) runs away before a dog wake\n";
 
-/// The store of a session's paragraphs.
+/// The kind of store that keeps a session's paragraphs.
 #[derive(Clone, Copy)]
 pub enum StoreKind {
     List,
     Tree,
 }
 
-/// Makes edits in a session over a list or a tree, and prints the counts of its contents.
+/// Makes edits in a session that keeps its paragraphs in a list or a tree, and prints the counts of its
+/// contents.
 pub fn run(rt: &HostRuntime, kind: StoreKind, paragraphs: usize, edits: usize) -> Result<()> {
     match kind {
         StoreKind::List => show::<VecStore<Kept>>(rt, paragraphs, edits),
@@ -94,11 +95,11 @@ pub fn open<S: ParagraphStore<Kept> + Drop>(
     }
 }
 
-/// Drops a session. Only this function does, as `let_go` for an engine.
+/// Drops a session. No other function does, just as only `let_go` drops an engine.
 pub fn close<S: ParagraphStore<Kept> + Drop>(_session: Session<S>) {}
 
-/// Inserts and deletes two characters at a time. Paragraphs are split about as often as joined, so that their
-/// number and length stay about the same.
+/// Inserts and deletes two characters at a time. Paragraphs are split about as often as joined, so their
+/// number and their lengths stay about the same.
 pub fn make_edits<S: ParagraphStore<Kept>>(session: &mut Session<S>, edits: usize) {
     let mut numbers = Numbers::new();
     for _ in 0..edits {

@@ -1,4 +1,4 @@
-//! Measures how long the levels and the whole layout of one paragraph take, for several kinds of text.
+//! Times finding the levels of one paragraph and laying it out, for several kinds of text.
 use crate::fill::lay_out;
 use crate::paragraphs::{Kind, Subject, engine, let_go, measure_all};
 use crate::rows::show;
@@ -9,7 +9,7 @@ use lines::Engine;
 const DEEP: &str = "(((((((((((((((((((((((((((((((((((((((((((((((((((((((((((((((\
     )))))))))))))))))))))))))))))))))))))))))))))))))))))))))))))))";
 
-// Plain letters, plain words and real text, and then the most work for some rule.
+// Plain letters, plain words and real text, followed by the worst cases of some rules.
 const KINDS: [Kind; 18] = [
     Kind {
         name: "plain letters",

@@ -1,13 +1,15 @@
 //! Measures what the command itself cannot show, for the scripts of `bench/`. Times are in nanoseconds. UCD
-//! is the folder of the table files; KIND is `list` or `tree`, the store of the paragraphs.
+//! is the folder of the table files. KIND is `list` or `tree`, which says how the paragraphs are stored.
 //!
 //! - `bench edits KIND PARAGRAPHS EDITS` makes edits in a session, and prints the counts of its contents.
-//! - `bench session UCD KIND PARAGRAPHS EDITS` times opening a session, and an edit.
-//! - `bench calls UCD FILE INSERTS` times opening a session on a text, inserts, and reading it line by line.
-//! - `bench width UCD KIND FILE` times width changes of a text, and laying out and filling its paragraphs.
-//! - `bench levels UCD CHARACTERS` times the levels of a paragraph, for texts of many kinds.
-//! - `bench layouts UCD CHARACTERS` times the layouts of the same paragraphs.
-//! - `bench marks UCD CHARACTERS` times the break marks of a paragraph, for texts of several kinds.
+//! - `bench session UCD KIND PARAGRAPHS EDITS` times opening a session and making an edit.
+//! - `bench calls UCD FILE INSERTS` times opening a session on a text, making inserts, and reading it line by
+//!   line.
+//! - `bench width UCD KIND FILE` times changing the width of a text, and laying out and filling its
+//!   paragraphs.
+//! - `bench levels UCD CHARACTERS` times finding the levels of a paragraph, for many kinds of text.
+//! - `bench layouts UCD CHARACTERS` times laying out the same paragraphs.
+//! - `bench marks UCD CHARACTERS` times finding the break marks of a paragraph, for several kinds of text.
 //! - `bench fill UCD CHARACTERS` times laying out a paragraph and filling it again.
 //! - `bench store KIND PARAGRAPHS TIMES` times making a store of paragraphs, a replacement and a search.
 #![tactic(auto)]
@@ -57,9 +59,9 @@ const SUBJECTS: [(&str, Subject); 9] = [
     ("store", Subject::Store),
 ];
 
-// Runs the named measurement. Functions here own little where one of many calls may fail, since all that is
-// dropped there makes the proof longer. Names are found in tables, since a `match` has a path for each of
-// their bytes.
+// Runs the named measurement. Where one of many calls may fail, a function here owns few values, since each
+// value that is dropped there makes the proof longer. Names are looked up in a table, since a `match` on a
+// name has a path for each of its bytes.
 fn run(rt: &HostRuntime, words: &[String]) -> Result<()> {
     let name = word(words, 1);
     for (known, subject) in &SUBJECTS {
@@ -98,7 +100,7 @@ fn run_on_tables(rt: &HostRuntime, subject: Subject, folder: &str, words: &[Stri
     }
 }
 
-// Returns an argument, or an empty string if it is missing. The first one is the program's name.
+// Returns an argument, or an empty string if it is missing. The first argument is the program's name.
 fn word(words: &[String], place: usize) -> &str {
     match words.get(place) {
         Some(word) => word.as_str(),
@@ -125,7 +127,7 @@ fn kind(words: &[String], place: usize) -> Result<StoreKind> {
     bail!("a list or a tree?")
 }
 
-// Returns an argument as a number, or 0 if it is no number or missing.
+// Returns an argument as a number, or 0 if it is missing or not a number.
 fn number(words: &[String], place: usize) -> usize {
     match word(words, place).parse() {
         Ok(number) => number,

@@ -1,8 +1,8 @@
-//! Times the break marks of one paragraph, by its contents.
+//! Times finding the break marks of one paragraph, for several kinds of text.
 use crate::paragraphs::{Kind, Subject, measure_all};
 use anyhow::Result;
 
-// Plain letters and real text, and then the most work for some rule.
+// Plain letters and real text, followed by the worst cases of some rules.
 const KINDS: [Kind; 8] = [
     Kind {
         name: "plain letters",

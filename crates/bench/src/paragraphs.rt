@@ -1,4 +1,4 @@
-//! Times the analysis of one paragraph, by its contents.
+//! Times the analysis of one paragraph, for several kinds of text.
 ghost use Rattle.std.specs.Prelude.{◌<◌, IfOk};
 ghost use Rattle.lines.specs.Engine.{rules_of, SameRules};
 ghost use Rattle.lines.specs.Layouts.{IsLaidOut};
@@ -14,20 +14,20 @@ use std::time::Instant;
 use tables::in_folder;
 use ucd::Tables;
 
-/// The words of a paragraph, in pseudorandom order.
+/// A kind of paragraph, whose words are in pseudorandom order.
 pub struct Kind {
     pub name: &'static str,
     pub words: &'static [&'static str],
 }
 
-/// What is computed of a paragraph.
+/// What is computed for a paragraph.
 #[derive(Clone, Copy)]
 pub enum Subject {
     Levels,
     Marks,
 }
 
-/// How often a paragraph is analysed. The least time counts.
+/// How many times a paragraph is analysed. The least time counts.
 pub const RUNS: usize = 5;
 
 /// Prints a line for each kind of paragraph of this length: its least time in nanoseconds, the highest level
@@ -72,10 +72,10 @@ pub fn engine(rt: &HostRuntime, folder: &str) -> Result<Engine> {
     Ok(Engine::new(in_folder(rt, folder)?, Options::default()))
 }
 
-/// Drops an engine. Only this function does, since a proof takes long if it drops all lists of an engine.
+/// Drops an engine. No other function does, since every proof that drops all lists of an engine is slow.
 pub fn let_go(_engine: Engine) {}
 
-/// Returns a text of this length, of these words.
+/// Returns a text of `characters` characters that consists of `words` in pseudorandom order.
 pub fn text_of(alloc: Global, words: &[&str], characters: usize) -> Result<Vec<char>, AllocError> {
     let mut text = Vec::new(alloc);
     let mut numbers = Numbers::new();
@@ -107,7 +107,7 @@ pub fn lay_out(alloc: Global, engine: &mut Engine, text: Vec<char>, width: u16) 
     }
 }
 
-// Prints the least time in nanoseconds, what was computed and the name.
+// Prints the least time in nanoseconds, the result of the analysis, and the name.
 fn measure(
     rt: &HostRuntime,
     subject: Subject,

@@ -1,4 +1,4 @@
-//! Times, and the lines that are printed.
+//! Measures times, and prints lines of numbers.
 use anyhow::Result;
 use std::io;
 use std::time::Instant;

@@ -14,8 +14,8 @@ use std::fs;
 use std::time::Instant;
 use store::{ParagraphStore, TreeStore, VecStore};
 
-/// Opens a session over a list or a tree, on a text of `paragraphs` paragraphs of 80 characters, and makes
-/// edits at pseudorandom positions. Prints the time of opening and the average time of an edit, in
+/// Opens a session on a text of `paragraphs` paragraphs of 80 characters, kept in a list or a tree, and makes
+/// edits at pseudorandom positions. Prints the time of opening it and the average time of an edit, in
 /// nanoseconds.
 pub fn run(
     rt: &HostRuntime,
@@ -61,7 +61,7 @@ fn measure_on<S: ParagraphStore<Kept> + Drop>(
     answer
 }
 
-// `start` is when the opening of the session began. It has just ended.
+// `start` is the time at which opening the session began. The session has just been opened.
 fn measure_edits<S: ParagraphStore<Kept>>(
     rt: &HostRuntime,
     session: &mut Session<S>,
@@ -75,14 +75,14 @@ fn measure_edits<S: ParagraphStore<Kept>>(
     show_numbers(rt, &[opening, editing])
 }
 
-// The widths that alternate; first, everything is laid out at `WIDE`.
+// The two widths, which alternate. At first, everything is laid out at `WIDE`.
 const NARROW: u16 = 60;
 
 const WIDE: u16 = 80;
 
-/// Prints times in nanoseconds for the text of a file. First, laying out each paragraph, and filling each
-/// again at the narrow width and at the wide one. Then, setting the width of a session over a list or a tree
-/// to the narrow one, and back. All but the first are the least of several runs.
+/// Prints times in nanoseconds for the text of a file. The first times are for laying out each paragraph, and
+/// for filling each again at the narrow width and at the wide one. The others are for setting a session's
+/// width to the narrow one, and back. All times but the first are the least of several runs.
 pub fn set_width(rt: &HostRuntime, folder: &str, kind: StoreKind, file: &str) -> Result<()> {
     let text = fs::read_to_string(rt, file)?;
     set_width_of(rt, folder, kind, text.as_str())
@@ -192,7 +192,7 @@ fn lay_out_and_fill_by(
     Ok((since(rt, start)?, fill(rt, engine, &all)?))
 }
 
-// Times filling each paragraph again.
+// Times filling each paragraph again at both widths.
 fn fill(rt: &HostRuntime, engine: &mut Engine, all: &[Laid]) -> Result<Times>
     requires { All (IsLaidOut (rules_of engine.old)) all.now }
 {

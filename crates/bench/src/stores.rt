@@ -10,7 +10,7 @@ use std::ops::Range;
 use std::time::Instant;
 use store::{Measured, ParagraphStore, TreeStore, VecStore};
 
-// A paragraph of at most one character and line, with some more bytes.
+// A paragraph of at most one character and one line, padded with some more bytes.
 #[derive(Clone, Copy)]
 struct Small {
     has_text: bool,
@@ -107,7 +107,7 @@ fn replace_some<S: ParagraphStore<Small>>(
     Ok(())
 }
 
-// Returns how many nodes the searches visit.
+// Searches for characters at pseudorandom positions. Returns how many nodes these searches visit.
 fn search_some<S: ParagraphStore<Small>>(store: &S, numbers: &mut Numbers, times: usize) -> u64 {
     let mut visits: u64 = 0;
     for _ in 0..times {

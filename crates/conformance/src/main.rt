@@ -2,10 +2,10 @@
 //! points of its characters. UCD is the folder of the table files.
 //!
 //! - `conformance marks-of UCD` prints the break marks of each.
-//! - `conformance lines-of UCD DIRECTION` prints the base level, the levels and the order of each, in one
-//!   line.
-//! - `conformance levels-of UCD DIRECTION` prints the levels of each before L1.
-//! - `conformance starts-of UCD WIDTH` prints where the lines of each start, filled again at a width.
+//! - `conformance lines-of UCD DIRECTION` lays out each as a single line, and prints its base level, its
+//!   levels and its order.
+//! - `conformance levels-of UCD DIRECTION` prints the levels of each, as they are before L1.
+//! - `conformance starts-of UCD WIDTH` fills each again at a width, and prints where its lines start.
 //!
 //! Without arguments it prints its usage. The first two are for Unicode's conformance tests
 //! (`tests/conformance/run`). The others make calls that the command never makes, so that
@@ -52,7 +52,7 @@ fn run(rt: &HostRuntime, words: &[String]) -> Result<()> {
     Ok(())
 }
 
-// Returns an argument, or an empty string if it is missing. The first one is the program's name.
+// Returns an argument, or an empty string if it is missing. The first argument is the program's name.
 fn word(words: &[String], place: usize) -> &str {
     match words.get(place) {
         Some(word) => word.as_str(),
@@ -81,7 +81,7 @@ fn width(digits: &str) -> Result<u16> {
     Ok(u16::from_str_radix(digits, 10)?)
 }
 
-// Options by which each paragraph is one line.
+// Returns options with which each paragraph is laid out as one line.
 fn in_one_line(base: Base) -> Options {
     Options {
         base,
@@ -90,7 +90,7 @@ fn in_one_line(base: Base) -> Options {
     }
 }
 
-// What is printed by the tables alone.
+// What is computed from the tables, without an engine.
 #[derive(Clone, Copy)]
 enum Subject {
     Marks,
@@ -154,7 +154,7 @@ fn sign(mark: Mark) -> char {
     }
 }
 
-// Lays out paragraphs, and prints each as one line, or where its lines start at a width.
+// Lays out paragraphs, and prints each as one line or, if a width is given, prints where its lines start.
 fn tell_by_engine(
     rt: &HostRuntime,
     folder: &str,
@@ -207,8 +207,8 @@ fn character(word: &str) -> Result<char> {
     }
 }
 
-// Prints a paragraph of one line as `1; 1 2; 1 0`: its base level and, of its shown part, the levels after L1
-// and the logical positions in visual order.
+// Prints a paragraph of one line, for example as `1; 1 2; 1 0`. This is its base level and, for its shown
+// part, the levels after L1 and the logical positions in visual order.
 fn write_line<W: Write>(output: &mut W, laid: &Laid) -> Result<()> {
     let Some(line) = laid.line(0) else {
         bail!("there is no line");
@@ -222,7 +222,7 @@ fn write_line<W: Write>(output: &mut W, laid: &Laid) -> Result<()> {
     write_places(output, line.vtol())
 }
 
-// Fills the lines of a paragraph again at a width, exchanges them, and prints where they start.
+// Fills a paragraph again at a width, exchanges its lines for the new ones, and prints where these start.
 fn write_starts<W: Write>(
     alloc: Global,
     engine: &mut Engine,
@@ -269,5 +269,5 @@ fn lay_out(alloc: Global, engine: &mut Engine, text: Vec<char>) -> Result<Laid>
     }
 }
 
-// Drops an engine. Only this function does, since a proof takes long if it drops all lists of an engine.
+// Drops an engine. No other function does, since every proof that drops all lists of an engine is slow.
 fn let_go(_engine: Engine) {}

@@ -30,7 +30,7 @@ pub trait Source {
     ghost state: { Self → Device };
 
     /// Reads bytes into the front of `buffer`, which must not be empty, and returns their number. 0 means
-    /// that the source has ended. If it fails, no byte has passed, and the call counts as failed.
+    /// that the source has ended. If the read fails, no byte has passed, and the call counts as failed.
     fn read(&mut self, buffer: &mut [u8]) -> Result<usize, ErrorKind>
         requires { 0 < length buffer.old }
         ensures bound { IfOk result (λ n. n ≤ length buffer.new) }
@@ -43,8 +43,9 @@ pub trait Sink {
 
     ghost state: { Self → Device };
 
-    /// Writes bytes from the front of `bytes`, which must not be empty, and returns their number. A call that
-    /// writes none counts as failed. If it fails, no byte has passed, and the call counts as failed.
+    /// Writes bytes from the front of `bytes`, which must not be empty, and returns their number. If the
+    /// write fails, no byte has passed, and the call counts as failed. A call that returns 0 counts as failed
+    /// too.
     fn write(&mut self, bytes: &[u8]) -> Result<usize, ErrorKind>
         requires { 0 < length bytes.now }
         ensures bound { IfOk result (λ n. n ≤ length bytes.now) }

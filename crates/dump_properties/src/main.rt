@@ -52,7 +52,7 @@ fn write_properties<W: Write>(tables: &Tables, c: char, output: &mut W) -> Resul
     Ok(())
 }
 
-// FriBidi's name of a class.
+// Returns FriBidi's name of a class.
 fn name_of(class: BidiClass) -> &'static str {
     match class {
         BidiClass::L => "LTR",

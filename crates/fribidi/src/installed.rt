@@ -8,8 +8,8 @@ use tool::ProgramFault;
 
 const FOLDER: &str = "../share/hordguli/ucd";
 
-/// Returns the folder of the installed table files, if there is one. A program whose own path is unknown is
-/// not installed.
+/// Returns the folder of the installed table files, if there is one. A program whose own path is unknown
+/// counts as not installed.
 pub fn installed_folder(rt: &HostRuntime) -> Result<Option<PathBuf>, ProgramFault> {
     match env::current_exe(rt) {
         Ok(program) => folder_beside(rt, program.as_path()),
@@ -34,7 +34,7 @@ fn folder_beside(rt: &HostRuntime, program: Path<'_>) -> Result<Option<PathBuf>,
     }
 }
 
-/// Returns arguments, with `--ucd` and a folder before them.
+/// Returns the arguments, with `--ucd` and the folder before them.
 pub fn with_folder<'a>(
     alloc: Global,
     folder: &'a str,

@@ -34,7 +34,7 @@ fn main(rt: HostRuntime) -> ExitCode {
     ExitCode::from(fault.status())
 }
 
-// Writes help and the version to standard output, all other messages to standard error.
+// Writes help and the version to standard output, and all other messages to standard error.
 fn report(rt: &HostRuntime, fault: &ProgramFault) -> io::Result<()> {
     match fault {
         ProgramFault::Line(LineFault::Words(error)) => error.print(rt),
@@ -50,8 +50,8 @@ fn run(rt: &HostRuntime) -> Result<(), ProgramFault> {
     run_words(rt, &words)
 }
 
-// Executes arguments. This function and those that it calls own one allocated value each, since all that is
-// dropped when one of many calls fails makes the proof longer.
+// Executes the arguments. This function and those that it calls own one allocated value each, since each
+// value that is dropped when one of many calls fails makes the proof longer.
 fn run_words(rt: &HostRuntime, words: &[&str]) -> Result<(), ProgramFault> {
     match settings(rt.alloc(), words) {
         Ok(settings) => run_settings(rt, &settings),
@@ -60,7 +60,7 @@ fn run_words(rt: &HostRuntime, words: &[&str]) -> Result<(), ProgramFault> {
     }
 }
 
-// Without `--ucd`, executes the arguments with the installed folder before them, if there is one.
+// Executes arguments without `--ucd`, with the installed folder of tables if there is one.
 fn run_installed(rt: &HostRuntime, words: &[&str], fault: LineFault) -> Result<(), ProgramFault> {
     match installed_folder(rt)? {
         Some(folder) => run_over(rt, folder.as_str(), words),
@@ -95,7 +95,7 @@ fn words(rt: &HostRuntime) -> io::Result<Vec<String>> {
     Ok(words.collect(rt.alloc())?)
 }
 
-// An argument that is not UTF-8 cannot be read.
+// Returns the fault of arguments that cannot be read, because one of them is not UTF-8 or memory ran out.
 fn word_fault(error: io::Error) -> ProgramFault {
     if error.kind() == ErrorKind::OutOfMemory {
         ProgramFault::Line(LineFault::NoMemory)
@@ -171,7 +171,7 @@ fn write_text<R: Read + Drop>(
     .map_err(ProgramFault::Run)
 }
 
-// Runs an edit script over its text, which is read first.
+// Reads the text of an edit script, and then runs the script on it.
 fn execute(
     rt: &HostRuntime,
     script: &str,

@@ -1,4 +1,4 @@
-//! The calls of a layout and its lines, and exchanging its lines.
+//! The calls of a layout and of its lines, and exchanging its lines.
 ghost use Rattle.std.specs.Prelude.{IfOk, IfErr};
 ghost use Rattle.lines.specs.Engine.{rules_of};
 ghost use Rattle.lines.specs.Layouts.{AreLinesOf, IsLaidOut, Rules};
@@ -74,7 +74,7 @@ pub fn of_laid(laid: &Laid) -> u64 {
     mixed_flag(sum, laid.line(laid.line_count()).is_none())
 }
 
-/// Returns a digest of a line, and of what is printed of it.
+/// Returns a digest of a line, and of what is printed for it.
 pub fn of_line(line: &VisualLine<'_>) -> u64 {
     let mut sum = mixed_flag(line.len() as u64, line.is_first());
     sum = mixed(sum, u64::from(line.base()));
@@ -98,7 +98,7 @@ pub fn of_line(line: &VisualLine<'_>) -> u64 {
     mixed(sum, written(line))
 }
 
-/// Everything that can be printed of a line.
+/// The options that print everything about a line.
 pub const ALL: Print = Print {
     novisual: false,
     basedir: true,

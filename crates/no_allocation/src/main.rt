@@ -1,7 +1,8 @@
-//! Makes every call that never allocates, on tables, engines, stores and sessions made before.
+//! Makes every call that never allocates, on tables, engines, stores and sessions that were made before.
 //!
-//! `no_allocation ROUNDS` makes all of them ROUNDS times, and prints a digest of what they return for each
-//! group of calls. `tests/fault_injection/run` checks that more rounds allocate no more, and print the same.
+//! `no_allocation ROUNDS` makes all these calls ROUNDS times, and prints, for each group of calls, a digest
+//! of the results. `tests/fault_injection/run` checks that more rounds allocate nothing more, and print the
+//! same.
 #![tactic(auto)]
 
 mod layouts;
@@ -22,7 +23,7 @@ fn main(rt: HostRuntime) -> ExitCode {
     }
 }
 
-// The number of rounds.
+// Returns the number of rounds, or 0 if the argument is missing or not a number.
 fn rounds(rt: &HostRuntime) -> u32 {
     let Ok(mut words) = env::args(rt) else {
         return 0;

@@ -1,4 +1,4 @@
-//! The calls of a store that return something of its items, and exchanging parts of them.
+//! The calls of a store that read its items, and exchanging the parts of items.
 ghost use Rattle.std.specs.Prelude.{◌≡◌, ◌-◌, ◌^◌, ◌<◌, sum_by};
 
 use crate::texts::mixed;
@@ -6,7 +6,7 @@ use oom_calls::Wrong;
 use std::alloc::Global;
 use store::{Exchange, Measured, ParagraphStore};
 
-/// An item of three characters and some lines, which are its part.
+/// An item of three characters and some lines. The number of lines is its part.
 #[derive(Drop)]
 pub struct Item {
     lines: usize,
@@ -65,7 +65,7 @@ pub fn digest<S: ParagraphStore<Item> + Drop>(alloc: Global, rounds: u32) -> Res
     Ok(sum)
 }
 
-// Returns the sum of the lines, up to 2^64−1.
+// Returns the sum of the lines, or 2^64−1 if it is greater.
 fn sum(parts: &[usize]) -> usize
     ensures { result < 2 ^ 64 - 1 → result ≡ sum_by (λ lines. lines) parts.now }
 {

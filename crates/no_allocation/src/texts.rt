@@ -1,4 +1,4 @@
-//! Lookups, paragraph boundaries and base levels.
+//! The calls for lookups, paragraph boundaries and base levels.
 use bidi::{Base, base_level, first_cut, is_cut};
 use lines::{Engine, Options};
 use oom_calls::Wrong;
@@ -36,7 +36,7 @@ pub fn mixed_flag(sum: u64, flag: bool) -> u64 {
     mixed(sum, u64::from(flag))
 }
 
-/// Adds a position that may be missing to a digest.
+/// Adds an optional position to a digest.
 pub fn mixed_place(sum: u64, place: Option<usize>) -> u64 {
     match place {
         Some(place) => mixed(sum, (place as u64).wrapping_add(1)),

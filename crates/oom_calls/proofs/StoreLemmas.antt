@@ -1,4 +1,4 @@
--- If each item counts 1, the sum of a list is at most its length.
+-- Lemmas on lists whose items count 1 each: the sum over a list is at most its length.
 use Rattle.std.proofs.Common.{ℕ, ◌+◌, ◌≤◌, List, [], ◌∷◌, ◌++◌, length, take, drop, sum_by, arith, length-append, length-take, length-drop}
 use Rattle.std.specs.List.{splice}
 use Rattle.std.proofs.lemmas.List.Sums.{sum_by-cons}

@@ -1,5 +1,5 @@
-//! Every library call that can fail with out of memory. A failed call must leave everything as it was, or
-//! return what it was given; it is then made again. The program `oom_driver` makes these calls.
+//! Makes every library call that can run out of memory. A failed call must change nothing, or return what it
+//! was given. The call is then made again. The program `oom_driver` makes these calls.
 #![tactic(auto)]
 
 mod page;
@@ -10,5 +10,5 @@ pub mod tables;
 
 pub use page::{Printed, Writer};
 
-/// What is wrong with a result.
+/// A message that says what is wrong with a result.
 pub type Wrong = &'static str;

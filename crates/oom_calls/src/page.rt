@@ -2,7 +2,7 @@
 use std::io;
 use std::io::Write;
 
-// More bytes than any output here has.
+// The capacity of a buffer. No output here is as long.
 const ROOM: usize = 512;
 
 /// The bytes that were written.

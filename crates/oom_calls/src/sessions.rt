@@ -11,7 +11,7 @@ use store::ParagraphStore;
 /// The text on which the sessions are opened.
 pub const TEXT: &str = "ab\ncd\nef";
 
-// An edit; the first line, the old and the new lines of its damage; and by how much it may raise the
+// An edit; the first line, the old lines and the new lines of its damage; and how much it may add to the
 // counters.
 struct Row {
     edit: Edit<'static>,
@@ -89,11 +89,11 @@ pub fn try_calls<S: ParagraphStore<Kept> + Drop>(alloc: Global) -> Result<(), Wr
     answer
 }
 
-// Drops a session. Only this function does, as only `let_go` drops an engine.
+// Drops a session. No other function does, just as only `let_go` drops an engine.
 fn close<S: ParagraphStore<Kept> + Drop>(_session: Session<S>) {}
 
-// Each function here owns at most one session, since all that is dropped where a call may fail makes the
-// proof longer.
+// Each function here owns at most one session, since each value that is dropped where a call may fail makes
+// the proof longer.
 fn try_edits<S: ParagraphStore<Kept> + Drop>(
     alloc: Global,
     untouched: &Session<S>,
@@ -204,7 +204,7 @@ fn is_same_paragraph(left: Option<&Laid>, right: Option<&Laid>) -> bool {
     }
 }
 
-// Compares everything, by `&`, which has fewer paths than `&&`.
+// Whether two layouts are equal. `&` is used since it has fewer paths to prove than `&&`.
 fn is_same_laid(left: &Laid, right: &Laid) -> bool {
     (left.text() == right.text())
         & (left.base() == right.base())
@@ -231,7 +231,7 @@ fn is_same_visual(left: &VisualLine<'_>, right: &VisualLine<'_>) -> bool {
         & (left.columns() == right.columns())
 }
 
-/// Everything that can be printed of a line.
+/// The options that print everything about a line.
 pub const ALL: Print = Print {
     novisual: false,
     basedir: true,

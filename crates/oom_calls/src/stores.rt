@@ -58,7 +58,7 @@ const REPLACEMENTS: [Replacement; 2] = [
 
 const AFTER: [u8; 7] = [1, 2, 11, 12, 6, 7, 8];
 
-/// Fills an empty store with eight items, and replaces three of them by two others.
+/// Fills an empty store with eight items, and replaces three of them with two others.
 pub fn try_replace<S: ParagraphStore<Item>>(store: &mut S, alloc: Global) -> Result<(), Wrong> {
     for replacement in &REPLACEMENTS {
         try_one(store, alloc, replacement)?;

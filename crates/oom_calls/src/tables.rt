@@ -54,5 +54,5 @@ pub fn engine(alloc: Global) -> Result<Engine, Wrong> {
     Ok(Engine::new(read(alloc)?, Options::default()))
 }
 
-/// Drops an engine. Only this function does, since a proof takes long if it drops all lists of an engine.
+/// Drops an engine. No other function does, since every proof that drops all lists of an engine is slow.
 pub fn let_go(_engine: Engine) {}

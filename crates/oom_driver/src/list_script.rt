@@ -1,5 +1,5 @@
-//! Runs an edit script over a text whose paragraphs are in a list, not in a tree as in the command, with the
-//! test tables and at 80 columns.
+//! Runs an edit script on a text whose paragraphs are in a list, not in a tree as in the command. Uses the
+//! test tables and 80 columns.
 use device::{FromRead, ToWrite};
 use lines::{Engine, Options, Print};
 use oom_calls::tables::FILES;
@@ -29,7 +29,7 @@ pub fn files(rt: &HostRuntime) -> Option<(String, String)> {
     Some((text, script))
 }
 
-/// Runs the script in one file over the text in another.
+/// Runs the script in one file on the text in another.
 pub fn run(rt: &HostRuntime, text: &str, script: &str) -> Result<(), ProgramFault> {
     let Ok(text) = fs::read(rt, text) else {
         return Err(UNREAD);

@@ -1,11 +1,11 @@
-//! Drives the libraries under allocation failures, and edit scripts over a list of paragraphs.
+//! Tests the libraries under allocation failures, and runs edit scripts on a list of paragraphs.
 //!
-//! `oom_driver` makes every library call that can fail with out of memory, and prints how each went. A failed
-//! call must leave everything as it was, or return what it was given; it is then made again. So the output is
-//! the same whichever single allocation fails: `tests/fault_injection/run` fails each in turn.
+//! `oom_driver` makes every library call that can run out of memory, and prints how each went. A failed call
+//! must change nothing, or return what it was given. The call is then made again. So the output is the same
+//! whichever single allocation fails. `tests/fault_injection/run` makes each allocation fail in turn.
 //!
-//! `oom_driver TEXT SCRIPT` runs an edit script over a text whose paragraphs are kept in a list.
-//! `tests/cli/run` runs scripts over both stores this way.
+//! `oom_driver TEXT SCRIPT` runs an edit script on a text whose paragraphs are kept in a list.
+//! `tests/cli/run` uses it to test scripts with both stores.
 #![tactic(auto)]
 
 mod list_script;
@@ -18,8 +18,8 @@ use std::io;
 use std::process::ExitCode;
 use store::{ParagraphStore, TreeStore, VecStore};
 
-// If something is wrong, the output differs, but not the status. A failure in anything else, such as printing
-// a line, may end the program with another status.
+// If a result is wrong, the output differs but the exit status does not. Any other failure, such as one in
+// printing a line, may end the program with another status.
 fn main(rt: HostRuntime) -> ExitCode {
     if let Some((text, script)) = list_script::files(&rt) {
         return execute(&rt, &text, &script);
@@ -38,7 +38,7 @@ fn execute(rt: &HostRuntime, text: &str, script: &str) -> ExitCode {
     ExitCode::from(fault.status())
 }
 
-// The calls that are made.
+// The groups of calls that are made.
 #[derive(Clone, Copy)]
 enum Trial {
     Tables,

@@ -1,5 +1,5 @@
-//! The runs of the command. Before an allocation failure, they write the output of whole paragraphs, or of
-//! whole lines of a script.
+//! Runs texts and scripts as the command does. What they write before an allocation failure must be the
+//! output of whole paragraphs or of whole script lines.
 use device::{FromRead, ToWrite};
 use lines::{Engine, Print};
 use oom_calls::sessions::{ALL, open};
@@ -59,7 +59,7 @@ const SCRIPT: &[u8] = b"insert 4 x\\ny\ndelete 2 4\nwidth 1\nshow\n";
 // The output of the script.
 const ANSWERS: &[u8] = b"@ 1 1 2\n@ 0 3 1\n@ 0 2 6\na\nb\ny\nd\ne\nf\n";
 
-// The output before each line of the script that may allocate.
+// The output before each script line that may allocate.
 const UNFINISHED: [&[u8]; 3] = [b"", b"@ 1 1 2\n", b"@ 1 1 2\n@ 0 3 1\n"];
 
 /// Executes the script.

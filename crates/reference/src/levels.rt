@@ -40,7 +40,8 @@ fn levels_of(alloc: Global, level: u8, types: &[BidiClass]) -> Result<Vec<u8>, A
         .collect(alloc)
 }
 
-// The direction of a level. In a list that is a single isolating run sequence, it is also sos and eos.
+// Returns the direction of a level. In a list that is a single isolating run sequence, it is also sos and
+// eos.
 fn direction(level: u8) -> BidiClass {
     if level % 2 == 1 {
         BidiClass::R
@@ -49,7 +50,7 @@ fn direction(level: u8) -> BidiClass {
     }
 }
 
-// I1 and I2: the level of a character, by its type after N2.
+// I1 and I2: returns the level of a character, given its type after N2.
 fn implicit_level(level: u8, class: BidiClass) -> u8 {
     let more = match (level % 2, class) {
         (0, BidiClass::R) => 1,

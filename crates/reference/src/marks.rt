@@ -50,7 +50,7 @@ pub fn reference_marks(
     Ok(())
 }
 
-// The class of each base.
+// Lists the class of each base.
 fn list_classes(
     tables: &Tables,
     first: &Character,

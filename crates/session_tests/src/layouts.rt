@@ -59,7 +59,7 @@ fn lay_out_characters(
     }
 }
 
-// A paragraph, a width, and where its lines start.
+// A paragraph, a width, and where the paragraph's lines start.
 static STARTS: [(&str, u16, &[u32]); 13] = [
     ("abcdefgh", 3, &[0, 3, 6]),
     ("abc   def", 3, &[0, 6]),
@@ -76,7 +76,7 @@ static STARTS: [(&str, u16, &[u32]); 13] = [
     ("ab cd\u{2028}e", 1, &[0, 1, 3, 4, 6]),
 ];
 
-// A paragraph, a width, and where its lines start if they end at mandatory breaks only.
+// A paragraph, a width, and where the paragraph's lines start if they end at mandatory breaks only.
 static STARTS_AT_MANDATORY_BREAKS: [(&str, u16, &[u32]); 5] = [
     ("abcdefgh", 3, &[0]),
     ("ab cd ef", 1, &[0]),
@@ -114,8 +114,8 @@ fn all_start(
     Ok(all_right)
 }
 
-// Whether the lines of each paragraph start at the listed positions, with an engine that has the option
-// `nobreak` or not.
+// Whether the lines of each paragraph start at the listed positions, with an engine with or without the
+// option `nobreak`.
 fn all_start_by(alloc: Global, nobreak: bool, rows: &[(&str, u16, &[u32])]) -> Result<bool, Fail> {
     let mut engine = engine(alloc, nobreak)?;
     let result = all_start(alloc, &mut engine, rows);
@@ -160,8 +160,8 @@ fn longest_paragraph_at_width_one_has_a_line_per_letter(rt: HostRuntime) -> Resu
     Ok(())
 }
 
-// Finds the lines of a paragraph at another width. Not tried again after an allocation failure, so a mutant
-// that fails for no reason is found.
+// Finds the lines of a paragraph at another width. Does not try again after an allocation failure, so that
+// the tests detect a mutant that fails for no reason.
 fn refill(alloc: Global, engine: &mut Engine, laid: &Laid, width: u16) -> Result<Fill, Fail>
     requires laid { IsLaidOut (rules_of engine.old) laid.now }
     requires width { 0 < width }
@@ -170,13 +170,14 @@ fn refill(alloc: Global, engine: &mut Engine, laid: &Laid, width: u16) -> Result
     Ok(engine.refill(alloc, laid, width)?)
 }
 
-// Whether the engine has counted these characters, with as many written as filled.
+// Whether the engine has counted this many analysed and filled characters, and as many written as filled
+// ones.
 fn counts(engine: &Engine, analysed: u64, filled: u64) -> bool {
     engine.analysed() == analysed && engine.filled() == filled && engine.written() == filled
 }
 
-// Whether exchanging a paragraph's lines for those at another width, and exchanging them again, leaves the
-// right lines.
+// Whether a paragraph has the right lines after an exchange for the lines at another width, and again after
+// the exchange is undone.
 fn exchanges(
     alloc: Global,
     engine: &mut Engine,
@@ -237,7 +238,7 @@ fn scratch(alloc: Global, engine: &Engine, len: usize) -> Result<ReflowScratch, 
     }
 }
 
-// Writes a paragraph's lines at another width over the old ones.
+// Overwrites a paragraph's lines with those at another width.
 fn reflow(alloc: Global, engine: &mut Engine, laid: &mut Laid, width: u16) -> Result<(), Fail>
     requires laid { IsLaidOut (rules_of engine.old) laid.old }
     requires width { 0 < width }
@@ -324,8 +325,8 @@ struct Row {
     vtol: &'static [u32],
 }
 
-// U+05D0, `1`, a space, `(` and U+05D1 at a width of 2. The first line ends with a space, which is not shown;
-// the bracket on the second one is mirrored.
+// The lines of U+05D0, `1`, a space, `(` and U+05D1 at a width of 2. The first line ends with a space, which
+// is not shown. The bracket on the second line is mirrored.
 static SHOWN: [Row; 2] = [
     Row {
         len: 3,

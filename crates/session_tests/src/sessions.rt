@@ -1,6 +1,6 @@
 //! Worked examples of sessions, and long lists of edits compared with new sessions, over both stores. The
 //! tests also pass if any one allocation fails: the edit changes nothing then, and is tried again. Only `run`
-//! is not tried again.
+//! does not try again.
 mod hits;
 mod parts;
 mod places;
@@ -33,7 +33,7 @@ fn session<S: ParagraphStore<Kept> + Drop>(
     Ok(without_engine(opened)?)
 }
 
-// Returns the session, or why there is none.
+// Returns the session, or the error from opening it.
 fn without_engine<S: ParagraphStore<Kept> + Drop>(
     opened: Result<Session<S>, (Engine, EditFault)>,
 ) -> Result<Session<S>, EditFault> {
@@ -160,7 +160,7 @@ fn same_lines<S: ParagraphStore<Kept>, T: ParagraphStore<Kept>>(
     all
 }
 
-// Everything that can be printed of a line.
+// The options that print everything about a line.
 const ALL: Print = Print {
     novisual: false,
     basedir: true,
@@ -267,7 +267,7 @@ fn renew<S: ParagraphStore<Kept>>(
     )
 }
 
-// A session over some store; another one, whose whole text is replaced at once; and a buffer for what they
+// A session over some store; another one, whose whole text is replaced at once; and a buffer for what both
 // print.
 #[derive(Drop)]
 struct Pair<S: ParagraphStore<Kept>, T: ParagraphStore<Kept>> {
@@ -344,7 +344,7 @@ impl<S: ParagraphStore<Kept> + Drop, T: ParagraphStore<Kept> + Drop> Pair<S, T> 
     }
 }
 
-// The kinds of checks of a pair.
+// The kinds of checks that a pair runs.
 #[derive(Clone, Copy)]
 enum Check {
     Rows,
@@ -359,7 +359,7 @@ enum Check {
     Random(u64),
 }
 
-// Only this function makes and drops a pair.
+// No other function makes or drops a pair.
 fn check_over<S: ParagraphStore<Kept> + Drop, T: ParagraphStore<Kept> + Drop>(
     rt: &impl Abort,
     alloc: Global,

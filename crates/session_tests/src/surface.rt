@@ -1,5 +1,5 @@
-//! The public calls of `lines` and `session`: one test each, which calls it by its path, names its types, and
-//! checks one example.
+//! Tests the public calls of `lines` and `session`. Each call has one test, which makes the call by its full
+//! path, names the types, and checks one example.
 ghost use Rattle.std.specs.Prelude.{◌<◌, IfSome};
 ghost use Rattle.lines.specs.Engine.{rules_of, SameRules};
 ghost use Rattle.lines.specs.Layouts.{AreLinesOf, IsLaidOut};
@@ -388,7 +388,7 @@ fn write_writes_the_line_in_visual_order_and_a_newline(rt: HostRuntime) {
     );
 }
 
-// Returns the fault of a line that is written to a sink of two bytes.
+// Returns the error from writing a line to a sink of two bytes.
 fn fault_after_two_bytes(line: &lines::VisualLine<'_>) -> Option<lines::WriteFault> {
     let mut room: [u8; 2] = [0; 2];
     let mut sink = device::ToWrite::new(room.as_mut_slice());
@@ -428,8 +428,8 @@ enum Call {
 }
 
 // Whether the example of a call holds in a session on "ab\ncd\nef", of 80 columns. False after an allocation
-// failure. Only the functions below that open a session name its store, since each of them takes long to
-// prove.
+// failure. Only the functions below that open a session name its store, since each function that does is slow
+// to prove.
 fn holds(alloc: Global, call: Call) -> bool {
     match open(alloc, "ab\ncd\nef", 80) {
         Ok(session) => holds_in(session, call),
@@ -440,7 +440,7 @@ fn holds(alloc: Global, call: Call) -> bool {
     }
 }
 
-// Opens a session, or returns its engine and why it is refused.
+// Opens a session. If it is refused, returns the engine and the reason.
 fn open(
     alloc: Global,
     text: &str,
@@ -512,7 +512,7 @@ fn opens(alloc: Global, text: &str) -> bool {
     }
 }
 
-// Returns why no session is opened.
+// Returns the error from opening a session, or `None` if it opens.
 fn fault_of(alloc: Global, text: &str, width: u16) -> Option<session::EditFault> {
     match open(alloc, text, width) {
         Ok(_) => None,

@@ -6,7 +6,7 @@ use std::io::ErrorKind;
 use thiserror::Error;
 use ucd::{FILE_NAMES, TableFault, Tables, UcdFiles};
 
-/// Why there are no tables.
+/// Why the tables cannot be read.
 #[derive(Clone, Copy, Debug, PartialEq, Eq, Error)]
 pub enum FolderFault {
     /// The file of this name cannot be read.

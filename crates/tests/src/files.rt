@@ -13,7 +13,7 @@ pub const FILES: UcdFiles<'_> = UcdFiles {
     emoji_data: test_tables::EMOJI_DATA,
 };
 
-/// Reads the tables, and again after an allocation failure.
+/// Reads the tables, and tries again after an allocation failure.
 pub fn read(alloc: Global, files: &UcdFiles<'_>) -> Result<Tables, TableFault> {
     let tables = Tables::read(alloc, files);
     if is_refused(&tables) {

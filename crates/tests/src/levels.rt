@@ -1,4 +1,5 @@
-//! Levels of short lists equal those of the reference implementation; worked examples.
+//! Tests that the levels of short lists equal those of the reference implementation, and worked examples of
+//! levels.
 ghost use Rattle.std.specs.Prelude.{◌≡◌, map, IfOk};
 ghost use Rattle.ucd.specs.Properties.{properties_of};
 
@@ -18,7 +19,7 @@ const CHARACTERS: [char; 12] = [
 
 const BASES: [Base; 4] = [Base::Rtl, Base::Ltr, Base::WeakRtl, Base::WeakLtr];
 
-// Replaces `text` by the list of `len` characters with this number.
+// Replaces `text` with list number `number` among the lists of `len` characters.
 fn put_list(text: &mut Vec<char>, len: usize, number: usize) -> Result<(), AllocError> {
     text.clear();
     let mut left = number;
@@ -40,7 +41,7 @@ pub fn properties_of(
     text.iter().map(|c| tables.properties(*c)).collect(alloc)
 }
 
-// Replaces `levels` by the levels of a list, and returns whether the base level is that of `base_level`.
+// Replaces `levels` with the levels of a list, and returns whether the base level is that of `base_level`.
 fn put_levels(
     alloc: Global,
     resolver: &mut Resolver,
@@ -80,7 +81,7 @@ fn brackets_of(
     text.iter().map(|c| bracket_type(tables, *c)).collect(alloc)
 }
 
-// Replaces `levels` by the levels for classes and bracket types, and returns whether the base level is that
+// Replaces `levels` with the levels for classes and bracket types, and returns whether the base level is that
 // of `base_level_of`.
 fn put_levels_of(
     resolver: &mut Resolver,
@@ -96,7 +97,7 @@ fn put_levels_of(
     Ok(level == base_level_of(classes, base))
 }
 
-// Replaces `levels` by the levels for the classes and bracket types of a text, and returns whether the base
+// Replaces `levels` with the levels for the classes and bracket types of a text, and returns whether the base
 // level is that of `base_level_of`.
 fn put_levels_by(
     alloc: Global,
@@ -111,7 +112,7 @@ fn put_levels_by(
     put_levels_of(resolver, &classes, &brackets, base, levels)
 }
 
-// Whether these are the levels from an index on.
+// Whether the levels from an index on are the wanted ones.
 fn are_from(levels: &[u8], place: usize, wanted: &[u8]) -> bool {
     match levels.get(place..) {
         Some(after) => after == wanted,
@@ -119,7 +120,7 @@ fn are_from(levels: &[u8], place: usize, wanted: &[u8]) -> bool {
     }
 }
 
-// Whether a resolver finds these levels of a list, from an index on, by its characters.
+// Whether a resolver finds these levels of a list, from an index on, given the list's characters.
 fn is_found_of_text(
     alloc: Global,
     resolver: &mut Resolver,
@@ -134,7 +135,8 @@ fn is_found_of_text(
     Ok(is_base && are_from(&levels, place, wanted))
 }
 
-// Whether a resolver finds these levels of a list, from an index on, by its classes and bracket types.
+// Whether a resolver finds these levels of a list, from an index on, given the list's classes and bracket
+// types.
 fn is_found_by(
     alloc: Global,
     resolver: &mut Resolver,
@@ -149,8 +151,8 @@ fn is_found_by(
     Ok(is_base && are_from(&levels, place, wanted))
 }
 
-// Whether a resolver finds these levels of a list, from an index on, both by its characters and by its
-// classes and bracket types.
+// Whether a resolver finds these levels of a list, from an index on, both given the list's characters and
+// given its classes and bracket types.
 fn is_found(
     alloc: Global,
     resolver: &mut Resolver,
@@ -165,8 +167,9 @@ fn is_found(
     Ok(by_text & by_lists)
 }
 
-// The list after a PDF that matches nothing. X9 removes the PDF, so the levels after it are those of the list
-// alone. But the full rules find them, not the fast path for a paragraph that is a single sequence.
+// Returns the list with an unmatched PDF before it. X9 removes the PDF, so the levels after it are those of
+// the list alone. But the full rules find these levels, not the fast path for a paragraph that is a single
+// sequence.
 fn after_pdf(alloc: Global, text: &[char]) -> Result<Vec<char>, AllocError> {
     let mut longer = Vec::new(alloc);
     longer.push('\u{202C}')?;
@@ -262,7 +265,7 @@ struct Row {
     levels: &'static str,
 }
 
-// Paragraphs that are not a single sequence, and some that are, alternately long and short.
+// Paragraphs, some of which are a single sequence. Long and short ones alternate.
 static ROWS: [Row; 6] = [
     Row {
         text: "a\u{202B}b\u{202C}c",
@@ -311,7 +314,7 @@ fn finds(
     Ok(is_base && are_digits(&levels, digits.as_bytes()))
 }
 
-// Whether a resolver finds these levels of a text by its classes and bracket types.
+// Whether a resolver finds these levels of a text, given its classes and bracket types.
 fn finds_by(
     alloc: Global,
     resolver: &mut Resolver,
@@ -324,7 +327,7 @@ fn finds_by(
     Ok(is_base && are_digits(&levels, digits.as_bytes()))
 }
 
-// Whether these levels of a text are found without a reused resolver.
+// Whether a text has these levels if no resolver is reused.
 fn resolves_to(
     alloc: Global,
     tables: &Tables,
@@ -381,7 +384,7 @@ fn a_resolver_serves_again(rt: HostRuntime) -> Result<(), Fail> {
     Ok(())
 }
 
-// A paragraph with its separator, whose level no line shows.
+// A paragraph with its separator. No line shows the separator's level.
 static SEPARATED: [(&[char], Base, &str); 3] = [
     (&['\u{5D0}', '\n'], Base::WeakLtr, "11"),
     (&['\u{202E}', 'a', '\n'], Base::WeakLtr, "010"),
@@ -410,7 +413,7 @@ fn separators_have_the_base_level(rt: HostRuntime) -> Result<(), Fail> {
     Ok(())
 }
 
-// A paragraph by its classes and bracket types, and the levels of its characters, each as a digit.
+// A paragraph, given by its classes and bracket types, and the levels of its characters, each as a digit.
 struct ListRow {
     classes: &'static [BidiClass],
     brackets: &'static [BracketType],
@@ -426,9 +429,10 @@ const INNER: &[BidiClass] = &[
     BidiClass::ON,
 ];
 
-// The third character opens a pair that the last one closes, by the caller's numbers or by code points. Then
-// two brackets with different numbers, and a closing bracket before an opening one. Then a pair around an
-// isolate that has a closing bracket, brackets that are not ON, and lists without brackets.
+// In the first two rows, the third character opens a pair that the last one closes. The brackets have the
+// caller's numbers or code points. The next two rows have brackets with different numbers, and a closing
+// bracket before an opening one. The others have a pair around an isolate with a closing bracket, brackets
+// that are not ON, and lists without brackets.
 static LIST_ROWS: [ListRow; 8] = [
     ListRow {
         classes: INNER,
@@ -524,7 +528,7 @@ static LIST_ROWS: [ListRow; 8] = [
     },
 ];
 
-// Whether the levels of an example are found without a reused resolver.
+// Whether the levels of an example are right if no resolver is reused.
 fn are_of_row(alloc: Global, row: &ListRow) -> Result<bool, AllocError> {
     if row.classes.len() != row.brackets.len() {
         return Ok(false);

@@ -1,5 +1,5 @@
-//! Break marks of worked examples, and of lists of characters compared with the reference implementation. The
-//! tests also pass if any one allocation fails.
+//! Tests the break marks of worked examples, and compares those of lists of characters with the reference
+//! implementation. The tests also pass if any one allocation fails.
 ghost use Rattle.std.specs.Prelude.{◌≡◌, map, OnOk};
 ghost use Rattle.ucd.specs.Properties.{properties_of};
 
@@ -24,7 +24,7 @@ fn marks_of(
     }
 }
 
-// Whether these are the marks, in the signs of the annex.
+// Whether the marks are those that the annex's signs state.
 fn are_signs(marks: &[Mark], signs: &str) -> bool {
     let mut all_right = marks.len() == signs.chars().count();
     for (mark, sign) in marks.iter().zip(signs.chars()) {
@@ -106,7 +106,7 @@ static SIGNS: [(&str, &str, &str); 3] = [
     ("\u{20AC} 30", "×÷×!", "×÷×!"),
 ];
 
-// The marks of U+00A9 and a modifier, if the first is unassigned and if it is not.
+// The marks of U+00A9 and a modifier, if U+00A9 is unassigned and if it is not.
 static PICTOGRAPHS: [(&[u8], &str); 2] = [(b"", "×!"), (b"00A9;So", "÷!")];
 
 // Checks the marks of a text without whole numbers, and with them.
@@ -246,8 +246,8 @@ fn read_all(
     Ok(())
 }
 
-// Whether the marks of the text are those of the reference implementation, without whole numbers and with
-// them.
+// Whether the marks of the text are those of the reference implementation, both without whole numbers and
+// with them.
 fn agrees(tables: &Tables, kept: &mut Kept) -> Result<bool, AllocError> {
     read_all(tables, &kept.text, &mut kept.properties)?;
     Ok(agrees_where(tables, false, kept)? && agrees_where(tables, true, kept)?)
@@ -274,8 +274,8 @@ fn agrees_where(tables: &Tables, whole_numbers: bool, kept: &mut Kept) -> Result
     Ok(kept.marks.as_slice() == kept.expected.as_slice())
 }
 
-// Two characters of each line breaking class, with U+0100 the first of BK. For some classes the second one is
-// wide, a mark or an unassigned pictograph.
+// Two characters of each line breaking class, from U+0100 on, which is BK. Some characters are wide, marks or
+// unassigned pictographs.
 const CLASS_FILES: UcdFiles<'_> = UcdFiles {
     line_break: b"0100..0101;BK\n0102..0103;CM\n0104..0105;CR\n0106..0107;GL\n0108..0109;LF\n\
         010A..010B;NL\n010C..010D;SP\n010E..010F;WJ\n0110..0111;ZW\n0112..0113;ZWJ\n\

@@ -1,4 +1,4 @@
-//! Both stores compared with each other. The tests also pass if any one allocation fails: a failed `replace`
+//! Compares both stores with each other. The tests also pass if any one allocation fails: a failed `replace`
 //! changes nothing, and is tried again.
 ghost use Rattle.std.specs.Prelude.{◌≡◌, ◌+◌, ◌-◌, ◌^◌, ◌<◌, sum_by};
 
@@ -86,7 +86,7 @@ impl Exchanger<Item> for Adder {
 // The limit of all sums in the tests.
 const LIMIT: usize = 1 << 40;
 
-// The sums of characters and of lines, up to 2^64−1.
+// Returns the sums of characters and of lines. A sum above 2^64−1 becomes 2^64−1.
 fn sums(items: &[Item]) -> (usize, usize)
     ensures chars { result.0 < 2 ^ 64 - 1 → result.0 ≡ sum_by (λ item. item.chars) items.now }
     ensures lines { result.1 < 2 ^ 64 - 1 → result.1 ≡ sum_by (λ item. item.lines) items.now }
@@ -115,7 +115,7 @@ fn replace<S: ParagraphStore<Item>>(
     store.replace(range, new_items)
 }
 
-// Returns the sum of the lines of the parts, with `more` added to each, up to 2^64−1.
+// Returns the sum of the lines of the parts, with `more` added to each. A sum above 2^64−1 becomes 2^64−1.
 fn sum(parts: &[usize], more: usize) -> usize
     ensures { result < 2 ^ 64 - 1 → result ≡ sum_by (λ lines. lines + more) parts.now }
 {
@@ -182,7 +182,7 @@ fn small_items(alloc: Global, count: usize) -> Result<Vec<Item>, AllocError> {
     Ok(items)
 }
 
-// Whether two searches find the same, apart from the visits.
+// Whether two searches find the same, apart from the number of visits.
 fn is_same(found: Found, other: Found) -> bool {
     Found { visits: 0, ..found } == Found { visits: 0, ..other }
 }
@@ -250,8 +250,8 @@ fn size_of<S: ParagraphStore<Item>>(store: &S) -> [usize; 3] {
     [store.count(), store.total_chars(), store.total_lines()]
 }
 
-// Replaces items, and tries again after an allocation failure. The new items were then returned in order, and
-// the store has as many items, characters and lines as before.
+// Replaces items, and tries again after an allocation failure. In that case, the new items must have been
+// returned in order, and the store must have as many items, characters and lines as before.
 fn replace_again<S: ParagraphStore<Item>>(
     rt: &impl Abort,
     store: &mut S,
@@ -272,7 +272,7 @@ fn replace_again<S: ParagraphStore<Item>>(
     }
 }
 
-// Replaces the items of a range by `count` others, and returns them.
+// Replaces the items of a range with `count` others, and returns the old items.
 fn replaced<S: ParagraphStore<Item>>(
     rt: &impl Abort,
     alloc: Global,
@@ -283,7 +283,7 @@ fn replaced<S: ParagraphStore<Item>>(
     replace_again(rt, store, range, first, items(alloc, first, count)?)
 }
 
-// Whether the items returned by both stores are equal, and as many as the range has.
+// Whether both stores have returned equal items, and as many as the range has.
 fn are_replaced(old: &[Item], other: &[Item], (start, end): (usize, usize)) -> bool {
     old == other && Some(old.len()) == end.checked_sub(start)
 }
@@ -312,7 +312,7 @@ fn replace_both<S: ParagraphStore<Item>, T: ParagraphStore<Item>>(
     check_both(rt, alloc, both)
 }
 
-// Asserts that both stores have and find the same.
+// Asserts that both stores have the same items and find the same.
 fn check_both<S: ParagraphStore<Item>, T: ParagraphStore<Item>>(
     rt: &impl Abort,
     alloc: Global,
@@ -427,7 +427,7 @@ fn two_items_take_the_place_of_three(rt: HostRuntime) -> Result<(), Fail> {
     Ok(check_stores(&rt, rt.alloc(), Check::ThreeByTwo)?)
 }
 
-// Whether each item has the lines of its part and seven more, and its part has the old lines.
+// Whether each item has as many lines as its part had, plus seven, and its part has as many as the item had.
 fn are_exchanged<S: ParagraphStore<Item>>(store: &S, parts: &[usize]) -> bool {
     let mut all_right = parts.len() == store.count();
     for (index, lines) in parts.iter().enumerate() {
@@ -449,7 +449,7 @@ fn numbers(alloc: Global) -> Result<Vec<usize>, AllocError> {
     Ok(numbers)
 }
 
-// Whether the returned parts are those of the first exchange, with seven more.
+// Whether the returned parts are those of the first exchange, each plus seven.
 fn are_back(parts: &[usize]) -> bool {
     let mut all_right = true;
     for (index, lines) in parts.iter().enumerate() {
@@ -486,7 +486,8 @@ fn parts_are_exchanged_in_the_order_of_the_items(rt: HostRuntime) -> Result<(), 
     Ok(check_stores(&rt, rt.alloc(), Check::Exchanges)?)
 }
 
-// Returns the greatest number of visits of a search, for every `step`-th character and the last one.
+// Returns the greatest number of items that a search visits, over searches for every `step`-th character and
+// for the last one.
 fn most_visits<S: ParagraphStore<Item>>(store: &S, step: usize) -> usize {
     let mut most = 0;
     let total = store.total_chars();
@@ -510,7 +511,7 @@ fn fill<S: ParagraphStore<Item>>(
     Ok(())
 }
 
-// Asserts that the tree visits few of a thousand items, and the list up to all of them.
+// Asserts that a search visits few of a thousand items in the tree, and up to all of them in the list.
 fn check_thousand<S: ParagraphStore<Item>, T: ParagraphStore<Item>>(
     rt: &impl Abort,
     alloc: Global,
@@ -539,7 +540,7 @@ fn check_million<S: ParagraphStore<Item>>(
     Ok(())
 }
 
-// Also drops a tree of a million items, which recurses no deeper than the height of the tree.
+// Also drops a tree of a million items. The drop recurses no deeper than the height of the tree.
 #[test]
 fn tree_visits_at_most_39_of_a_million_items(rt: HostRuntime) -> Result<(), Fail> {
     Ok(check_stores(&rt, rt.alloc(), Check::Million)?)
@@ -572,7 +573,7 @@ fn check_by<S: ParagraphStore<Item>, T: ParagraphStore<Item>>(
     }
 }
 
-// Only this function makes and drops stores.
+// No other function makes or drops stores.
 fn check_stores(rt: &impl Abort, alloc: Global, what: Check) -> Result<(), AllocError> {
     let mut both = Both {
         tree: TreeStore::new(alloc),

@@ -1,4 +1,4 @@
-//! The public calls of `stream`, among them the example in its first lines.
+//! Tests the public calls of `stream`, including the example in its first lines.
 use device::{FromRead, write_all};
 use std::test::Fail;
 use stream::{CHUNK, Page, front, push_characters, read_to, zeroed};

@@ -1,5 +1,5 @@
-//! The public calls of `device`, `ucd`, `bidi`, `breaks` and `store`: one test each, which calls it by its
-//! path, names its types, and checks one example.
+//! Tests the public calls of `device`, `ucd`, `bidi`, `breaks` and `store`. Each call has one test, which
+//! makes the call by its full path, names the types, and checks one example.
 ghost use Rattle.std.specs.Prelude.{◌<◌, ◌^◌};
 
 use crate::files::{FILES, read};
@@ -460,7 +460,7 @@ enum Call {
 }
 
 // Whether the example of a call holds in both stores. False after an allocation failure. Only this function
-// names both stores, since each that does takes long to prove.
+// names both stores, since each function that does is slow to prove.
 fn holds(alloc: Global, call: Call) -> bool {
     holds_in::<store::VecStore<Item>>(alloc, call) & holds_in::<store::TreeStore<Item>>(alloc, call)
 }

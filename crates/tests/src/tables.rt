@@ -1,4 +1,5 @@
-//! Lookups and faults of the seven files. The tests also pass if any one allocation fails.
+//! Tests lookups in the seven files, and the faults of malformed ones. The tests also pass if any one
+//! allocation fails.
 use crate::files::{FILES, read};
 use std::alloc::{AllocError, Global};
 use std::process::Abort;
@@ -15,8 +16,8 @@ const EMPTY: UcdFiles<'_> = UcdFiles {
     emoji_data: b"",
 };
 
-// A character and its classes. Its pair, and whether it opens it, if it is a bracket. Its mirror. Whether it
-// is wide, a mark and a future pictograph. Its number for line breaking.
+// A character and its two classes. If it is a bracket, the other bracket of its pair, and whether it is the
+// opening one. Its mirror. Whether it is wide, a mark, and a future pictograph. Its number for line breaking.
 type Row = (
     char,
     Bidi,
@@ -50,7 +51,7 @@ static ROWS: [Row; 16] = [
         NONE,
         128,
     ),
-    // A mirror that is no bracket's, and a bracket without a mirror.
+    // A character with a mirror that is not a bracket, and a bracket without a mirror.
     ('<', Bidi::ON, Line::XX, None, Some('>'), NONE, 336),
     (
         '\u{2329}',
@@ -92,7 +93,7 @@ static ROWS: [Row; 16] = [
     ),
     // A character that a line of emoji-data.txt names, but for another property.
     ('\u{1F1E6}', Bidi::L, Line::RI, None, None, NONE, 312),
-    // A range over many pages, and the characters beside it.
+    // A range over many pages, and the characters next to it.
     ('\u{4DFF}', Bidi::L, Line::XX, None, None, NONE, 336),
     ('\u{4E00}', Bidi::L, Line::ID, None, None, WIDE, 284),
     ('\u{9FFF}', Bidi::L, Line::ID, None, None, WIDE, 284),
@@ -102,7 +103,8 @@ static ROWS: [Row; 16] = [
     ('\u{10FFFF}', Bidi::L, Line::XX, None, None, NONE, 336),
 ];
 
-// Looks up everything about a character, one call each, and the number of its properties.
+// Looks up each property of a character by a call of its own, and the number of its properties for line
+// breaking.
 fn looked_up(tables: &Tables, c: char) -> Row {
     let pair = match tables.bracket(c) {
         Some(bracket) => Some((bracket.pair, bracket.opens)),
@@ -160,7 +162,7 @@ fn names_give_their_classes_and_other_names_none(rt: HostRuntime) {
     assert!(rt; Line::from_name(b"NSM") == None);
 }
 
-// Files of which only one has lines.
+// Returns files of which only one has lines.
 fn only(file: usize, lines: &[u8]) -> UcdFiles<'_> {
     let mut files = EMPTY;
     match file {
@@ -175,7 +177,7 @@ fn only(file: usize, lines: &[u8]) -> UcdFiles<'_> {
     files
 }
 
-// The first of 200 characters that are named by a line each: 100 in one page and 100 in the next.
+// The first of 200 characters that have a line each. 100 of them are in one page, and 100 in the next.
 const FIRST: u32 = 0x3F9C;
 
 const NAMES: [(&str, Bidi); 3] = [("R", Bidi::R), ("AL", Bidi::AL), ("EN", Bidi::EN)];
@@ -262,7 +264,8 @@ fn lines_reach_both_ends_and_across_the_surrogates(rt: HostRuntime) -> Result<()
     Ok(())
 }
 
-// A range that ends after the surrogates, a surrogate, and a last line with U+000D and without U+000A.
+// A range that ends after the surrogates, a surrogate, and a last line that ends with U+000D and has no
+// U+000A.
 const FILES_OF_CLASSES: UcdFiles<'_> = UcdFiles {
     bidi_class: b"D800..E000;R\nD800;L\n0041;AL\r",
     ..FILES
@@ -300,7 +303,7 @@ static FAULTS: [(usize, &[u8], usize, Cause); 14] = [
     (3, b"0028; 0029\n0028; 0029", 2, Cause::NamedBefore),
 ];
 
-// Returns why files are refused, if they are.
+// Returns the fault of files, or `None` if they are accepted.
 fn fault_of(alloc: Global, files: &UcdFiles<'_>) -> Option<TableFault> {
     read(alloc, files).err()
 }

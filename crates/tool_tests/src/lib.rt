@@ -1,4 +1,4 @@
-//! Tests of `tool`: each of its public calls, by its path and with its types.
+//! Tests of the public calls of `tool`, by their paths and with their types.
 #![tactic(auto)]
 
 #[cfg(test)]

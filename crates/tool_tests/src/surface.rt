@@ -1,5 +1,5 @@
-//! The public calls of `tool`: one test each, which calls it by its path, names its types, and checks one
-//! example.
+//! Tests the public calls of `tool`. Each call has one test, which makes the call by its full path, names the
+//! types, and checks one example.
 use device::{FromRead, ToWrite};
 use oom_calls::sessions::open;
 use oom_calls::tables::{engine, let_go};
@@ -34,7 +34,7 @@ fn prints_text(alloc: Global, engine: lines::Engine, page: &mut Printed) -> bool
     result == Ok(())
 }
 
-// Runs a script over the text "ab\ncd\nef".
+// Runs a script on the text "ab\ncd\nef".
 fn run_script(
     alloc: Global,
     session: session::Session<store::TreeStore<session::Kept>>,
@@ -231,7 +231,7 @@ fn program_fault_of_a_table_names_file_line_and_cause(rt: HostRuntime) {
     );
 }
 
-// Whether the program ends with status 1 and this message after a run's fault.
+// Whether the program ends with status 1 and this message after a run fails with this fault.
 fn run_ends(alloc: Global, fault: tool::RunFault, message: &str) -> bool {
     ends(alloc, tool::ProgramFault::Run(fault), 1, message)
 }

@@ -1,4 +1,4 @@
-/* Draws one subtitle with libass, and prints checksums of its images: subtitle TEXT. */
+/* Draws one subtitle with libass, and prints checksums of its images. Usage: subtitle TEXT. */
 #include <ass/ass.h>
 #include <stdio.h>
 #include <string.h>

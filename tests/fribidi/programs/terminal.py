@@ -1,5 +1,5 @@
 #!/usr/bin/env python3
-"""Shows a text in a VTE terminal, and saves a picture of it: terminal.py TEXT PICTURE, in Xvfb."""
+"""Shows a text in a VTE terminal, and saves a picture of it. Usage, in Xvfb: terminal.py TEXT PICTURE."""
 import sys
 import gi
 gi.require_version("Gtk", "3.0")

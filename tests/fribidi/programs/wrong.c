@@ -1,4 +1,5 @@
-/* Wrong levels, all 0. They show that a program really uses the preloaded function. */
+/* Sets all levels to 0, which is wrong. Preloading it shows whether a program really uses the preloaded
+ * function. */
 int fribidi_get_par_embedding_levels_ex(const unsigned *, const unsigned *, int, unsigned *, signed char *);
 int fribidi_get_par_embedding_levels_ex(const unsigned *types, const unsigned *brackets, int length, unsigned *base, signed char *levels) {
     (void)types, (void)brackets;

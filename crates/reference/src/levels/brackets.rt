@@ -2,7 +2,7 @@
 use std::alloc::{AllocError, Global};
 use ucd::{BidiClass, Bracket, Tables};
 
-// The greatest number of open brackets on the stack (BD16).
+// The maximum number of opening brackets on the stack (BD16).
 const MAX_OPENERS: usize = 63;
 
 // An opening bracket on the stack, and the closing bracket of its pair.
@@ -37,7 +37,7 @@ pub fn resolve_brackets(
     Ok(())
 }
 
-// BD16: at the first opening bracket at which the stack has 63, pairing stops.
+// BD16: returns the pairs. Pairing stops at the first opening bracket that finds 63 brackets on the stack.
 fn pairs_of(
     alloc: Global,
     tables: &Tables,
@@ -60,7 +60,7 @@ fn pairs_of(
     Ok(pairs)
 }
 
-// The character as a bracket. Only characters of type ON are brackets.
+// Returns the character as a bracket, if it is one. Only characters of type ON count as brackets.
 fn bracket_at(tables: &Tables, c: char, class: BidiClass) -> Option<Bracket> {
     match class {
         BidiClass::ON => tables.bracket(c),
@@ -68,8 +68,8 @@ fn bracket_at(tables: &Tables, c: char, class: BidiClass) -> Option<Bracket> {
     }
 }
 
-// Pairs a closing bracket with the newest opening bracket that it matches, if there is one. Removes that one
-// and the newer ones.
+// Pairs a closing bracket with the newest opening bracket that it matches, if there is one. Removes that
+// opening bracket and the newer ones from the stack.
 fn close(
     openers: &mut Vec<Opener>,
     pairs: &mut Vec<Pair>,
@@ -86,7 +86,8 @@ fn close(
     Ok(())
 }
 
-// The newest opening bracket that a closing one matches: how many are below it on the stack, and its index.
+// Returns the newest opening bracket that a closing one matches: how many brackets are below it on the stack,
+// and its index in the text.
 fn newest(openers: &[Opener], c: char) -> Option<(usize, usize)> {
     let mut newest = None;
     for (held, opener) in openers.iter().enumerate() {
@@ -129,8 +130,9 @@ fn set_pair(
     }
 }
 
-// The direction of a pair. If a strong type of the embedding direction is inside, it is that direction. Else,
-// if one of the other direction is inside, it is that of the nearest strong type before the pair.
+// Returns the direction of a pair. If the pair contains a strong type of the embedding direction, that is its
+// direction. Otherwise, if it contains a strong type of the other direction, its direction is that of the
+// nearest strong type before the pair.
 fn pair_direction(
     types: &[BidiClass],
     opener: usize,
@@ -155,7 +157,7 @@ fn stands_between(types: &[BidiClass], opener: usize, closer: usize, wanted: Bid
     false
 }
 
-// The direction of the nearest strong type before an index, or `other` if there is none.
+// Returns the direction of the nearest strong type before an index, or `other` if there is none.
 fn direction_before(types: &[BidiClass], place: usize, other: BidiClass) -> BidiClass {
     let mut before = other;
     for class in types.iter().take(place) {
@@ -164,7 +166,7 @@ fn direction_before(types: &[BidiClass], place: usize, other: BidiClass) -> Bidi
     before
 }
 
-// The direction of a strong type. Numbers count as R.
+// Returns the direction of a strong type. Numbers count as R.
 fn strong_direction(class: BidiClass) -> Option<BidiClass> {
     match class {
         BidiClass::L => Some(BidiClass::L),

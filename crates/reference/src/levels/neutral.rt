@@ -2,11 +2,11 @@
 use crate::levels::weak::type_or;
 use ucd::BidiClass;
 
-/// N1 and N2: neutrals get the direction of both their sides, or else the embedding direction, which is also
-/// sos and eos.
+/// Applies N1 and N2: neutrals get the direction of both their sides if it is the same, and otherwise the
+/// embedding direction. This direction is also sos and eos.
 pub fn resolve_neutral(types: &mut [BidiClass], side: BidiClass) {
     let mut before = side;
-    // The nearest index after this one whose type is not neutral. It stays until it is passed.
+    // The index after the current run of neutrals. It is found once per run.
     let mut end = 0;
     for at in 0..types.len() {
         let class = types[at];
@@ -35,7 +35,7 @@ fn is_neutral(class: BidiClass) -> bool {
     )
 }
 
-// The least index from `from` on whose type is not neutral, or the length.
+// Returns the least index from `from` on whose type is not neutral, or the length.
 fn after_neutrals(types: &[BidiClass], from: usize) -> usize {
     for at in from..types.len() {
         if !is_neutral(types[at]) {
@@ -45,7 +45,7 @@ fn after_neutrals(types: &[BidiClass], from: usize) -> usize {
     types.len()
 }
 
-// The direction of neutrals between two types that are not neutral.
+// Returns the direction of neutrals between two types that are not neutral.
 fn between(side: BidiClass, before: BidiClass, after: BidiClass) -> BidiClass {
     match (before, after) {
         (BidiClass::L, BidiClass::L) => BidiClass::L,

@@ -36,7 +36,7 @@ fn mark_after(before: BidiClass) -> BidiClass {
     }
 }
 
-// The nearest type that is not NSM, after a character of this type.
+// Returns the last type so far that is not NSM: `class`, or `before` if `class` is NSM.
 fn unmarked_after(class: BidiClass, before: BidiClass) -> BidiClass {
     match class {
         BidiClass::NSM => before,
@@ -61,7 +61,7 @@ fn w2_type(class: BidiClass, strong: BidiClass) -> BidiClass {
     }
 }
 
-// The nearest strong type, after a character of this type.
+// Returns the last strong type so far: `class`, or `strong` if `class` is not strong.
 fn strong_after(class: BidiClass, strong: BidiClass) -> BidiClass {
     match class {
         BidiClass::L | BidiClass::R | BidiClass::AL => class,
@@ -83,7 +83,7 @@ fn w3_type(class: BidiClass) -> BidiClass {
     }
 }
 
-// W4: a single separator between two numbers becomes such a number.
+// W4: a single separator between two numbers of the same type becomes a number of that type.
 fn w4(types: &mut [BidiClass]) {
     let mut before = BidiClass::ON;
     for at in 0..types.len() {
@@ -110,7 +110,7 @@ pub fn type_or(types: &[BidiClass], at: usize, other: BidiClass) -> BidiClass {
 // W5: a run of European terminators next to a European number becomes European numbers.
 fn w5(types: &mut [BidiClass]) {
     let mut before = BidiClass::ON;
-    // The nearest index after this one that has no terminator. It stays until it is passed.
+    // The index after the current run of terminators. It is found once per run.
     let mut end = 0;
     for at in 0..types.len() {
         let class = types[at];
@@ -129,7 +129,7 @@ fn is_terminator(class: BidiClass) -> bool {
     matches!(class, BidiClass::ET)
 }
 
-// The least index from `from` on that has no terminator, or the length.
+// Returns the least index from `from` on that has no terminator, or the length.
 fn after_terminators(types: &[BidiClass], from: usize) -> usize {
     for at in from..types.len() {
         if !is_terminator(types[at]) {
@@ -139,7 +139,7 @@ fn after_terminators(types: &[BidiClass], from: usize) -> usize {
     types.len()
 }
 
-// The type of a terminator between two types.
+// Returns the type of a terminator between two other types.
 fn w5_type(before: BidiClass, after: BidiClass) -> BidiClass {
     match (before, after) {
         (BidiClass::EN, _) | (_, BidiClass::EN) => BidiClass::EN,

@@ -1,5 +1,5 @@
-//! The part of the bases before a position that the rules need, updated in one pass over the characters. So
-//! no position looks back, however long the run of spaces or RI before it.
+//! What the rules need to know about the bases before a position, updated in one pass over the characters. So
+//! the rules never look back, however long the run of spaces or RI before a position is.
 
 use crate::marks::character::Character;
 use crate::marks::classes::{BK, CM, CR, LF, NL, SP, ZW, ZWJ, has};
@@ -7,7 +7,7 @@ use crate::marks::rules::{Numbers, mark_between};
 use breaks::Mark;
 use ucd::LineClass;
 
-/// The part of the bases before a position that the rules need.
+/// What the rules need to know about the bases before a position.
 #[derive(Clone, Copy, Debug)]
 pub struct Before {
     /// The class of the last base.
@@ -48,7 +48,7 @@ impl Before {
         has(CM | ZWJ, next.class) && !has(BK | CR | LF | NL | SP | ZW, self.end)
     }
 
-    // The state after a base that begins with this character, from the state before it.
+    // Returns the state after the first character of a base, given what is kept of the state before it.
     fn begun(
         first: &Character,
         second: Option<LineClass>,

@@ -29,7 +29,7 @@ impl Character {
     }
 }
 
-// LB1: the class by which the rules replace AI, SG, XX, SA and CJ; other classes stay.
+// LB1: returns the class with which the rules replace AI, SG, XX, SA and CJ. Other classes stay.
 fn resolved(class: LineClass, is_mark: bool) -> LineClass {
     match class {
         LineClass::AI | LineClass::SG | LineClass::XX => LineClass::AL,

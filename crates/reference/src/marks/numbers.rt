@@ -1,10 +1,9 @@
-//! Whole numbers (UAX #14, LB25 in its second form), tried on every list of bases.
+//! Whole numbers (UAX #14, LB25 in its second form). Each base is tried as the start of a number.
 
 use crate::marks::classes::{CL, CP, HY, IS, NU, OP, PO, PR, SY, has};
 use ucd::LineClass;
 
-// The part of `(PR | PO)? (OP | HY)? NU (NU | SY | IS)* (CL | CP)? (PR | PO)?` that a list of classes has
-// reached.
+// How far a list of classes matches `(PR | PO)? (OP | HY)? NU (NU | SY | IS)* (CL | CP)? (PR | PO)?`.
 #[derive(Clone, Copy)]
 enum Place {
     Start,
@@ -15,7 +14,7 @@ enum Place {
     End,
 }
 
-/// Whether some bases directly before an index and some from it on form a number.
+/// Whether some bases directly before an index and some bases from it on form a number together.
 pub fn is_in_number(classes: &[LineClass], place: usize) -> bool {
     for start in 0..place {
         if begins_number(classes, start, place) {
@@ -25,7 +24,7 @@ pub fn is_in_number(classes: &[LineClass], place: usize) -> bool {
     false
 }
 
-// Whether a number that begins at a base continues past another base.
+// Whether a number that begins with the base at `start` contains the base at `place`.
 fn begins_number(classes: &[LineClass], start: usize, place: usize) -> bool {
     let mut at = Place::Start;
     for i in start..classes.len() {

@@ -74,7 +74,7 @@ impl Right {
     }
 }
 
-// The mark of the first rule whose conditions hold.
+// Returns the mark of the first rule whose conditions hold.
 fn first_mark(rules: &[Rule], before: &Before, after: &Character) -> Option<Mark> {
     for Rule(left, right, mark) in rules {
         if left.holds(before) && right.holds(after) {
@@ -93,8 +93,8 @@ pub enum Numbers {
     Outside,
 }
 
-/// Returns the mark of the position between the bases before it and the one that begins with `after`: that of
-/// the first rule that applies, and LB31 if none does.
+/// Returns the mark of the position between the bases `before` and the base that begins with `after`. It is
+/// that of the first rule that applies, or of LB31 if none does.
 pub fn mark_between(before: &Before, after: &Character, numbers: Numbers) -> Mark {
     if let Some(mark) = first_mark(&RULES_BEFORE_NUMBERS, before, after) {
         return mark;

@@ -1,4 +1,4 @@
-//! Marks after their bases with the option `reordernsm`, and before them without it.
+//! Tests that marks are after their bases with the option `reordernsm`, and before them without it.
 use super::lay_out;
 use super::printed::{ALL, PLAIN, UNMIRRORED, are_printed};
 use crate::files::{FILES, engine};
@@ -34,7 +34,8 @@ type Row = (
     &'static [u32],
 );
 
-// With the option. The last two have a mark at another level, and one after a space at the end of the line.
+// Texts with the option. The last two have a mark at another level than its base, and a mark after a space at
+// the end of the line.
 static READ_ROWS: [Row; 7] = [
     (
         "\u{5D0}\u{300}\u{5D1}",
@@ -80,7 +81,7 @@ static READ_ROWS: [Row; 7] = [
     ),
 ];
 
-// The same texts without it, if they differ.
+// The same texts without the option, if their order differs.
 static REVERSED_ROWS: [Row; 5] = [
     (
         "\u{5D0}\u{300}\u{5D1}",
@@ -161,7 +162,7 @@ fn order_each(alloc: Global, engine: &mut Engine, rows: &[Row]) -> Result<bool, 
     Ok(all_right)
 }
 
-// Whether an engine with these files and options orders each text so.
+// Whether an engine with these files and options orders each text as its row says.
 fn all_ordered(
     alloc: Global,
     files: &UcdFiles<'_>,

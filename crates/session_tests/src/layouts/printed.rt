@@ -1,4 +1,5 @@
-//! A paragraph is printed with the same bytes line by line, by its layout, and with nothing kept.
+//! Tests that a paragraph is printed as the same bytes line by line, by its layout, and directly, without
+//! keeping a layout.
 use super::{engine, lay_out};
 use device::ToWrite;
 use lines::{Engine, Laid, PARAGRAPH_LIMIT, Print, PrintFault, WriteFault};
@@ -45,8 +46,8 @@ const DIRECTION: Print = Print {
     ..NOTHING
 };
 
-// A paragraph, a width, what is printed, and the bytes. Shorter paragraphs follow longer ones, whose lists
-// are reused.
+// A paragraph, a width, what is printed, and the bytes. Shorter paragraphs follow longer ones, and reuse
+// their lists.
 static ROWS: [(&str, u16, Print, &str); 10] = [
     ("abcdefgh ij kl", 3, PLAIN, "abc\ndef\ngh\nij\nkl\n"),
     (
@@ -121,7 +122,7 @@ fn is_written(laid: &Laid, width: u16, print: &Print, bytes: &[u8]) -> bool {
         && holds(&at_once, bytes)
 }
 
-// Whether a paragraph is written into a buffer of this size, up to its end.
+// Whether a paragraph is written into a buffer of `room` bytes, at most up to the end of the buffer.
 fn fills(
     alloc: Global,
     engine: &mut Engine,
@@ -144,7 +145,7 @@ fn fills(
     result == wanted && holds(&taken, &bytes[..room.min(bytes.len())])
 }
 
-// The same for a buffer that is larger than the output, as large, and half as large.
+// Whether `fills` holds for a buffer that is larger than the output, as large, and half as large.
 fn fills_each(
     alloc: Global,
     engine: &mut Engine,

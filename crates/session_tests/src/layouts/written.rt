@@ -1,4 +1,4 @@
-//! The bytes of a line, completely written and up to each failure of the writer.
+//! Tests the bytes of a line, written completely and up to each failure of the writer.
 use super::printed::{ALL, LEVELS, PLAIN, UNMIRRORED};
 use super::{engine, lay_out};
 use device::ToWrite;

@@ -1,4 +1,4 @@
-//! The characters at columns, carets, the columns of lines, and grapheme clusters.
+//! Tests of the characters at columns, of carets, of the columns of lines, and of grapheme clusters.
 use super::{Check, Pair, check_in_tree, renew};
 use session::{Caret, Cluster, EditFault, Hit, Kept, Session};
 use std::alloc::AllocError;
@@ -129,7 +129,7 @@ fn has_columns<S: ParagraphStore<Kept>>(
 // A text and a position; the start and the end of the cluster there.
 type ClusterRow<'a> = (&'a str, usize, Option<(usize, usize)>);
 
-// A woman, a joiner and a man are one cluster, and so are a letter with its mark, and CR with LF.
+// A woman, a joiner and a man form one cluster. So do a letter and its mark, and CR and LF.
 static CLUSTERS: [ClusterRow<'_>; 8] = [
     ("a\u{1f469}\u{200d}\u{1f468}b", 0, Some((0, 1))),
     ("a\u{1f469}\u{200d}\u{1f468}b", 1, Some((1, 4))),

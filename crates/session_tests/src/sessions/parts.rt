@@ -1,4 +1,4 @@
-//! Some lines printed, the characters of a range, and a range replaced.
+//! Tests of printing some lines, reading the characters of a range, and replacing a range.
 use super::{Check, Pair, Taker, check_in_tree, renew};
 use device::ToWrite;
 use lines::Print;
@@ -9,7 +9,7 @@ use store::ParagraphStore;
 
 const TEXT: &str = "abc def\n\u{5d0}\u{5d1}\nx";
 
-// Visual lines, with the base direction after the first of each paragraph.
+// The options that print visual lines, and the base direction after the first line of each paragraph.
 const SHOWN: Print = Print {
     novisual: false,
     basedir: true,
@@ -20,7 +20,7 @@ const SHOWN: Print = Print {
     nomirror: false,
 };
 
-// The first line and the number of lines; what is printed of them, if they exist.
+// The first line and the number of lines; what is printed for them, if they exist.
 type Lines<'a> = (usize, usize, Option<&'a str>);
 
 pub(super) static LINES: [Lines<'_>; 8] = [
@@ -87,8 +87,8 @@ fn is_part<S: ParagraphStore<Kept>>(session: &Session<S>, row: &Part<'_>) -> boo
     session.text(pos, count) == wanted
 }
 
-// In `ab`, `cd` and `ef` on their own lines: a position, a count and the new text. Then the first line, the
-// old and the new lines of the damage, or why the edit is refused. Then the text after it.
+// A replacement in the lines `ab`, `cd` and `ef`: a position, a count and the new text. Then the first line,
+// the old lines and the new lines of the damage, or why the edit is refused. Then the text after the edit.
 type Replaced<'a> = (
     usize,
     usize,

@@ -1,4 +1,4 @@
-//! Where lines start, and on which line each character is.
+//! Tests of where lines start, and of the line that each character is on.
 use super::{Check, Pair, check_in_tree, renew};
 use session::{EditFault, Kept, Place, Session};
 use std::process::Abort;
@@ -26,7 +26,7 @@ fn is_place(place: Option<Place>, [paragraph, line, offset]: [usize; 3]) -> bool
         })
 }
 
-// Whether these are the places of the positions, and the only ones.
+// Whether the positions have these places, and no other position has one.
 fn stand_at<S: ParagraphStore<Kept>>(session: &Session<S>, places: &[[usize; 3]]) -> bool {
     let mut all = session.place(places.len()).is_none();
     for pos in 0..places.len() {

@@ -1,5 +1,5 @@
-//! Edits at random positions, over both stores. Each result is compared with a session whose whole text is
-//! replaced at once, and some with one that is opened on the text.
+//! Makes edits at random positions, over both stores. Each result is compared with a session whose whole text
+//! is replaced at once, and some results with a session that is opened on the text.
 use super::{Check, Pair, check_in_tree, check_over, make_within, same_lines, same_paragraphs};
 use session::{Damage, Edit, EditFault, Kept, Session};
 use std::alloc::{AllocError, Global};
@@ -44,7 +44,7 @@ fn random_edit<'a>(numbers: &mut Numbers, len: usize, piece: &'a str) -> Edit<'a
     }
 }
 
-// Returns the position, the number of deleted characters and the inserted text.
+// Returns the position, the number of deleted characters and the inserted text of an edit.
 fn parts(edit: Edit<'_>) -> (usize, usize, &str) {
     match edit {
         Edit::Insert(pos, piece) => (pos, 0, piece),
@@ -81,8 +81,8 @@ fn push_part(new: &mut String, text: &str, start: usize, count: usize) -> Result
     Ok(())
 }
 
-// Returns the damage of an edit that touches the paragraphs whose closed spans meet the closed range from
-// `pos` to `end`. The new counts are 0. Also returns the length of these paragraphs.
+// Returns the damage of an edit of the range from `pos` to `end`, with new counts of 0, and the length of the
+// paragraphs that it touches. It touches the paragraphs whose spans overlap or adjoin the range.
 fn touched<T: ParagraphStore<Kept>>(old: &Session<T>, pos: usize, end: usize) -> (Damage, usize) {
     let (mut first_line, mut old_lines, mut first_par, mut old_pars) = (0, 0, 0, 0);
     let (mut start, mut chars) = (0usize, 0usize);
@@ -120,7 +120,7 @@ fn touched_by<T: ParagraphStore<Kept>>(old: &Session<T>, edit: Edit<'_>) -> (Dam
     }
 }
 
-// Returns by how much the counters may rise.
+// Returns by how much an edit may raise the counters.
 fn bounds<T: ParagraphStore<Kept>>(old: &Session<T>, edit: Edit<'_>) -> [u64; 2] {
     let (_, count, piece) = parts(edit);
     let (_, chars) = touched_by(old, edit);
@@ -133,7 +133,7 @@ fn bounds<T: ParagraphStore<Kept>>(old: &Session<T>, edit: Edit<'_>) -> [u64; 2]
     }
 }
 
-// Returns the damage between two sessions.
+// Returns the damage of an edit, given the sessions before and after it.
 fn damage_of<S: ParagraphStore<Kept>, T: ParagraphStore<Kept>>(
     old: &Session<T>,
     new: &Session<S>,
@@ -175,7 +175,7 @@ fn stays<S: ParagraphStore<Kept>, T: ParagraphStore<Kept>>(
         && same_paragraphs(old, new, after_pars, rest_pars)
 }
 
-// Whether the result of an edit is right, given a session of the text before it.
+// Whether the result of an edit is right, given a session on the text before the edit.
 fn is_right<S: ParagraphStore<Kept>, T: ParagraphStore<Kept>>(
     edited: &Session<S>,
     old: &Session<T>,
@@ -193,7 +193,7 @@ fn is_right<S: ParagraphStore<Kept>, T: ParagraphStore<Kept>>(
     }
 }
 
-// Executes an edit in a session of this text, and updates the text.
+// Executes an edit in a session on `text`, checks the result, and updates `text`.
 fn check_edit<S: ParagraphStore<Kept> + Drop, T: ParagraphStore<Kept> + Drop>(
     rt: &impl Abort,
     alloc: Global,
@@ -218,7 +218,7 @@ fn check_edit<S: ParagraphStore<Kept> + Drop, T: ParagraphStore<Kept> + Drop>(
     Ok(pair.check_same(rt, text.as_str())?)
 }
 
-// Replaces the text by the text after the edit.
+// Replaces the text with the text after the edit.
 fn advance(alloc: Global, text: &mut String, edit: Edit<'_>) -> Result<(), AllocError> {
     *text = match text_after(alloc, text.as_str(), edit) {
         Ok(new) => new,
@@ -227,7 +227,7 @@ fn advance(alloc: Global, text: &mut String, edit: Edit<'_>) -> Result<(), Alloc
     Ok(())
 }
 
-// Executes the next edit in a session of this text.
+// Executes the next random edit in a session on `text`.
 fn check_next<S: ParagraphStore<Kept> + Drop, T: ParagraphStore<Kept> + Drop>(
     rt: &impl Abort,
     alloc: Global,

@@ -1,4 +1,4 @@
-//! Edits and sessions that are refused.
+//! Tests of edits and sessions that are refused.
 use super::{Check, Pair, check_in_tree, make, make_each, renew, session, without_engine};
 use crate::files::{FILES, engine};
 use lines::{Engine, Options, PrintFault, WriteFault};
@@ -56,7 +56,7 @@ fn str_of(bytes: &[u8]) -> &str {
     std::str::from_utf8(bytes).unwrap_or("")
 }
 
-// Returns why no session is opened on a text.
+// Returns the error from opening a session on a text, or `None` if it opens.
 fn fault_of(alloc: Global, text: &str, width: u16) -> Result<Option<EditFault>, Fail> {
     let engine = engine(alloc, &FILES, Options::default())?;
     let opened: Result<Session<VecStore<Kept>>, (Engine, EditFault)> = Session::open(
@@ -65,7 +65,7 @@ fn fault_of(alloc: Global, text: &str, width: u16) -> Result<Option<EditFault>, 
     Ok(without_engine(opened).err())
 }
 
-// A text of this number of letters, on which no session is opened.
+// Checks the error from opening a session on a text of `count` letters.
 fn check_open(
     rt: &impl Abort,
     alloc: Global,
@@ -92,7 +92,8 @@ fn open_refuses_a_width_of_zero_and_text_that_is_too_long(rt: HostRuntime) -> Re
     check_open(&rt, alloc, 1_048_577, 80, EditFault::ParagraphTooLong)
 }
 
-// Whether a paragraph of maximum length before a separator accepts no more characters.
+// Whether an insert that makes a paragraph too long is refused, and a paragraph of the maximum length accepts
+// no more characters.
 fn is_full<S: ParagraphStore<Kept>>(
     edited: &mut Session<S>,
     long: &str,
@@ -106,7 +107,7 @@ fn is_full<S: ParagraphStore<Kept>>(
     Ok(is_refused & is_untouched & is_long & refuses(edited, &more))
 }
 
-// The same for a session of two short paragraphs, unless an allocation fails.
+// Whether `is_full` holds in a session of two short paragraphs, or an allocation fails.
 fn becomes_full<S: ParagraphStore<Kept>>(
     alloc: Global,
     edited: &mut Session<S>,

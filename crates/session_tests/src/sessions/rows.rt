@@ -6,10 +6,10 @@ use std::process::Abort;
 use std::test::Fail;
 use store::ParagraphStore;
 
-// A text, its width, an edit, the damage, by how much the counters may rise, and the text after it.
+// A text, its width, an edit, the damage, by how much the counters may rise, and the text after the edit.
 type Row<'a> = (&'a str, u16, Edit<'a>, [usize; 6], [u64; 2], &'a str);
 
-// Whether the edit has the right result, and the session has the text after it.
+// Whether the edit has the right result, and leaves the right text.
 fn is_row<S: ParagraphStore<Kept> + Drop, T: ParagraphStore<Kept> + Drop>(
     rt: &impl Abort,
     pair: &mut Pair<S, T>,
@@ -165,7 +165,8 @@ pub(super) static ROWS: [Row<'_>; 20] = [
         [0, 11],
         "abc def ghi",
     ),
-    // A line that just fits is kept; one column less, and back.
+    // The first of these rows keeps a line that just fits. The others set the width to one column less, and
+    // set it back.
     (
         "ab cd \nef",
         80,
@@ -209,10 +210,10 @@ fn each_edit_returns_its_damage_and_changes_the_text(rt: HostRuntime) -> Result<
     check_in_tree(&rt, rt.alloc(), Check::Rows)
 }
 
-// An edit, the lines of its damage, and what is printed then.
+// An edit, the lines of its damage, and what is printed after it.
 type Step<'a> = (Edit<'a>, Result<[usize; 3], EditFault>, &'a str);
 
-// Visual lines, with their levels or without.
+// The options that print visual lines, with their levels (`LEVELS`) or without (`SHOWN`).
 const LEVELS: Print = Print {
     novisual: false,
     basedir: false,
@@ -228,7 +229,7 @@ const SHOWN: Print = Print {
     ..LEVELS
 };
 
-// Whether the edit has the right result, and these bytes are printed then.
+// Whether the edit has the right result, and these bytes are printed after it.
 fn is_step<S: ParagraphStore<Kept>>(
     rt: &impl Abort,
     edited: &mut Session<S>,
@@ -249,7 +250,7 @@ fn is_step<S: ParagraphStore<Kept>>(
     (lines == answer) & (print(edited, room, form) == Some(page.as_bytes()))
 }
 
-// Executes the edits in a session of a text.
+// Executes the edits in a session on a text, and checks each step.
 fn check_steps<S: ParagraphStore<Kept> + Drop, T: ParagraphStore<Kept> + Drop>(
     rt: &impl Abort,
     pair: &mut Pair<S, T>,
@@ -334,7 +335,8 @@ pub(super) static EDITS: [Edit<'_>; 6] = [
     Edit::Insert(3, "\ne"),
 ];
 
-// Not tried again after an allocation failure, so a mutant that fails for no reason is found.
+// Calls `run`. Does not try again after an allocation failure, so that the tests detect a mutant that fails
+// for no reason.
 fn run<S: ParagraphStore<Kept>>(
     edited: &mut Session<S>,
     edits: &[Edit<'_>],
