@@ -12,27 +12,11 @@ ghost use Rattle.tool.specs.Reading.{Stops};
 use crate::answers::{Answer, out_of_range, told, write_bytes};
 use device::Sink;
 use lines::{Print, VisualLine};
+use script_commands::Query;
 use session::{Hit, Kept, RangeFault, Session};
 use std::alloc::AllocError;
 use store::ParagraphStore;
 use text_run::RunFault;
-
-/// A query about the current text. Positions are in characters. Positions, lines and columns start at 0.
-#[derive(Clone, Copy, Debug, PartialEq, Eq)]
-pub enum Query {
-    /// A number of lines, the second field, from a line on, the first.
-    Lines(usize, usize),
-    /// The column of the screen at which to draw the caret before the character at a position.
-    Caret(usize),
-    /// The character at a column of the screen, the second field, in a line, the first.
-    Hit(usize, usize),
-    /// The grapheme cluster of the character at a position.
-    Cluster(usize),
-    /// The numbers of characters, lines and paragraphs.
-    Size,
-    /// A number of characters, the second field, from a position on, the first.
-    Text(usize, usize),
-}
 
 // Returns the number of columns of the screen to the left of a line's shown part.
 fn screen_left(line: &VisualLine<'_>, width: u16, print: &Print) -> usize

@@ -1,7 +1,7 @@
 use Rattle.std.proofs.Common.{◌≡◌, string_bytes, ◌∙◌, rules}
 use Rattle.std.specs.Prelude.{option_map}
-use Rattle.tool.specs.Scripts.{Ask, query_in, command_in}
-use Rattle.tool.proofs.commands.read_command.Goals as goal
+use Rattle.script_commands.specs.Commands.{Ask, query_in, command_in}
+use Rattle.script_commands.proofs.commands.read_command.Goals as goal
 
 pub returns-in-Ok-None-clause-ok : goal.returns-in-Ok-None-clause-ok
 returns-in-Ok-None-clause-ok c =

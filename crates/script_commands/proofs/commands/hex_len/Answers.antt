@@ -3,7 +3,7 @@ use Rattle.std.specs.Char.{is_digit}
 use Rattle.std.proofs.lemmas.List.{take_more}
 use Rattle.std.proofs.lemmas.List.Folds.{list_all-append}
 use Rattle.std.proofs.lemmas.List.Sums.{prefix_len-drop_all, prefix_len-drop_no, prefix_len-drop_yes}
-use Rattle.tool.proofs.commands.hex_len.Goals as goal
+use Rattle.script_commands.proofs.commands.hex_len.Goals as goal
 
 pub returns-then-not-is_digit-clause-len : goal.returns-then-not-is_digit-clause-len
 returns-then-not-is_digit-clause-len c =

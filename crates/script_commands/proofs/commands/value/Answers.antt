@@ -1,6 +1,6 @@
 use Rattle.std.proofs.Common.{arith}
-use Rattle.tool.proofs.NumberLemmas.{product_fits}
-use Rattle.tool.proofs.commands.value.Goals as goal
+use Rattle.script_commands.proofs.NumberLemmas.{product_fits}
+use Rattle.script_commands.proofs.commands.value.Goals as goal
 
 pub overflow_mul-number : goal.overflow_mul-number
 overflow_mul-number c =

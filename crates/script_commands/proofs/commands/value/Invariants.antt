@@ -1,6 +1,6 @@
 use Rattle.std.proofs.Common.{◌≡◌, ◌<◌, ◌^◌, take}
-use Rattle.tool.specs.Scripts.{number_by}
-use Rattle.tool.proofs.commands.value.Given as goal
+use Rattle.script_commands.specs.Commands.{number_by}
+use Rattle.script_commands.proofs.commands.value.Given as goal
 
 abbrev pub invariant-loop-c : goal.invariant-loop-c
 invariant-loop-c l = record {

@@ -3,8 +3,8 @@ use Rattle.std.specs.List.{position_or_len}
 use Rattle.std.proofs.lemmas.Bool.Decides.{nat_tests}
 use Rattle.std.proofs.lemmas.List.Sums.{position_or_len_is}
 use Rattle.std.proofs.lemmas.List.{take_rest}
-use Rattle.tool.specs.Scripts.{is_space, parted}
-use Rattle.tool.proofs.commands.words.Goals as goal
+use Rattle.script_commands.specs.Commands.{is_space, parted}
+use Rattle.script_commands.proofs.commands.words.Goals as goal
 
 -- the parts of a text before and after the character at a position, if the position is inside the text
 abbrev sides : List ℕ → ℕ → Bool → Option (List ℕ × List ℕ)

@@ -1,8 +1,8 @@
 use Rattle.std.proofs.Common.{◌≡◌, ◌+◌, take, drop, true}
 use Rattle.std.specs.Char.{is_digit}
 use Rattle.std.specs.List.{prefix_len}
-use Rattle.tool.specs.Scripts.{are_digits}
-use Rattle.tool.proofs.commands.hex_len.Given as goal
+use Rattle.script_commands.specs.Commands.{are_digits}
+use Rattle.script_commands.proofs.commands.hex_len.Given as goal
 
 abbrev pub invariant-loop-at : goal.invariant-loop-at
 invariant-loop-at l = record {

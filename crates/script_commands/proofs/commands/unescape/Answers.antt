@@ -4,9 +4,9 @@ use Rattle.std.proofs.lemmas.Bool.{true≢false}
 use Rattle.std.specs.Str.{chars}
 use Rattle.std.proofs.lemmas.List.{take_rest}
 use Rattle.std.proofs.lemmas.Str.{IsUtf8-string_bytes, chars-nil}
-use Rattle.tool.specs.Scripts.{unescaped, written}
-use Rattle.tool.proofs.EscapeLemmas.{all_written, chars-push, lacks_next, next_written, none_written}
-use Rattle.tool.proofs.commands.unescape.Goals as goal
+use Rattle.script_commands.specs.Commands.{unescaped, written}
+use Rattle.script_commands.proofs.EscapeLemmas.{all_written, chars-push, lacks_next, next_written, none_written}
+use Rattle.script_commands.proofs.commands.unescape.Goals as goal
 
 -- prepending an empty list changes nothing
 id_map : (o : Option (List ℕ)) → option_map (λ cs. [] ++ cs) o ≡ o

@@ -1,7 +1,7 @@
 use Rattle.std.proofs.Common.{◌≡◌, ◌≤◌, ◌-◌, length, drop}
 use Rattle.std.specs.Prelude.{is_some}
-use Rattle.tool.specs.Scripts.{unescaped}
-use Rattle.tool.proofs.commands.has_right_escapes.Given as goal
+use Rattle.script_commands.specs.Commands.{unescaped}
+use Rattle.script_commands.proofs.commands.has_right_escapes.Given as goal
 
 -- the escapes of the whole text are valid exactly if those of the remaining text are valid
 abbrev pub invariant-loop-at : goal.invariant-loop-at

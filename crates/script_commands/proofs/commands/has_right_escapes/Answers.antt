@@ -1,8 +1,8 @@
 use Rattle.std.proofs.Common.{◌≡◌, ℕ, ◌+◌, get_or, drop, Some, None, refl, sym, ap, ◌∙◌, arith}
 use Rattle.std.proofs.lemmas.List.{take_rest}
-use Rattle.tool.specs.Scripts.{written}
-use Rattle.tool.proofs.EscapeLemmas.{all_right, next_right, none_right}
-use Rattle.tool.proofs.commands.has_right_escapes.Goals as goal
+use Rattle.script_commands.specs.Commands.{written}
+use Rattle.script_commands.proofs.EscapeLemmas.{all_right, next_right, none_right}
+use Rattle.script_commands.proofs.commands.has_right_escapes.Goals as goal
 
 pub loop-at-init : goal.loop-at-init
 loop-at-init c = record { within = omega arith; rest = refl }

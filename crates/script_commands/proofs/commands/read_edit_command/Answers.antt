@@ -1,7 +1,7 @@
 use Rattle.std.proofs.Common.{◌≡◌, string_bytes, ◌∙◌, rules}
-use Rattle.tool.specs.Scripts.{SetWidth, deletion_in, edit_command_in, number_in, parted}
+use Rattle.script_commands.specs.Commands.{SetWidth, deletion_in, edit_command_in, number_in, parted}
 use Rattle.std.specs.Prelude.{option_map}
-use Rattle.tool.proofs.commands.read_edit_command.Goals as goal
+use Rattle.script_commands.proofs.commands.read_edit_command.Goals as goal
 
 pub returns-in-Some-after-2-clause-ok : goal.returns-in-Some-after-2-clause-ok
 returns-in-Some-after-2-clause-ok c =

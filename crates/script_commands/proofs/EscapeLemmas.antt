@@ -6,7 +6,7 @@ use Rattle.std.specs.Str.{chars, IsUtf8}
 use Rattle.std.proofs.lemmas.List.{append_assoc, append-nil, drop-drop, length-append}
 use Rattle.std.proofs.lemmas.Str.{chars-append, chars-encodes}
 use Rattle.std.proofs.lemmas.Bool.{true≢false}
-use Rattle.tool.specs.Scripts.{LacksText, onto, unescaped, unescaped_after, written}
+use Rattle.script_commands.specs.Commands.{LacksText, onto, unescaped, unescaped_after, written}
 
 -- `unescaped_after` decodes the text after its first n characters
 skipped : (n : ℕ) (text : List ℕ) → unescaped_after n text ≡ unescaped (drop n text)

@@ -1,7 +1,7 @@
 use Rattle.std.proofs.Common.{◌≡◌, ◌≤◌, ◌-◌, ◌++◌, length, drop, option_map, string_bytes}
 use Rattle.std.specs.Str.{chars}
-use Rattle.tool.specs.Scripts.{unescaped}
-use Rattle.tool.proofs.commands.unescape.Given as goal
+use Rattle.script_commands.specs.Commands.{unescaped}
+use Rattle.script_commands.proofs.commands.unescape.Given as goal
 
 -- the characters so far, followed by those that the remaining text represents, are those that the whole text
 -- represents

@@ -5,14 +5,30 @@ ghost use Rattle.std.specs.Prelude.{if◌then◌else◌, string_bytes};
 ghost use Rattle.std.specs.List.{prefix_len};
 ghost use Rattle.std.specs.Char.{is_digit};
 ghost use Rattle.std.specs.Str.{chars};
-ghost use Rattle.tool.specs.Commands.{command_of};
-ghost use Rattle.tool.specs.Scripts.{LacksPiece, LacksPieceIn, LacksText};
-ghost use Rattle.tool.specs.Scripts.{Ask, SetWidth, are_digits, both_in, braced, deletion_in};
-ghost use Rattle.tool.specs.Scripts.{edit_command_in, escaped, insertion_in, number_by, number_in};
-ghost use Rattle.tool.specs.Scripts.{parted, query_in, command_in, stripped, unescaped, written};
+ghost use Rattle.script_commands.specs.Parsed.{command_of};
+ghost use Rattle.script_commands.specs.Commands.{LacksPiece, LacksPieceIn, LacksText};
+ghost use Rattle.script_commands.specs.Commands.{Ask, SetWidth, are_digits, both_in, braced, deletion_in};
+ghost use Rattle.script_commands.specs.Commands.{edit_command_in, escaped, insertion_in, number_by, number_in};
+ghost use Rattle.script_commands.specs.Commands.{parted, query_in, command_in, stripped, unescaped, written};
 
-use crate::queries::Query;
 use std::alloc::AllocError;
+
+/// A query about the current text. Positions are in characters. Positions, lines and columns start at 0.
+#[derive(Clone, Copy, Debug, PartialEq, Eq)]
+pub enum Query {
+    /// A number of lines, the second field, from a line on, the first.
+    Lines(usize, usize),
+    /// The column of the screen at which to draw the caret before the character at a position.
+    Caret(usize),
+    /// The character at a column of the screen, the second field, in a line, the first.
+    Hit(usize, usize),
+    /// The grapheme cluster of the character at a position.
+    Cluster(usize),
+    /// The numbers of characters, lines and paragraphs.
+    Size,
+    /// A number of characters, the second field, from a position on, the first.
+    Text(usize, usize),
+}
 
 /// A command, which is one line of a script.
 #[derive(Clone, Copy, Debug, PartialEq, Eq)]
@@ -71,10 +87,10 @@ fn read_query(line: &[char]) -> Option<Command>
     ensures { (piece : List ℕ)
         → option_map (command_of piece) result ≡ option_map Ask (query_in line.now) }
 {
-    Some(Command::Ask(query(line)?))
+    Some(Command::Ask(parse_query(line)?))
 }
 
-fn query(line: &[char]) -> Option<Query>
+fn parse_query(line: &[char]) -> Option<Query>
     ensures { result ≡ query_in line.now }
 {
     if let Some(rest) = after(&LINES, line) {

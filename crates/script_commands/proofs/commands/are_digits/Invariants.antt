@@ -1,6 +1,6 @@
 use Rattle.std.proofs.Common.{◌≡◌, take, true}
-use Rattle.tool.specs.Scripts.{are_digits}
-use Rattle.tool.proofs.commands.are_digits.Given as goal
+use Rattle.script_commands.specs.Commands.{are_digits}
+use Rattle.script_commands.proofs.commands.are_digits.Given as goal
 
 -- the characters so far are digits
 abbrev pub invariant-loop-c : goal.invariant-loop-c
