@@ -19,7 +19,7 @@ pub struct Options {
 }
 
 impl Default for Options {
-    // The options of a command without arguments.
+    // The options that a command without arguments uses.
     ghost is_default = { λ options. options
         ≡ record { base = WeakLtr; nobreak = false; reordernsm = false; whole_numbers = false } };
 
