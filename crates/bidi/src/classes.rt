@@ -5,7 +5,7 @@ ghost use Rattle.ucd.specs.Classes.{is_removed};
 
 use ucd::BidiClass;
 
-/// Whether a class is that of an isolate initiator (BD8).
+/// Returns whether characters of a class are isolate initiators (BD8).
 pub(crate) fn is_initiator(class: BidiClass) -> bool
     ensures { result ≡ is_initiator class }
 {

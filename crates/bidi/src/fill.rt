@@ -1,7 +1,7 @@
 //! Fills a range of a slice with a value.
 ghost use Rattle.std.specs.Prelude.{◌≡◌, ◌-◌, ◌≤◌, ◌++◌, length, take, drop, replicate};
 
-/// Sets each item from `start` up to `end` to a value.
+/// Sets each item in `start..end` to a value.
 pub(crate) fn fill<T: Copy>(items: &mut [T], start: usize, end: usize, value: T)
     requires order { start ≤ end }
     requires within { end ≤ length items.old }
