@@ -99,7 +99,7 @@ impl Tables {
         self.shared.has_usual_separators()
     }
 
-    /// Returns the character's bracket, if it is one.
+    /// Returns the bracket data of the character, if it is a bracket.
     pub fn bracket(&self, c: char) -> Option<Bracket>
         ensures { result ≡ bracket_of self.now c }
     {
