@@ -12,14 +12,14 @@ pub(crate) fn is_initiator(class: BidiClass) -> bool
     matches!(class, BidiClass::LRI | BidiClass::RLI | BidiClass::FSI)
 }
 
-/// Whether a class is PDI.
+/// Returns whether a class is PDI.
 pub(crate) fn is_pdi(class: BidiClass) -> bool
     ensures { result ≡ is_pdi class }
 {
     matches!(class, BidiClass::PDI)
 }
 
-/// Whether X9 removes the characters of a class.
+/// Returns whether X9 removes the characters of a class.
 pub(crate) fn is_removed(class: BidiClass) -> bool
     ensures { result ≡ is_removed class }
 {

@@ -24,7 +24,7 @@ pub fn first_cut_in_text(tables: &Tables, before: &[char], text: &str) -> Option
     first_end(tables, text, has_usual_separators(tables))
 }
 
-// Whether only U+0085, U+2029 and characters below U+0020 end a paragraph.
+// Returns whether only U+0085, U+2029 and characters below U+0020 end a paragraph.
 fn has_usual_separators(tables: &Tables) -> bool
     ensures { result ≡ true → AreUsual (cut (class_of tables.now)) }
 {
@@ -110,7 +110,7 @@ fn has_lead(bytes: &[u8]) -> bool
     any
 }
 
-// Whether a paragraph separator may begin at an index.
+// Returns whether a paragraph separator may begin at an index.
 fn is_lead(bytes: &[u8], at: usize) -> bool
     requires { at < length bytes.now }
     ensures { result ≡ leads_at bytes.now at }

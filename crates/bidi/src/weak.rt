@@ -107,7 +107,7 @@ fn is_settled(class: BidiClass) -> bool
     )
 }
 
-// Whether W4 to W7 can change a type.
+// Returns whether W4 to W7 can change a type.
 fn is_weak(class: BidiClass) -> bool
     ensures { result ≡ is_weak class }
 {

@@ -57,8 +57,8 @@ impl LineFault {
         }
     }
 
-    /// Whether the arguments are refused because they name no folder of table files, the only required
-    /// argument.
+    /// Returns whether the arguments are refused because they name no folder of table files, the only
+    /// required argument.
     pub fn lacks_folder(&self) -> bool
         ensures { result ≡ lacks_folder self.now }
     {

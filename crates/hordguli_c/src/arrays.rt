@@ -11,7 +11,7 @@ use breaks::Mark;
 use lines::VisualLine;
 use std::alloc::{AllocError, Global};
 
-// Whether all numbers are Unicode scalar values.
+// Returns whether all numbers are Unicode scalar values.
 fn are_characters(numbers: &[u32]) -> bool
     ensures yes { IsTrue result → All IsScalar numbers.now }
     ensures no { IsFalse result → ¬ All IsScalar numbers.now }

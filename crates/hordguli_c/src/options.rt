@@ -67,7 +67,7 @@ pub fn direction_of(bits: u32) -> Option<Base>
     if bits < 4 { Some(base_of(bits)) } else { None }
 }
 
-/// Whether breaks inside numbers are disabled, or `None` if any other bit is set.
+/// Returns whether breaks inside numbers are disabled, or `None` if any other bit is set.
 pub fn tailoring_of(bits: u32) -> Option<bool>
     ensures { result ≡ tailoring_of bits }
 {

@@ -68,7 +68,7 @@ fn columns(c: char) -> u8
     }
 }
 
-/// Whether characters of a class may be in a tail.
+/// Returns whether characters of a class may be in a tail.
 pub(crate) fn is_trailing(class: LineClass) -> bool
     ensures { (is_mark : Bool) → result
         ≡ is_one_of (SP ∷ BK ∷ CR ∷ LF ∷ NL ∷ []) (resolved class is_mark) }

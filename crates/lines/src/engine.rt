@@ -105,7 +105,7 @@ impl Engine {
         }
     }
 
-    /// Whether there is a paragraph boundary between two adjacent characters.
+    /// Returns whether there is a paragraph boundary between two adjacent characters.
     pub fn is_cut(&self, before: char, after: char) -> bool
         ensures { result ≡ cut_by (rules_of self.now) before after }
     {

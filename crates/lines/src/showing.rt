@@ -241,7 +241,7 @@ pub(crate) fn reset_line(properties: &[Properties], base: u8, levels: &mut [u8])
     false
 }
 
-// Whether all levels are 0.
+// Returns whether all levels are 0.
 fn are_zero(levels: &[u8]) -> bool
     ensures { result ≡ true → (k : ℕ) → slice_index levels.now k ≡ 0 }
 {
@@ -252,7 +252,7 @@ fn are_zero(levels: &[u8]) -> bool
     highest == 0
 }
 
-// Whether no level is odd.
+// Returns whether no level is odd.
 fn are_even(levels: &[u8]) -> bool
     ensures { result ≡ true → (k : ℕ) → is_odd (slice_index levels.now k) ≡ false }
 {

@@ -22,7 +22,7 @@ use breaks::marks_are_as_many;
 use device::Sink;
 use ucd::LineClass;
 
-/// Whether no line must end before the last character.
+/// Returns whether no line must end before the last character.
 pub(crate) fn is_whole(text: &Text<'_>) -> bool
     requires { IsLookedUp text.now }
     ensures yes { result ≡ true → IsWhole text.now.rules.tables.now text.now.characters.now }
@@ -40,7 +40,7 @@ pub(crate) fn is_whole(text: &Text<'_>) -> bool
     true
 }
 
-// Whether a line must end after a character of a class, except between CR and LF.
+// Returns whether a line must end after a character of a class, except between CR and LF.
 fn ends_line(class: LineClass) -> bool
     ensures { (is_mark : Bool) → result ≡ ends_line (resolved class is_mark) }
 {

@@ -80,7 +80,7 @@ fn is_mark(class: BidiClass) -> bool
     matches!(class, BidiClass::NSM)
 }
 
-// Whether the line contains a mark.
+// Returns whether the line contains a mark.
 fn has_mark<C: Classes>(line: &C) -> bool
     ensures { result ≡ list_any is_mark (C.all line.now) }
 {

@@ -77,7 +77,7 @@ fn ends_segment(class: BidiClass) -> bool
     matches!(class, BidiClass::S | BidiClass::B)
 }
 
-// Whether a character is reset: a separator always is, and a blank is if `after` is true.
+// Returns whether a character is reset: a separator always is, and a blank is if `after` is true.
 fn is_reset(class: BidiClass, after: bool) -> bool
     ensures { result ≡ (ends_segment class || (is_blank class && after)) }
 {

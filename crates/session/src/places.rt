@@ -98,7 +98,7 @@ fn char_at<S: ParagraphStore<Kept>>(store: &S, pos: usize) -> char
     }
 }
 
-// Whether a new paragraph would start at the end of the text.
+// Returns whether a new paragraph would start at the end of the text.
 fn is_closed<S: ParagraphStore<Kept>>(store: &S, engine: &Engine) -> bool
     ensures { result ≡ is_closed (rules_of engine.now) (text_of (S.items store.now)) }
 {

@@ -33,11 +33,11 @@ pub trait Property: Copy + Drop {
     /// The properties of a character after a value of the file has been applied.
     ghost put: { Self → PropertyAnswers → PropertyAnswers };
 
-    /// Whether the first field may be a range.
+    /// Returns whether the first field may be a range.
     fn has_ranges() -> bool
         ensures { result ≡ form.has_ranges };
 
-    /// Whether a line has a third field.
+    /// Returns whether a line has a third field.
     fn has_third() -> bool
         ensures { result ≡ form.has_third };
 

@@ -118,7 +118,7 @@ impl Properties {
         }
     }
 
-    /// Whether both have the same bits.
+    /// Returns whether both have the same bits.
     pub(crate) fn is(self, other: Properties) -> bool
         ensures same { IsTrue result → self ≡ other }
         ensures all { self ≡ other → IsTrue result }
@@ -133,7 +133,7 @@ impl Properties {
         BidiClass::at((self.bits % 32) as usize)
     }
 
-    /// Whether the bidi class is B, from the bits alone.
+    /// Returns whether the bidi class is B, from the bits alone.
     pub(crate) fn is_separator(self) -> bool
         ensures no { result ≡ false → self.bidi_class ≢ B }
         ensures yes { result ≡ true → self.bidi_class ≡ B }
@@ -148,35 +148,35 @@ impl Properties {
         LineClass::at((self.bits / 1024) as usize)
     }
 
-    /// Whether the East Asian width is F, W or H.
+    /// Returns whether the East Asian width is F, W or H.
     pub fn is_wide(self) -> bool
         ensures { result ≡ self.is_wide }
     {
         self.bits / 512 % 2 == 1
     }
 
-    /// Whether the general category is Mn or Mc.
+    /// Returns whether the general category is Mn or Mc.
     pub fn is_mark(self) -> bool
         ensures { result ≡ self.is_mark }
     {
         self.bits / 256 % 2 == 1
     }
 
-    /// Whether the character is Extended_Pictographic and unassigned.
+    /// Returns whether the character is Extended_Pictographic and unassigned.
     pub fn is_future_pictograph(self) -> bool
         ensures { result ≡ self.is_future_pictograph }
     {
         self.bits / 128 % 2 == 1
     }
 
-    /// Whether the character is a bracket.
+    /// Returns whether the character is a bracket.
     pub fn has_bracket(self) -> bool
         ensures { result ≡ self.has_bracket }
     {
         self.bits / 32 % 2 == 1
     }
 
-    /// Whether the character has a mirror.
+    /// Returns whether the character has a mirror.
     pub fn has_mirror(self) -> bool
         ensures { result ≡ self.has_mirror }
     {

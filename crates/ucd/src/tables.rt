@@ -120,14 +120,14 @@ impl Tables {
         self.properties(c).line_class()
     }
 
-    /// Whether the East Asian width is F, W or H.
+    /// Returns whether the East Asian width is F, W or H.
     pub fn is_wide(&self, c: char) -> bool
         ensures { result ≡ is_wide_in self.now c }
     {
         self.properties(c).is_wide()
     }
 
-    /// Whether the general category is Mn or Mc.
+    /// Returns whether the general category is Mn or Mc.
     pub fn is_mark(&self, c: char) -> bool
         ensures { result ≡ is_mark_in self.now c }
     {
