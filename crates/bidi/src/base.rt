@@ -22,7 +22,7 @@ pub enum Base {
 impl Default for Base {
     ghost use Rattle.bidi.specs.declared.base.Base.TheVariants.{WeakLtr};
 
-    // The default of the command line.
+    // The command line has the same default.
     ghost is_default = { λ base. base ≡ WeakLtr };
 
     fn default() -> Base {

@@ -224,8 +224,8 @@ fn resolve_brackets(
         ≡ resolve_pairs embedding sos (map is_mark explicit.now) (closer_in closers.now) types.old }
 {
     let left = is_left(embedding);
-    // Where the search for a strong type of each direction goes on. Before N0, there is no such type between
-    // the pair's opening bracket and this index.
+    // For each direction, the index at which the search for a strong type continues. Before N0, there is no
+    // such type between the pair's opening bracket and this index.
     let mut same = 0;
     let mut other = 0;
     let mut place = next_pair(closers, 0);
@@ -257,7 +257,8 @@ fn next_pair(closers: &[usize], from: usize) -> usize
 }
 
 // Returns whether a strong type of a direction is inside a pair. Moves `next` to the first index inside the
-// pair that had such a type before N0, or else at least to the closing bracket.
+// pair that had such a type before N0. If there is none, moves `next` to the closing bracket or leaves it
+// beyond that.
 fn stands_inside(
     types: &[BidiClass],
     before: &[BidiClass],
@@ -285,8 +286,8 @@ fn stands_inside(
     }
 }
 
-// Returns the direction of a pair. `has_same` is whether a strong type of the embedding direction is inside
-// the pair, and `has_other` is whether one of the other direction is.
+// Returns the direction of a pair. `has_same` and `has_other` are whether a strong type of the embedding
+// direction and one of the other direction are inside the pair.
 fn pair_direction(
     types: &[BidiClass],
     place: usize,

@@ -246,7 +246,7 @@ fn push_character(
 }
 
 /// Replaces the contents of `stayed` with the characters of a paragraph that X9 keeps. In `classes`, each FSI
-/// is already replaced.
+/// must already be replaced by LRI or RLI.
 pub(crate) fn explicit(
     classes: &[BidiClass],
     base: u8,

@@ -9,7 +9,7 @@ pub(crate) fn fill<T: Copy>(items: &mut [T], start: usize, end: usize, value: T)
     ensures rest { drop end items.new ≡ drop end items.old }
 {
     if start < end {
-        // Most ranges have one item, which needs no call to fill a slice.
+        // Most ranges have one item, which is set without a call.
         items[start] = value;
         fill_more(items, start + 1, end, value);
     }

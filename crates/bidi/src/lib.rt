@@ -2,8 +2,8 @@
 //! characters.
 //!
 //! `first_cut` finds the end of a text's first paragraph. `base_level` and `resolve` return the base level
-//! and the levels of one paragraph. A `Resolver` finds the same levels with reused lists, from properties
-//! that have already been looked up. The rules for lines (L1 to L4) are in the crate `reorder`.
+//! and the levels of one paragraph. A `Resolver` finds the same levels from properties that have already been
+//! looked up, and reuses its lists. The rules for lines (L1 to L4) are in the crate `reorder`.
 //!
 //! ```rust
 //! let text: Vec<char> = "(שלום) ok".chars().collect(alloc)?;

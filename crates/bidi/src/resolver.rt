@@ -1,4 +1,4 @@
-//! Finds the levels of paragraphs before L1 (UAX #9, X1 to I2), with reused lists.
+//! Finds the levels of paragraphs before L1 (UAX #9, X1 to I2), reusing its lists.
 ghost use Rattle.std.specs.Prelude.{◌≡◌, ℕ, ◌<◌, ◌≤◌, map, length, replicate, IfOk, List, OnErr, OnOk};
 ghost use Rattle.std.specs.Prelude.{vec_capacity};
 ghost use Rattle.std.specs.Prelude.{Option, true, false, slice_index_or};
@@ -23,8 +23,8 @@ use crate::sequence_levels::Brackets;
 use std::alloc::{AllocError, Global};
 use ucd::{BidiClass, Properties, Tables};
 
-// Returns whether a character is neither an opener nor a closer of an embedding, override or isolate, and X9
-// keeps it.
+// Returns whether a character of this class is kept by X9, and neither opens nor closes an embedding,
+// override or isolate.
 fn is_plain(class: BidiClass) -> bool
     ensures { result ≡ is_plain class }
 {
@@ -242,7 +242,7 @@ fn put_zeros(levels: &mut Vec<u8>, len: usize) -> Result<(), AllocError>
     Ok(())
 }
 
-/// Finds the levels of paragraphs, with reused lists. Does not allocate for a paragraph if the lists have
+/// Finds the levels of paragraphs, reusing its lists. Does not allocate for a paragraph if the lists have
 /// enough capacity.
 #[derive(Debug)]
 pub struct Resolver {

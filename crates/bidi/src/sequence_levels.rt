@@ -36,7 +36,7 @@ pub(crate) struct Paragraph<'a> {
     pub matches: &'a [usize],
 }
 
-/// The level of a sequence, and the directions at both ends.
+/// The level of a sequence, and the directions at both ends (sos and eos).
 #[derive(Clone, Copy, Debug, PartialEq, Eq)]
 pub(crate) struct Sides {
     pub level: u8,

@@ -36,8 +36,8 @@ pub(crate) fn run_end(levels: &[u8], start: usize) -> usize
     end
 }
 
-/// Returns the start of the run that continues the run up to `end`, if there is one. It starts at the match
-/// of the first run's last character, if a run begins there.
+/// Returns the start of the run that continues the run ending at `end`, if there is one. The start is the
+/// match of that run's last character, if a run begins at the match.
 pub(crate) fn next_run(levels: &[u8], matches: &[usize], end: usize) -> Option<usize>
     requires within { (0 < end) × (end ≤ length levels.now) }
     requires matches { length matches.now ≡ length levels.now }
@@ -101,8 +101,8 @@ pub(crate) fn sos(levels: &[u8], base: u8, first: usize) -> BidiClass
     direction(levels[first].max(before))
 }
 
-/// Returns the direction after a sequence's last character (X10). An isolate initiator without a match counts
-/// as followed by the paragraph level.
+/// Returns the direction after a sequence's last character (X10). If that character is an isolate initiator
+/// without a match, the level after it is the paragraph level.
 pub(crate) fn eos(
     classes: &[BidiClass],
     levels: &[u8],

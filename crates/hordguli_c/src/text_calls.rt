@@ -19,7 +19,7 @@ use std::alloc::Global;
 use std::str::from_utf8;
 use stream::Page;
 
-// Copies bytes to an array, if they fit, and stores their number.
+// Copies bytes to an array, if they fit, and stores the number of bytes.
 fn put_bytes(bytes: &[u8], array: &mut [u8], len: &mut usize) -> Status
     ensures { PutsBytes bytes.now result (array.old, len.old) (array.new, len.new) }
 {

@@ -1,6 +1,5 @@
 //! Looks up single characters in tables that the C code passes: page numbers, pages of entries, and the
-//! values of the entries. Most tables have an entry for every number that may index them, so few checks
-//! remain.
+//! values of the entries. The tables have fixed sizes, chosen so that few bounds checks remain.
 ghost use Rattle.std.specs.Prelude.{◌≡◌, ◌<◌, ◌==◌, ◌+◌, ◌*◌, ◌%◌, if◌then◌else◌};
 ghost use Rattle.std.specs.Prelude.{length, map, slice_index_or};
 ghost use Rattle.hordguli_fribidi.specs.Points.{bracket_at, brackets_at, brackets_by};

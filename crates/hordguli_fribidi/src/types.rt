@@ -94,7 +94,7 @@ pub extern "C" fn hordguli_fribidi_core_name(number: u32) -> u32
     }
 }
 
-/// Returns the base direction with a FriBidi number.
+/// Returns the base direction that a FriBidi number denotes.
 pub fn base_of(number: u32) -> Base
     ensures { result ≡ base_of number }
 {
@@ -116,7 +116,7 @@ pub fn direction_of(level: u8) -> u32
     if level == 0 { 272 } else { 273 }
 }
 
-/// Returns the bracket type with a FriBidi number.
+/// Returns the bracket type that a FriBidi number denotes.
 pub fn bracket_of(number: u32) -> BracketType
     ensures { result ≡ type_by (bracket_by number) number }
 {

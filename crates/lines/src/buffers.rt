@@ -43,7 +43,7 @@ impl VisualBuffers {
     }
 }
 
-/// Where the lines of a paragraph start, how much of each is shown, and the visual lines.
+/// Where each line of a paragraph starts, how much of it is shown, and the visual lines.
 #[derive(Debug, Drop)]
 pub(crate) struct LineBuffers {
     pub(crate) starts: Vec<u32>,

@@ -53,7 +53,7 @@ impl CharInfo {
     }
 }
 
-// Returns the width of a character in columns, or 0 if the crate `unicode_width` gives it none.
+// Returns the width of a character in columns, or 0 if the crate `unicode_width` has no width for it.
 fn columns(c: char) -> u8
     ensures { result ≡ columns_of c }
 {

@@ -1,4 +1,4 @@
-//! Where the grapheme clusters of a paragraph end (UAX #29), by the crate `unicode_segmentation`.
+//! Finds where the grapheme clusters of a paragraph end (UAX #29), using the crate `unicode_segmentation`.
 ghost use Rattle.std.specs.Prelude.{◌≡◌, ◌<◌, ◌++◌, length, IfOk, OnErr, OnOk};
 ghost use Rattle.std.specs.List.{list_all};
 ghost use Rattle.lines.specs.Bare.{with_ends};

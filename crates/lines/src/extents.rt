@@ -1,4 +1,4 @@
-//! Where the lines of a paragraph start at a width, and how much of each is shown.
+//! Where each line of a paragraph starts at a width, and how much of it is shown.
 ghost use Rattle.std.specs.Prelude.{◌≡◌, ◌≤◌, length, OnOk};
 ghost use Rattle.lines.specs.Bare.{with_ends};
 ghost use Rattle.lines.specs.Clusters.{cluster_ends};
@@ -16,7 +16,7 @@ use crate::showing::fill_shown;
 use std::alloc::{AllocError, Global};
 use std::marker::Model;
 
-/// Where the lines of a paragraph start at a width, and how much of each is shown. Given its extents, a
+/// Where each line of a paragraph starts at a width, and how much of it is shown. Given its extents, a
 /// paragraph's lines can be written without allocating.
 #[derive(Debug, Drop)]
 pub struct Extents {
@@ -32,7 +32,7 @@ impl Model for Extents {
     ghost view = { λ e. record { starts = e.starts.items; shown = e.shown.items } };
 }
 
-/// Finds where the lines of a paragraph start, and how much of each is shown. `infos` need not contain the
+/// Finds where each line of a paragraph starts, and how much of it is shown. `infos` need not contain the
 /// cluster ends.
 pub(crate) fn fill_spans_by(
     alloc: Global,

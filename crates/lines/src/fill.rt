@@ -82,7 +82,7 @@ impl Fill {
     ghost use Rattle.lines.specs.Visual.{visual_of};
     ghost use Rattle.lines.specs.Writing.{PassedOn, StoppedIn};
 
-    /// Takes over the lines in the buffers.
+    /// Makes a `Fill` of the lines in the buffers.
     pub(crate) fn of(lines: LineBuffers) -> Fill
         requires { AreSound lines }
         ensures { result ≡ held_in lines }

@@ -77,8 +77,8 @@ fn line_len(
     Ok((line_end(&infos[start..], width) + 1, true))
 }
 
-// Returns the length of the first line if it does not depend on clusters. It does not if the line ends at a
-// break opportunity or `nobreak` is set.
+// Returns the length of the first line if it does not depend on clusters. It does not depend on them if the
+// line ends at a break opportunity or `nobreak` is set.
 fn broken_len(rest: &[CharInfo], width: u16, nobreak: bool) -> Option<usize>
     requires { (0 < length rest.now) × (length rest.now ≤ PARAGRAPH_LIMIT) }
     ensures len { (known : List CharInfo) → AreAlike rest.now known
@@ -218,7 +218,7 @@ impl Sums {
     }
 }
 
-// Returns `k` if `passes`, else `before`.
+// Returns `Some(k)` if `passes` is true, or else `before`.
 fn later(before: Option<usize>, k: usize, passes: bool) -> Option<usize>
     ensures { result ≡ if passes then Some k else before }
 {

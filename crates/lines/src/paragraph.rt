@@ -29,7 +29,7 @@ pub(crate) struct Paragraph<'a> {
     pub(crate) marks: &'a [Mark],
 }
 
-/// Where the lines of a paragraph start, and how much of each is shown.
+/// Where each line of a paragraph starts, and how much of it is shown.
 #[derive(Clone, Copy)]
 pub(crate) struct Spans<'a> {
     pub(crate) starts: &'a [u32],

@@ -109,7 +109,7 @@ fn make_characters(list: &mut Vec<char>, len: usize) -> Result<(), AllocError>
     list.resize(len, '\0')
 }
 
-/// Replaces `shown` with how much of each line is shown.
+/// Replaces the contents of `shown` with how much of each line is shown.
 pub(crate) fn fill_shown(
     infos: &[CharInfo],
     starts: &[u32],
@@ -131,8 +131,8 @@ pub(crate) fn fill_shown(
     Ok(())
 }
 
-/// Writes the levels of each line after L1 over those before L1, and the position maps and characters of its
-/// shown part. Counts the characters.
+/// Overwrites the levels before L1 with those after L1, and writes the position maps and characters of each
+/// line's shown part. Counts the characters.
 pub(crate) fn show_each(
     text: &Text<'_>,
     spans: &Spans<'_>,

@@ -29,7 +29,7 @@ pub fn reset_levels<C: Classes>(line: &C, base: u8, levels: &mut [u8])
     }
 }
 
-// Returns the end of the characters before `at` that may have to be reset, or 0 if there are none.
+// Returns the index after the last character before `at` that may have to be reset, or 0 if there is none.
 fn changed_end<C: Classes>(line: &C, resets: bool, at: usize) -> usize
     requires { at ≤ length (C.all line.now) }
     ensures within { result ≤ at }

@@ -12,8 +12,7 @@ pub struct Hit {
     /// The position of the character in the text.
     pub pos: usize,
     /// Whether the column is past the character in the character's direction, so a caret belongs after the
-    /// character. Past it means to the right of a character at an even level, and to the left of a character
-    /// at an odd level.
+    /// character. Past the character means to its right at an even level, and to its left at an odd level.
     pub trailing: bool,
 }
 

@@ -13,8 +13,8 @@ use device::Sink;
 use lines::{WriteFault, write_chars};
 use store::ParagraphStore;
 
-/// Returns the first of the `count` characters starting at `pos`: those that are in the same paragraph as the
-/// first one. Returns `None` if the range reaches past the end.
+/// Of the `count` characters starting at `pos`, returns those in the same paragraph as the first one. Returns
+/// `None` if the range reaches past the end.
 pub fn text_part<S: ParagraphStore<Kept>>(store: &S, pos: usize, count: usize) -> Option<&[char]>
     requires { All IsLined (S.items store.now) }
     ensures part { option_map (λ part. part.now) result ≡ text_part (S.items store.now) pos count }

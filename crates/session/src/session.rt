@@ -1,4 +1,4 @@
-//! Sessions, with any `ParagraphStore`.
+//! Sessions, which are generic over the `ParagraphStore`.
 ghost use Rattle.std.specs.Prelude.{◌≡◌, ◌+◌, ◌^◌, ◌<◌, ◌≤◌, nat_le, nat_lt, length};
 ghost use Rattle.std.specs.Prelude.{is_none, option_map, slice_get};
 ghost use Rattle.std.specs.Prelude.{IfOk, IfErr, IfSome, IsErrOf, OnOk, OnErr};
@@ -181,8 +181,8 @@ impl<S: ParagraphStore<Kept>> Session<S> {
     /// a separator, the caret is at column 0 of the line after the last line.
     ///
     /// Where the direction changes, a position has a second edge: the trailing edge of the character before
-    /// it. That is the edge of this character opposite to the caret at `pos - 1`. For example, in a text of
-    /// Latin letters followed by a Hebrew word:
+    /// it. This second edge is opposite the caret at `pos - 1`. For example, in a text of Latin letters
+    /// followed by a Hebrew word:
     ///
     /// ```text
     /// positions   0 1 2 3 4 5 6       a b c, a space, and the letters 4, 5 and 6
@@ -229,9 +229,9 @@ impl<S: ParagraphStore<Kept>> Session<S> {
         cluster_of(&self.store, self.alloc, pos)
     }
 
-    /// Returns the first of the `count` characters starting at `pos`: those that are in the same paragraph as
-    /// the first one. Returns `None` if the range reaches past the end. The returned part is empty only if
-    /// `count` is 0. To read the rest, call again with `pos + part.len()` and `count - part.len()`.
+    /// Of the `count` characters starting at `pos`, returns those in the same paragraph as the first one.
+    /// Returns `None` if the range reaches past the end. The returned part is empty only if `count` is 0. To
+    /// read the rest, call again with `pos + part.len()` and `count - part.len()`.
     pub fn text(&self, pos: usize, count: usize) -> Option<&[char]>
         ensures part { option_map (λ part. part.now) result ≡ text_part self.now.kept pos count }
         ensures some { 0 < count → IfSome result (λ part. 0 < length part.now) }
@@ -375,7 +375,8 @@ impl<S: ParagraphStore<Kept>> Session<S> {
         self.replace(pos, count, "")
     }
 
-    /// Replaces `count` characters, starting at `pos`, with a text. This is one edit, with one damage.
+    /// Replaces `count` characters, starting at `pos`, with a text. Counts as one edit, and returns one
+    /// damage.
     pub fn replace(&mut self, pos: usize, count: usize, piece: &str) -> Result<Damage, EditFault>
         ensures ok { IfOk result (Edits (replacing pos count (chars piece.now)) self.old self.new) }
         ensures err { IfErr result (EditsNot (replacing pos count (chars piece.now)) self.old self.new) }

@@ -15,7 +15,7 @@ pub struct Found {
     pub chars_before: usize,
     /// The number of lines in the items before this one.
     pub lines_before: usize,
-    /// The number of items that the search looked at.
+    /// The number of items that the search visited.
     pub visits: usize,
 }
 

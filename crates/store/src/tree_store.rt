@@ -93,7 +93,7 @@ fn take_down<P: Measured>(nodes: Vec<DetachedNode<P>>, items: &mut Vec<P>)
 }
 
 // Allocates what a replacement needs: capacity for the old items, and a node for each new item. Fails if the
-// number of the kept and the new items together overflows.
+// total number of kept and new items overflows.
 fn take_memory<P: Measured>(
     alloc: Global,
     kept: usize,

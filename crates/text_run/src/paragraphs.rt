@@ -30,8 +30,8 @@ enum Ahead {
     Open,
 }
 
-/// Returns the fault in the first paragraph of `text`, if `more`, the characters that follow, already shows
-/// it. Allocates nothing.
+/// Returns the fault in the first paragraph of `text`, if it is already known from `more`, the characters
+/// that follow. Allocates nothing.
 ///
 /// `text` must have no paragraph boundary and must not be too long. `more` must not have more characters than
 /// a paragraph may have. `is_bad` is whether the bytes after `more`, at `place` in the input, are not UTF-8.

@@ -166,7 +166,7 @@ impl Held {
         Ok(())
     }
 
-    // Writes the lines on the page.
+    // Writes the lines collected in the page.
     fn write<W: Sink>(&mut self, writer: &mut W) -> Result<(), RunFault>
         requires { self.old.written ≤ (W.state writer.old).passed }
         ensures ok { OnOk result (Writes self.old self.new (W.state writer.old) (W.state writer.new)) }

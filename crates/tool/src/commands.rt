@@ -66,7 +66,7 @@ pub fn read_command(
     }
 }
 
-// Parses a query, which is a line that is no other command.
+// Parses a line that is no other command as a query.
 fn read_query(line: &[char]) -> Option<Command>
     ensures { (piece : List ℕ)
         → option_map (command_of piece) result ≡ option_map Ask (query_in line.now) }
@@ -206,7 +206,7 @@ fn are_digits(text: &[char], radix: u32) -> bool
     true
 }
 
-// Returns the value of a number's digits.
+// Returns the number that digits represent in a radix.
 fn value(digits: &[char], radix: u32) -> usize
     requires radix { (2 ≤ radix) × (radix ≤ 16) }
     requires digits { are_digits radix digits.now ≡ true }

@@ -17,7 +17,7 @@ use std::alloc::AllocError;
 use store::ParagraphStore;
 use text_run::RunFault;
 
-/// A query about the current text. Positions are in characters. Positions, lines and columns start at 0.
+/// A query about the current text. Positions count characters. Positions, lines and columns start at 0.
 #[derive(Clone, Copy, Debug, PartialEq, Eq)]
 pub enum Query {
     /// A range of lines. The fields are the first line and the number of lines.

@@ -104,7 +104,7 @@ pub struct Entries {
     pub(crate) breaks: BreakEntries,
 }
 
-/// Drops the entries. Without it, callers would have to list everything that is dropped.
+/// Drops the entries. Without this function, callers would have to list everything that is dropped.
 pub fn drop_entries(_entries: Entries) {}
 
 impl Entries {
