@@ -177,8 +177,8 @@ fn find_pairs(
     Ok(())
 }
 
-// Returns the index of the first strong type at or after `from` and before `limit` that has direction L if
-// `left` is true, or else direction R. If there is none, returns `limit`, or `from` if that is greater.
+// Returns the index of the first strong type in `from..limit` with a given direction: L if `left` is true, or
+// else R. If there is none, returns `limit`, or `from` if that is greater.
 fn next_toward(types: &[BidiClass], left: bool, from: usize, limit: usize) -> usize
     requires from { from ≤ length types.now }
     requires limit { limit ≤ length types.now }
@@ -194,7 +194,7 @@ fn next_toward(types: &[BidiClass], left: bool, from: usize, limit: usize) -> us
     at
 }
 
-// Returns whether a type is strong and has direction L if `left` is true, or else direction R. Numbers count
+// Returns whether a type is strong and has a given direction: L if `left` is true, or else R. Numbers count
 // as R.
 fn is_toward(left: bool, class: BidiClass) -> bool
     ensures { result ≡ is_toward left class }
@@ -286,8 +286,8 @@ fn stands_inside(
     }
 }
 
-// Returns the direction of a pair. `has_same` and `has_other` are whether a strong type of the embedding
-// direction and one of the other direction are inside the pair.
+// Returns the direction of a pair. `has_same` says whether a strong type of the embedding direction is inside
+// the pair. `has_other` says the same for the other direction.
 fn pair_direction(
     types: &[BidiClass],
     place: usize,

@@ -171,8 +171,8 @@ impl Openers {
         }
     }
 
-    // Opens or closes what a character other than PDI opens or closes. The character's own state is read
-    // before this, because an isolate initiator is outside its isolate.
+    // Handles a character other than PDI, which may open or close an embedding, override or isolate. The
+    // character's own state is read before this, because an isolate initiator is outside its isolate.
     fn pass(&mut self, class: BidiClass)
         requires { AreOpeners self.old }
         ensures { Follows self.old self.new

@@ -1,5 +1,5 @@
-//! Isolate initiators: their matching PDIs (UAX #9, BD9), and the direction of an FSI, which is that of the
-//! first strong character (X5c).
+//! Isolate initiators: their matching PDIs (UAX #9, BD9), and the direction of an FSI, found from the first
+//! strong character inside it (X5c).
 ghost use Rattle.std.specs.Prelude.{◌≡◌, ◌+◌, ◌-◌, ◌<◌, ◌==◌, true, IfOk, OnOk, if◌then◌else◌};
 ghost use Rattle.std.specs.Prelude.{length, take, slice_index, slice_set};
 ghost use Rattle.std.specs.List.{list_any};

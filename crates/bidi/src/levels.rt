@@ -35,8 +35,8 @@ pub(crate) struct Work {
     lists: Lists,
 }
 
-// Reused lists for the sequences of the characters that X9 keeps: the matches of the isolate initiators, the
-// starts of the runs that continue an earlier run, one sequence, and the levels found so far.
+// Reused lists for the sequences of the characters that X9 keeps. They hold the matches of the isolate
+// initiators, the starts of the runs that continue an earlier run, one sequence, and the levels found so far.
 #[derive(Debug, Drop)]
 struct Lists {
     isolates: Isolates,

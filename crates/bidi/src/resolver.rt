@@ -275,7 +275,7 @@ impl Resolver {
     }
 
     /// Returns the base level of one paragraph, 0 or 1. Replaces the contents of `levels` with the level of
-    /// each character, from 0 to 126, before L1 is applied. `properties` must be those of the text's
+    /// each character, from 0 to 126, before L1 is applied. `properties` must be the properties of the text's
     /// characters. The text need not be a paragraph: it may be any list of characters. After an allocation
     /// failure, the resolver can be used again, and the contents of `levels` are unspecified.
     pub fn resolve(
@@ -342,8 +342,8 @@ impl Resolver {
 
     /// Returns the base level of one paragraph, 0 or 1. Replaces the contents of `levels` with the level of
     /// each character, from 0 to 126, before L1 is applied. The levels depend on the classes and bracket
-    /// types alone: any text and tables with the same classes and bracket types have the same levels. The
-    /// classes need not be those of a paragraph: they may be any list. After an allocation failure, the
+    /// types alone: any text and tables with the same classes and bracket types have the same levels.
+    /// `classes` may be any list: it need not come from a paragraph. After an allocation failure, the
     /// resolver can be used again, and the contents of `levels` are unspecified.
     pub fn resolve_by(
         &mut self,
@@ -445,7 +445,7 @@ pub fn resolve(
 
 /// Returns the level, from 0 to 126, of each character of one paragraph before L1 (UAX #9, X1 to I2), given
 /// the classes and bracket types of its characters. Any text and tables with the same classes and bracket
-/// types have the same levels. The classes need not be those of a paragraph: they may be any list.
+/// types have the same levels. `classes` may be any list: it need not come from a paragraph.
 pub fn resolve_by(
     alloc: Global,
     classes: &[BidiClass],

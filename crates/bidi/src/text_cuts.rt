@@ -12,8 +12,9 @@ use ucd::Tables;
 // The number of text positions that are tested together.
 const AT_ONCE: usize = 16;
 
-/// Returns the byte index in `text` of the first paragraph boundary in `before` followed by `text`. `before`
-/// must contain no boundary. A boundary between `before` and `text` has index 0.
+/// Finds the first paragraph boundary in `before` followed by `text`. Returns its byte index in `text`, or
+/// `None` if there is no boundary. `before` must contain no boundary. A boundary between `before` and `text`
+/// has index 0.
 pub fn first_cut_in_text(tables: &Tables, before: &[char], text: &str) -> Option<usize>
     requires uncut { SplitsAt (cut (class_of tables.now)) before.now None }
     ensures { FindsEndAfter (cut (class_of tables.now)) before.now text.now result }

@@ -1,5 +1,5 @@
-//! The symbol of a character, which is all that the break rules need to know about it: its class after LB1
-//! (UAX #14) and, for LB30, whether a parenthesis is wide.
+//! The symbol of a character: its class after LB1 (UAX #14) and, for LB30, whether a parenthesis is wide. The
+//! break rules need to know nothing else about the character.
 ghost use Rattle.std.specs.Prelude.{◌≡◌, ◌<◌, slice_index};
 ghost use Rattle.ucd.specs.declared.properties.TheConstants.{LINE_INDEX_COUNT};
 ghost use Rattle.breaks.specs.Symbols.{character_by, shown, told};

@@ -58,8 +58,8 @@ impl Walk {
     }
 }
 
-// Returns whether the last base is a future pictograph once the next character is read. An attached character
-// does not change that.
+// Returns whether the last base is a future pictograph after the next character has been read. An attached
+// character does not change that.
 fn is_now_pictograph(outcome: u16, before: bool, next: bool) -> bool
     ensures { result ≡ (if outcome == STAYS then before else next) }
 {

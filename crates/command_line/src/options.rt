@@ -27,8 +27,8 @@ pub struct Settings<'a> {
 /// Why the arguments are refused.
 #[derive(Debug, Drop, Error)]
 pub enum LineFault {
-    /// `clap` refuses the arguments, or they ask for help or the version. The message is that of the `clap`
-    /// error.
+    /// `clap` refuses the arguments, or they ask for help or the version. Displays as the message of the
+    /// `clap` error.
     #[error("{0}")]
     Words(clap::Error),
     #[error("fribidi: more than one base direction")]

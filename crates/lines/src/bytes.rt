@@ -44,7 +44,7 @@ fn write_part<W: Sink>(writer: &mut W, before: u64, part: &[u8]) -> Result<u64, 
 const CHARACTERS_AT_ONCE: usize = 64;
 
 /// Writes characters as UTF-8. `before` is the number of bytes already written. The returned byte count
-/// includes it, and so does the one in a `WriteFault`. Allocates nothing.
+/// includes these bytes, as does the count in a `WriteFault`. Allocates nothing.
 pub fn write_chars<W: Sink>(writer: &mut W, before: u64, chars: &[char]) -> Result<u64, WriteFault>
     requires { before ≤ (W.state writer.old).passed }
     ensures ok { IfOk result (λ n. PassedOn (encode_utf8_all chars.now) before

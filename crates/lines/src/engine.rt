@@ -121,8 +121,9 @@ impl Engine {
         first_cut(&self.tables, text)
     }
 
-    /// Returns the byte index in `text` of the first paragraph boundary in `before` followed by `text`.
-    /// `before` must contain no boundary. A boundary between `before` and `text` has index 0.
+    /// Finds the first paragraph boundary in `before` followed by `text`. Returns its byte index in `text`,
+    /// or `None` if there is no boundary. `before` must contain no boundary. A boundary between `before` and
+    /// `text` has index 0.
     pub fn first_cut_in_text(&self, before: &[char], text: &str) -> Option<usize>
         requires { SplitsAt (cut_by (rules_of self.now)) before.now None }
         ensures { FindsEndAfter (cut_by (rules_of self.now)) before.now text.now result }

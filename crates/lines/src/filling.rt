@@ -17,7 +17,7 @@ use breaks::Mark;
 use std::alloc::{AllocError, Global};
 
 /// Replaces the contents of `starts` with the start of each line of a paragraph at a width. `infos` need not
-/// contain the cluster ends. They are found and stored in `infos` once a line needs them.
+/// contain the cluster ends. The cluster ends are found and stored in `infos` when a line first needs them.
 pub fn line_starts(
     alloc: Global,
     text: &[char],
@@ -77,8 +77,8 @@ fn line_len(
     Ok((line_end(&infos[start..], width) + 1, true))
 }
 
-// Returns the length of the first line if it does not depend on clusters. It does not depend on them if the
-// line ends at a break opportunity or `nobreak` is set.
+// Returns the length of the first line, or `None` if the length depends on clusters. It does not depend on
+// clusters if the line ends at a break opportunity or `nobreak` is set.
 fn broken_len(rest: &[CharInfo], width: u16, nobreak: bool) -> Option<usize>
     requires { (0 < length rest.now) × (length rest.now ≤ PARAGRAPH_LIMIT) }
     ensures len { (known : List CharInfo) → AreAlike rest.now known

@@ -150,7 +150,7 @@ impl Laid {
     }
 
     /// Writes the lines. `before` is the number of bytes already written. The returned byte count includes
-    /// it, and so does the one in a `WriteFault`.
+    /// these bytes, as does the count in a `WriteFault`.
     pub fn write_after<W: Sink>(
         &self,
         writer: &mut W,

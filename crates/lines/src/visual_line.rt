@@ -180,8 +180,8 @@ impl<'a> VisualLine<'a> {
         Ok(())
     }
 
-    /// Writes the line. `before` is the number of bytes already written. The returned byte count includes it,
-    /// and so does the one in a `WriteFault`.
+    /// Writes the line. `before` is the number of bytes already written. The returned byte count includes
+    /// these bytes, as does the count in a `WriteFault`.
     pub fn write_after<W: Sink>(
         &self,
         writer: &mut W,

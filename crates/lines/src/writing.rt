@@ -170,8 +170,8 @@ fn write_part<W: Sink>(
     )
 }
 
-// Applies L1 to a line, and writes its levels to the front of `levels`. Returns `true` only if all of them
-// are then 0.
+// Applies L1 to a line, and writes its levels to the front of `levels`. Returns `true` only if all levels are
+// then 0.
 fn reset_front(line: &LogicalLine<'_>, levels: &mut [u8]) -> bool
     requires line { IsLookedUp line.now.text }
     requires shown { line.now.shown.len ≤ length line.now.text.characters.now }

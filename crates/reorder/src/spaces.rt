@@ -6,8 +6,8 @@ ghost use Rattle.reorder.specs.NoEnds.{AreNoEnds};
 
 use ucd::{BidiClass, Classes};
 
-/// Applies L1 to a line, which resets some of its levels to the paragraph level, `base`. The classes must be
-/// the original ones, unchanged by earlier rules.
+/// Applies L1 to a line: resets some of its levels to the paragraph level, `base`. The classes must be the
+/// original ones, unchanged by earlier rules.
 pub fn reset_levels<C: Classes>(line: &C, base: u8, levels: &mut [u8])
     requires { length (C.all line.now) ≡ length levels.old }
     ensures { levels.new ≡ line_levels base (C.all line.now) levels.old }

@@ -18,8 +18,8 @@ pub struct Cluster {
     pub end: usize,
 }
 
-// Returns where the cluster of character `k` starts. `ends` has an item for each character, which is whether
-// a cluster ends after it.
+// Returns the start of the cluster of character `k`. `ends[i]` says whether a cluster ends after character
+// `i`.
 fn begin(ends: &[bool], k: usize) -> usize
     requires { k < length ends.now }
     ensures value { result ≡ cluster_begin ends.now k }
@@ -35,8 +35,7 @@ fn begin(ends: &[bool], k: usize) -> usize
     0
 }
 
-// Returns where the cluster of character `k` ends. `ends` has an item for each character, which is whether a
-// cluster ends after it.
+// Returns the end of the cluster of character `k`. `ends[i]` says whether a cluster ends after character `i`.
 fn end_of(ends: &[bool], k: usize) -> usize
     requires { k < length ends.now }
     ensures value { result ≡ cluster_end ends.now k }

@@ -18,7 +18,7 @@
 //! ```
 //!
 //! `line` borrows a line, `print` and `print_lines` write lines, and `place` and `line_start` locate lines.
-//! `text` returns a part of the text, and `write_text` writes it. A refused edit changes nothing.
+//! `text` returns part of the text, and `write_text` writes part of it. A refused edit changes nothing.
 #![tactic(auto)]
 
 mod carets;

@@ -275,7 +275,7 @@ impl<S: ParagraphStore<Kept>> Session<S> {
     }
 
     /// Writes `count` characters, starting at `pos`, as UTF-8. `before` is the number of bytes already
-    /// written. The returned byte count includes it, and so does the one in a `WriteFault`.
+    /// written. The returned byte count includes these bytes, as does the count in a `WriteFault`.
     pub fn write_text_after<W: Sink>(
         &self,
         writer: &mut W,
@@ -426,7 +426,7 @@ impl<S: ParagraphStore<Kept>> Session<S> {
     }
 
     /// Writes all lines. `before` is the number of bytes already written. The returned byte count includes
-    /// it, and so does the one in a `WriteFault`.
+    /// these bytes, as does the count in a `WriteFault`.
     pub fn print_after<W: Sink>(
         &self,
         writer: &mut W,
@@ -470,7 +470,7 @@ impl<S: ParagraphStore<Kept>> Session<S> {
     }
 
     /// Writes `count` lines, starting at line `first`. `before` is the number of bytes already written. The
-    /// returned byte count includes it, and so does the one in a `WriteFault`.
+    /// returned byte count includes these bytes, as does the count in a `WriteFault`.
     pub fn print_lines_after<W: Sink>(
         &self,
         writer: &mut W,

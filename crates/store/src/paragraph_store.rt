@@ -87,8 +87,8 @@ pub trait ParagraphStore<P: Measured> {
             ≡ raised (E.worked by.old) (total_cost E.cost (items self.old) parts.old.items) }
         ensures chars { sum_by P.chars (items self.new) ≡ sum_by P.chars (items self.old) };
 
-    /// Exchanges a part of each item, in order: that of item `i` for `parts[i]`. There must be as many parts
-    /// as items. Each part must fit its item, and the new sum of lines must fit in a `usize`. Does not
+    /// Exchanges a part of each item, in order: the part of item `i` for `parts[i]`. There must be as many
+    /// parts as items. Each part must fit its item, and the new sum of lines must fit in a `usize`. Does not
     /// allocate.
     fn exchange_all(&mut self, parts: &mut Vec<P::Part>)
     where

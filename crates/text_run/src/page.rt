@@ -43,7 +43,7 @@ pub fn prints_some(print: &Print) -> bool
 }
 
 /// States, as a theorem, that printing 0 characters leaves an engine's counters unchanged. This holds because
-/// they are 64-bit numbers.
+/// the counters are 64-bit numbers.
 pub fn counts_fit(engine: &Engine)
     ensures { (print : Print) → Prints 0 print engine.now engine.now }
 {

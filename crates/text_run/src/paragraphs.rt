@@ -34,7 +34,8 @@ enum Ahead {
 /// that follow. Allocates nothing.
 ///
 /// `text` must have no paragraph boundary and must not be too long. `more` must not have more characters than
-/// a paragraph may have. `is_bad` is whether the bytes after `more`, at `place` in the input, are not UTF-8.
+/// a paragraph may have. `is_bad` says whether the bytes after `more`, at `place` in the input, are invalid
+/// UTF-8.
 ///
 /// - `ParagraphTooLong`: with the characters of `more`, the first paragraph is too long.
 /// - `NotUtf8(place)`: the paragraph does not end within `more`, and `is_bad` is true.

@@ -52,8 +52,8 @@ pub fn out_of_range() -> Answer
     refusal_answer(EditFault::OutOfRange)
 }
 
-/// Writes bytes. `written` is the number of bytes already written. The returned total includes it, and so
-/// does the one in a fault.
+/// Writes bytes. `written` is the number of bytes already written. The returned total includes these bytes,
+/// as does the count in a fault.
 pub fn write_bytes<W: Sink>(writer: &mut W, written: u64, bytes: &[u8]) -> Result<u64, RunFault>
     requires { written ≤ (W.state writer.old).passed }
     ensures ok { IfOk result (PassedOn bytes.now written (W.state writer.old) (W.state writer.new)) }

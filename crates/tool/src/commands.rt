@@ -66,7 +66,7 @@ pub fn read_command(
     }
 }
 
-// Parses a line that is no other command as a query.
+// Parses a line as a query. Returns `None` if the line is not a query.
 fn read_query(line: &[char]) -> Option<Command>
     ensures { (piece : List ℕ)
         → option_map (command_of piece) result ≡ option_map Ask (query_in line.now) }
