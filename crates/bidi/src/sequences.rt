@@ -36,8 +36,8 @@ pub(crate) fn run_end(levels: &[u8], start: usize) -> usize
     end
 }
 
-/// Returns the start of the run that continues the run ending at `end`, if there is one. The start is the
-/// match of that run's last character, if a run begins at the match.
+/// Returns the start of the run that continues the run ending at `end`, if there is one. This is the match of
+/// the character before `end`, if a level run begins there.
 pub(crate) fn next_run(levels: &[u8], matches: &[usize], end: usize) -> Option<usize>
     requires within { (0 < end) × (end ≤ length levels.now) }
     requires matches { length matches.now ≡ length levels.now }

@@ -26,8 +26,8 @@ pub enum Mark {
 }
 
 /// Returns the break mark after each character of a paragraph (UAX #14, LB1 to LB31, as in
-/// docs/reference.md). The last mark is `Must`. With `whole_numbers`, no line ends inside a number, which
-/// replaces LB25 (section 8.2, example 7).
+/// docs/reference.md). The last mark is `Must`. With `whole_numbers`, another rule replaces LB25: no line
+/// ends inside a number (section 8.2, example 7).
 ///
 /// Allocates only the list of marks.
 pub fn marks(

@@ -28,7 +28,7 @@ pub enum Cause {
     Reversed = 3,
     /// The line has too many or too few fields.
     FieldCount = 4,
-    /// The value is not one that the file may contain.
+    /// The file does not allow this value.
     Value = 5,
     /// An earlier line of the file already gives a value to one of the line's characters.
     NamedBefore = 6,

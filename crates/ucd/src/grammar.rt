@@ -41,8 +41,8 @@ pub trait Property: Copy + Drop {
     fn has_third() -> bool
         ensures { result ≡ form.has_third };
 
-    /// Parses the value in the second and third fields. Returns `None` if the file may not contain this
-    /// value, and `Some(None)` if the line gives no character a value.
+    /// Parses the value in the second and third fields. Returns `None` if the file does not allow this value,
+    /// and `Some(None)` if the line gives no character a value.
     fn read_value(second: &[u8], third: &[u8]) -> Option<Option<Self>>
         ensures { result ≡ form.value second.now third.now };
 
