@@ -1,4 +1,4 @@
-//! The queries of a script about the current text, and the replies to them.
+//! The queries that a script makes about the current text, and the replies to them.
 ghost use Rattle.std.specs.Prelude.{◌≡◌, ◌^◌, ◌<◌, ◌≤◌, IfOk, IfErr, OnErr, length, slice_index};
 ghost use Rattle.lines.specs.Engine.{rules_of};
 ghost use Rattle.reorder.specs.Order.{is_odd};
@@ -17,24 +17,25 @@ use std::alloc::AllocError;
 use store::ParagraphStore;
 use text_run::RunFault;
 
-/// A query about the current text. Positions are in characters. Positions, lines and columns start at 0.
+/// A query about the current text. Positions count characters. Positions, lines and columns start at 0.
 #[derive(Clone, Copy, Debug, PartialEq, Eq)]
 pub enum Query {
-    /// A number of lines, the second field, from a line on, the first.
+    /// A range of lines. The fields are the first line and the number of lines.
     Lines(usize, usize),
-    /// The column of the screen at which to draw the caret before the character at a position.
+    /// The screen column at which to draw the caret before the character at a position.
     Caret(usize),
-    /// The character at a column of the screen, the second field, in a line, the first.
+    /// The character at a place on the screen. The fields are the line and the screen column.
     Hit(usize, usize),
     /// The grapheme cluster of the character at a position.
     Cluster(usize),
     /// The numbers of characters, lines and paragraphs.
     Size,
-    /// A number of characters, the second field, from a position on, the first.
+    /// A range of characters. The fields are the position of the first character and the number of
+    /// characters.
     Text(usize, usize),
 }
 
-// Returns the number of columns of the screen to the left of a line's shown part.
+// Returns the number of screen columns to the left of a line's shown part.
 fn screen_left(line: &VisualLine<'_>, width: u16, print: &Print) -> usize
     ensures value { result ≡ screen_left print.now width line.now }
     ensures fits { result < 2 ^ 32 }
@@ -46,7 +47,7 @@ fn screen_left(line: &VisualLine<'_>, width: u16, print: &Print) -> usize
     }
 }
 
-// Returns the number of columns of the screen to the left of a line that does not exist yet, by its level.
+// Returns the number of screen columns to the left of a line that does not exist yet, given its base level.
 fn empty_left(level: u8, width: u16, print: &Print) -> usize
     ensures value { result ≡ empty_left print.now width level }
     ensures fits { result < 2 ^ 32 }
@@ -72,7 +73,7 @@ fn caret_answer<S: ParagraphStore<Kept>>(session: &Session<S>, print: &Print, po
     told(&[caret.line, left + caret.column, caret.level as usize])
 }
 
-// Whether the character at a visual position of a line is at an odd level.
+// Returns whether the character at a visual position of a line has an odd level.
 fn is_odd_at(line: &VisualLine<'_>, place: Option<usize>) -> bool
     ensures { result ≡ is_odd_at line.now place }
 {
@@ -94,7 +95,7 @@ fn is_odd_level(line: &VisualLine<'_>, k: usize) -> bool
     }
 }
 
-// Returns the character at a column of the screen in a line.
+// Returns the character at a screen column of a line.
 fn screen_hit<S: ParagraphStore<Kept>>(
     session: &Session<S>,
     print: &Print,
@@ -152,7 +153,7 @@ fn size_answer<S: ParagraphStore<Kept>>(session: &Session<S>) -> Answer
     ])
 }
 
-// Writes `count` lines from line `first` on, after `written` bytes.
+// Writes `count` lines, starting at line `first`. `written` is the number of bytes already written.
 fn write_lines<W: Sink, S: ParagraphStore<Kept>>(
     session: &Session<S>,
     writer: &mut W,
@@ -180,7 +181,7 @@ fn write_lines<W: Sink, S: ParagraphStore<Kept>>(
     }
 }
 
-// Writes `count` characters from a position on, after `written` bytes.
+// Writes `count` characters, starting at `pos`. `written` is the number of bytes already written.
 fn write_part<W: Sink, S: ParagraphStore<Kept>>(
     session: &Session<S>,
     writer: &mut W,
@@ -207,8 +208,8 @@ fn write_part<W: Sink, S: ParagraphStore<Kept>>(
     write_bytes(writer, part, b"\n")
 }
 
-/// Writes the reply to a query after `written` bytes, and returns the total. Allocates only for a query for
-/// the grapheme cluster of a character.
+/// Writes the reply to a query. `written` is the number of bytes already written, and the returned total
+/// includes it. Allocates only if the query is for a grapheme cluster.
 pub fn write_query<W: Sink, S: ParagraphStore<Kept>>(
     session: &Session<S>,
     writer: &mut W,
