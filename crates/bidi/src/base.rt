@@ -13,16 +13,16 @@ pub enum Base {
     Rtl,
     /// Always level 0.
     Ltr,
-    /// By the first strong character; level 1 if there is none.
+    /// The level of the first strong character, or level 1 if there is none.
     WeakRtl,
-    /// By the first strong character; level 0 if there is none.
+    /// The level of the first strong character, or level 0 if there is none.
     WeakLtr,
 }
 
 impl Default for Base {
     ghost use Rattle.bidi.specs.declared.base.Base.TheVariants.{WeakLtr};
 
-    // The default of the command line.
+    // The command line has the same default.
     ghost is_default = { λ base. base ≡ WeakLtr };
 
     fn default() -> Base {
@@ -62,11 +62,12 @@ fn base_level_in<C: Classes>(classes: &C, base: Base) -> u8
     }
 }
 
-/// Returns the level of the first strong character outside all isolates (P2 and P3).
+/// Returns the level of the first strong character outside all isolates (P2 and P3), or `None` if there is
+/// none.
 pub fn first_strong_level<C: Classes>(classes: &C) -> Option<u8>
     ensures { result ≡ first_strong_level (C.all classes.now) }
 {
-    // The number of open isolates. A character is outside all of them if it is 0.
+    // The number of open isolates. If it is 0, the character is outside all isolates.
     let mut depth = 0;
     for k in 0..classes.len() {
         let class = classes.class_at(k);
@@ -79,7 +80,7 @@ pub fn first_strong_level<C: Classes>(classes: &C) -> Option<u8>
     None
 }
 
-/// Returns the level of a strong class.
+/// Returns the level of a strong class, or `None` for any other class.
 pub(crate) fn strong_level(class: BidiClass) -> Option<u8>
     ensures { result ≡ (if is_strong class then Some (strong_level class) else None) }
 {
@@ -90,8 +91,8 @@ pub(crate) fn strong_level(class: BidiClass) -> Option<u8>
     }
 }
 
-// The number of open isolates after a character of this class, if `depth` are open before it. A PDI closes
-// one, if any is open.
+// Returns the number of open isolates after a character of this class, given the number before it. A PDI
+// closes one isolate, if any is open.
 fn depth_after(class: BidiClass, depth: usize) -> usize
     requires { depth < usize.MAX }
     ensures { result ≡ (if is_initiator class then depth + 1 else

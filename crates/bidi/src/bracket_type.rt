@@ -1,4 +1,5 @@
-//! Characters as brackets (UAX #9, BD14 and BD15), independent of the characters themselves.
+//! Bracket types: whether a character opens or closes a pair of brackets, and which pair (UAX #9, BD14 and
+//! BD15).
 ghost use Rattle.std.specs.Prelude.{◌≡◌, ◌<◌, ◌≤◌, ℕ, false, length, slice_index_or, Bool};
 ghost use Rattle.ucd.specs.Tables.{bracket_of};
 ghost use Rattle.bidi.specs.BracketTypes.{is_bracket, type_by};
@@ -6,13 +7,13 @@ ghost use Rattle.bidi.specs.Plain.{has_bracket_in};
 
 use ucd::{Properties, Tables};
 
-/// A character as a bracket. A closing bracket makes a pair with an opening one of the same number. In
-/// bracket types made from tables, the number is the code point of the closing bracket of the pair. U+2329
-/// counts as U+3008, and U+232A as U+3009. Other callers may use any numbers, the same for both brackets of a
-/// pair.
+/// The bracket type of a character. An opening and a closing bracket form a pair if they have the same
+/// number. In bracket types made from tables, the number is the code point of the pair's closing bracket.
+/// U+2329 counts as U+3008, and U+232A as U+3009. Other callers may use any numbers, provided that both
+/// brackets of a pair have the same number.
 #[derive(Clone, Copy, Debug, PartialEq, Eq)]
 pub enum BracketType {
-    /// No bracket.
+    /// Not a bracket.
     Other,
     Opening(u32),
     Closing(u32),
@@ -21,7 +22,7 @@ pub enum BracketType {
 impl Default for BracketType {
     ghost use Rattle.bidi.specs.declared.bracket_type.BracketType.TheVariants.{Other};
 
-    // Most characters are no brackets.
+    // Most characters are not brackets.
     ghost is_default = { λ bracket. bracket ≡ Other };
 
     fn default() -> BracketType {
@@ -29,7 +30,7 @@ impl Default for BracketType {
     }
 }
 
-/// Returns a character's bracket type by the tables.
+/// Returns a character's bracket type according to the tables.
 pub(crate) fn bracket_type(tables: &Tables, character: char) -> BracketType
     ensures { result ≡ type_by (bracket_of tables.now character) character }
 {
@@ -45,14 +46,14 @@ pub(crate) fn bracket_type(tables: &Tables, character: char) -> BracketType
     }
 }
 
-/// Whether a bracket type is that of a bracket.
+/// Returns whether a bracket type is `Opening` or `Closing`.
 pub(crate) fn is_bracket(bracket: BracketType) -> bool
     ensures { result ≡ is_bracket bracket }
 {
     !matches!(bracket, BracketType::Other)
 }
 
-/// A character or bracket type, as input for a search for brackets.
+/// An item that may be a bracket, in a list that is searched for brackets.
 pub(crate) trait MaybeBracket {
     ghost is_one: { Self → Bool };
 
@@ -76,7 +77,7 @@ impl MaybeBracket for Properties {
     }
 }
 
-/// The least index of a bracket from `from` on, or else the length.
+/// Returns the index of the first bracket at or after `from`, or the length if there is none.
 pub(crate) fn next_bracket<T: MaybeBracket>(items: &[T], from: usize) -> usize
     requires { from ≤ length items.now }
     ensures reached { from ≤ result }

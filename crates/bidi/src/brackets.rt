@@ -1,5 +1,5 @@
-//! Bracket pairs and their directions (UAX #9, BD14 to BD16 and N0), from the bracket types of the characters
-//! of one isolating run sequence.
+//! Finds the bracket pairs of one isolating run sequence and their directions (UAX #9, BD14 to BD16 and N0),
+//! given the bracket types of its characters.
 ghost use Rattle.std.specs.Prelude.{◌≡◌, ℕ, ◌<◌, ◌≤◌, ◌&&◌, [], map, length, slice_index, List, OnOk, Option};
 ghost use Rattle.std.specs.Prelude.{Some, None};
 ghost use Rattle.std.specs.Prelude.{if◌then◌else◌, true, false, not};
@@ -22,17 +22,17 @@ use arrayvec::ArrayVec;
 use std::alloc::{AllocError, Global};
 use ucd::BidiClass;
 
-/// The greatest number of open brackets on the stack (BD16).
+/// The maximum number of open brackets on the stack (BD16).
 const MAX_OPENERS: usize = 63;
 
-// An opening bracket on the stack, and the closing bracket of its pair.
+// An opening bracket on the stack: its index in the sequence, and the number of its bracket type.
 #[derive(Clone, Copy, Debug, Default, PartialEq, Eq)]
 struct Opener {
     place: usize,
     pair: u32,
 }
 
-// U+2329 and U+232A count as U+3008 and U+3009.
+// Returns the canonical equivalent of a bracket: U+3008 for U+2329, and U+3009 for U+232A.
 fn canonical(character: u32) -> u32
     ensures { result ≡ canonical character }
 {
@@ -43,7 +43,7 @@ fn canonical(character: u32) -> u32
     }
 }
 
-// A character's bracket type in N0: only characters of type ON are brackets.
+// Returns a character's bracket type in N0, where only characters of type ON are brackets.
 fn bracket_in(bracket: BracketType, class: BidiClass) -> BracketType
     ensures { result ≡ (if is_other class then bracket else Other) }
 {
@@ -53,7 +53,8 @@ fn bracket_in(bracket: BracketType, class: BidiClass) -> BracketType
     }
 }
 
-// The newest opening bracket on the stack that a closing bracket matches, if there is one.
+// Returns the position on the stack of the newest opening bracket that a closing bracket matches, if there is
+// one.
 fn matching(openers: &[Opener], closer: u32) -> Option<usize>
     ensures { result ≡ newest openers.now closer }
 {
@@ -69,7 +70,7 @@ fn matching(openers: &[Opener], closer: u32) -> Option<usize>
 }
 
 // Pairs the closing bracket at `place` with the newest opening bracket that it matches, if there is one.
-// Removes that one and the newer ones.
+// Removes this opening bracket and all newer ones from the stack.
 fn close(
     openers: &mut ArrayVec<Opener, MAX_OPENERS>,
     closers: &mut [usize],
@@ -87,7 +88,7 @@ fn close(
     }
 }
 
-// Sets each item to the length.
+// Replaces the contents of `closers` with `len` items that are all `len`.
 fn fill(closers: &mut Vec<usize>, len: usize) -> Result<(), AllocError>
     ensures { OnOk result (closers.new.items ≡ closers_of [] len) }
 {
@@ -95,8 +96,8 @@ fn fill(closers: &mut Vec<usize>, len: usize) -> Result<(), AllocError>
     closers.resize(len, len)
 }
 
-/// Reused lists for the pairs of a sequence: its types before N0, and for each index that of its closing
-/// bracket.
+/// Reused lists for the bracket pairs of a sequence: its types before N0, and for each opening bracket of a
+/// pair, the index of the closing bracket.
 #[derive(Debug, Drop)]
 pub(crate) struct Pairs {
     before: Vec<BidiClass>,
@@ -111,7 +112,7 @@ impl Pairs {
         }
     }
 
-    /// Applies N0 to the types of a sequence, from its bracket types and its types before W1.
+    /// Applies N0 to the types of a sequence, given its bracket types and its types before W1.
     pub fn resolve(
         &mut self,
         kinds: &[BracketType],
@@ -136,7 +137,7 @@ impl Pairs {
     }
 }
 
-/// Replaces the contents of a list by types.
+/// Replaces the contents of `to` with the types in `from`.
 pub(crate) fn copy_types(from: &[BidiClass], to: &mut Vec<BidiClass>) -> Result<(), AllocError>
     ensures { OnOk result (to.new.items ≡ from.now) }
 {
@@ -144,7 +145,7 @@ pub(crate) fn copy_types(from: &[BidiClass], to: &mut Vec<BidiClass>) -> Result<
     to.extend_from_slice(from)
 }
 
-// For each opening bracket of a pair, sets its item of `closers` to the index of the closing bracket. Sets
+// For each opening bracket of a pair, sets its item in `closers` to the index of the closing bracket. Sets
 // all other items to the length.
 fn find_pairs(
     kinds: &[BracketType],
@@ -176,8 +177,8 @@ fn find_pairs(
     Ok(())
 }
 
-// The least index from `from` on, and before a limit, of a strong type in direction L if `left`, else in
-// direction R. Without one, the limit, or `from` if that is greater.
+// Returns the index of the first strong type in `from..limit` with a given direction: L if `left` is true, or
+// else R. If there is none, returns `limit`, or `from` if that is greater.
 fn next_toward(types: &[BidiClass], left: bool, from: usize, limit: usize) -> usize
     requires from { from ≤ length types.now }
     requires limit { limit ≤ length types.now }
@@ -193,7 +194,8 @@ fn next_toward(types: &[BidiClass], left: bool, from: usize, limit: usize) -> us
     at
 }
 
-// Whether a type is strong in direction L if `left`, else in direction R. Numbers count as R.
+// Returns whether a type is strong and has a given direction: L if `left` is true, or else R. Numbers count
+// as R.
 fn is_toward(left: bool, class: BidiClass) -> bool
     ensures { result ≡ is_toward left class }
 {
@@ -204,7 +206,8 @@ fn is_toward(left: bool, class: BidiClass) -> bool
     }
 }
 
-// N0: gives each pair its direction, in the order of the opening brackets. `before` are the types before N0.
+// Gives each pair its direction, in the order of the opening brackets (N0). `before` holds the types before
+// N0.
 fn resolve_brackets(
     types: &mut [BidiClass],
     before: &[BidiClass],
@@ -221,7 +224,8 @@ fn resolve_brackets(
         ≡ resolve_pairs embedding sos (map is_mark explicit.now) (closer_in closers.now) types.old }
 {
     let left = is_left(embedding);
-    // Before N0, there is no strong type of the direction from the pair's opening bracket up to the index.
+    // For each direction, the index at which the search for a strong type continues. Before N0, there is no
+    // such type between the pair's opening bracket and this index.
     let mut same = 0;
     let mut other = 0;
     let mut place = next_pair(closers, 0);
@@ -235,7 +239,8 @@ fn resolve_brackets(
     }
 }
 
-// The least index of an opening bracket of a pair from `from` on, or else the length.
+// Returns the index of the first opening bracket of a pair at or after `from`, or the length if there is
+// none.
 fn next_pair(closers: &[usize], from: usize) -> usize
     requires { from ≤ length closers.now }
     ensures reached { from ≤ result }
@@ -251,8 +256,9 @@ fn next_pair(closers: &[usize], from: usize) -> usize
     at
 }
 
-// Whether a strong type of a direction is inside a pair. `next` moves to the next index after the opening
-// bracket that had such a type before N0, or to the closing bracket.
+// Returns whether a strong type of a direction is inside a pair. Moves `next` to the first index inside the
+// pair that had such a type before N0. If there is none, moves `next` to the closing bracket or leaves it
+// beyond that.
 fn stands_inside(
     types: &[BidiClass],
     before: &[BidiClass],
@@ -275,13 +281,13 @@ fn stands_inside(
     if is_other(types[place]) {
         *next < closer
     } else {
-        // This bracket is one of the marks after an earlier bracket, and these have changed.
+        // This bracket is one of the marks after an earlier bracket, whose types have changed.
         next_toward(types, left, place + 1, closer) < closer
     }
 }
 
-// The direction of a pair, by whether a strong type of the embedding direction is inside, and one of the
-// other direction.
+// Returns the direction of a pair. `has_same` says whether a strong type of the embedding direction is inside
+// the pair. `has_other` says the same for the other direction.
 fn pair_direction(
     types: &[BidiClass],
     place: usize,
@@ -304,8 +310,8 @@ fn pair_direction(
     }
 }
 
-// The nearest strong type before an index, or `sos`. It is needed only for a pair that is then strong itself,
-// so the search for a later pair stops there.
+// Returns the nearest strong type before an index, or `sos`. This is only called for a pair that then becomes
+// strong itself, so the search for a later pair stops at this one.
 fn strong_before(types: &[BidiClass], place: usize, sos: BidiClass) -> BidiClass
     requires { place ≤ length types.now }
     ensures { result ≡ context sos types.now place }
@@ -344,7 +350,7 @@ fn side(left: bool) -> BidiClass
     if left { BidiClass::L } else { BidiClass::R }
 }
 
-// Whether a type is strong here, as numbers are.
+// Returns whether a type counts as strong in N0, as numbers do.
 fn is_direction(class: BidiClass) -> bool
     ensures { result ≡ is_direction class }
 {

@@ -5,21 +5,21 @@ ghost use Rattle.ucd.specs.Classes.{is_removed};
 
 use ucd::BidiClass;
 
-/// Whether a class is that of an isolate initiator (BD8).
+/// Returns whether characters of a class are isolate initiators (BD8).
 pub(crate) fn is_initiator(class: BidiClass) -> bool
     ensures { result ≡ is_initiator class }
 {
     matches!(class, BidiClass::LRI | BidiClass::RLI | BidiClass::FSI)
 }
 
-/// Whether a class is PDI.
+/// Returns whether a class is PDI.
 pub(crate) fn is_pdi(class: BidiClass) -> bool
     ensures { result ≡ is_pdi class }
 {
     matches!(class, BidiClass::PDI)
 }
 
-/// Whether X9 removes the characters of a class.
+/// Returns whether X9 removes the characters of a class.
 pub(crate) fn is_removed(class: BidiClass) -> bool
     ensures { result ≡ is_removed class }
 {

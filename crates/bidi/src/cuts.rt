@@ -6,8 +6,8 @@ ghost use Rattle.bidi.specs.Pieces.{ParagraphsArePieces};
 
 use ucd::{BidiClass, Tables};
 
-/// Whether there is a paragraph boundary between two adjacent characters: after each character of class B,
-/// but not between U+000D and U+000A if both have class B.
+/// Returns whether there is a paragraph boundary between two adjacent characters. There is one after each
+/// character of class B, but not between U+000D and U+000A if both have class B.
 pub fn is_cut(tables: &Tables, before: char, after: char) -> bool
     ensures { result ≡ cut (class_of tables.now) before after }
 {
@@ -17,7 +17,8 @@ pub fn is_cut(tables: &Tables, before: char, after: char) -> bool
     before != '\r' || after != '\n' || tables.bidi_class(after) != BidiClass::B
 }
 
-/// Returns the first paragraph boundary of a text, greater than 0 and less than the length.
+/// Returns the index of the first paragraph boundary in a text, greater than 0 and less than the length, or
+/// `None` if there is none.
 pub fn first_cut(tables: &Tables, text: &[char]) -> Option<usize>
     ensures place { result ≡ first_cut (cut (class_of tables.now)) text.now }
     ensures paragraphs { SplitsAt (cut (class_of tables.now)) text.now result }

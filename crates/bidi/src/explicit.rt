@@ -1,4 +1,5 @@
-//! Explicit levels and types (UAX #9, X1 to X9), in one pass with a stack of what is open.
+//! Finds explicit levels and types (UAX #9, X1 to X9) in one pass, with a stack of the open embeddings,
+//! overrides and isolates.
 ghost use Rattle.std.specs.Prelude.{◌≡◌, ◌≤◌, ◌∷◌, [], ◌++◌, OnOk, unwrap_or, if◌then◌else◌};
 ghost use Rattle.ucd.specs.Classes.{is_pdi, is_separator};
 ghost use Rattle.bidi.specs.Explicit.{level_above, override_of, close_embedding, close_isolate, open_after};
@@ -10,14 +11,14 @@ use arrayvec::ArrayVec;
 use std::alloc::{AllocError, Global};
 use ucd::BidiClass;
 
-/// The greatest explicit level (BD2).
+/// The maximum explicit level (BD2).
 const MAX_DEPTH: u8 = 125;
 
 /// The capacity of the stack of X1: one entry for each explicit level, and two more.
 const MAX_ENTRIES: usize = 127;
 
-/// The characters of a paragraph that X9 keeps: for each, in order, its class, its explicit level and its
-/// explicit type. The lists are reused for each paragraph.
+/// The class, explicit level and explicit type of each character of a paragraph that X9 keeps, in order. The
+/// lists are reused for each paragraph.
 #[derive(Debug, Drop)]
 pub(crate) struct Stayed {
     pub classes: Vec<BidiClass>,
@@ -34,7 +35,7 @@ impl Stayed {
         }
     }
 
-    // Empties the lists, and reserves capacity for `len` characters.
+    // Clears the lists, and reserves capacity for `len` characters.
     fn clear(&mut self, len: usize) -> Result<(), AllocError>
         ensures classes { OnOk result (self.new.classes.items ≡ []) }
         ensures levels { OnOk result (self.new.levels.items ≡ []) }
@@ -69,9 +70,9 @@ struct Status {
     is_isolate: bool,
 }
 
-// The open embeddings, overrides and isolates. The stack has the paragraph's status, and above it one for
-// each of them that has a level of its own. The counts are of those that overflowed, as X2 to X5c count them.
-// Embeddings are counted only up to the first isolate that overflowed.
+// The open embeddings, overrides and isolates. The stack holds the paragraph's status, and above it one
+// status for each of these that did not overflow. The overflow counts are those of X2 to X5c: embeddings
+// inside an isolate that overflowed are not counted.
 #[derive(Drop)]
 struct Openers {
     statuses: ArrayVec<Status, MAX_ENTRIES>,
@@ -98,7 +99,7 @@ impl Openers {
         }
     }
 
-    // Returns the state inside all open embeddings, overrides and isolates.
+    // Returns the state inside the innermost open embedding, override or isolate.
     fn status(&self) -> Status
         requires { AreOpeners self.now }
         ensures { IsInnermost self.now result }
@@ -145,7 +146,7 @@ impl Openers {
         }
     }
 
-    // Closes the innermost isolate, if there is one, and all that is open inside it (X6a).
+    // Closes the innermost isolate, if there is one, and everything that is open inside it (X6a).
     fn close_isolate(&mut self)
         requires { AreOpeners self.old }
         ensures { Follows self.old self.new close_isolate }
@@ -159,8 +160,8 @@ impl Openers {
         }
     }
 
-    // Closes the isolate of a PDI. The state of the PDI itself is read afterwards: it is outside that
-    // isolate.
+    // Closes an isolate if the character is a PDI. The state of the PDI itself is read afterwards, because
+    // the PDI is outside the isolate.
     fn reach(&mut self, class: BidiClass)
         requires { AreOpeners self.old }
         ensures { Follows self.old self.new (λ chain. if is_pdi class then close_isolate chain else chain) }
@@ -170,8 +171,8 @@ impl Openers {
         }
     }
 
-    // Opens or closes what a character other than PDI opens or closes. Its own state is read before: an
-    // isolate initiator is outside its isolate.
+    // Handles a character other than PDI, which may open or close an embedding, override or isolate. The
+    // character's own state is read before this, because an isolate initiator is outside its isolate.
     fn pass(&mut self, class: BidiClass)
         requires { AreOpeners self.old }
         ensures { Follows self.old self.new
@@ -190,7 +191,7 @@ impl Openers {
     }
 }
 
-// Removes the innermost isolate from the stack, and all above it.
+// Removes the innermost isolate and everything above it from the stack.
 fn pop_isolate(statuses: &mut ArrayVec<Status, MAX_ENTRIES>)
     ensures { ClosesIsolate statuses.old.items statuses.new.items }
 {
@@ -201,7 +202,7 @@ fn pop_isolate(statuses: &mut ArrayVec<Status, MAX_ENTRIES>)
     }
 }
 
-// The next odd or even level above a level, as an opener requires (X2 to X5b).
+// Returns the next odd or even level above a level, as the opener requires (X2 to X5b).
 fn level_above(opener: BidiClass, level: u8) -> u8
     requires { level ≤ 125 }
     ensures { result ≡ level_above opener level }
@@ -212,7 +213,8 @@ fn level_above(opener: BidiClass, level: u8) -> u8
     }
 }
 
-// The type that an override gives to the characters inside it (X4 and X5).
+// Returns the type that an override gives to the characters inside it (X4 and X5), or `None` for other
+// openers.
 fn override_of(opener: BidiClass) -> Option<BidiClass>
     ensures { result ≡ override_of opener }
 {
@@ -223,7 +225,7 @@ fn override_of(opener: BidiClass) -> Option<BidiClass>
     }
 }
 
-// Adds the level and the type of a character that X9 keeps.
+// Adds the class, level and type of a character that X9 keeps.
 fn push_character(
     stayed: &mut Stayed,
     status: Status,
@@ -243,8 +245,8 @@ fn push_character(
     }
 }
 
-/// Replaces the contents of `stayed` by the characters of a paragraph that X9 keeps, from its classes without
-/// FSI.
+/// Replaces the contents of `stayed` with the characters of a paragraph that X9 keeps. In `classes`, each FSI
+/// must already be replaced by LRI or RLI.
 pub(crate) fn explicit(
     classes: &[BidiClass],
     base: u8,

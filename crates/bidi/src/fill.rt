@@ -1,7 +1,7 @@
 //! Fills a range of a slice with a value.
 ghost use Rattle.std.specs.Prelude.{◌≡◌, ◌-◌, ◌≤◌, ◌++◌, length, take, drop, replicate};
 
-/// Sets each item from `start` up to `end` to a value.
+/// Sets each item in `start..end` to a value.
 pub(crate) fn fill<T: Copy>(items: &mut [T], start: usize, end: usize, value: T)
     requires order { start ≤ end }
     requires within { end ≤ length items.old }
@@ -9,7 +9,7 @@ pub(crate) fn fill<T: Copy>(items: &mut [T], start: usize, end: usize, value: T)
     ensures rest { drop end items.new ≡ drop end items.old }
 {
     if start < end {
-        // Most ranges have one item, which needs no call to fill a slice.
+        // Most ranges have one item, which is set without a call.
         items[start] = value;
         fill_more(items, start + 1, end, value);
     }

@@ -1,5 +1,5 @@
-//! Isolate initiators: their matching PDIs (UAX #9, BD9), and the direction of FSI by the first strong
-//! character (X5c).
+//! Isolate initiators: their matching PDIs (UAX #9, BD9), and the direction of an FSI, found from the first
+//! strong character inside it (X5c).
 ghost use Rattle.std.specs.Prelude.{◌≡◌, ◌+◌, ◌-◌, ◌<◌, ◌==◌, true, IfOk, OnOk, if◌then◌else◌};
 ghost use Rattle.std.specs.Prelude.{length, take, slice_index, slice_set};
 ghost use Rattle.std.specs.List.{list_any};
@@ -14,9 +14,9 @@ use crate::classes::{is_initiator, is_pdi};
 use std::alloc::{AllocError, Global};
 use ucd::BidiClass;
 
-/// Reused lists for the matches of isolate initiators. One has for each index the matching PDI of the
-/// initiator there, or the length if there is no initiator or no match. The other has the initiators that are
-/// not matched yet.
+/// Reused lists for matching isolate initiators with PDIs. `found` has an item for each index: the index of
+/// the PDI that matches the initiator there, or the length if there is no initiator or no match. `pending`
+/// has the indices of the initiators that are not matched yet.
 #[derive(Debug, Drop)]
 pub(crate) struct Isolates {
     pub found: Vec<usize>,
@@ -32,7 +32,7 @@ impl Isolates {
     }
 }
 
-/// Finds the matches of the initiators of a list.
+/// Finds the matching PDI of each isolate initiator in a list of classes.
 pub(crate) fn find_matches(
     classes: &[BidiClass],
     found: &mut Vec<usize>,
@@ -55,7 +55,8 @@ pub(crate) fn find_matches(
     Ok(())
 }
 
-/// Finds the matches of the initiators of a list, unless they are known.
+/// Finds the matching PDI of each isolate initiator in a list of classes, unless the matches are already
+/// known.
 pub(crate) fn find_or_keep_matches(
     classes: &[BidiClass],
     is_found: bool,
@@ -71,7 +72,7 @@ pub(crate) fn find_or_keep_matches(
     find_matches(classes, &mut isolates.found, &mut isolates.pending)
 }
 
-// Matches the last pending initiator, and removes it.
+// Matches the last pending initiator, if there is one, with the PDI at `at`, and removes it from `pending`.
 fn close(found: &mut [usize], pending: &mut Vec<usize>, at: usize)
     requires { 0 < length pending.old.items
         → slice_index pending.old.items (length pending.old.items - 1) < length found.old }
@@ -84,8 +85,8 @@ fn close(found: &mut [usize], pending: &mut Vec<usize>, at: usize)
     }
 }
 
-/// Writes the classes of a paragraph, with each FSI replaced by LRI or RLI (X5c). Returns whether `isolates`
-/// has the matches of the initiators, which are the same before and after.
+/// Writes the classes of a paragraph to `acting`, with each FSI replaced by LRI or RLI (X5c). Returns whether
+/// `isolates` contains the matches of the initiators, which the replacement does not change.
 pub(crate) fn direct(
     classes: &[BidiClass],
     isolates: &mut Isolates,
@@ -120,7 +121,7 @@ fn is_first_strong(class: BidiClass) -> bool
     matches!(class, BidiClass::FSI)
 }
 
-// The class of a character, with FSI replaced by LRI or RLI.
+// Returns the class of a character, with FSI replaced by LRI or RLI.
 fn acting_class(classes: &[BidiClass], matches: &[usize], at: usize) -> BidiClass
     requires within { at < length classes.now }
     requires matches { matches.now ≡ matches_of classes.now }
@@ -137,8 +138,8 @@ fn acting_class(classes: &[BidiClass], matches: &[usize], at: usize) -> BidiClas
     }
 }
 
-// The level of the first strong character between an initiator and its match. Skips each nested isolate in
-// one step.
+// Returns the level of the first strong character between an initiator and its match. Skips each nested
+// isolate in one step.
 fn first_strong_level(classes: &[BidiClass], matches: &[usize], initiator: usize) -> Option<u8>
     requires within { initiator < length classes.now }
     requires opens { is_initiator (class_at classes.now initiator) ≡ true }
@@ -159,7 +160,8 @@ fn first_strong_level(classes: &[BidiClass], matches: &[usize], initiator: usize
     None
 }
 
-// The index after a character, or after the match if it is an isolate initiator.
+// Returns the index after a character or, if the character is an isolate initiator, the index after its
+// match.
 fn place_after(class: BidiClass, found: usize, at: usize) -> usize
     requires at { at + 1 < usize.MAX }
     requires found { found + 1 < usize.MAX }

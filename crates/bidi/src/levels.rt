@@ -18,7 +18,7 @@ use crate::sequences::direction;
 use std::alloc::{AllocError, Global};
 use ucd::BidiClass;
 
-/// The input for a paragraph's levels: its bracket types, its classes and its base level.
+/// What the levels of a paragraph depend on: its bracket types, its classes and its base level.
 #[derive(Clone, Copy)]
 pub(crate) struct Classified<'a> {
     pub brackets: Brackets<'a>,
@@ -35,8 +35,8 @@ pub(crate) struct Work {
     lists: Lists,
 }
 
-// Reused lists for the sequences of the characters that X9 keeps. They have the matches of their initiators,
-// the starts of runs that continue an earlier one, one sequence, and the levels so far.
+// Reused lists for the sequences of the characters that X9 keeps. They hold the matches of the isolate
+// initiators, the starts of the runs that continue an earlier run, one sequence, and the levels found so far.
 #[derive(Debug, Drop)]
 struct Lists {
     isolates: Isolates,
@@ -66,7 +66,8 @@ impl Lists {
     }
 }
 
-// Finds the levels of the characters that X9 keeps. Their matches may be known.
+// Finds the levels of the characters that X9 keeps. If `is_found` is true, the matches of the isolate
+// initiators are already known.
 fn resolve_stayed(
     brackets: &Brackets<'_>,
     base: u8,
@@ -120,7 +121,7 @@ fn stayed_brackets(
     Ok(())
 }
 
-// Replaces the contents of `brackets` likewise, if the paragraph has any brackets.
+// Replaces the contents of `brackets` in the same way, but only if the paragraph has any brackets.
 fn any_stayed_brackets(
     all: &Brackets<'_>,
     classes: &[BidiClass],
@@ -136,8 +137,8 @@ fn any_stayed_brackets(
     stayed_brackets(all.types, classes, brackets)
 }
 
-// The levels of all characters: one that X9 removed has the level of the nearest kept one before it, else the
-// paragraph level.
+// Writes the levels of all characters. A character that X9 removed gets the level of the nearest kept
+// character before it, or the paragraph level if there is none.
 fn put_back(
     classes: &[BidiClass],
     base: u8,
@@ -162,7 +163,8 @@ fn put_back(
     Ok(())
 }
 
-// Whether the matches are known and X9 removed nothing, so that they are those of the kept characters.
+// Returns whether the matches are known and X9 removed nothing. If so, they are also the matches of the kept
+// characters.
 fn are_still_found(is_found: bool, stayed: &[BidiClass], acting: &[BidiClass]) -> bool
     ensures { result ≡ true → (is_found ≡ true) × (length stayed.now ≡ length acting.now) }
 {
@@ -170,7 +172,7 @@ fn are_still_found(is_found: bool, stayed: &[BidiClass], acting: &[BidiClass]) -
 }
 
 /// Finds the levels of a paragraph (X1 to I2) from its classes, in which each FSI is already replaced by LRI
-/// or RLI. The matches of its isolates may be known.
+/// or RLI. If `is_found` is true, the matches of its isolate initiators are already known.
 pub(crate) fn resolve_acting(
     paragraph: &Classified<'_>,
     is_found: bool,
@@ -198,7 +200,8 @@ pub(crate) fn resolve_acting(
     Ok(())
 }
 
-/// Finds the levels of a paragraph by all rules, from its classes. Another list has the classes without FSI.
+/// Finds the levels of a paragraph (X1 to I2) from its classes. `acting` is a reused list for the classes
+/// with each FSI replaced.
 pub(crate) fn resolve_classes(
     paragraph: &Classified<'_>,
     acting: &mut Vec<BidiClass>,
@@ -218,8 +221,8 @@ pub(crate) fn resolve_classes(
     resolve_acting(&paragraph, is_found, work, levels)
 }
 
-/// Finds the levels of a paragraph that has no openers, no closers and no characters that X9 removes. It is a
-/// single sequence.
+/// Finds the levels of a paragraph that has no openers, no closers and no characters that X9 removes. Such a
+/// paragraph is a single isolating run sequence.
 pub(crate) fn resolve_plain(
     paragraph: &Classified<'_>,
     work: &mut Work,

@@ -1,9 +1,9 @@
 //! The Unicode Bidirectional Algorithm (UAX #9): paragraph boundaries, base levels, and the levels of
 //! characters.
 //!
-//! `first_cut` splits a text into paragraphs. `base_level` and `resolve` return the levels of one. A
-//! `Resolver` does the same with reused lists, from properties that have been looked up. The rules for lines
-//! (L1 to L4) are in `reorder`.
+//! `first_cut` finds the end of a text's first paragraph. `base_level` and `resolve` return the base level
+//! and the levels of one paragraph. A `Resolver` finds the same levels from properties that have already been
+//! looked up, and reuses its lists. The rules for lines (L1 to L4) are in the crate `reorder`.
 //!
 //! ```rust
 //! let text: Vec<char> = "(שלום) ok".chars().collect(alloc)?;

@@ -1,4 +1,5 @@
-//! The neutral and implicit rules (UAX #9, N1, N2, I1 and I2), on the types of one isolating run sequence.
+//! Applies the neutral and implicit rules (UAX #9, N1, N2, I1 and I2) to the types of one isolating run
+//! sequence.
 ghost use Rattle.std.specs.Prelude.{◌≡◌, ◌<◌, ◌≤◌, false, length, map};
 ghost use Rattle.bidi.specs.Neutral.{is_neutral, between, neutral, implicit_level};
 ghost use Rattle.bidi.specs.Rows.{row_level, PutsRow};
@@ -9,8 +10,9 @@ use crate::fill::fill;
 use crate::sequences::direction;
 use ucd::BidiClass;
 
-/// Applies N1, N2, I1 and I2 in one pass. A run of neutrals has the direction of both its sides, or else the
-/// embedding direction. It waits until the type after it is read, and then its levels are written.
+/// Applies N1, N2, I1 and I2 in one pass. A run of neutrals gets the direction of the types on both sides if
+/// they have the same direction, or else the embedding direction. Its levels are written after the type that
+/// follows it has been read.
 pub(crate) fn resolve_neutral(
     types: &[BidiClass],
     level: u8,
@@ -22,7 +24,7 @@ pub(crate) fn resolve_neutral(
     requires bounded { level ≤ 125 }
     ensures { levels.new ≡ map (implicit_level level) (neutral (direction level) sos eos types.now) }
 {
-    // The nearest type that is not neutral, and the index after it, where a run may begin.
+    // The last type that was not neutral, and the index after it, where a run of neutrals may begin.
     let mut before = sos;
     let mut start = 0;
     let mut at = 0;
@@ -69,7 +71,7 @@ fn put_row(
     at
 }
 
-// The level of a run of neutrals, by the types on both sides.
+// Returns the level of a run of neutrals, given the types on both sides.
 fn row_level(level: u8, before: BidiClass, after: BidiClass) -> u8
     requires { level ≤ 125 }
     ensures { result ≡ row_level level before after }
@@ -93,7 +95,7 @@ fn is_neutral(class: BidiClass) -> bool
     )
 }
 
-// The direction of the neutrals between two types that are not neutral.
+// Returns the direction of the neutrals between two types that are not neutral.
 fn between(embedding: BidiClass, before: BidiClass, after: BidiClass) -> BidiClass
     ensures { result ≡ between embedding before after }
 {
@@ -104,7 +106,7 @@ fn between(embedding: BidiClass, before: BidiClass, after: BidiClass) -> BidiCla
     }
 }
 
-/// I1 and I2: the level of a character, by its type after N2.
+/// Returns the level of a character, given its type after N2 (I1 and I2).
 pub(crate) fn implicit_level(level: u8, class: BidiClass) -> u8
     requires { level ≤ 125 }
     ensures { result ≡ implicit_level level class }

@@ -1,4 +1,4 @@
-//! The levels of paragraphs before L1 (UAX #9, X1 to I2), with reused lists.
+//! Finds the levels of paragraphs before L1 (UAX #9, X1 to I2), reusing its lists.
 ghost use Rattle.std.specs.Prelude.{◌≡◌, ℕ, ◌<◌, ◌≤◌, map, length, replicate, IfOk, List, OnErr, OnOk};
 ghost use Rattle.std.specs.Prelude.{vec_capacity};
 ghost use Rattle.std.specs.Prelude.{Option, true, false, slice_index_or};
@@ -23,7 +23,8 @@ use crate::sequence_levels::Brackets;
 use std::alloc::{AllocError, Global};
 use ucd::{BidiClass, Properties, Tables};
 
-// Whether a character is no opener and no closer, and is kept by X9.
+// Returns whether a character of this class is kept by X9, and neither opens nor closes an embedding,
+// override or isolate.
 fn is_plain(class: BidiClass) -> bool
     ensures { result ≡ is_plain class }
 {
@@ -42,7 +43,7 @@ fn is_plain(class: BidiClass) -> bool
     )
 }
 
-// Whether a character raises no level above 0.
+// Returns whether a character of this class raises no level above 0.
 fn is_flat(class: BidiClass) -> bool
     ensures { result ≡ is_flat class }
 {
@@ -75,7 +76,7 @@ fn are_flat(classes: &[BidiClass]) -> bool
     classes.iter().all(|class| is_flat(*class))
 }
 
-// Whether no character raises a level above 0, from the properties of the characters.
+// Returns whether no character raises a level above 0, given the properties of the characters.
 fn are_flat_by(properties: &[Properties]) -> bool
     ensures { result ≡ list_all (λ one. is_flat (class_in one)) properties.now }
 {
@@ -91,12 +92,13 @@ fn has_brackets(brackets: &[BracketType]) -> bool
 // The facts that decide which rules a paragraph needs.
 #[derive(Clone, Copy)]
 struct Summary {
-    // Whether no character is an opener or a closer, and X9 removes none.
+    // Whether no character is an opener or a closer, and X9 removes no character.
     is_plain: bool,
     has_brackets: bool,
 }
 
-// Replaces the contents of a list by the classes in some properties, and summarizes them.
+// Replaces the contents of `classes` with the classes in `properties`, and returns a summary of the
+// properties.
 fn fill_classes(
     properties: &[Properties],
     classes: &mut Vec<BidiClass>,
@@ -133,7 +135,7 @@ fn put_classes(properties: &[Properties], classes: &mut [BidiClass]) -> Summary
     }
 }
 
-// Replaces the contents of a list by the bracket types of a text.
+// Replaces the contents of `brackets` with the bracket types of a text.
 fn fill_brackets(
     tables: &Tables,
     text: &[char],
@@ -149,7 +151,8 @@ fn fill_brackets(
     Ok(())
 }
 
-// Sets the bracket types of brackets. Only these are looked up in the tables.
+// Sets the bracket types of the characters that are brackets. Only these characters are looked up in the
+// tables.
 fn put_brackets(
     tables: &Tables,
     text: &[char],
@@ -168,8 +171,8 @@ fn put_brackets(
     }
 }
 
-// The bracket types of two characters; the first is the one looked up last. Most texts have brackets of one
-// kind.
+// A cache of the bracket types of two characters. `first` is the one last looked up in the tables. Most texts
+// have only one kind of brackets.
 #[derive(Clone, Copy)]
 struct Known {
     first: char,
@@ -211,7 +214,7 @@ impl Known {
     }
 }
 
-// The bracket types of a text, if it has any brackets.
+// Replaces the contents of `brackets` with the bracket types of a text, but only if it has any brackets.
 fn fill_any_brackets(
     tables: &Tables,
     text: &[char],
@@ -229,7 +232,7 @@ fn fill_any_brackets(
     fill_brackets(tables, text, properties, brackets)
 }
 
-// Replaces the contents of a list by `len` zeros.
+// Replaces the contents of `levels` with `len` zeros.
 fn put_zeros(levels: &mut Vec<u8>, len: usize) -> Result<(), AllocError>
     ensures ok { OnOk result (levels.new.items ≡ replicate len 0) }
     ensures full { OnErr result (vec_capacity levels.old < len) }
@@ -239,8 +242,8 @@ fn put_zeros(levels: &mut Vec<u8>, len: usize) -> Result<(), AllocError>
     Ok(())
 }
 
-/// Finds the levels of paragraphs, with reused lists. It does not allocate for a paragraph if their capacity
-/// is large enough.
+/// Finds the levels of paragraphs, reusing its lists. Does not allocate for a paragraph if the lists have
+/// enough capacity.
 #[derive(Debug)]
 pub struct Resolver {
     classes: Vec<BidiClass>,
@@ -272,9 +275,9 @@ impl Resolver {
     }
 
     /// Returns the base level of one paragraph, 0 or 1. Replaces the contents of `levels` with the level of
-    /// each character, from 0 to 126, before L1 is applied. The properties are those of the text's
-    /// characters. The text may be any list, also one that is no paragraph. After an allocation failure the
-    /// resolver can be used again, and `levels` is unspecified.
+    /// each character, from 0 to 126, before L1 is applied. `properties` must be the properties of the text's
+    /// characters. The text need not be a paragraph: it may be any list of characters. After an allocation
+    /// failure, the resolver can be used again, and the contents of `levels` are unspecified.
     pub fn resolve(
         &mut self,
         tables: &Tables,
@@ -303,7 +306,7 @@ impl Resolver {
         Ok(level)
     }
 
-    // Finds the levels of a paragraph with a base level, whatever its characters.
+    // Finds the levels of a paragraph with a given base level, whatever its characters are.
     fn resolve_raised(
         &mut self,
         tables: &Tables,
@@ -339,9 +342,9 @@ impl Resolver {
 
     /// Returns the base level of one paragraph, 0 or 1. Replaces the contents of `levels` with the level of
     /// each character, from 0 to 126, before L1 is applied. The levels depend on the classes and bracket
-    /// types alone: all texts and tables with these have the same levels. The list may be any, also one that
-    /// is no paragraph. After an allocation failure the resolver can be used again, and `levels` is
-    /// unspecified.
+    /// types alone: any text and tables with the same classes and bracket types have the same levels.
+    /// `classes` may be any list: it need not come from a paragraph. After an allocation failure, the
+    /// resolver can be used again, and the contents of `levels` are unspecified.
     pub fn resolve_by(
         &mut self,
         classes: &[BidiClass],
@@ -386,8 +389,8 @@ impl Resolver {
     }
 }
 
-// Finds the levels of a paragraph with a base level. The caller knows whether the paragraph has openers,
-// closers or characters that X9 removes.
+// Finds the levels of a paragraph with a given base level. `all_plain` must be true if the paragraph has no
+// openers, no closers and no characters that X9 removes, and false otherwise.
 fn resolve_classified(
     paragraph: &Classified<'_>,
     all_plain: bool,
@@ -408,7 +411,7 @@ fn resolve_classified(
     }
 }
 
-/// The properties of the characters of a text.
+/// Returns the properties of each character of a text.
 pub(crate) fn properties_of(
     alloc: Global,
     tables: &Tables,
@@ -419,8 +422,8 @@ pub(crate) fn properties_of(
     text.iter().map(|c| tables.properties(*c)).collect(alloc)
 }
 
-/// Returns the level of each character of one paragraph before L1, from 0 to 126 (UAX #9, X1 to I2). The text
-/// may be any list, also one that is no paragraph.
+/// Returns the level, from 0 to 126, of each character of one paragraph before L1 (UAX #9, X1 to I2). The
+/// text need not be a paragraph: it may be any list of characters.
 pub fn resolve(
     alloc: Global,
     tables: &Tables,
@@ -440,9 +443,9 @@ pub fn resolve(
     Ok(levels)
 }
 
-/// Returns the level of each character of one paragraph before L1, from 0 to 126 (UAX #9, X1 to I2), from the
-/// classes and bracket types of its characters. All texts and tables with these have the same levels. The
-/// list may be any, also one that is no paragraph.
+/// Returns the level, from 0 to 126, of each character of one paragraph before L1 (UAX #9, X1 to I2), given
+/// the classes and bracket types of its characters. Any text and tables with the same classes and bracket
+/// types have the same levels. `classes` may be any list: it need not come from a paragraph.
 pub fn resolve_by(
     alloc: Global,
     classes: &[BidiClass],

@@ -1,4 +1,4 @@
-//! The levels of isolating run sequences (UAX #9, W1 to I2), one sequence after another.
+//! Finds the levels of isolating run sequences (UAX #9, W1 to I2), one sequence at a time.
 ghost use Rattle.std.specs.Prelude.{◌≡◌, ◌-◌, ◌<◌, ◌≤◌, true, false, map, replicate, length, take, drop};
 ghost use Rattle.std.specs.Prelude.{IfSome, OnOk};
 ghost use Rattle.std.specs.List.{range_with_len};
@@ -23,11 +23,11 @@ use ucd::BidiClass;
 #[derive(Clone, Copy)]
 pub(crate) struct Brackets<'a> {
     pub types: &'a [BracketType],
-    /// If it is false, none of the characters is a bracket, and the list may be any.
+    /// If `false`, no character is a bracket, and `types` may be any list.
     pub has_any: bool,
 }
 
-/// The characters that X9 keeps, with what is known of them before their sequences are resolved.
+/// The characters that X9 keeps, with what is known about them before their sequences are resolved.
 #[derive(Clone, Copy)]
 pub(crate) struct Paragraph<'a> {
     pub brackets: Brackets<'a>,
@@ -36,7 +36,7 @@ pub(crate) struct Paragraph<'a> {
     pub matches: &'a [usize],
 }
 
-/// The level of a sequence, and the directions at both of its ends.
+/// The level of a sequence, and the directions at both ends (sos and eos).
 #[derive(Clone, Copy, Debug, PartialEq, Eq)]
 pub(crate) struct Sides {
     pub level: u8,
@@ -56,7 +56,7 @@ fn sides_of(paragraph: &Paragraph<'_>, places: &[usize]) -> Sides
     sides_between(paragraph, first, last)
 }
 
-// The level, sos and eos of a sequence that begins and ends at these indices.
+// Returns the level, sos and eos of a sequence whose first and last characters are at these indices.
 fn sides_between(paragraph: &Paragraph<'_>, first: usize, last: usize) -> Sides
     requires paragraph { IsReady paragraph.now }
     requires first { first < length paragraph.now.stayed.now.levels.items }
@@ -73,7 +73,7 @@ fn sides_between(paragraph: &Paragraph<'_>, first: usize, last: usize) -> Sides
     }
 }
 
-/// Finds the levels of a sequence, by all rules on its types, from W1 to I2.
+/// Finds the levels of a sequence from its types, using the rules W1 to I2.
 pub(crate) fn resolve_types(
     brackets: &Brackets<'_>,
     explicit: &[BidiClass],
@@ -98,7 +98,7 @@ pub(crate) fn resolve_types(
     Ok(())
 }
 
-// The bracket types of the characters from one index up to another.
+// Returns the bracket types of the characters in `start..end`.
 fn part<'a>(brackets: &Brackets<'a>, start: usize, end: usize) -> Brackets<'a>
     requires order { start ≤ end }
     requires within { brackets.now.has_any ≡ true → end ≤ length brackets.now.types.now }
@@ -116,7 +116,7 @@ fn part<'a>(brackets: &Brackets<'a>, start: usize, end: usize) -> Brackets<'a>
     }
 }
 
-// The types at the indices of a sequence.
+// Replaces the contents of `types` with the types at the indices of a sequence.
 fn fill_types(
     all: &[BidiClass],
     places: &[usize],
@@ -150,7 +150,7 @@ fn fill_brackets(
     Ok(())
 }
 
-// Replaces the contents of `brackets` likewise, if the paragraph has any brackets.
+// Replaces the contents of `brackets` in the same way, but only if the paragraph has any brackets.
 fn fill_any_brackets(
     all: &Brackets<'_>,
     places: &[usize],
@@ -166,7 +166,7 @@ fn fill_any_brackets(
     fill_brackets(all.types, places, brackets)
 }
 
-// Writes the level of each character of a sequence to its index.
+// Writes the level of each character of a sequence at the character's index.
 fn put_levels(levels: &mut [u8], places: &[usize], values: &[u8])
     requires within { AreWithin (length levels.old) places.now }
     requires length { length values.now ≡ length places.now }
@@ -220,7 +220,8 @@ impl Sequence {
         copy_types(&self.explicit, &mut self.types)
     }
 
-    // Resolves a run that is a sequence of its own, in place, and writes its levels.
+    // Resolves a level run that is a whole sequence, without collecting its characters, and writes its
+    // levels.
     fn resolve_run(
         &mut self,
         paragraph: &Paragraph<'_>,
@@ -271,7 +272,7 @@ impl Sequence {
         }
     }
 
-    // Resolves the sequence that begins at `start` in lists of its own, and writes its levels.
+    // Collects the sequence that begins at `start` in separate lists, resolves it, and writes its levels.
     fn resolve_gathered(
         &mut self,
         paragraph: &Paragraph<'_>,
@@ -332,7 +333,7 @@ pub(crate) fn resolve_runs(
     let mut start = 0;
     while start < levels.len() {
         let end = run_end(levels, start);
-        // A run that continues an earlier one belongs to the sequence of that one.
+        // A run that continues an earlier run belongs to the earlier run's sequence.
         if !continued[start] {
             sequence.resolve(paragraph, start, end, done)?;
         }

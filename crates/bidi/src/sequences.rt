@@ -23,7 +23,8 @@ pub(crate) fn direction(level: u8) -> BidiClass
     }
 }
 
-/// Returns the end of the run that begins at `start`: the least index after it with another level.
+/// Returns the end of the level run that begins at `start`: the first index after `start` with another level,
+/// or the length.
 pub(crate) fn run_end(levels: &[u8], start: usize) -> usize
     requires { start < length levels.now }
     ensures { IsRunEnd levels.now start result }
@@ -35,8 +36,8 @@ pub(crate) fn run_end(levels: &[u8], start: usize) -> usize
     end
 }
 
-/// Returns the start of the run that continues the run up to `end`, if there is one. That is the match of the
-/// run's last character, if a run begins there.
+/// Returns the start of the run that continues the run ending at `end`, if there is one. This is the match of
+/// the character before `end`, if a level run begins there.
 pub(crate) fn next_run(levels: &[u8], matches: &[usize], end: usize) -> Option<usize>
     requires within { (0 < end) × (end ≤ length levels.now) }
     requires matches { length matches.now ≡ length levels.now }
@@ -51,7 +52,7 @@ pub(crate) fn next_run(levels: &[u8], matches: &[usize], end: usize) -> Option<u
     }
 }
 
-// Adds the indices of a run.
+// Appends the indices of a run.
 fn push_places(places: &mut Vec<usize>, start: usize, end: usize) -> Result<(), AllocError>
     requires { start ≤ end }
     ensures { OnOk result (places.new.items ≡ places.old.items ++ range_with_len start (end - start)) }
@@ -63,7 +64,7 @@ fn push_places(places: &mut Vec<usize>, start: usize, end: usize) -> Result<(), 
     Ok(())
 }
 
-/// Replaces the contents of `places` by the indices of the sequence that begins at `first`, in order.
+/// Replaces the contents of `places` with the indices of the sequence that begins at `first`, in order.
 pub(crate) fn gather(
     classes: &[BidiClass],
     levels: &[u8],
@@ -100,8 +101,8 @@ pub(crate) fn sos(levels: &[u8], base: u8, first: usize) -> BidiClass
     direction(levels[first].max(before))
 }
 
-/// Returns the direction after a sequence's last character (X10). An initiator without a match is followed by
-/// the paragraph level.
+/// Returns the direction after a sequence's last character (X10). If that character is an isolate initiator
+/// without a match, the level after it is the paragraph level.
 pub(crate) fn eos(
     classes: &[BidiClass],
     levels: &[u8],
@@ -125,14 +126,14 @@ pub(crate) fn eos(
     direction(levels[last].max(after))
 }
 
-// Whether the character at an index is an initiator without a match.
+// Returns whether a character is an isolate initiator without a match.
 fn is_open(class: BidiClass, found: usize, len: usize) -> bool
     ensures { result ≡ (is_initiator class && (found == len)) }
 {
     is_initiator(class) && found == len
 }
 
-// The level after a character, for eos (X10).
+// Returns the level after a sequence's last character, for eos (X10).
 fn level_after(levels: &[u8], base: u8, is_open: bool, last: usize) -> u8
     requires { last < length levels.now }
     ensures { result ≡ (if is_open then base

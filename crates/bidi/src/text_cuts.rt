@@ -1,5 +1,5 @@
-//! Paragraph boundaries in UTF-8 text, found by its bytes. In Unicode's files only few characters end a
-//! paragraph, and the text between them is not decoded.
+//! Finds paragraph boundaries in the bytes of UTF-8 text. In Unicode's data files, only a few characters end
+//! a paragraph, so the text between them is not decoded.
 ghost use Rattle.std.specs.Prelude.{◌≡◌, ℕ, ◌<◌, ◌≤◌, ◌+◌, true, false, None, length, slice_index};
 ghost use Rattle.std.specs.Str.{IsCharBoundary};
 ghost use Rattle.ucd.specs.Tables.{class_of};
@@ -9,11 +9,12 @@ ghost use Rattle.bidi.specs.TextCuts.{AreUsual, FindsEnd, FindsEndAfter, BeginsA
 use crate::cuts::is_cut;
 use ucd::Tables;
 
-// The number of positions of a text that are tested together.
+// The number of text positions that are tested together.
 const AT_ONCE: usize = 16;
 
-/// Returns the first paragraph boundary of `before` followed by `text`, as the number of bytes of `text`
-/// before it. `before` has no boundary itself; the boundary may be directly after it.
+/// Finds the first paragraph boundary in `before` followed by `text`. Returns its byte index in `text`, or
+/// `None` if there is no boundary. `before` must contain no boundary. A boundary between `before` and `text`
+/// has index 0.
 pub fn first_cut_in_text(tables: &Tables, before: &[char], text: &str) -> Option<usize>
     requires uncut { SplitsAt (cut (class_of tables.now)) before.now None }
     ensures { FindsEndAfter (cut (class_of tables.now)) before.now text.now result }
@@ -24,14 +25,15 @@ pub fn first_cut_in_text(tables: &Tables, before: &[char], text: &str) -> Option
     first_end(tables, text, has_usual_separators(tables))
 }
 
-// Whether only U+0085, U+2029 and characters below U+0020 end a paragraph.
+// Returns whether only U+0085, U+2029 and characters below U+0020 end a paragraph.
 fn has_usual_separators(tables: &Tables) -> bool
     ensures { result ≡ true → AreUsual (cut (class_of tables.now)) }
 {
     tables.has_usual_separators()
 }
 
-// Whether a paragraph boundary is between the last character before a text, if there is one, and the text.
+// Returns whether there is a paragraph boundary between a text and the last character before it, if there is
+// such a character.
 fn begins_after(tables: &Tables, last: Option<char>, text: &str) -> bool
     ensures { BeginsAfter (cut (class_of tables.now)) last text.now result }
 {
@@ -41,7 +43,7 @@ fn begins_after(tables: &Tables, last: Option<char>, text: &str) -> bool
     is_cut(tables, last, first)
 }
 
-// Returns the length of the first paragraph of a text in bytes, if another follows it.
+// Returns the length in bytes of a text's first paragraph, if another paragraph follows it.
 fn first_end(tables: &Tables, text: &str, is_usual: bool) -> Option<usize>
     requires { is_usual ≡ true → AreUsual (cut (class_of tables.now)) }
     ensures { FindsEnd (cut (class_of tables.now)) text.now result }
@@ -63,8 +65,8 @@ fn first_end(tables: &Tables, text: &str, is_usual: bool) -> Option<usize>
     }
 }
 
-// Returns a number of bytes at the front of a text in which no paragraph separator begins: 0 if the
-// separators are not the usual ones.
+// Returns the length in bytes of a prefix of the text in which no paragraph separator begins. The length is 0
+// if the separators are not the usual ones.
 fn plain_len(text: &str, is_usual: bool) -> usize
     ensures boundary { IsCharBoundary text.now result }
     ensures plain { (k : ℕ) → k < result → leads_at text.now k ≡ false }
@@ -83,7 +85,7 @@ fn next_lead(bytes: &[u8]) -> usize
     ensures before { (k : ℕ) → k < result → leads_at bytes.now k ≡ false }
     ensures here { result < length bytes.now → leads_at bytes.now result ≡ true }
 {
-    // In a run of separators, only the first is tested.
+    // In a run of separators, this tests only one position per separator.
     if bytes.is_empty() || is_lead(bytes, 0) {
         return 0;
     }
@@ -97,8 +99,8 @@ fn next_lead(bytes: &[u8]) -> usize
     at
 }
 
-// Whether a paragraph separator may begin before the last two bytes. Reads all bytes, which is faster than
-// leaving the loop at the first.
+// Returns whether a paragraph separator may begin anywhere before the last two bytes. Reads all bytes, which
+// is faster than leaving the loop early.
 fn has_lead(bytes: &[u8]) -> bool
     ensures { result ≡ false → (k : ℕ) → k + 2 < length bytes.now → leads_at bytes.now k ≡ false }
 {
@@ -109,7 +111,7 @@ fn has_lead(bytes: &[u8]) -> bool
     any
 }
 
-// Whether a paragraph separator may begin at an index.
+// Returns whether a paragraph separator may begin at an index.
 fn is_lead(bytes: &[u8], at: usize) -> bool
     requires { at < length bytes.now }
     ensures { result ≡ leads_at bytes.now at }
@@ -124,14 +126,14 @@ fn is_lead(bytes: &[u8], at: usize) -> bool
     may_lead(first, byte_at(bytes, at + 1), byte_at(bytes, at + 2))
 }
 
-// The byte at an index, or 0 past the end.
+// Returns the byte at an index, or 0 past the end.
 fn byte_at(bytes: &[u8], at: usize) -> u8
     ensures { result ≡ slice_index bytes.now at }
 {
     if at < bytes.len() { bytes[at] } else { 0 }
 }
 
-// Whether three bytes may begin a paragraph separator. Has no branch.
+// Returns whether a paragraph separator may begin with these three bytes. Has no branches.
 fn may_lead(first: u8, second: u8, third: u8) -> bool
     ensures { result ≡ may_lead first second third }
 {

@@ -1,4 +1,4 @@
-//! The weak rules (UAX #9, W1 to W7), in one pass over the types of one isolating run sequence.
+//! Applies the weak rules (UAX #9, W1 to W7) in one pass over the types of one isolating run sequence.
 ghost use Rattle.std.specs.Prelude.{◌≡◌, ◌<◌, ◌≤◌, true, length, not, if◌then◌else◌};
 ghost use Rattle.ucd.specs.Classes.{class_at, is_strong};
 ghost use Rattle.bidi.specs.Waiting.{mark_type, digit_type, number_type, written, completes, row_after};
@@ -9,35 +9,36 @@ ghost use Rattle.bidi.specs.Weak.{is_left, mark_after, w3_type, weak};
 use crate::fill::fill;
 use ucd::BidiClass;
 
-// The state before an index: the type before it, and which types wait for the type at the index.
+// The state before an index: the type before it, and which earlier types are pending until the type at the
+// index is read.
 #[derive(Clone, Copy, Debug, PartialEq, Eq)]
 enum Row {
-    // No type that W4 to W7 look back at.
+    // No type that W4 to W7 need to know about.
     Nothing,
     // A European number.
     European,
     // An Arabic number.
     Arabic,
-    // European terminators after a European number, which are numbers now.
+    // European terminators after a European number. They have become numbers (W5).
     EuropeanTerminators,
-    // A separator after a European number, which waits for another number.
+    // A separator after a European number, pending until the next type is read.
     EuropeanSeparator,
-    // A common separator after an Arabic number, which waits for another number.
+    // A common separator after an Arabic number, pending until the next type is read.
     ArabicSeparator,
-    // A run of European terminators, which wait for a European number.
+    // A run of European terminators, pending until the type after the run is read.
     Terminators,
 }
 
-/// Applies W1 to W7 in one pass, and reads each type once. A separator or terminator that the next types may
-/// make a number waits as ON, with its run.
+/// Applies W1 to W7 in one pass that reads each type once. A separator, or a run of terminators, is pending
+/// while a later type may still turn it into a number. A pending type is ON.
 pub(crate) fn resolve_weak(types: &mut [BidiClass], sos: BidiClass)
     ensures { types.new ≡ weak sos types.old }
 {
-    // The nearest type that is not NSM, and the nearest strong one, as they were before W2.
+    // The last type that was not NSM, and the last strong type, both as they were before W2.
     let mut before = sos;
     let mut strong = sos;
     let mut row = Row::Nothing;
-    // The start of the types that wait.
+    // The start of the pending types.
     let mut start = 0;
     let mut at = 0;
     while at < types.len() {
@@ -90,7 +91,8 @@ fn settle_row(types: &mut [BidiClass], start: usize, class: BidiClass) -> usize
     at
 }
 
-// Whether only W3 can change a type, whatever is before and after it. Most types are such.
+// Returns whether no rule but W3 can change a type, whatever is before and after it. This holds for most
+// types in a text.
 fn is_settled(class: BidiClass) -> bool
     ensures { result ≡ is_settled class }
 {
@@ -105,7 +107,7 @@ fn is_settled(class: BidiClass) -> bool
     )
 }
 
-// Whether W4 to W7 can change a type.
+// Returns whether W4 to W7 can change a type.
 fn is_weak(class: BidiClass) -> bool
     ensures { result ≡ is_weak class }
 {
@@ -115,7 +117,7 @@ fn is_weak(class: BidiClass) -> bool
     )
 }
 
-// W1: NSM gets the type of the character before it.
+// Applies W1: NSM gets the type of the character before it.
 fn mark_type(before: BidiClass, class: BidiClass) -> BidiClass
     ensures { result ≡ mark_type before class }
 {
@@ -125,7 +127,7 @@ fn mark_type(before: BidiClass, class: BidiClass) -> BidiClass
     }
 }
 
-// W2: a European number after AL becomes an Arabic number.
+// Applies W2: a European number after AL becomes an Arabic number.
 fn digit_type(strong: BidiClass, class: BidiClass) -> BidiClass
     ensures { result ≡ digit_type strong class }
 {
@@ -141,14 +143,14 @@ fn is_left(class: BidiClass) -> bool
     matches!(class, BidiClass::L)
 }
 
-// W7: a European number after L becomes L.
+// Applies W7: a European number after L becomes L.
 fn number_type(left: bool) -> BidiClass
     ensures { result ≡ number_type left }
 {
     if left { BidiClass::L } else { BidiClass::EN }
 }
 
-// W5 to W7: the type that is written, which is ON while it waits.
+// Returns the type to write (W5 to W7), which is ON for a pending type.
 fn written(row: Row, left: bool, class: BidiClass) -> BidiClass
     ensures { result ≡ written row left class }
 {
@@ -161,7 +163,7 @@ fn written(row: Row, left: bool, class: BidiClass) -> BidiClass
     }
 }
 
-// W4 and W5: whether a type makes the pending types numbers.
+// Returns whether a type turns the pending types into numbers (W4 and W5).
 fn completes(row: Row, class: BidiClass) -> bool
     ensures { result ≡ completes row class }
 {
@@ -208,7 +210,7 @@ fn mark_after(before: BidiClass) -> BidiClass
     }
 }
 
-// The nearest type that is not NSM, after a character of this type.
+// Returns the last type that is not NSM, after a character of type `class`.
 fn unmarked_after(class: BidiClass, before: BidiClass) -> BidiClass
     ensures { result ≡ (if not (is_mark class) then class else before) }
 {
@@ -218,7 +220,7 @@ fn unmarked_after(class: BidiClass, before: BidiClass) -> BidiClass
     }
 }
 
-// The nearest strong type, after a character of this type.
+// Returns the last strong type, after a character of type `class`.
 fn strong_after(class: BidiClass, strong: BidiClass) -> BidiClass
     ensures { result ≡ (if is_strong class then class else strong) }
 {

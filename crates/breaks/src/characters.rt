@@ -1,4 +1,5 @@
-//! The characters of a paragraph as input: their properties are known, or looked up once each.
+//! The characters of a paragraph as input. Their properties are already known, or are looked up once for each
+//! character.
 ghost use Rattle.std.specs.Prelude.{◌≡◌, ◌<◌, ◌∷◌, List, MatchOption, length, map, slice_index_or};
 ghost use Rattle.ucd.specs.Properties.{properties_of};
 ghost use Rattle.ucd.specs.declared.properties.Properties.{Properties};
@@ -8,7 +9,7 @@ use ucd::{Properties, Tables};
 pub trait Characters: Copy {
     ghost all: { Self → List Properties };
 
-    /// Returns the first character, and those after it.
+    /// Returns the properties of the first character, and the characters after it.
     fn split_first(&self) -> Option<(Properties, Self)>
         ensures cases { MatchOption result (length (all self.now) ≡ 0)
             (λ p. all self.now ≡ p.0 ∷ all p.1) };
@@ -46,7 +47,7 @@ impl Characters for Known<'_> {
     }
 }
 
-/// Characters that are looked up when they are read.
+/// Characters whose properties are looked up when they are read.
 #[derive(Clone, Copy)]
 pub struct LookedUp<'a> {
     pub tables: &'a Tables,

@@ -1,8 +1,8 @@
-//! The Unicode Line Breaking Algorithm (UAX #14): at which positions of a paragraph a line may, must or may
+//! The Unicode Line Breaking Algorithm (UAX #14), which finds where in a paragraph a line may, must or must
 //! not end.
 //!
-//! `marks` returns the mark of the position after each character. `marks_into` writes the same to a reused
-//! list. The crate `lines` finds where lines end at a width.
+//! `marks` returns the break mark after each character. `marks_into` writes the same marks to a reused list.
+//! The crate `lines` finds where lines end at a given width.
 //!
 //! ```rust
 //! let text: Vec<char> = "to go".chars().collect(alloc)?;

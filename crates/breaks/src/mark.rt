@@ -14,10 +14,10 @@ use crate::walk::{Walk, mark_alone};
 use std::alloc::{AllocError, Global};
 use ucd::{Properties, Tables};
 
-/// Whether a line may end at a position of a paragraph, which is after one of its characters.
+/// Whether a line may or must end after a character of a paragraph.
 #[derive(Clone, Copy, Debug, PartialEq, Eq)]
 pub enum Mark {
-    /// No line ends there.
+    /// A line must not end there.
     Never,
     /// A line may end there.
     May,
@@ -25,11 +25,11 @@ pub enum Mark {
     Must,
 }
 
-/// Returns the mark of the position after each character of a paragraph (UAX #14, LB1 to LB31, as in
-/// docs/reference.md). The last one is `Must`. With `whole_numbers`, no line ends inside a number, in place
-/// of LB25 (section 8.2, example 7).
+/// Returns the break mark after each character of a paragraph (UAX #14, LB1 to LB31, as in
+/// docs/reference.md). The last mark is `Must`. With `whole_numbers`, another rule replaces LB25: no line
+/// ends inside a number (section 8.2, example 7).
 ///
-/// Allocates the list of marks and nothing else.
+/// Allocates only the list of marks.
 pub fn marks(
     alloc: Global,
     tables: &Tables,
@@ -52,7 +52,7 @@ pub fn marks(
     Ok(marks)
 }
 
-/// Replaces the contents of a list by the same marks, from properties that have been looked up.
+/// Replaces the contents of a list with the same marks, given properties that have already been looked up.
 ///
 /// Allocates only if the list's capacity is less than the number of characters.
 pub fn marks_into(
@@ -95,7 +95,8 @@ fn mark_all<C: Characters>(
     marks[last] = Mark::Must;
 }
 
-// The mark before a character, from its outcome and, if that waits, from the characters after it.
+// Returns the mark before a character, given its outcome. If the outcome is `WAITS`, the mark also depends on
+// the characters after that character.
 fn mark_before<C: Characters>(
     characters: C,
     after: usize,
@@ -114,8 +115,8 @@ fn mark_before<C: Characters>(
     }
 }
 
-// Whether the base after the next one is NU, from the characters from an index on. Only characters that are
-// attached to the next base are read twice.
+// Returns whether the first base at or after an index is NU. Only characters that are attached to the base
+// before that index are read twice.
 fn is_before_digit<C: Characters>(characters: C, from: usize) -> bool
     requires { from ≤ length (C.all characters) }
     ensures { result ≡ is_before_digit (map character_by (drop from (C.all characters))) }
@@ -134,8 +135,8 @@ pub fn marks_are_as_many(tables: &Tables, text: &[char], whole_numbers: bool)
     ensures { length (marks_of tables.now whole_numbers text.now) ≡ length text.now }
 {}
 
-/// States, as a theorem (LB3), that the last mark of a paragraph is `Must`, for any tables, with whole
-/// numbers or without.
+/// States, as a theorem (LB3), that the last mark of a paragraph is `Must`, for any tables, with or without
+/// whole numbers.
 pub fn paragraphs_end_at_must()
     ensures { (tables : Tables) (whole_numbers : Bool) (text : List ℕ) → 0 < length text
         → slice_get (marks_of tables whole_numbers text) (length text - 1) ≡ Some Must }

@@ -1,5 +1,5 @@
-//! The symbol of a character: all that the break rules need to know about it (UAX #14: its class after LB1,
-//! and for LB30 whether a parenthesis is wide).
+//! The symbol of a character: its class after LB1 (UAX #14) and, for LB30, whether a parenthesis is wide. The
+//! break rules need to know nothing else about the character.
 ghost use Rattle.std.specs.Prelude.{◌≡◌, ◌<◌, slice_index};
 ghost use Rattle.ucd.specs.declared.properties.TheConstants.{LINE_INDEX_COUNT};
 ghost use Rattle.breaks.specs.Symbols.{character_by, shown, told};
@@ -7,7 +7,7 @@ ghost use Rattle.breaks.specs.declared.symbol.TheConstants.{SYMBOL_COUNT};
 
 use ucd::{LINE_INDEX_COUNT, Properties};
 
-// The symbols, which number the columns of the table: the classes that LB1 gives.
+// The symbols, one for each column of the table: the classes after LB1, and the wide parentheses.
 #[derive(Clone, Copy)]
 enum Symbol {
     BK,
@@ -20,13 +20,13 @@ enum Symbol {
     GL,
     CL,
     CP,
-    /// CP that is wide.
+    /// A wide CP.
     WideCP,
     EX,
     IS,
     SY,
     OP,
-    /// OP that is wide.
+    /// A wide OP.
     WideOP,
     QU,
     B2,
@@ -57,16 +57,16 @@ enum Symbol {
 /// The number of symbols.
 pub const SYMBOL_COUNT: usize = Symbol::ZWJ as usize + 1;
 
-/// The number of ZWJ.
+/// The symbol number of ZWJ.
 pub const JOINER: u8 = Symbol::ZWJ as u8;
 
-/// The number of NU.
+/// The symbol number of NU.
 pub const DIGIT: u8 = Symbol::NU as u8;
 
-/// The first of the two numbers of the symbols that join the character before them, CM and ZWJ.
+/// The first of the symbol numbers of CM and ZWJ, which join the character before them.
 pub const ATTACHED: u8 = Symbol::CM as u8;
 
-/// Returns the number of the symbol of a character with these properties.
+/// Returns the symbol number of a character with these properties.
 pub fn symbol_of(properties: Properties) -> u8
     ensures shown { shown result ≡ told (character_by properties) }
     ensures below { result < SYMBOL_COUNT }
@@ -82,7 +82,7 @@ fn symbol_at(index: usize) -> u8
 }
 
 // The four symbols of each class: for a narrow character, a narrow mark, a wide character and a wide mark.
-// Each occurs twice, because a future pictograph has the same symbol as other characters of its class.
+// Each symbol occurs twice, because a future pictograph has the same symbol as other characters of its class.
 macro_rules! symbols {
     ($($narrow:ident $narrow_mark:ident $wide:ident $wide_mark:ident;)*) => {
         [$(
@@ -98,8 +98,8 @@ macro_rules! symbols {
     };
 }
 
-// The symbol by `Properties::line_index`: a row for each class, in the order of `LineClass`, and 21 rows for
-// the numbers that no class has.
+// The symbol for each value of `Properties::line_index`: four for each class, in the order of `LineClass`,
+// and four for each of the 21 numbers that no class has.
 static SYMBOLS: [u8; LINE_INDEX_COUNT] = symbols! {
     BK BK BK BK; CM CM CM CM; CR CR CR CR; GL GL GL GL; LF LF LF LF; NL NL NL NL; SP SP SP SP;
     WJ WJ WJ WJ; ZW ZW ZW ZW; ZWJ ZWJ ZWJ ZWJ; B2 B2 B2 B2; BA BA BA BA; BB BB BB BB; CB CB CB CB;

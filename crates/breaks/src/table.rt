@@ -1,13 +1,14 @@
-//! The break table: the outcome before a character, by the state before it, and the next state. It has LB4 to
-//! LB31, except for two rules that the walk decides by one bit each: LB8a, and LB30b for future pictographs.
-//! Its entries are in entries.rt.
+//! The break table. For each state and each symbol of the next character, it has the outcome before that
+//! character and the next state. It implements LB4 to LB31, except for two rules that the walk decides with
+//! one bit each: LB8a, and LB30b for future pictographs. The entries are in entries.rt.
 ghost use Rattle.std.specs.Prelude.{◌≡◌, ◌<◌, ◌≤◌, ◌+◌, slice_index};
 ghost use Rattle.breaks.specs.declared.table.TheConstants.{ENTRY_COUNT};
 
 use crate::entries::TABLE;
 use crate::symbol::SYMBOL_COUNT;
 
-/// The states, which number the rows: the class of the last base, and what the rules need of those before it.
+/// The states, one for each row: the class of the last base, and what the rules need to know about the bases
+/// before it.
 #[derive(Clone, Copy)]
 pub enum State {
     BK,
@@ -15,7 +16,7 @@ pub enum State {
     /// LF or NL.
     LF,
     ZW,
-    /// A space after none of the classes of the next five states.
+    /// Spaces that are not after one of the classes in the next five states.
     SP,
     /// Spaces after ZW.
     SpaceAfterZW,
@@ -29,9 +30,9 @@ pub enum State {
     SpaceAfterB2,
     WJ,
     GL,
-    /// CL, or CP that is wide.
+    /// CL, or a wide CP.
     CL,
-    /// CP that is not wide.
+    /// A CP that is not wide.
     CP,
     IS,
     SY,
@@ -47,7 +48,7 @@ pub enum State {
     HebrewHY,
     BB,
     NU,
-    /// AL, and CM and ZWJ that join no character.
+    /// AL, or a CM or ZWJ that joins no character.
     AL,
     HL,
     PR,
@@ -64,13 +65,13 @@ pub enum State {
     RI,
     /// EX, IN, NS or an even number of RI.
     Other,
-    /// IS after a number, as `NU (NU | SY | IS)*`, which may continue after the IS.
+    /// IS after a number, as in `NU (NU | SY | IS)*`. The number may continue after the IS.
     NumberIS,
-    /// SY after a number, which may continue after the SY.
+    /// SY after a number. The number may continue after the SY.
     NumberSY,
-    /// CL, or wide CP, after a number.
+    /// CL or a wide CP after a number.
     NumberCL,
-    /// CP that is not wide, after a number.
+    /// A CP that is not wide, after a number.
     NumberCP,
 }
 
@@ -89,17 +90,18 @@ pub const MAY: u16 = 3;
 /// A line must end before the next character.
 pub const MUST: u16 = 4;
 
-/// LB25 for two bases: no line ends there, but with whole numbers a line may.
+/// LB25 for two bases: no line ends between them, but with whole numbers a line may end there.
 pub const PAIR: u16 = 5;
 
-/// Inside a number, and not by LB25 for two bases: a line may end there, but not with whole numbers.
+/// A position inside a number that LB25 for two bases does not cover: a line may end there, but not with
+/// whole numbers.
 pub const INSIDE: u16 = 6;
 
-/// LB25 for two bases: no line ends there, but with whole numbers a line may if the base after the next one
-/// is not NU.
+/// LB25 for two bases: no line ends between them. With whole numbers, a line may end there if the base after
+/// the next one is not NU.
 pub const WAITS: u16 = 7;
 
-/// The number of states, and of rows.
+/// The number of states, which is also the number of rows.
 pub const STATE_COUNT: usize = State::NumberCP as usize + 1;
 
 /// The number of entries.
@@ -111,10 +113,10 @@ pub const LAST_ROW: usize = ENTRY_COUNT - SYMBOL_COUNT;
 /// The divisor of an entry: the quotient is the start of the next row, and the remainder is the outcome.
 pub const PARTS: u16 = 8;
 
-/// The difference between the entries of two adjacent next rows.
+/// The difference between two entries with the same outcome whose next rows are adjacent.
 pub const ROW: u16 = SYMBOL_COUNT as u16 * PARTS;
 
-/// The row at the start of a text, where a line begins as after BK.
+/// The start of the row used at the start of a text, where a line begins, as after BK.
 pub const START: usize = 0;
 
 /// Returns the entry of a row for a symbol.

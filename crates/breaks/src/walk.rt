@@ -11,7 +11,7 @@ use crate::symbol::{JOINER, symbol_of};
 use crate::table::{NEVER, PARTS, START, STAYS, UNLESS, entry};
 use ucd::Properties;
 
-/// The state of the pass: the part of the bases before a position that the rules need.
+/// The state of the pass: what the rules need to know about the bases before a position.
 #[derive(Clone, Copy)]
 pub struct Walk {
     // The start of the state's row in the table.
@@ -23,7 +23,7 @@ pub struct Walk {
 }
 
 impl Walk {
-    /// Returns the state before the second position of a text that begins with this character.
+    /// Returns the state after the first character of a text.
     pub fn start(first: Properties) -> Walk
         ensures stands { (whole_numbers : Bool)
             → Stands whole_numbers result (alone (character_by first)) [] }
@@ -37,7 +37,7 @@ impl Walk {
         }
     }
 
-    /// Returns the outcome before the next character, and moves past it.
+    /// Returns the outcome before the next character, and moves past that character.
     pub fn pass(&mut self, next: Properties) -> u16
         requires { self.old.row ≤ LAST_ROW }
         ensures passes { (whole_numbers : Bool) (last : Base) (others : List Base)
@@ -58,14 +58,16 @@ impl Walk {
     }
 }
 
-// Whether the last base is a future pictograph. An attached character does not change that.
+// Returns whether the last base is a future pictograph after the next character has been read. An attached
+// character does not change that.
 fn is_now_pictograph(outcome: u16, before: bool, next: bool) -> bool
     ensures { result ≡ (if outcome == STAYS then before else next) }
 {
     if outcome == STAYS { before } else { next }
 }
 
-// The outcome, if the last character may be a ZWJ and the last base a future pictograph.
+// Returns the outcome after LB8a and LB30b: `NEVER` if the last character is a ZWJ, or if the outcome is
+// `UNLESS` and the last base is a future pictograph.
 fn decide(outcome: u16, is_joined: bool, is_pictograph: bool) -> u16
     requires { outcome < 8 }
     ensures decided { result ≡ decided_at outcome is_joined is_pictograph }
@@ -78,7 +80,7 @@ fn decide(outcome: u16, is_joined: bool, is_pictograph: bool) -> u16
     }
 }
 
-/// Returns the mark before the next character, if the base after that is not NU or does not matter.
+/// Returns the mark before the next character if the base after that character is not NU or does not matter.
 pub fn mark_alone(decided: u16, whole_numbers: bool) -> Mark
     requires { decided < 8 }
     ensures { result ≡ get_or (marks_alone whole_numbers) decided Never }
@@ -90,7 +92,7 @@ pub fn mark_alone(decided: u16, whole_numbers: bool) -> Mark
     }
 }
 
-// The mark of each outcome, with LB25 as a rule on two bases.
+// The mark for each outcome, with LB25 as a rule for two bases.
 static MARKS: [Mark; 8] = [
     Mark::Never,
     Mark::Never,
@@ -102,7 +104,7 @@ static MARKS: [Mark; 8] = [
     Mark::Never,
 ];
 
-// The mark of each outcome, with whole numbers.
+// The mark for each outcome, with whole numbers.
 static WHOLE_MARKS: [Mark; 8] = [
     Mark::Never,
     Mark::Never,

@@ -1,8 +1,8 @@
 //! The command's arguments, parsed with `clap`: the settings, and why arguments are refused.
 //!
-//! `settings` returns the settings in two steps, which can also be called alone: `parse` and `settings_of`. A
-//! `LineFault` has the exit status and displays as its message. Help and the version are faults too. The
-//! program calls it like this:
+//! `settings` finds the settings in two steps, `parse` and `settings_of`, which can also be called
+//! separately. A `LineFault` has an exit status, and displays as its message. A request for help or for the
+//! version is also a fault. The program calls `settings` like this:
 //!
 //! ```rust
 //! match settings(rt.alloc(), words) {

@@ -5,7 +5,7 @@ use clap::error::ErrorKind;
 use lines::{Options, Print};
 use thiserror::Error;
 
-/// What the arguments ask for.
+/// The settings that the arguments specify.
 #[derive(Debug, Drop)]
 pub struct Settings<'a> {
     /// The folder of the table files.
@@ -14,20 +14,21 @@ pub struct Settings<'a> {
     pub width: u16,
     /// How texts are laid out.
     pub options: Options,
-    /// What is printed of each line.
+    /// What to print for each line.
     pub print: Print,
     /// The edit script, if there is one.
     pub script: Option<&'a str>,
     /// Whether the script may contain queries.
     pub queries: bool,
-    /// The texts, in order. None means standard input.
+    /// The files of the texts, in order. If there are none, the text is read from standard input.
     pub files: Vec<&'a str>,
 }
 
 /// Why the arguments are refused.
 #[derive(Debug, Drop, Error)]
 pub enum LineFault {
-    /// `clap` refuses the arguments, or they ask for help or the version; the text is that of the error.
+    /// `clap` refuses the arguments, or they ask for help or the version. Displays as the message of the
+    /// `clap` error.
     #[error("{0}")]
     Words(clap::Error),
     #[error("fribidi: more than one base direction")]
@@ -43,7 +44,7 @@ pub enum LineFault {
 impl LineFault {
     ghost use Rattle.command_line.specs.Status.{lacks_folder, status_of_line};
 
-    /// The exit status: 0 for help and the version, 1 for out of memory, and otherwise 2.
+    /// Returns the exit status: 0 for help and the version, 1 for out of memory, and otherwise 2.
     pub fn status(&self) -> u8
         ensures { result ≡ status_of_line self.now }
     {
@@ -56,8 +57,8 @@ impl LineFault {
         }
     }
 
-    /// Whether the arguments are refused because they name no folder of table files, the only required
-    /// argument.
+    /// Returns whether the arguments are refused because they name no folder of table files, the only
+    /// required argument.
     pub fn lacks_folder(&self) -> bool
         ensures { result ≡ lacks_folder self.now }
     {

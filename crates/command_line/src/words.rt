@@ -1,4 +1,4 @@
-//! The arguments as `clap` parses them, and the settings that their matches hold.
+//! Parses the arguments with `clap`, and reads the settings from the matches.
 ghost use Rattle.std.specs.Prelude.{◌≡◌, List, codes, fold, map, not, option_map, true, false, is_some};
 ghost use Rattle.std.specs.Prelude.{IfOk, IfErr, IfSome};
 ghost use Rattle.clap.specs.Words.{Text, app_of, found_of, rows_of, rule_of, with_rule};
@@ -19,7 +19,7 @@ use lines::{Options, Print};
 use std::alloc::{AllocError, Global};
 use ucd::UNICODE_VERSION;
 
-// All options, and the texts.
+// Returns the command with all options and the texts.
 fn command<'a>(alloc: Global) -> Result<Command<'a>, AllocError>
     ensures { IfOk result (λ command. app_of command ≡ program) }
 {
@@ -40,7 +40,7 @@ fn command<'a>(alloc: Global) -> Result<Command<'a>, AllocError>
     command.arg(files(alloc))
 }
 
-// The options of the layout.
+// Adds the layout options to the command.
 fn with_layout<'a>(alloc: Global, command: Command<'a>) -> Result<Command<'a>, AllocError>
     ensures { IfOk result (λ new. app_of new ≡ fold with_rule (app_of command.entry) layout_rules) }
 {
@@ -72,7 +72,7 @@ fn with_layout<'a>(alloc: Global, command: Command<'a>) -> Result<Command<'a>, A
     )
 }
 
-// The options of printing.
+// Adds the print options to the command.
 fn with_print<'a>(alloc: Global, command: Command<'a>) -> Result<Command<'a>, AllocError>
     ensures { IfOk result (λ new. app_of new ≡ fold with_rule (app_of command.entry) print_rules) }
 {
@@ -106,7 +106,7 @@ fn with_print<'a>(alloc: Global, command: Command<'a>) -> Result<Command<'a>, Al
     )
 }
 
-// Adds options without a value, by their names and help texts.
+// Adds options without a value, given their names and help texts.
 fn with_flags<'a>(
     alloc: Global,
     command: Command<'a>,
@@ -179,7 +179,7 @@ fn files<'a>(alloc: Global) -> Arg<'a>
         .help("Files to lay out, each as a separate text [default: standard input]")
 }
 
-// An option without a value.
+// Returns an option without a value.
 fn flag<'a>(alloc: Global, name: &'a str, help: &'a str) -> Arg<'a>
     ensures rule { rule_of result ≡ flag_rule name.now }
     ensures local { result.global ≡ false }
@@ -190,14 +190,14 @@ fn flag<'a>(alloc: Global, name: &'a str, help: &'a str) -> Arg<'a>
         .help(help)
 }
 
-// Whether the option is set.
+// Returns whether an option is set.
 fn is_set(matches: &ArgMatches<'_>, name: &str) -> bool
     ensures { result ≡ is_given name.now (rows_of (found_of matches.now)) }
 {
     matches.contains_id(name) && matches.value_source(name) != Some(ValueSource::DefaultValue)
 }
 
-// How base levels are found, unless more than one of the options is set.
+// Returns how base levels are found, or `None` if more than one of the options is set.
 fn base_of(rtl: bool, ltr: bool, weak_rtl: bool, weak_ltr: bool) -> Option<Base>
     ensures { result ≡ base_by rtl ltr weak_rtl weak_ltr }
 {
@@ -210,14 +210,14 @@ fn base_of(rtl: bool, ltr: bool, weak_rtl: bool, weak_ltr: bool) -> Option<Base>
     }
 }
 
-// A script needs exactly one text.
+// Returns whether the number of texts is allowed. A script requires exactly one text.
 fn fits_script(script: Option<&str>, texts: usize) -> bool
     ensures { result ≡ fits_script (is_some script.entry) texts }
 {
     script.is_none() || texts == 1
 }
 
-// Queries need a script.
+// Returns whether the use of `--queries` is allowed. Queries require a script.
 fn fits_queries(queries: bool, script: Option<&str>) -> bool
     ensures { result ≡ fits_queries queries (is_some script.entry) }
 {
@@ -226,8 +226,8 @@ fn fits_queries(queries: bool, script: Option<&str>) -> bool
 
 /// Parses the arguments after the program's name with `clap`.
 ///
-/// Fails with `Words` if `clap` refuses them or if they ask for help or the version. Fails with `NoMemory` if
-/// `clap` runs out of memory before it knows.
+/// Fails with `Words` if `clap` refuses the arguments, or if they ask for help or the version. Fails with
+/// `NoMemory` if `clap` runs out of memory before it has decided this.
 pub fn parse<'a>(alloc: Global, words: &'a [&'a str]) -> Result<ArgMatches<'a>, LineFault>
     ensures ok { IfOk result (AreMatches (map (λ word. word.now) words.entry.now)) }
     ensures err { IfErr result (IsLineFault (map (λ word. word.now) words.entry.now)) }
@@ -242,7 +242,7 @@ pub fn parse<'a>(alloc: Global, words: &'a [&'a str]) -> Result<ArgMatches<'a>, 
     }
 }
 
-/// Reads the arguments after the program's name: [`parse`], and then [`settings_of`].
+/// Reads the arguments after the program's name. Calls [`parse`], and then [`settings_of`].
 pub fn settings<'a>(alloc: Global, words: &'a [&'a str]) -> Result<Settings<'a>, LineFault>
     ensures ok { IfOk result (AreSettings (map (λ word. word.now) words.entry.now)) }
     ensures err { IfErr result (IsLineFault (map (λ word. word.now) words.entry.now)) }
@@ -251,10 +251,10 @@ pub fn settings<'a>(alloc: Global, words: &'a [&'a str]) -> Result<Settings<'a>,
     settings_of(alloc, &matches)
 }
 
-/// Returns the settings that parsed arguments ask for.
+/// Returns the settings that parsed arguments specify.
 ///
 /// Fails with the first of `Directions`, `ScriptFiles` and `Queries` that applies. Fails with `NoMemory` only
-/// if none of them does.
+/// if none of them applies.
 pub fn settings_of<'a>(alloc: Global, matches: &ArgMatches<'a>) -> Result<Settings<'a>, LineFault>
     requires { (words : List Text) × AreMatches words matches.now }
     ensures ok { (words : List Text) → AreMatches words matches.now → IfOk result (AreSettings words) }
@@ -293,7 +293,7 @@ pub fn settings_of<'a>(alloc: Global, matches: &ArgMatches<'a>) -> Result<Settin
     })
 }
 
-// The options of the layout, unless more than one base direction is set.
+// Returns the layout options, or `None` if more than one base direction is set.
 fn options_of(matches: &ArgMatches<'_>) -> Option<Options>
     ensures base { option_map (λ o. o.base) result ≡ base_of (rows_of (found_of matches.now)) }
     ensures nobreak { IfSome result (λ o.
@@ -317,7 +317,7 @@ fn options_of(matches: &ArgMatches<'_>) -> Option<Options>
     })
 }
 
-// What is printed of lines, from the options without a value.
+// Returns what to print for each line, according to the options without a value.
 fn print_of(matches: &ArgMatches<'_>) -> Print
     ensures novisual { result.novisual ≡ is_given (codes "novisual") (rows_of (found_of matches.now)) }
     ensures basedir { result.basedir ≡ is_given (codes "basedir") (rows_of (found_of matches.now)) }

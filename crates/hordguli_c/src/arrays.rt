@@ -11,7 +11,7 @@ use breaks::Mark;
 use lines::VisualLine;
 use std::alloc::{AllocError, Global};
 
-// Whether all numbers are Unicode scalar values.
+// Returns whether all numbers are Unicode scalar values.
 fn are_characters(numbers: &[u32]) -> bool
     ensures yes { IsTrue result → All IsScalar numbers.now }
     ensures no { IsFalse result → ¬ All IsScalar numbers.now }
@@ -40,8 +40,8 @@ fn collect_characters(alloc: Global, numbers: &[u32]) -> Result<Vec<char>, Alloc
     Ok(text)
 }
 
-/// Converts numbers to characters. Fails with `NotACharacter` if one is not a Unicode scalar value, and
-/// otherwise with `NoMemory` if an allocation fails.
+/// Converts numbers to characters. Fails with `NotACharacter` if one of them is not a Unicode scalar value.
+/// Otherwise, fails with `NoMemory` if an allocation fails.
 pub fn characters_of(alloc: Global, numbers: &[u32]) -> Result<Vec<char>, Status>
     ensures ok { IfOk result (λ text. All IsScalar numbers.now × (text.items ≡ numbers.now)) }
     ensures err { IfErr result (CharactersNot numbers.now) }
@@ -63,7 +63,7 @@ pub fn put_levels(list: &[u8], array: &mut [u8])
     array[..list.len()].copy_from_slice(list);
 }
 
-// The number of a mark.
+// Returns the number of a break mark in C.
 fn mark_number(mark: Mark) -> u8
     ensures { result ≡ mark_number mark }
 {
@@ -91,14 +91,15 @@ pub fn put_marks(marks: &[Mark], array: &mut [u8])
     put_each_mark(marks, &mut array[..marks.len()]);
 }
 
-/// Whether `len` elements fit in a capacity of `room`. Always true if the array is not `wanted`.
+/// Returns whether `len` elements fit in a capacity of `room`. Always returns `true` if the array is not
+/// `wanted`.
 pub fn has_room(wanted: bool, len: usize, room: usize) -> bool
     ensures { result ≡ has_room wanted len room }
 {
     !wanted || len <= room
 }
 
-/// Copies levels to the front of an array, if it is `wanted`.
+/// Copies levels to the front of an array, if the array is `wanted`.
 pub fn put_levels_if(wanted: bool, list: &[u8], array: &mut [u8])
     requires { has_room wanted (length list.now) (length array.old) ≡ true }
     ensures { array.new ≡ put_if wanted list.now array.old }
@@ -108,7 +109,7 @@ pub fn put_levels_if(wanted: bool, list: &[u8], array: &mut [u8])
     }
 }
 
-/// Copies the numbers of marks to the front of an array, if it is `wanted`.
+/// Copies the numbers of marks to the front of an array, if the array is `wanted`.
 pub fn put_marks_if(wanted: bool, marks: &[Mark], array: &mut [u8])
     requires { has_room wanted (length marks.now) (length array.old) ≡ true }
     ensures { array.new ≡ put_if wanted (map mark_number marks.now) array.old }
@@ -125,7 +126,7 @@ fn put_places(list: &[u32], array: &mut [u32])
     array[..list.len()].copy_from_slice(list);
 }
 
-/// Copies positions in a line to the front of an array, if it is `wanted`.
+/// Copies positions in a line to the front of an array, if the array is `wanted`.
 pub fn put_places_if(wanted: bool, list: &[u32], array: &mut [u32])
     requires { has_room wanted (length list.now) (length array.old) ≡ true }
     ensures { array.new ≡ put_if wanted list.now array.old }
@@ -151,7 +152,7 @@ fn put_characters(list: &[char], array: &mut [u32])
     put_each_character(list, &mut array[..list.len()]);
 }
 
-/// Copies characters to the front of an array, if it is `wanted`.
+/// Copies characters to the front of an array, if the array is `wanted`.
 pub fn put_characters_if(wanted: bool, list: &[char], array: &mut [u32])
     requires { has_room wanted (length list.now) (length array.old) ≡ true }
     ensures { array.new ≡ put_if wanted list.now array.old }
@@ -177,7 +178,7 @@ fn put_columns(line: &VisualLine<'_>, array: &mut [usize])
     put_each_columns(line, &mut array[..line.vtol().len()]);
 }
 
-/// Stores the number of columns at each visual position of a line at the front of an array, if it is
+/// Stores the number of columns at each visual position of a line at the front of an array, if the array is
 /// `wanted`.
 pub fn put_columns_if(wanted: bool, line: &VisualLine<'_>, array: &mut [usize])
     requires { has_room wanted (length line.now.vtol) (length array.old) ≡ true }

@@ -12,7 +12,7 @@ use session::{Damage, EditFault};
 use std::alloc::Global;
 use std::str::from_utf8;
 
-/// What an edit replaced, as `hordguli_damage`.
+/// What an edit replaced (`hordguli_damage` in C).
 #[repr(C)]
 #[derive(Clone, Copy)]
 pub struct DamageOut {
@@ -99,7 +99,7 @@ fn delete(session: &mut SessionObject, pos: usize, count: usize, damage: &mut Da
     }
 }
 
-/// Deletes characters, from a position on.
+/// Deletes characters, starting at a position.
 #[unsafe(no_mangle)]
 pub extern "C" fn hordguli_core_delete(
     alloc: Global,
@@ -137,7 +137,7 @@ fn replace(
     }
 }
 
-/// Replaces characters, from a position on, with text.
+/// Replaces characters, starting at a position, with text.
 #[unsafe(no_mangle)]
 pub extern "C" fn hordguli_core_replace(
     alloc: Global,

@@ -1,4 +1,4 @@
-//! The function that stores a paragraph of a session.
+//! The function that stores information about a paragraph of a session.
 ghost use Rattle.std.specs.Prelude.{◌≡◌, length, map, slice_get, true};
 ghost use Rattle.hordguli_c.specs.Arrays.{has_room, put_if};
 ghost use Rattle.hordguli_c.specs.Calls.{Asks};
@@ -13,7 +13,7 @@ use crate::status::{Status, number_of};
 use lines::Laid;
 use std::alloc::Global;
 
-/// Information about a paragraph, as `hordguli_paragraph_info`.
+/// Information about a paragraph (`hordguli_paragraph_info` in C).
 #[repr(C)]
 #[derive(Clone, Copy)]
 pub struct ParagraphOut {

@@ -1,4 +1,4 @@
-//! The function that stores a line of a session.
+//! The function that stores information about a line of a session.
 ghost use Rattle.std.specs.Prelude.{◌≡◌, slice_get};
 ghost use Rattle.session.specs.Kept.{lines_in};
 ghost use Rattle.session.specs.Places.{line_starts};
@@ -14,7 +14,7 @@ use crate::status::{Status, number_of};
 use lines::VisualLine;
 use std::alloc::Global;
 
-/// Information about a line, as `hordguli_line_info`.
+/// Information about a line (`hordguli_line_info` in C).
 #[repr(C)]
 #[derive(Clone, Copy)]
 pub struct LineOut {
@@ -41,7 +41,7 @@ fn line_out(line: &VisualLine<'_>, width: u16, start: usize) -> LineOut
     }
 }
 
-// Whether the elements fit in all arrays that are wanted.
+// Returns whether the line's elements fit in all arrays that `wanted` selects.
 fn line_fits(
     line: &VisualLine<'_>,
     wanted: u32,

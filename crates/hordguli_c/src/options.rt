@@ -38,7 +38,7 @@ const PRINT_MIRRORED: u32 = 64;
 
 const ALL_PRINT_FLAGS: u32 = 127;
 
-/// Whether the bit of a value is set.
+/// Returns whether the bit with a given value is set.
 pub fn has_bit(bits: u32, value: u32) -> bool
     requires { 0 < value }
     ensures { result ≡ has_bit bits value }
@@ -67,7 +67,7 @@ pub fn direction_of(bits: u32) -> Option<Base>
     if bits < 4 { Some(base_of(bits)) } else { None }
 }
 
-/// Whether breaks inside numbers are disabled, or `None` if any other bit is set.
+/// Returns whether breaks inside numbers are disabled, or `None` if any other bit is set.
 pub fn tailoring_of(bits: u32) -> Option<bool>
     ensures { result ≡ tailoring_of bits }
 {
@@ -96,7 +96,7 @@ pub fn options_of(bits: u32) -> Option<Options>
     }
 }
 
-/// Returns what is printed of a line, or `None` if a bit is unknown.
+/// Returns what to print for each line, or `None` if a bit is unknown.
 pub fn print_of(bits: u32) -> Option<Print>
     ensures { result ≡ print_of bits }
 {

@@ -47,7 +47,7 @@ pub extern "C" fn hordguli_core_line_start(
     }
 }
 
-/// The place of a character, as `hordguli_place`.
+/// The place of a character (`hordguli_place` in C).
 #[repr(C)]
 #[derive(Clone, Copy)]
 pub struct PlaceOut {
@@ -96,7 +96,7 @@ pub extern "C" fn hordguli_core_place_of(
     }
 }
 
-/// Where to draw a caret, as `hordguli_caret`.
+/// Where to draw a caret (`hordguli_caret` in C).
 #[repr(C)]
 #[derive(Clone, Copy)]
 pub struct CaretOut {
@@ -147,7 +147,7 @@ pub extern "C" fn hordguli_core_caret_at(
     }
 }
 
-/// The character at a column, as `hordguli_hit`.
+/// The character at a column (`hordguli_hit` in C).
 #[repr(C)]
 #[derive(Clone, Copy)]
 pub struct HitOut {
@@ -203,7 +203,7 @@ pub extern "C" fn hordguli_core_hit_at(
     }
 }
 
-/// A grapheme cluster, as `hordguli_cluster`.
+/// A grapheme cluster (`hordguli_cluster` in C).
 #[repr(C)]
 #[derive(Clone, Copy)]
 pub struct ClusterOut {

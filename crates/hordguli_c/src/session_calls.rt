@@ -19,7 +19,7 @@ use std::alloc::Global;
 use std::str::from_utf8;
 use ucd::Tables;
 
-// Opens a session with a fresh engine, or returns the status of the fault.
+// Opens a session with a new engine. After an error, returns the status of the fault.
 fn open_by(
     alloc: Global,
     tables: Tables,
@@ -37,7 +37,7 @@ fn open_by(
     }
 }
 
-// Stores a session in a closed handle.
+// Opens a session, and stores it in a closed handle.
 fn open_at(
     alloc: Global,
     session: &mut SessionHandle,
@@ -107,7 +107,7 @@ pub extern "C" fn hordguli_core_session_close(alloc: Global, session: &mut Sessi
     session.swap(alloc, None);
 }
 
-/// The size of a session, as `hordguli_counts`.
+/// The size of a session (`hordguli_counts` in C).
 #[repr(C)]
 #[derive(Clone, Copy)]
 pub struct CountsOut {
@@ -158,7 +158,7 @@ pub extern "C" fn hordguli_core_session_counts(
     }
 }
 
-/// The work counters of a session, as `hordguli_work`.
+/// The work counters of a session (`hordguli_work` in C).
 #[repr(C)]
 #[derive(Clone, Copy)]
 pub struct WorkOut {

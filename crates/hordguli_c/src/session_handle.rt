@@ -14,7 +14,7 @@ use store::TreeStore;
 /// The object at the address.
 pub type SessionObject = Session<TreeStore<Kept>>;
 
-/// A handle. Only two functions read its pointer, and one makes a handle without an object.
+/// A handle. Only `of_raw` and `into_raw` use its pointer, and `empty` makes a handle without an object.
 #[repr(C)]
 pub struct SessionHandle {
     at: *mut u8,
@@ -53,7 +53,7 @@ impl SessionHandle {
         }
     }
 
-    /// Stores an object, or none, and returns the one stored before.
+    /// Stores an object or `None`, and returns the previous object, if there was one.
     pub fn swap(
         &mut self,
         alloc: Global,

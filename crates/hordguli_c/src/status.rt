@@ -1,4 +1,4 @@
-//! The statuses of the functions.
+//! The statuses that the functions return.
 ghost use Rattle.std.specs.Prelude.{◌≡◌, ◌≤◌};
 ghost use Rattle.hordguli_c.specs.Statuses.{status_of};
 

@@ -1,4 +1,4 @@
-//! Functions on handles of tables.
+//! Functions that open and close a handle of tables.
 ghost use Rattle.std.specs.Prelude.{◌≡◌, None};
 ghost use Rattle.ucd.specs.declared.tables.UcdFiles.{UcdFiles};
 ghost use Rattle.hordguli_c.specs.Statuses.{Returns};
@@ -9,7 +9,7 @@ use crate::tables_handle::TablesHandle;
 use std::alloc::Global;
 use ucd::{Cause, TableFault, Tables, UcdFiles};
 
-/// The first malformed line, as `hordguli_table_fault`.
+/// The first malformed line (`hordguli_table_fault` in C).
 #[repr(C)]
 #[derive(Clone, Copy)]
 pub struct TableFaultOut {

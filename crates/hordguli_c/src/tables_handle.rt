@@ -13,7 +13,7 @@ use ucd::Tables;
 /// The object at the address.
 pub type TablesObject = Tables;
 
-/// A handle. Only two functions read its pointer, and one makes a handle without an object.
+/// A handle. Only `of_raw` and `into_raw` use its pointer, and `empty` makes a handle without an object.
 #[repr(C)]
 pub struct TablesHandle {
     at: *mut u8,
@@ -24,7 +24,7 @@ impl Model for TablesHandle {
     ghost also_owns = { λ h. object_at h.at h.held };
 }
 
-// C may move a handle to another thread.
+// C code may move a handle to another thread.
 unsafe impl Send for TablesHandle {}
 
 impl TablesHandle {
@@ -55,7 +55,7 @@ impl TablesHandle {
         }
     }
 
-    /// Stores an object, or none, and returns the one stored before.
+    /// Stores an object or `None`, and returns the previous object, if there was one.
     pub fn swap(
         &mut self,
         alloc: Global,

@@ -19,7 +19,7 @@ use std::alloc::Global;
 use std::str::from_utf8;
 use stream::Page;
 
-// Copies bytes to an array, if they fit, and stores their number.
+// Copies bytes to an array, if they fit, and stores the number of bytes.
 fn put_bytes(bytes: &[u8], array: &mut [u8], len: &mut usize) -> Status
     ensures { PutsBytes bytes.now result (array.old, len.old) (array.new, len.new) }
 {
@@ -31,7 +31,7 @@ fn put_bytes(bytes: &[u8], array: &mut [u8], len: &mut usize) -> Status
     Status::Ok
 }
 
-// Returns lines as they are printed.
+// Returns lines in the form in which they are printed.
 fn printed(
     alloc: Global,
     session: &SessionObject,
@@ -69,7 +69,7 @@ fn put_lines(
     }
 }
 
-/// Lines as they are printed. Copies them to an array as UTF-8, if they fit.
+/// Copies lines, in the form in which they are printed, to an array as UTF-8, if they fit.
 #[unsafe(no_mangle)]
 pub extern "C" fn hordguli_core_lines_utf8(
     alloc: Global,
@@ -133,7 +133,7 @@ fn put_text(
     }
 }
 
-/// Writes characters as UTF-8.
+/// Copies characters to an array as UTF-8, if they fit.
 #[unsafe(no_mangle)]
 pub extern "C" fn hordguli_core_text(
     alloc: Global,
@@ -169,7 +169,7 @@ fn find_utf8_len(session: &SessionObject, pos: usize, count: usize, len: &mut us
     }
 }
 
-/// Stores the length of characters in bytes of UTF-8.
+/// Stores the length in bytes of characters in UTF-8.
 #[unsafe(no_mangle)]
 pub extern "C" fn hordguli_core_utf8_length(
     alloc: Global,
@@ -198,7 +198,7 @@ fn char_count(text: &str) -> usize
     text.chars().count()
 }
 
-/// Stores the number of characters of UTF-8 text.
+/// Stores the number of characters in UTF-8 text.
 #[unsafe(no_mangle)]
 pub extern "C" fn hordguli_core_count_utf8(bytes: &[u8], count: &mut usize) -> u32
     ensures { Returns (λ status. OfText bytes.now status (count.new ≡ count.old)

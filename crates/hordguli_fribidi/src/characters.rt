@@ -1,6 +1,5 @@
-//! Lookups of single characters, in tables that the C code passes: page numbers, pages of entries, and the
-//! values of the entries. Each table is as large as the numbers that index it allow, or larger, so few checks
-//! remain.
+//! Looks up single characters in tables that the C code passes: page numbers, pages of entries, and the
+//! values of the entries. The tables have fixed sizes, chosen so that few bounds checks remain.
 ghost use Rattle.std.specs.Prelude.{◌≡◌, ◌<◌, ◌==◌, ◌+◌, ◌*◌, ◌%◌, if◌then◌else◌};
 ghost use Rattle.std.specs.Prelude.{length, map, slice_index_or};
 ghost use Rattle.hordguli_fribidi.specs.Points.{bracket_at, brackets_at, brackets_by};
@@ -22,7 +21,7 @@ pub extern "C" fn hordguli_fribidi_core_type(
     }
 }
 
-// The type of a code point whose page is in the index.
+// Returns the type of a code point whose page is in the index.
 fn type_on_page(c: u32, index: &[u8; 4352], pages: &[u32; 65_536]) -> u32
     requires { c < 1_114_112 }
     ensures { result ≡ type_at index.now pages.now c }
@@ -30,14 +29,14 @@ fn type_on_page(c: u32, index: &[u8; 4352], pages: &[u32; 65_536]) -> u32
     type_in(pages, index[c as usize / 256], c)
 }
 
-// The type of a code point, from the number of its page.
+// Returns the type of a code point, given the number of its page.
 fn type_in(pages: &[u32; 65_536], page: u8, c: u32) -> u32
     ensures { result ≡ slice_index_or pages.now (page * 256 + c % 256) 0 }
 {
     pages[page as usize * 256 + c as usize % 256]
 }
 
-// The type of a code point past the end of the index.
+// Returns the type of a code point past the end of the index.
 #[cold]
 #[inline(never)]
 fn type_past(c: u32, pages: &[u32; 65_536]) -> u32
@@ -114,7 +113,7 @@ pub extern "C" fn hordguli_fribidi_core_number(
     number_by_parts(c, index, pages, numbers)
 }
 
-// Returns the mirror or bracket of any code point, with a check of each index.
+// Returns the mirror or bracket of any code point, and checks each index.
 #[cold]
 #[inline(never)]
 fn number_by_parts(c: u32, index: &[u8; 4352], pages: &[u16; 4096], numbers: &[u32; 512]) -> u32
@@ -130,8 +129,8 @@ fn number_by_parts(c: u32, index: &[u8; 4352], pages: &[u16; 4096], numbers: &[u
     if entry < 512 { numbers[entry] } else { 0 }
 }
 
-/// Replaces a value by the mirror of a code point, or by the code point itself if it has none. Returns
-/// whether it has one.
+/// Sets `mirrored` to the mirror of a code point, or to the code point itself if it has no mirror. Returns
+/// whether the code point has a mirror.
 #[unsafe(no_mangle)]
 pub extern "C" fn hordguli_fribidi_core_mirror(
     c: u32,
@@ -180,8 +179,8 @@ fn put_mirror(c: u32, mirror: u32, mirrored: &mut u32) -> u32
     u32::from(mirror != 0)
 }
 
-/// Writes the brackets of the code points of a string, if the arrays have its length. A character whose type
-/// is not ON has none.
+/// Writes the brackets of the code points of a string, if the arrays have the string's length. A character
+/// whose type is not ON has no bracket.
 #[unsafe(no_mangle)]
 pub extern "C" fn hordguli_fribidi_core_brackets(
     index: &[u8; 4352],
@@ -199,7 +198,7 @@ pub extern "C" fn hordguli_fribidi_core_brackets(
     }
 }
 
-// The bracket of a code point with a type.
+// Returns the bracket of a code point with a given type.
 fn bracket_at(
     index: &[u8; 4352],
     pages: &[u16; 4096],

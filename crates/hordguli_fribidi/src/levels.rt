@@ -1,4 +1,4 @@
-//! The levels and the direction of a paragraph, from the numbers of its types and brackets.
+//! Finds the levels and the direction of a paragraph, given the numbers of its types and brackets.
 ghost use Rattle.std.specs.Prelude.{◌≡◌, ◌≢◌, ◌+◌, ◌-◌, ◌<◌, suc, if◌then◌else◌, length, map, replicate};
 ghost use Rattle.std.specs.Prelude.{IfOk, OnErr, OnOk};
 ghost use Rattle.bidi.specs.BracketTypes.{bracket_types};
@@ -46,7 +46,7 @@ fn no_brackets(alloc: Global, len: usize) -> Result<Vec<BracketType>, AllocError
     Ok(brackets)
 }
 
-// The brackets of a paragraph; none if the lengths differ.
+// Returns the bracket types of a paragraph. If the lengths differ, no character is a bracket.
 #[tactic(auto, using(crate::proofs::BracketLemmas::none_are))]
 fn brackets_of(alloc: Global, len: usize, numbers: &[u32]) -> Result<Vec<BracketType>, AllocError>
     ensures brackets { IfOk result (λ brackets. brackets.items
@@ -61,7 +61,7 @@ fn brackets_of(alloc: Global, len: usize, numbers: &[u32]) -> Result<Vec<Bracket
     }
 }
 
-// Returns the base level of a paragraph, and replaces the contents of a list by its levels before L1.
+// Returns the base level of a paragraph, and replaces the contents of `levels` with its levels before L1.
 fn find_levels(
     alloc: Global,
     types: &[u32],
@@ -81,7 +81,7 @@ fn find_levels(
     Ok(level)
 }
 
-// The greatest level plus one.
+// Returns the highest level plus one.
 fn answer(levels: &[u8]) -> u32
     ensures { result ≡ suc (highest levels.now) }
 {
@@ -99,10 +99,10 @@ fn put_levels(types: &[u32], base: u8, found: &[u8], levels: &mut [u8])
     reset_levels(&TypeClasses { types }, base, levels);
 }
 
-/// Writes the levels of a paragraph after L1, and its direction. Returns its greatest level plus one.
+/// Writes the levels of a paragraph after L1, and its direction. Returns its highest level plus one.
 ///
-/// Returns 0, and changes nothing, if the arrays differ in length, or if an allocation fails. An empty list
-/// allocates nothing.
+/// Returns 0 and changes nothing if the arrays differ in length or an allocation fails. Allocates nothing for
+/// an empty paragraph.
 #[unsafe(no_mangle)]
 pub extern "C" fn hordguli_fribidi_core_levels(
     alloc: Global,
@@ -131,7 +131,7 @@ pub extern "C" fn hordguli_fribidi_core_levels(
     }
 }
 
-/// Returns the direction of the first strong character outside all isolates; ON if there is none.
+/// Returns the direction of the first strong character outside all isolates, or ON if there is none.
 #[unsafe(no_mangle)]
 pub extern "C" fn hordguli_fribidi_core_direction(types: &[u32]) -> u32
     ensures { result ≡ direction_in types.now }

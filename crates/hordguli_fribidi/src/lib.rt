@@ -1,4 +1,5 @@
-//! FriBidi's calls on types, levels and lines, by UAX #9. The entry points in c/fribidi/fribidi.c call them.
+//! FriBidi's functions on types, levels and lines, according to UAX #9. The entry points in
+//! c/fribidi/fribidi.c call these functions.
 #![tactic(auto)]
 
 mod characters;

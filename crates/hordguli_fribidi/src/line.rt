@@ -1,4 +1,5 @@
-//! A line of a paragraph in visual order: its levels, and the items of C's arrays at its positions.
+//! Puts a line of a paragraph into visual order: resets its levels, and reorders its items in the C caller's
+//! arrays.
 ghost use Rattle.std.specs.Prelude.{◌≡◌, ◌≢◌, ◌<◌, ◌≤◌, ◌-◌, ℕ, false, length, map, drop};
 ghost use Rattle.std.specs.Prelude.{slice_index, None, IfSome};
 ghost use Rattle.reorder.specs.Order.{highest, is_odd, lowest_odd, vtol_of};
@@ -14,7 +15,7 @@ fn asks_marks(flags: u32) -> bool
     flags / 2 % 2 == 1
 }
 
-// Puts the items of an array from `off` on into visual order, if it ends with the line.
+// Puts the items of an array, starting at `off`, into visual order, if the array ends where the line ends.
 fn arrange_if(types: &[u32], off: usize, levels: &[u8], marks: bool, array: &mut [u32])
     requires off { off ≤ length types.now }
     requires levels { length levels.now ≡ length types.now - off }
@@ -29,12 +30,12 @@ fn arrange_if(types: &[u32], off: usize, levels: &[u8], marks: bool, array: &mut
     }
 }
 
-/// Reorders a line in place: its levels after L1, and its part of the string and of the map. Either array may
-/// be missing. The arrays are those of the paragraph up to the line's end. Returns the
-/// line's greatest level plus one.
+/// Reorders a line in place: applies L1 to its levels, and puts its part of the string and of the map into
+/// visual order. The string or the map may be missing. The arrays contain the paragraph up to the line's end.
+/// Returns the line's highest level plus one.
 ///
-/// Returns 0, and changes nothing, exactly if `levels` and `types` differ in length, or `off` is past their
-/// end.
+/// Returns 0 and changes nothing if, and only if, `levels` and `types` differ in length or `off` is past
+/// their end.
 #[unsafe(no_mangle)]
 pub extern "C" fn hordguli_fribidi_core_reorder(
     flags: u32,

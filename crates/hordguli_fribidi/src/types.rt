@@ -6,7 +6,7 @@ ghost use Rattle.hordguli_fribidi.specs.Types.{base_of, bracket_by, class_of, di
 use bidi::{Base, BracketType};
 use ucd::{BidiClass, Classes};
 
-/// Returns the class with a number, or ON if no class has it.
+/// Returns the class with a FriBidi number, or ON if no class has this number.
 #[tactic(auto, unfolding(crate::specs::Types::class_of))]
 #[inline(always)]
 pub fn class_of(number: u32) -> BidiClass
@@ -39,7 +39,7 @@ pub fn class_of(number: u32) -> BidiClass
     }
 }
 
-/// The classes that have numbers.
+/// A list of classes, given by their FriBidi numbers.
 #[derive(Clone, Copy)]
 pub struct TypeClasses<'a> {
     pub types: &'a [u32],
@@ -57,7 +57,7 @@ impl Classes for TypeClasses<'_> {
     }
 }
 
-/// Returns the index of a FriBidi type among those that have names, or 26 if it has none.
+/// Returns the index of a FriBidi type among the types that have names, or 26 if it has no name.
 #[unsafe(no_mangle)]
 #[tactic(auto, unfolding(crate::specs::Types::name_index))]
 pub extern "C" fn hordguli_fribidi_core_name(number: u32) -> u32
@@ -94,7 +94,7 @@ pub extern "C" fn hordguli_fribidi_core_name(number: u32) -> u32
     }
 }
 
-/// Returns the base direction of a number.
+/// Returns the base direction that a FriBidi number denotes.
 pub fn base_of(number: u32) -> Base
     ensures { result ≡ base_of number }
 {
@@ -109,14 +109,14 @@ pub fn base_of(number: u32) -> Base
     }
 }
 
-/// Returns the number of the direction of a level.
+/// Returns the FriBidi number of the direction of a level.
 pub fn direction_of(level: u8) -> u32
     ensures { result ≡ direction_of level }
 {
     if level == 0 { 272 } else { 273 }
 }
 
-/// Returns the bracket with a number.
+/// Returns the bracket type that a FriBidi number denotes.
 pub fn bracket_of(number: u32) -> BracketType
     ensures { result ≡ type_by (bracket_by number) number }
 {

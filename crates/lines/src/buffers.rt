@@ -1,4 +1,4 @@
-//! Buffers for the layout of one paragraph, which are reused for the next.
+//! Buffers for the layout of a paragraph, reused for the next one.
 ghost use Rattle.std.specs.Prelude.{◌≡◌, length, max, OnOk};
 ghost use Rattle.lines.specs.Buffers.{CanHold};
 
@@ -7,8 +7,8 @@ use crate::reserve::grow;
 use breaks::Mark;
 use std::alloc::{AllocError, Global};
 
-/// The levels, both position maps and the characters in visual order. The items of a line start at the index
-/// of its first character, or at 0 if only one line at a time is needed.
+/// The levels, both position maps, and the characters in visual order. Each line's items start at the index
+/// of the line's first character, or at 0 if the buffers are used for one line at a time.
 #[derive(Debug, Drop)]
 pub(crate) struct VisualBuffers {
     pub(crate) levels: Vec<u8>,
@@ -43,7 +43,7 @@ impl VisualBuffers {
     }
 }
 
-/// Where the lines of a paragraph start, how much of each is shown, and the visual lines.
+/// Where each line of a paragraph starts, how much of it is shown, and the visual lines.
 #[derive(Debug, Drop)]
 pub(crate) struct LineBuffers {
     pub(crate) starts: Vec<u32>,

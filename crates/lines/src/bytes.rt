@@ -1,5 +1,5 @@
-//! The bytes of a line, passed to a sink as they are made. Each function writes a part of
-//! them. `before` is the number of bytes already written, and the returned count includes it.
+//! Writes the bytes of a line to a sink as they are produced. Each function writes one part of the line.
+//! `before` is the number of bytes already written, and the returned byte count includes it.
 ghost use Rattle.std.specs.Prelude.{◌≡◌, [], ◌∷◌, ◌++◌, ◌≤◌, ◌&&◌, IfOk, IfErr, if◌then◌else◌};
 ghost use Rattle.std.specs.Prelude.{◌+◌, ◌*◌, ◌<◌, take, codes};
 ghost use Rattle.std.specs.Prelude.{length, map, replicate, encode_utf8, encode_utf8_all, slice_index};
@@ -14,14 +14,14 @@ use device::{Sink, write_all};
 use itoa::{Buffer, Integer};
 use thiserror::Error;
 
-/// A sink failed after this many bytes.
+/// A sink failed after `written` bytes.
 #[derive(Clone, Copy, Debug, PartialEq, Eq, Error)]
 #[error("cannot write after {written} bytes")]
 pub struct WriteFault {
     pub written: u64,
 }
 
-// The padding of a line, written from here in parts.
+// The spaces from which padding is written, at most 64 at a time.
 static SPACES: [u8; 64] = [b' '; 64];
 
 fn write_part<W: Sink>(writer: &mut W, before: u64, part: &[u8]) -> Result<u64, WriteFault>
@@ -40,11 +40,11 @@ fn write_part<W: Sink>(writer: &mut W, before: u64, part: &[u8]) -> Result<u64, 
     }
 }
 
-// The number of characters encoded for each write.
+// The number of 4-byte characters that fit in the buffer for one write.
 const CHARACTERS_AT_ONCE: usize = 64;
 
-/// Writes characters as UTF-8. `before` is the number of bytes already written. The returned count, and that
-/// in a fault, include it. Allocates nothing.
+/// Writes characters as UTF-8. `before` is the number of bytes already written. The returned byte count
+/// includes these bytes, as does the count in a `WriteFault`. Allocates nothing.
 pub fn write_chars<W: Sink>(writer: &mut W, before: u64, chars: &[char]) -> Result<u64, WriteFault>
     requires { before ≤ (W.state writer.old).passed }
     ensures ok { IfOk result (λ n. PassedOn (encode_utf8_all chars.now) before
@@ -68,7 +68,7 @@ pub fn write_chars<W: Sink>(writer: &mut W, before: u64, chars: &[char]) -> Resu
     Ok(written)
 }
 
-// Encodes characters at the front of a buffer, and returns the number of bytes.
+// Encodes characters as UTF-8 at the front of a buffer, and returns the number of bytes written.
 fn encode(piece: &[char], buffer: &mut [u8]) -> usize
     requires { 4 * length piece.now ≤ length buffer.old }
     ensures within { result ≤ length buffer.old }
@@ -101,7 +101,7 @@ fn put(buffer: &mut [u8], at: usize, byte: u8) -> usize
     at + 1
 }
 
-// Writes the characters of a text at the given indices, in their order.
+// Writes the characters at the given indices of a text, in the order of the indices.
 fn write_places<W: Sink>(
     writer: &mut W,
     before: u64,
@@ -129,8 +129,8 @@ fn write_places<W: Sink>(
     Ok(written)
 }
 
-// Encodes the characters at `places[from..]` at the front of a buffer, as many as fit. Returns the index of
-// the first place left, and the number of bytes.
+// Encodes the characters at the indices `places[from..]`, as many as fit, at the front of a buffer. Returns
+// the index of the first place not encoded, and the number of bytes written.
 fn encode_places(text: &[char], places: &[u32], from: usize, buffer: &mut [u8]) -> (usize, usize)
     requires within { AreWithin (length text.now) places.now }
     requires some { (from < length places.now) × (4 ≤ length buffer.old) }
@@ -168,13 +168,13 @@ fn write_spaces<W: Sink>(writer: &mut W, before: u64, count: usize) -> Result<u6
     Ok(written)
 }
 
-// The size of the buffer for numbers.
+// The size of the buffer for formatted numbers, in bytes.
 const ROW_BYTES_AT_ONCE: usize = 512;
 
-// The maximum length of a number, with the space before it.
+// The maximum length of a formatted number in bytes, including the space before it.
 const NUMBER_LEN: usize = 41;
 
-// Not inlined, so that lines without numbers need no stack for the buffer.
+// Not inlined, to keep the buffer off the stack when no numbers are written.
 #[inline(never)]
 fn write_row<W: Sink, I: Integer>(
     writer: &mut W,
@@ -200,8 +200,8 @@ fn write_row<W: Sink, I: Integer>(
     Ok(written)
 }
 
-// Formats the numbers from `from` on at the front of a buffer, as many as fit. Returns the index of the first
-// number left, and the number of bytes.
+// Formats `numbers[from..]`, as many as fit, at the front of a buffer. Returns the index of the first number
+// not formatted, and the number of bytes written.
 fn encode_row<I: Integer>(numbers: &[I], from: usize, buffer: &mut [u8]) -> (usize, usize)
     requires { (from < length numbers.now) × (41 ≤ length buffer.old) }
     ensures next { (from < result.0) × (result.0 ≤ length numbers.now) }
@@ -218,8 +218,8 @@ fn encode_row<I: Integer>(numbers: &[I], from: usize, buffer: &mut [u8]) -> (usi
     (next, len)
 }
 
-// Formats a number at an index of a buffer, after a space unless it is the first, and returns the index after
-// it.
+// Formats a number at an index of a buffer, after a space unless it is the first number. Returns the index
+// after the number.
 fn encode_number<I: Integer>(number: I, is_first: bool, buffer: &mut [u8], at: usize) -> usize
     requires { at + 41 ≤ length buffer.old }
     ensures within { result ≤ at + 41 }
@@ -270,7 +270,7 @@ fn put_all(buffer: &mut [u8], at: usize, bytes: &[u8]) -> usize
     end
 }
 
-// Writes the padding of a line, its characters in visual order, and U+000A.
+// Writes the padding of a line, its characters in visual order, and U+000A, unless `print.novisual` is set.
 pub(crate) fn write_shown<W: Sink>(
     writer: &mut W,
     before: u64,
@@ -295,7 +295,7 @@ pub(crate) fn write_shown<W: Sink>(
     write_part(writer, shown, b"\n")
 }
 
-// Writes the characters of a line in visual order, mirrored or unchanged.
+// Writes the characters of a line in visual order, mirrored unless `print.nomirror` is set.
 fn write_shown_chars<W: Sink>(
     writer: &mut W,
     before: u64,
@@ -348,7 +348,7 @@ pub(crate) fn write_direction<W: Sink>(
     write_base(writer, before, print.basedir && line.is_first, line.base)
 }
 
-// Writes the base direction for a base level, if `asked`.
+// Writes the base direction for a base level, if `asked` is true.
 pub(crate) fn write_base<W: Sink>(
     writer: &mut W,
     before: u64,
@@ -369,7 +369,7 @@ pub(crate) fn write_base<W: Sink>(
     write_part(writer, before, direction)
 }
 
-// Writes a line of numbers, if `asked`.
+// Writes a line of numbers, if `asked` is true.
 fn write_numbers<W: Sink, I: Integer>(
     writer: &mut W,
     before: u64,

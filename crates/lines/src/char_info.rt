@@ -1,4 +1,4 @@
-//! What filling needs to know of each character of a paragraph.
+//! What filling needs to know about each character of a paragraph.
 ghost use Rattle.std.specs.Prelude.{◌≡◌, false, Bool, [], ◌∷◌, length, map, OnOk};
 ghost use Rattle.ucd.specs.Properties.{properties_of};
 ghost use Rattle.ucd.specs.declared.line_class.LineClass.TheVariants.{BK, CR, LF, NL, SP};
@@ -18,20 +18,20 @@ use std::alloc::AllocError;
 use ucd::{LineClass, Properties, Tables};
 use unicode_width::UnicodeWidthChar;
 
-/// What filling needs to know of a character.
+/// What filling needs to know about a character.
 #[derive(Clone, Copy, Debug)]
 pub struct CharInfo {
-    /// Its width in columns.
+    /// The width of the character in columns.
     pub columns: u8,
-    /// Whether it may be in a tail: at the end of a line, it is not shown.
+    /// Whether the character may be in a tail. A tail is not shown.
     pub is_trailing: bool,
-    /// The break mark after it.
+    /// The break mark after the character.
     pub mark: Mark,
-    /// Whether a grapheme cluster ends after it.
+    /// Whether a grapheme cluster ends after the character.
     pub ends_cluster: bool,
 }
 
-// Fills a new list, before its items are overwritten.
+// The placeholder in a new list, whose items are all overwritten.
 const NOTHING: CharInfo = CharInfo {
     columns: 0,
     is_trailing: false,
@@ -40,7 +40,7 @@ const NOTHING: CharInfo = CharInfo {
 };
 
 impl CharInfo {
-    // All that is known of a character, without the end of its cluster.
+    // Returns the info for a character, with `ends_cluster` set to `false`.
     fn of(properties: Properties, c: char, mark: Mark) -> CharInfo
         ensures { (t : Tables) → properties ≡ properties_of t c → result ≡ info t c mark false }
     {
@@ -53,7 +53,7 @@ impl CharInfo {
     }
 }
 
-// Returns the width of a character in columns, or 0 if `unicode_width` has none.
+// Returns the width of a character in columns, or 0 if the crate `unicode_width` has no width for it.
 fn columns(c: char) -> u8
     ensures { result ≡ columns_of c }
 {
@@ -68,7 +68,7 @@ fn columns(c: char) -> u8
     }
 }
 
-/// Whether characters of a class may be in a tail.
+/// Returns whether characters of a class may be in a tail.
 pub(crate) fn is_trailing(class: LineClass) -> bool
     ensures { (is_mark : Bool) → result
         ≡ is_one_of (SP ∷ BK ∷ CR ∷ LF ∷ NL ∷ []) (resolved class is_mark) }
@@ -83,7 +83,8 @@ pub(crate) fn is_trailing(class: LineClass) -> bool
     }
 }
 
-/// Replaces `infos` with those of a paragraph's characters, without the ends of clusters.
+/// Replaces the contents of `infos` with the info for each character of a paragraph. Each `ends_cluster` is
+/// `false`.
 pub(crate) fn fill_infos(
     text: &Text<'_>,
     marks: &[Mark],
@@ -104,7 +105,7 @@ pub(crate) fn fill_infos(
     Ok(())
 }
 
-// Overwrites `infos` with those of each character, without the ends of clusters.
+// Overwrites `infos` with the info for each character. Each `ends_cluster` is `false`.
 fn put_infos(
     tables: &Tables,
     text: &[char],

@@ -1,4 +1,4 @@
-//! Where the grapheme clusters of a paragraph end (UAX #29), by the crate `unicode_segmentation`.
+//! Finds where the grapheme clusters of a paragraph end (UAX #29), using the crate `unicode_segmentation`.
 ghost use Rattle.std.specs.Prelude.{◌≡◌, ◌<◌, ◌++◌, length, IfOk, OnErr, OnOk};
 ghost use Rattle.std.specs.List.{list_all};
 ghost use Rattle.lines.specs.Bare.{with_ends};
@@ -8,7 +8,7 @@ use crate::char_info::CharInfo;
 use std::alloc::{AllocError, Global};
 use unicode_segmentation::UnicodeSegmentation;
 
-/// Returns for each character of a paragraph whether a cluster ends after it.
+/// Returns, for each character of a paragraph, whether a grapheme cluster ends after it.
 pub fn cluster_ends(alloc: Global, text: &[char]) -> Result<Vec<bool>, AllocError>
     ensures ends { IfOk result (λ ends. ends.items ≡ cluster_ends text.now) }
     ensures len { IfOk result (λ ends. length ends.items ≡ length text.now) }
@@ -28,7 +28,7 @@ pub fn cluster_ends(alloc: Global, text: &[char]) -> Result<Vec<bool>, AllocErro
     Ok(ends)
 }
 
-/// Marks the characters of a paragraph after which a cluster ends.
+/// Sets `ends_cluster` for each character of a paragraph.
 pub fn mark_clusters(alloc: Global, text: &[char], infos: &mut [CharInfo]) -> Result<(), AllocError>
     requires { length infos.old ≡ length text.now }
     ensures { OnOk result (infos.new ≡ with_ends infos.old (cluster_ends text.now)) }
@@ -38,7 +38,7 @@ pub fn mark_clusters(alloc: Global, text: &[char], infos: &mut [CharInfo]) -> Re
     Ok(())
 }
 
-// Whether no cluster rule joins any character of a text to another.
+// Returns whether a quick test shows that each character of a text is a cluster of its own.
 fn are_alone(text: &[char]) -> bool
     ensures { result ≡ list_all is_alone text.now }
 {
@@ -69,7 +69,7 @@ fn put_ends(infos: &mut [CharInfo], ends: &[bool])
     }
 }
 
-// Appends the ends of one cluster: `true` for its last character only.
+// Appends an item for each character of a cluster: `true` for the last one, `false` for the others.
 fn push_ends(ends: &mut Vec<bool>, cluster: &str) -> Result<(), AllocError>
     ensures { OnOk result (ends.new.items ≡ ends.old.items ++ ends_of cluster.now) }
 {

@@ -1,12 +1,13 @@
-//! Work counters. The function that does some work raises the counter, so work done twice is counted twice.
+//! Work counters. Each function that does counted work raises the counter itself, so work done twice is
+//! counted twice.
 ghost use Rattle.std.specs.Prelude.{◌≡◌, ◌≤◌, ℕ};
 ghost use Rattle.lines.specs.Engine.{counted};
 
 use std::marker::Model;
 use ucd::Tables;
 
-/// A number of characters, which stops at 2^64−1. It is neither `Copy` nor `Drop`: it can only be added to
-/// another count, or end together with the tables that the work was done by.
+/// A number of characters, saturating at 2^64−1. It is neither `Copy` nor `Drop`: a count can only be added
+/// to another one, or be dropped together with the tables used for the work.
 #[derive(Debug)]
 pub(crate) struct Count {
     value: u64,
@@ -53,8 +54,8 @@ impl Count {
     }
 }
 
-/// Proof that a number of characters was counted as filled into lines. It is not `Copy`: filling them twice
-/// needs two of them.
+/// Proof that a number of characters was counted as filled into lines. It is not `Copy`, so filling the same
+/// characters twice requires two proofs.
 #[derive(Debug, Drop)]
 pub(crate) struct Counted {
     len: usize,
@@ -68,7 +69,7 @@ impl Model for Counted {
     ghost view = { λ c. c.len };
 }
 
-/// The numbers of characters that were analysed, that were filled into lines, and whose lines were written.
+/// How many characters were analysed, how many were filled into lines, and how many had their lines written.
 #[derive(Debug)]
 pub(crate) struct Counts {
     pub(crate) analysed: Count,
@@ -89,7 +90,7 @@ impl Counts {
         }
     }
 
-    /// Counts characters as filled, before they are.
+    /// Counts `len` characters as filled, before they are filled. Returns the proof.
     pub(crate) fn take_filled(&mut self, len: usize) -> Counted
         ensures counted { result ≡ len }
         ensures analysed { self.new.analysed ≡ self.old.analysed }
@@ -101,8 +102,7 @@ impl Counts {
         Counted { len }
     }
 
-    /// Ends the counts together with the tables that the work was done by. There is no other way to drop a
-    /// count.
+    /// Drops the counts together with the tables used for the work. There is no other way to drop a count.
     pub(crate) fn end(self, _tables: Tables) {
         let Counts {
             analysed: Count { value: _ },

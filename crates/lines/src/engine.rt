@@ -1,4 +1,4 @@
-//! Lays out paragraphs by tables and options, and counts the work.
+//! Lays out paragraphs using tables and options, and counts the work.
 ghost use Rattle.std.specs.Prelude.{◌≡◌, ◌<◌, ◌≤◌, ℕ, [], true, false, length, map};
 ghost use Rattle.std.specs.Prelude.{IfOk, IfErr, IsErrOf, OnErr, OnOk};
 ghost use Rattle.std.specs.Prelude.{if◌then◌else◌};
@@ -29,11 +29,11 @@ use std::alloc::{AllocError, Global};
 use std::marker::Model;
 use ucd::Tables;
 
-/// The maximum number of characters of a paragraph.
+/// The maximum number of characters in a paragraph.
 pub const PARAGRAPH_LIMIT: usize = 1_048_576;
 
-/// Tables, options and work counters, which lay out paragraphs. The tables are lent to no caller, so all work
-/// on them is counted.
+/// Lays out paragraphs using its tables and options, and counts the work. The engine never lends its tables
+/// to a caller, so all work done with them is counted.
 #[derive(Debug)]
 pub struct Engine {
     tables: Tables,
@@ -105,14 +105,15 @@ impl Engine {
         }
     }
 
-    /// Whether there is a paragraph boundary between two adjacent characters.
+    /// Returns whether there is a paragraph boundary between two adjacent characters.
     pub fn is_cut(&self, before: char, after: char) -> bool
         ensures { result ≡ cut_by (rules_of self.now) before after }
     {
         is_cut(&self.tables, before, after)
     }
 
-    /// Returns the first paragraph boundary of a text, or `None` if the text is one paragraph or empty.
+    /// Returns the index of the first paragraph boundary in a text, or `None` if the text is empty or one
+    /// paragraph.
     pub fn first_cut(&self, text: &[char]) -> Option<usize>
         ensures place { result ≡ first_cut (cut_by (rules_of self.now)) text.now }
         ensures paragraphs { SplitsAt (cut_by (rules_of self.now)) text.now result }
@@ -120,8 +121,9 @@ impl Engine {
         first_cut(&self.tables, text)
     }
 
-    /// Returns the first paragraph boundary of `before` followed by `text`, as the number of bytes of `text`
-    /// before it. `before` has no boundary itself; the boundary may be directly after it.
+    /// Finds the first paragraph boundary in `before` followed by `text`. Returns its byte index in `text`,
+    /// or `None` if there is no boundary. `before` must contain no boundary. A boundary between `before` and
+    /// `text` has index 0.
     pub fn first_cut_in_text(&self, before: &[char], text: &str) -> Option<usize>
         requires { SplitsAt (cut_by (rules_of self.now)) before.now None }
         ensures { FindsEndAfter (cut_by (rules_of self.now)) before.now text.now result }
@@ -136,29 +138,29 @@ impl Engine {
         base_level(&self.tables, &[], self.options.base)
     }
 
-    /// Returns the number of characters that were analysed. The count stops at 2^64−1.
+    /// Returns the number of characters that were analysed. The count saturates at 2^64−1.
     pub fn analysed(&self) -> u64
         ensures { result ≡ analysed_of self.now }
     {
         self.counts.analysed.get()
     }
 
-    /// Returns the number of characters that were filled into lines. The count stops at 2^64−1.
+    /// Returns the number of characters that were filled into lines. The count saturates at 2^64−1.
     pub fn filled(&self) -> u64
         ensures { result ≡ filled_of self.now }
     {
         self.counts.filled.get()
     }
 
-    /// Returns the number of characters whose lines were written. The count stops at 2^64−1.
+    /// Returns the number of characters whose lines were written. The count saturates at 2^64−1.
     pub fn written(&self) -> u64
         ensures { result ≡ written_of self.now }
     {
         self.counts.written.get()
     }
 
-    /// Lays out one paragraph at a width in columns, which is not 0. If an allocation fails, returns the
-    /// text.
+    /// Lays out one paragraph at a width in columns, which must not be 0. If an allocation fails, returns the
+    /// text with the error.
     pub fn lay_out(
         &mut self,
         alloc: Global,
@@ -174,7 +176,7 @@ impl Engine {
         ensures unwritten { OnErr result (written_of self.new ≡ written_of self.old) }
         ensures at_most { LaysOutAtMost (length text.items) self.old self.new }
 
-        // After an allocation failure too, the characters count as analysed and filled.
+        // Even after an allocation failure, the characters count as analysed and filled.
         ensures analysed { analysed_of self.new ≡ counted (analysed_of self.old) (length text.items) }
         ensures filled { filled_of self.new ≡ counted (filled_of self.old) (length text.items) }
         ensures rules { SameRules self.old self.new }
@@ -191,8 +193,8 @@ impl Engine {
         }
     }
 
-    /// Finds the lines of a paragraph at another width, which is not 0. The paragraph must be laid out by
-    /// this engine's tables and options.
+    /// Finds the lines of a paragraph at another width, which must not be 0. The paragraph must have been
+    /// laid out with this engine's tables and options.
     pub fn refill(&mut self, alloc: Global, laid: &Laid, width: u16) -> Result<Fill, AllocError>
         requires laid { IsLaidOut (rules_of self.old) laid.now }
         requires width { 0 < width }
@@ -212,8 +214,8 @@ impl Engine {
         work.fill(alloc, &rules, laid, width, &mut self.counts)
     }
 
-    /// Writes the lines of one paragraph at a width in columns, which is not 0, and keeps nothing of them. If
-    /// an allocation fails, writes nothing. If no line is printed, allocates nothing.
+    /// Writes the lines of one paragraph at a width in columns, which must not be 0, without keeping them. If
+    /// an allocation fails, writes nothing. Allocates nothing if `print` selects no lines.
     pub fn write_paragraph<W: Sink>(
         &mut self,
         alloc: Global,
@@ -232,13 +234,13 @@ impl Engine {
         ensures memory { IsErrOf result PrintFault.Memory → skips_lines print.now ≡ false }
         ensures counts { OnOk result (Prints (length text.now) print.now self.old self.new) }
 
-        // After a failed write too: by then the lines have been found.
+        // A failed write counts as much as a successful one, since the lines have been found by then.
         ensures failed { ¬ (IsErrOf result PrintFault.Memory)
             → Prints (length text.now) print.now self.old self.new }
         ensures unwritten { IsErrOf result PrintFault.Memory → written_of self.new ≡ written_of self.old }
         ensures at_most { LaysOutAtMost (length text.now) self.old self.new }
 
-        // After each fault too, the characters count as analysed. If lines are printed, they also count as
+        // Even after a fault, the characters count as analysed. If lines are printed, they also count as
         // filled. Otherwise they count as neither filled nor written.
         ensures analysed { analysed_of self.new ≡ counted (analysed_of self.old) (length text.now) }
         ensures filled { skips_lines print.now ≡ false
@@ -261,8 +263,8 @@ impl Engine {
         work.write(alloc, &rules, text, &form, &mut self.counts, writer)
     }
 
-    /// Finds where the lines of a paragraph start at another width, which is not 0, and how much of each is
-    /// shown. The paragraph must be laid out by this engine's tables and options.
+    /// Finds where each line of a paragraph starts at another width, which must not be 0, and how much of
+    /// each line is shown. The paragraph must have been laid out with this engine's tables and options.
     pub fn extents(&mut self, alloc: Global, laid: &Laid, width: u16) -> Result<Extents, AllocError>
         requires laid { IsLaidOut (rules_of self.old) laid.now }
         requires width { 0 < width }
@@ -290,9 +292,10 @@ impl Engine {
         ReflowScratch::new(alloc, &self.tables, len)
     }
 
-    /// Replaces the lines of a paragraph with those at another width, given their extents at that width.
-    /// `extents` then holds those of the old lines. The paragraph must be laid out by this engine's tables
-    /// and options. `scratch` must have capacity for its characters, and counts them. Allocates nothing.
+    /// Replaces the lines of a paragraph with those at another width, given the extents at that width.
+    /// Afterwards, `extents` holds the extents of the old lines. The paragraph must have been laid out with
+    /// this engine's tables and options. `scratch` must have capacity for the paragraph's characters, and
+    /// counts them. Allocates nothing.
     pub fn reflow(&self, laid: &mut Laid, extents: &mut Extents, scratch: &mut ReflowScratch)
         requires laid { IsLaidOut (rules_of self.now) laid.old }
         requires extents { (width : ℕ)
@@ -314,7 +317,7 @@ impl Engine {
     }
 
     /// Frees scratch space, and counts the characters whose lines were written with it. There is no other way
-    /// to free it.
+    /// to free scratch space.
     pub fn take_back(&mut self, scratch: ReflowScratch)
         ensures counts { Rewrites scratch.written self.old self.new }
         ensures at_most { RewritesAtMost scratch.written self.old self.new }
@@ -323,7 +326,7 @@ impl Engine {
         self.counts.written.add(scratch.end());
     }
 
-    // Finds the base level of a paragraph. Counts the characters.
+    // Finds the base level of a paragraph, and counts its characters as analysed.
     fn find_base(&mut self, text: &[char]) -> u8
         ensures base { result ≡ base_of (rules_of self.old) text.now }
         ensures counts { self.new ≡ record self.old {
@@ -335,7 +338,7 @@ impl Engine {
         base_level(&self.tables, text, self.options.base)
     }
 
-    // Writes the base direction of a paragraph, if it is printed.
+    // Writes the base direction of a paragraph, if `print.basedir` is set. Counts the characters as analysed.
     fn write_base<W: Sink>(
         &mut self,
         text: &[char],

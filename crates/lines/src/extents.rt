@@ -1,4 +1,4 @@
-//! Where the lines of a paragraph start at a width, and how much of each is shown.
+//! Where each line of a paragraph starts at a width, and how much of it is shown.
 ghost use Rattle.std.specs.Prelude.{◌≡◌, ◌≤◌, length, OnOk};
 ghost use Rattle.lines.specs.Bare.{with_ends};
 ghost use Rattle.lines.specs.Clusters.{cluster_ends};
@@ -16,8 +16,8 @@ use crate::showing::fill_shown;
 use std::alloc::{AllocError, Global};
 use std::marker::Model;
 
-/// Where the lines of a paragraph start at a width, and how much of each is shown. Given these, the lines can
-/// be written without allocating.
+/// Where each line of a paragraph starts at a width, and how much of it is shown. Given its extents, a
+/// paragraph's lines can be written without allocating.
 #[derive(Debug, Drop)]
 pub struct Extents {
     pub(crate) starts: Vec<u32>,
@@ -32,8 +32,8 @@ impl Model for Extents {
     ghost view = { λ e. record { starts = e.starts.items; shown = e.shown.items } };
 }
 
-/// Finds where the lines of a paragraph start, and how much of each is shown. `infos` need not have the ends
-/// of clusters.
+/// Finds where each line of a paragraph starts, and how much of it is shown. `infos` need not contain the
+/// cluster ends.
 pub(crate) fn fill_spans_by(
     alloc: Global,
     text: &[char],

@@ -1,5 +1,5 @@
-//! The lines of a paragraph at a width: reading them, writing those at another width over them, and printing
-//! them.
+//! The lines of a paragraph at a width: reading them, replacing them with the lines at another width, and
+//! printing them.
 ghost use Rattle.std.specs.Prelude.{◌≡◌, ◌+◌, ◌≤◌, List, length, map, option_map, slice_get};
 ghost use Rattle.std.specs.Prelude.{IfErr, IfOk, IfSome};
 ghost use Rattle.ucd.specs.Within.{AreWithin};
@@ -27,14 +27,14 @@ use std::marker::Model;
 /// How much of a line is shown.
 #[derive(Clone, Copy, Debug)]
 pub struct Shown {
-    /// The number of its characters that are shown.
+    /// The number of characters in the shown part.
     pub len: u32,
-    /// Their width in columns.
+    /// The width of the shown part in columns.
     pub columns: u32,
 }
 
-/// The lines of a paragraph at a width. In each list, the items of a line start at the index of its first
-/// character.
+/// The lines of a paragraph at a width. The first two lists have one item per line. In each of the others, a
+/// line's items start at the index of the line's first character.
 #[derive(Debug)]
 pub struct Fill {
     pub(crate) starts: Vec<u32>,
@@ -82,7 +82,7 @@ impl Fill {
     ghost use Rattle.lines.specs.Visual.{visual_of};
     ghost use Rattle.lines.specs.Writing.{PassedOn, StoppedIn};
 
-    /// Takes the lines that buffers hold.
+    /// Makes a `Fill` of the lines in the buffers.
     pub(crate) fn of(lines: LineBuffers) -> Fill
         requires { AreSound lines }
         ensures { result ≡ held_in lines }
@@ -103,8 +103,8 @@ impl Fill {
         }
     }
 
-    /// Writes other lines of the paragraph over these: L1 on each line, and L2, L3 and L4 on its shown part.
-    /// Exchanges their extents for those of the old lines.
+    /// Overwrites the lines with those that `extents` describes: applies L1 to each line, and L2, L3 and L4
+    /// to its shown part. Afterwards, `extents` holds the extents of the old lines.
     pub(crate) fn reflow(
         &mut self,
         text: &Text<'_>,
@@ -154,7 +154,7 @@ impl Fill {
         &self.starts
     }
 
-    /// Whether there is one line, no wider than `width`.
+    /// Returns whether there is exactly one line, at most `width` columns wide.
     pub(crate) fn is_line_within(&self, width: u16) -> bool
         ensures { result ≡ is_line_within width self.now.lines }
     {
@@ -165,7 +165,7 @@ impl Fill {
         shown[0].columns <= u32::from(width)
     }
 
-    /// Returns a line, or `None` past the last one.
+    /// Returns line `n`, or `None` past the last line.
     pub(crate) fn part(&self, n: usize) -> Option<Part<'_>>
         ensures line { option_map line_of result ≡ slice_get self.now.lines n }
         ensures within { IfSome result (λ part. AreWithin (length part.levels.now) part.vtol.now) }
@@ -183,7 +183,7 @@ impl Fill {
         ))
     }
 
-    /// Returns a line of the paragraph with this text and base level, or `None` past the last one.
+    /// Returns line `n` of the paragraph with this text and base level, or `None` past the last line.
     pub(crate) fn line<'a>(&'a self, text: &'a [char], base: u8, n: usize) -> Option<VisualLine<'a>>
         requires { Layouts.AreWithin (length text.now) self.now.lines }
         ensures { result
@@ -206,7 +206,7 @@ impl Fill {
     }
 
     /// Writes all lines of the paragraph with this text and base level. `before` is the number of bytes
-    /// already written, and the returned count includes it.
+    /// already written, and the returned byte count includes it.
     pub(crate) fn write_after<W: Sink>(
         &self,
         text: &[char],
@@ -237,7 +237,7 @@ impl Fill {
     }
 }
 
-/// A line, without what it shares with its paragraph.
+/// A line, without the data that it shares with its paragraph.
 #[derive(Clone, Copy)]
 pub(crate) struct Part<'a> {
     pub(crate) start: u32,
@@ -248,7 +248,7 @@ pub(crate) struct Part<'a> {
     pub(crate) chars: &'a [char],
 }
 
-// Returns the line that starts at `start`, of which `shown` is shown.
+// Returns the line that starts at `start` and has the shown part `shown`.
 fn part_of<'a>(
     start: u32,
     shown: Shown,

@@ -1,4 +1,4 @@
-//! Where the lines of a paragraph start.
+//! Finds where the lines of a paragraph start.
 ghost use Rattle.std.specs.Prelude.{◌≡◌, ◌+◌, ◌||◌, ◌<◌, ◌≤◌, ◌^◌, List, length, drop, false, IsTrue};
 ghost use Rattle.std.specs.Prelude.{None, Some, IfOk, IfSome, OnErr, OnOk, if◌then◌else◌};
 ghost use Rattle.lines.specs.Bare.{AreAlike, with_ends};
@@ -16,8 +16,8 @@ use crate::counts::Counted;
 use breaks::Mark;
 use std::alloc::{AllocError, Global};
 
-/// Replaces `starts` with where each line of a paragraph starts at a width. `infos` need not have the ends of
-/// clusters: they are found, and written into it, for the first line that needs them.
+/// Replaces the contents of `starts` with the start of each line of a paragraph at a width. `infos` need not
+/// contain the cluster ends. The cluster ends are found and stored in `infos` when a line first needs them.
 pub fn line_starts(
     alloc: Global,
     text: &[char],
@@ -47,7 +47,7 @@ pub fn line_starts(
     Ok(())
 }
 
-// Returns the length of the line that begins at `start`, and whether `infos` has the ends of clusters.
+// Returns the length of the line that begins at `start`, and whether `infos` now contains the cluster ends.
 fn line_len(
     alloc: Global,
     text: &[char],
@@ -77,8 +77,8 @@ fn line_len(
     Ok((line_end(&infos[start..], width) + 1, true))
 }
 
-// Returns the length of the first line if clusters do not matter: it ends at a break opportunity, or
-// `nobreak` is set.
+// Returns the length of the first line, or `None` if the length depends on clusters. It does not depend on
+// clusters if the line ends at a break opportunity or `nobreak` is set.
 fn broken_len(rest: &[CharInfo], width: u16, nobreak: bool) -> Option<usize>
     requires { (0 < length rest.now) × (length rest.now ≤ PARAGRAPH_LIMIT) }
     ensures len { (known : List CharInfo) → AreAlike rest.now known
@@ -95,28 +95,29 @@ fn broken_len(rest: &[CharInfo], width: u16, nobreak: bool) -> Option<usize>
     }
 }
 
-// Whether a line must end after a mark.
+// Returns whether a line must end after a character with this break mark.
 fn is_must(mark: Mark) -> bool
     ensures { result ≡ is_must mark }
 {
     mark == Mark::Must
 }
 
-// Whether a line may or must end after a mark.
+// Returns whether a line may or must end after a character with this break mark.
 fn is_break(mark: Mark) -> bool
     ensures { result ≡ is_break mark }
 {
     mark != Mark::Never
 }
 
-// Whether a line may end after a character, or a cluster ends there.
+// Returns whether a line may or must end after a character, or a cluster ends after it.
 fn is_candidate(info: &CharInfo) -> bool
     ensures { result ≡ is_break info.now.mark || info.now.ends_cluster }
 {
     is_break(info.mark) || info.ends_cluster
 }
 
-// Returns the first character after which a line must end, or the last one.
+// Returns the index of the first character after which a line must end, or of the last character if there is
+// none.
 fn first_must(rest: &[CharInfo]) -> usize
     requires { 0 < length rest.now }
     ensures end { result ≡ stop rest.now }
@@ -130,7 +131,8 @@ fn first_must(rest: &[CharInfo]) -> usize
     rest.len() - 1
 }
 
-// Returns the first character after which a line may end or a cluster ends, or the last one.
+// Returns the index of the first character after which a line may end or a cluster ends, or of the last
+// character if there is none.
 fn first_end(rest: &[CharInfo]) -> usize
     requires { 0 < length rest.now }
     ensures end { result ≡ first_end rest.now }
@@ -144,7 +146,7 @@ fn first_end(rest: &[CharInfo]) -> usize
     rest.len() - 1
 }
 
-// Returns the last character of the first line.
+// Returns the index of the last character of the first line.
 fn line_end(rest: &[CharInfo], width: u16) -> usize
     requires { (0 < length rest.now) × (length rest.now ≤ PARAGRAPH_LIMIT) }
     ensures end { result ≡ line_end width rest.now }
@@ -157,8 +159,8 @@ fn line_end(rest: &[CharInfo], width: u16) -> usize
     }
 }
 
-// Reads up to the first character after which a line must end. Of the characters up to which the line fits,
-// returns the last one after which it may end, and the last one after which a cluster ends.
+// Reads the characters that fit in the first line, up to the first one after which the line must end. Returns
+// the index of the last one after which the line may end, and of the last one after which a cluster ends.
 fn fitting_ends(rest: &[CharInfo], width: u16) -> (Option<usize>, Option<usize>)
     requires { (0 < length rest.now) × (length rest.now ≤ PARAGRAPH_LIMIT) }
     ensures by_break { result.0 ≡ by_break width rest.now }
@@ -187,7 +189,7 @@ fn fitting_ends(rest: &[CharInfo], width: u16) -> (Option<usize>, Option<usize>)
     (by_break, by_cluster)
 }
 
-// The columns of a part of a line, and those of its shown part.
+// The width of a part of a line, and the width of its shown part, in columns.
 #[derive(Clone, Copy)]
 struct Sums {
     columns: usize,
@@ -195,7 +197,7 @@ struct Sums {
 }
 
 impl Sums {
-    // Adds one character.
+    // Returns the sums after one more character.
     fn after(self, info: CharInfo) -> Sums
         requires { self.columns < 2 ^ 40 }
         ensures sums { result ≡ sums_after self info }
@@ -216,7 +218,7 @@ impl Sums {
     }
 }
 
-// Returns `k` if `passes`, else `before`.
+// Returns `Some(k)` if `passes` is true, or else `before`.
 fn later(before: Option<usize>, k: usize, passes: bool) -> Option<usize>
     ensures { result ≡ if passes then Some k else before }
 {

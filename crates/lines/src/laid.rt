@@ -67,7 +67,7 @@ impl Laid {
     ghost use Rattle.lines.specs.Visual.{visual_of};
     ghost use Rattle.lines.specs.Writing.{PassedOn, StoppedIn};
 
-    /// Returns the characters.
+    /// Returns the characters of the paragraph.
     pub fn text(&self) -> &[char]
         ensures { result.now ≡ self.now.text }
     {
@@ -110,19 +110,19 @@ impl Laid {
         self.lines.starts().len()
     }
 
-    /// Whether the paragraph has one line, no wider than `width` columns. If so, it has the same line at that
-    /// width.
+    /// Returns whether the paragraph has exactly one line, at most `width` columns wide. If so, its lines at
+    /// that width are the same.
     pub fn keeps_lines(&self, width: u16) -> bool
         ensures value { result ≡ is_line_within width self.now.lines }
         ensures lines { IsTrue result → (rules : Rules) → IsLaidOut rules self.now
             → lines_of rules width self.now.text ≡ self.now.lines }
     {
-        // By this theorem, a line of all characters may end after the last one.
+        // By this theorem, a line of the whole paragraph may end after the last character.
         paragraphs_end_at_must();
         self.lines.is_line_within(width)
     }
 
-    /// Returns a line, or `None` past the last one.
+    /// Returns line `n`, or `None` past the last line.
     pub fn line(&self, n: usize) -> Option<VisualLine<'_>>
         ensures line { result
             ≡ option_map (visual_of self.now.base self.now.text self.now.lines n)
@@ -132,7 +132,7 @@ impl Laid {
         self.lines.line(&self.text, self.base, n)
     }
 
-    /// Writes the paragraph's lines, and nothing after a failed write. Allocates nothing.
+    /// Writes the paragraph's lines. Stops at the first failed write. Allocates nothing.
     pub fn write<W: Sink>(
         &self,
         writer: &mut W,
@@ -149,8 +149,8 @@ impl Laid {
         Ok(())
     }
 
-    /// Writes the lines. `before` is the number of bytes already written. The returned count, and that in a
-    /// fault, include it.
+    /// Writes the lines. `before` is the number of bytes already written. The returned byte count includes
+    /// these bytes, as does the count in a `WriteFault`.
     pub fn write_after<W: Sink>(
         &self,
         writer: &mut W,
@@ -169,7 +169,8 @@ impl Laid {
             .write_after(&self.text, self.base, writer, before, width, print)
     }
 
-    // Writes the lines at another width over the old ones, by their extents.
+    // Overwrites the lines with those at another width, which `extents` describes. Afterwards, `extents`
+    // holds the extents of the old lines.
     pub(crate) fn reflow(
         &mut self,
         tables: &Tables,
@@ -201,7 +202,7 @@ impl Laid {
         self.lines.reflow(&text, &self.levels, extents, written);
     }
 
-    /// Exchanges the lines for those at another width, found by the same tables and options.
+    /// Swaps the lines with those at another width, found with the same tables and options.
     pub fn exchange(&mut self, fill: &mut Fill)
         requires { (rules : Rules) × IsLaidOut rules self.old × AreLinesOf rules self.old.text fill.old }
         ensures { Exchanges self.old self.new fill.old fill.new }
@@ -216,17 +217,17 @@ impl Laid {
     ghost use Rattle.lines.specs.Clusters.{cluster_ends};
     ghost use Rattle.lines.specs.Layouts.{Rules, lines_of};
 
-    /// States, as a theorem, that the lines of a paragraph start in order, the first one at 0, by any rules
-    /// and at any width. `Laid::line_starts` returns where. Costs nothing at run time.
+    /// States, as a theorem, that the lines of a paragraph start in order, the first one at 0, for any
+    /// tables, options and width. `Laid::line_starts` returns these starts. Costs nothing at run time.
     pub fn lines_begin_in_order()
         ensures { (rules : Rules) (width : ℕ) (text : List ℕ)
             → BeginInOrder text (lines_of rules width text) }
     {
-        // By this theorem, each paragraph has break marks.
+        // By this theorem, the last break mark of each paragraph is `Must`.
         paragraphs_end_at_must();
     }
 
-    /// Returns for each character whether a grapheme cluster ends after it (UAX #29).
+    /// Returns, for each character, whether a grapheme cluster ends after it (UAX #29).
     pub fn cluster_ends(
         &self,
         alloc: std::alloc::Global,

@@ -8,25 +8,26 @@ ghost use Rattle.lines.specs.declared.print.Print.{Print};
 
 use breaks::paragraphs_end_at_must;
 
-/// States, as a theorem, that a paragraph has at most as many lines as characters, by any rules and at any
-/// width. Costs nothing at run time.
+/// States, as a theorem, that a paragraph has at most as many lines as characters, for any tables, options
+/// and width. Costs nothing at run time.
 pub fn lines_are_few()
     ensures { (rules : Rules) (width : ℕ) (text : List ℕ)
         → length (lines_of rules width text) ≤ length text }
 {}
 
-/// States, as a theorem, that the lines of a paragraph have all its characters, including those in tails.
-/// Their lengths add up to its length, by any rules and at any width. Costs nothing at run time.
+/// States, as a theorem, that the lines of a paragraph contain all its characters, including those in tails.
+/// For any tables, options and width, the lengths of the lines add up to the length of the paragraph. Costs
+/// nothing at run time.
 pub fn lines_have_all_characters()
     ensures { (rules : Rules) (width : ℕ) (text : List ℕ)
         → sum_by (λ line. line.len) (visuals (layout_of rules width text)) ≡ length text }
 {
-    // By this theorem, each paragraph has break marks.
+    // By this theorem, the last break mark of each paragraph is `Must`.
     paragraphs_end_at_must();
 }
 
-/// States, as a theorem, that the bytes of a paragraph are those of its lines, in order, as `Laid::line`
-/// returns them and `VisualLine::write` writes them. Costs nothing at run time.
+/// States, as a theorem, that the bytes written for a paragraph are the bytes of its lines, in order.
+/// `Laid::line` returns each line, and `VisualLine::write` writes its bytes. Costs nothing at run time.
 pub fn paragraphs_print_their_lines()
     ensures { (width : ℕ) (print : Print) (layout : Layout)
         → layout_bytes width print layout ≡ flat_map (line_bytes width print) (visuals layout) }

@@ -1,4 +1,4 @@
-//! The layout of a paragraph that is kept.
+//! Lays out a paragraph, and keeps its layout.
 ghost use Rattle.std.specs.Prelude.{◌≡◌, ◌≤◌, length, IfOk, OnErr, OnOk};
 ghost use Rattle.lines.specs.Bare.{with_ends};
 ghost use Rattle.lines.specs.Buffers.{held_lines, AreSound};
@@ -25,7 +25,8 @@ impl Workspace {
     ghost use Rattle.lines.specs.Buffers.{held_lines, AreSound};
     ghost use Rattle.lines.specs.Paragraphs.{rules_in};
 
-    /// Lays out a paragraph: returns its base level, and replaces the contents of `kept` with the rest.
+    /// Lays out a paragraph. Returns its base level, and replaces the contents of `kept` with the rest of its
+    /// layout.
     pub(crate) fn lay_out(
         &mut self,
         alloc: Global,
@@ -104,7 +105,7 @@ pub(crate) fn fill_lines(
     fill_lines_by(alloc, paragraph, infos, width, lines, filled, written)
 }
 
-// Replaces the contents of `lines` with the lines of a paragraph. `infos` need not have the ends of clusters.
+// Replaces the contents of `lines` with the lines of a paragraph. `infos` need not contain the cluster ends.
 fn fill_lines_by(
     alloc: Global,
     paragraph: &Paragraph<'_>,

@@ -1,4 +1,4 @@
-//! Lines of a paragraph: where each starts at a width, and how it is shown.
+//! Lines of a paragraph: where each line starts at a given width, and how it is shown.
 //!
 //! An `Engine` has the tables and the options, and lays out one paragraph at a time:
 //!

@@ -11,15 +11,15 @@ pub struct Options {
     pub base: Base,
     /// Whether lines end at mandatory breaks only.
     pub nobreak: bool,
-    /// Whether nonspacing marks at odd levels are put after their base, in logical order, instead of before
-    /// it (UAX #9, L3).
+    /// Whether L3 of UAX #9 is applied: in visual order, nonspacing marks at odd levels come after their base
+    /// instead of before it.
     pub reordernsm: bool,
     /// Whether no line ends inside a number (replaces UAX #14, LB25).
     pub whole_numbers: bool,
 }
 
 impl Default for Options {
-    // The options of a command without arguments.
+    // The options that a command without arguments uses.
     ghost is_default = { λ options. options
         ≡ record { base = WeakLtr; nobreak = false; reordernsm = false; whole_numbers = false } };
 

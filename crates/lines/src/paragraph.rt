@@ -1,4 +1,4 @@
-//! What is known of a paragraph, or of one of its lines, before the lines are ordered.
+//! What is known about a paragraph, or about one of its lines, before its lines are reordered.
 use crate::fill::Shown;
 use crate::options::Options;
 use breaks::Mark;
@@ -20,8 +20,8 @@ pub(crate) struct Text<'a> {
     pub(crate) base: u8,
 }
 
-/// A paragraph whose lines can be found: with the level of each character before L1, and the break mark after
-/// it.
+/// A paragraph with what filling needs: the level of each character before L1, and the break mark after each
+/// character.
 #[derive(Clone, Copy)]
 pub(crate) struct Paragraph<'a> {
     pub(crate) text: Text<'a>,
@@ -29,7 +29,7 @@ pub(crate) struct Paragraph<'a> {
     pub(crate) marks: &'a [Mark],
 }
 
-/// Where the lines of a paragraph start, and how much of each is shown.
+/// Where each line of a paragraph starts, and how much of it is shown.
 #[derive(Clone, Copy)]
 pub(crate) struct Spans<'a> {
     pub(crate) starts: &'a [u32],

@@ -1,10 +1,11 @@
-//! What is printed of each line of a paragraph, and how printing fails.
+//! What to print for each line of a paragraph, and how printing can fail.
 ghost use Rattle.std.specs.Prelude.{◌≡◌, false};
 
 use crate::bytes::WriteFault;
 use thiserror::Error;
 
-/// What is printed of a line. By default, with no field set, this is the visual line, padded and mirrored.
+/// What to print for each line. By default, no field is set, and the visual line is printed, padded and
+/// mirrored.
 #[derive(Clone, Copy, Debug, PartialEq, Eq)]
 pub struct Print {
     /// Omits the line in visual order.
@@ -51,14 +52,15 @@ impl Print {
     ghost use Rattle.lines.specs.Asked.{asks_places};
     ghost use Rattle.lines.specs.Printing.{skips_lines};
 
-    // Whether nothing but the base direction is printed, which needs no lines.
+    // Returns whether at most the base direction is printed, which does not depend on the lines.
     pub(crate) fn skips_lines(&self) -> bool
         ensures { result ≡ skips_lines self.now }
     {
         self.novisual && !self.ltov && !self.vtol && !self.levels
     }
 
-    // Whether position maps are printed, or unmirrored characters, which are found by these maps.
+    // Returns whether printing needs the position maps, either to print them or to find unmirrored
+    // characters.
     pub(crate) fn asks_places(&self) -> bool
         ensures { result ≡ asks_places self.now }
     {
@@ -66,7 +68,7 @@ impl Print {
     }
 }
 
-/// Why the lines of a paragraph were not, or not completely, printed.
+/// Why printing the lines of a paragraph failed.
 #[derive(Clone, Copy, Debug, PartialEq, Eq, Error)]
 pub enum PrintFault {
     /// An allocation failed, and nothing was written.

@@ -1,4 +1,4 @@
-//! Prints the lines of a paragraph, and keeps nothing of them.
+//! Prints the lines of a paragraph without keeping them.
 ghost use Rattle.std.specs.Prelude.{◌≡◌, ◌<◌, ◌≤◌, true, false, length, IfErr, IsErrOf, OnOk};
 ghost use Rattle.device.specs.Device.{Wrote};
 ghost use Rattle.lines.specs.Engine.{counted, RisesBy};
@@ -88,7 +88,8 @@ impl Workspace {
     }
 }
 
-// Whether a paragraph is one line whose characters are not printed.
+// Returns whether a nonempty paragraph is one line because `nobreak` is set, and its characters are not
+// printed.
 fn is_one_line(form: &Form<'_>, text: &Text<'_>) -> bool
     requires { IsLookedUp text.now }
     ensures nobreak { result ≡ true → text.now.rules.options.nobreak ≡ true }
@@ -105,7 +106,7 @@ fn is_one_line(form: &Form<'_>, text: &Text<'_>) -> bool
     is_whole(text)
 }
 
-// Writes a paragraph that is one line, whose characters are not printed.
+// Writes a paragraph that is one line and whose characters are not printed.
 fn write_one_line<W: Sink>(
     writer: &mut W,
     form: &Form<'_>,
@@ -149,7 +150,7 @@ fn write_one_line<W: Sink>(
     }
 }
 
-// Finds where the lines of a paragraph start, and how much of each is shown. Grows the other buffers to the
+// Finds where each line of a paragraph starts, and how much of it is shown. Grows the other buffers to the
 // length of the paragraph.
 fn fill_spans(
     alloc: Global,
@@ -170,7 +171,7 @@ fn fill_spans(
     fill_spans_by(alloc, text.characters, infos, width, nobreak, lines, filled)
 }
 
-// Writes the lines of a paragraph, by their starts and shown parts in `lines`.
+// Writes the lines of a paragraph, whose starts and shown parts are in `lines`.
 fn write_lines<W: Sink>(
     writer: &mut W,
     form: &Form<'_>,

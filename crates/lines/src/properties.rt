@@ -5,7 +5,7 @@ ghost use Rattle.ucd.specs.Properties.{properties_of};
 use std::alloc::AllocError;
 use ucd::{Properties, Tables};
 
-/// Replaces `properties` with those of the characters of `text`.
+/// Replaces the contents of `properties` with the properties of each character of `text`.
 pub(crate) fn fill_properties(
     tables: &Tables,
     text: &[char],
@@ -18,7 +18,7 @@ pub(crate) fn fill_properties(
     Ok(())
 }
 
-/// Overwrites `properties` with those of the characters of `text`.
+/// Overwrites `properties` with the properties of each character of `text`.
 pub(crate) fn look_up(tables: &Tables, text: &[char], properties: &mut [Properties])
     requires { length properties.old ≡ length text.now }
     ensures { properties.new ≡ map (properties_of tables.now) text.now }

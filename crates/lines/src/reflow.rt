@@ -1,4 +1,4 @@
-//! The lines of a paragraph at another width.
+//! Finds the lines of a paragraph at another width.
 ghost use Rattle.std.specs.Prelude.{◌≡◌, ◌<◌, ◌≤◌, length, IfOk, OnErr, OnOk};
 ghost use Rattle.lines.specs.Bare.{with_ends};
 ghost use Rattle.lines.specs.Clusters.{cluster_ends};
@@ -20,8 +20,8 @@ use std::alloc::{AllocError, Global};
 use std::marker::Model;
 use ucd::{Properties, Tables};
 
-/// Scratch space for writing the lines of a paragraph over the old ones. It counts the characters whose lines
-/// are written. So it is not `Drop`: `Engine::take_back` adds its count.
+/// Scratch space for overwriting the lines of a paragraph with new ones. It counts the characters whose lines
+/// are written. It is not `Drop`, because `Engine::take_back` must add its count to the engine's.
 #[derive(Debug)]
 pub struct ReflowScratch {
     pub(crate) properties: Vec<Properties>,
@@ -144,7 +144,7 @@ impl Workspace {
     }
 }
 
-// Finds the extents of the lines of a paragraph. `infos` need not have the ends of clusters.
+// Finds the extents of the lines of a paragraph. `infos` need not contain the cluster ends.
 fn extents_by(
     alloc: Global,
     text: &[char],

@@ -1,5 +1,5 @@
 //! The visual lines of a paragraph: the levels of each line after L1, and its shown part in visual order (L2,
-//! L3) with mirrors (L4).
+//! L3), mirrored (L4).
 ghost use Rattle.std.specs.Prelude.{◌≡◌, ◌-◌, ◌<◌, ◌≤◌, ℕ, List, true, false, OnErr, OnOk};
 ghost use Rattle.std.specs.Prelude.{length, map, take, slice_index};
 ghost use Rattle.std.specs.List.{range_with_len, suffix_len};
@@ -33,8 +33,8 @@ use reorder::{
 use std::alloc::AllocError;
 use ucd::{KnownClasses, Properties};
 
-/// Fills in the lines of a paragraph, which start at `lines.starts`: L1 on each line, and L2, L3 and L4 on
-/// its shown part.
+/// Computes the visual lines of a paragraph from their starts in `lines.starts`: applies L1 to each line, and
+/// L2, L3 and L4 to its shown part.
 pub(crate) fn show_lines(
     paragraph: &Paragraph<'_>,
     infos: &[CharInfo],
@@ -83,7 +83,7 @@ pub(crate) fn show_lines(
     Ok(())
 }
 
-// Replaces the contents of a list with the levels before L1, which L1 then changes.
+// Replaces the contents of `list` with the levels before L1. L1 then changes them in place.
 fn copy(levels: &[u8], list: &mut Vec<u8>) -> Result<(), AllocError>
     ensures { OnOk result (list.new.items ≡ levels.now) }
 {
@@ -92,7 +92,7 @@ fn copy(levels: &[u8], list: &mut Vec<u8>) -> Result<(), AllocError>
     list.extend_from_slice(levels)
 }
 
-// Sets the length of a list. Its old items remain, since each item is written before it is read.
+// Sets the length of a list. Old items are not cleared, because each item is written before it is read.
 fn make_numbers(list: &mut Vec<u32>, len: usize) -> Result<(), AllocError>
     ensures { OnOk result (length list.new.items ≡ len) }
 {
@@ -100,7 +100,8 @@ fn make_numbers(list: &mut Vec<u32>, len: usize) -> Result<(), AllocError>
     list.resize(len, 0)
 }
 
-// Sets the length of a list of characters. Its old items remain: each item is written before it is read.
+// Sets the length of a list of characters. Old items are not cleared, because each item is written before it
+// is read.
 fn make_characters(list: &mut Vec<char>, len: usize) -> Result<(), AllocError>
     ensures { OnOk result (length list.new.items ≡ len) }
 {
@@ -108,7 +109,7 @@ fn make_characters(list: &mut Vec<char>, len: usize) -> Result<(), AllocError>
     list.resize(len, '\0')
 }
 
-/// Replaces `shown` with how much of each line is shown.
+/// Replaces the contents of `shown` with how much of each line is shown.
 pub(crate) fn fill_shown(
     infos: &[CharInfo],
     starts: &[u32],
@@ -130,7 +131,8 @@ pub(crate) fn fill_shown(
     Ok(())
 }
 
-/// Writes the items of each line, over the levels before L1. Counts the characters.
+/// Overwrites the levels before L1 with those after L1, and writes the position maps and characters of each
+/// line's shown part. Counts the characters.
 pub(crate) fn show_each(
     text: &Text<'_>,
     spans: &Spans<'_>,
@@ -195,7 +197,7 @@ pub(crate) fn end_of(starts: &[u32], k: usize, len: usize) -> usize
     }
 }
 
-// Writes the levels of a line after L1, and the other items of its shown part.
+// Writes the levels of a line after L1, and the position maps and characters of its shown part.
 fn show_line(
     line: &Text<'_>,
     shown: Shown,
@@ -239,7 +241,7 @@ pub(crate) fn reset_line(properties: &[Properties], base: u8, levels: &mut [u8])
     false
 }
 
-// Whether all levels are 0.
+// Returns whether all levels are 0.
 fn are_zero(levels: &[u8]) -> bool
     ensures { result ≡ true → (k : ℕ) → slice_index levels.now k ≡ 0 }
 {
@@ -250,7 +252,7 @@ fn are_zero(levels: &[u8]) -> bool
     highest == 0
 }
 
-// Whether no level is odd.
+// Returns whether no level is odd.
 fn are_even(levels: &[u8]) -> bool
     ensures { result ≡ true → (k : ℕ) → is_odd (slice_index levels.now k) ≡ false }
 {
@@ -261,7 +263,7 @@ fn are_even(levels: &[u8]) -> bool
     odd == 0
 }
 
-/// Whether no level is odd. If all are known to be 0, the list is not read.
+/// Returns whether no level is odd. Does not read the list if all levels are known to be 0.
 pub(crate) fn is_plain(levels: &[u8], is_flat: bool) -> bool
     requires { is_flat ≡ true → (k : ℕ) → slice_index levels.now k ≡ 0 }
     ensures { result ≡ true → (k : ℕ) → is_odd (slice_index levels.now k) ≡ false }
@@ -269,7 +271,8 @@ pub(crate) fn is_plain(levels: &[u8], is_flat: bool) -> bool
     is_flat || are_even(levels)
 }
 
-// Writes the items of a shown part without odd levels, whose visual order is its logical order.
+// Writes the position maps and characters of a shown part without odd levels. Its visual order is its logical
+// order.
 fn show_plain(part: &[char], ltov: &mut [u32], vtol: &mut [u32], chars: &mut [char])
     requires part { length part.now ≤ PARAGRAPH_LIMIT }
     requires ltov { length ltov.old ≡ length part.now }
@@ -284,8 +287,8 @@ fn show_plain(part: &[char], ltov: &mut [u32], vtol: &mut [u32], chars: &mut [ch
     chars.copy_from_slice(part);
 }
 
-/// Writes the position maps of a line's shown part, and its characters in visual order. `levels` are those of
-/// the shown part.
+/// Writes the position maps of a line's shown part, and its characters in visual order. `levels` are the
+/// levels of the shown part.
 pub(crate) fn show_part(
     line: &Text<'_>,
     levels: &[u8],
@@ -328,8 +331,8 @@ pub(crate) fn show_part(
     }
 }
 
-/// Writes the characters of a line's shown part in visual order, and nothing else of it. `levels` are those
-/// of the shown part. `places` is scratch space.
+/// Writes only the characters of a line's shown part, in visual order. `levels` are the levels of the shown
+/// part. `places` is scratch space.
 pub(crate) fn show_chars(line: &Text<'_>, levels: &[u8], places: &mut [u32], chars: &mut [char])
     requires line { IsLookedUp line.now }
     requires limit { length line.now.characters.now ≤ PARAGRAPH_LIMIT }
@@ -388,7 +391,7 @@ fn shown_len(line: &[CharInfo]) -> usize
     len
 }
 
-// Returns the columns of a part of a line.
+// Returns the width of a part of a line in columns.
 fn columns(piece: &[CharInfo]) -> u32
     requires { length piece.now ≤ PARAGRAPH_LIMIT }
     ensures { result ≡ columns piece.now }

@@ -1,4 +1,4 @@
-//! A visual line, which borrows from its paragraph.
+//! Visual lines, which borrow from their paragraph.
 ghost use Rattle.std.specs.Prelude.{◌≡◌, false, ◌^◌, ◌<◌, ◌≤◌, true, length, slice_index, OnOk, IfOk, IfErr};
 ghost use Rattle.device.specs.Device.{Wrote, StoppedAt};
 ghost use Rattle.ucd.specs.Within.{AreWithin};
@@ -16,8 +16,8 @@ use device::Sink;
 use std::marker::Model;
 use unicode_width::UnicodeWidthChar;
 
-/// A visual line. All methods but `is_first`, `base` and `len` are about its shown part, which is the line
-/// without the spaces and separators at its end. Positions count from the start of the shown part.
+/// A visual line. All methods except `is_first`, `base` and `len` are about the shown part, which is the line
+/// without the spaces and separators at its end. Positions are counted from the start of the shown part.
 #[derive(Debug, Drop)]
 pub struct VisualLine<'a> {
     pub(crate) is_first: bool,
@@ -50,7 +50,7 @@ impl<'a> Model for VisualLine<'a> {
       chars = l.chars.now;
     } };
 
-    // So each logical position is inside the text.
+    // Each logical position is an index into the text.
     ghost invariant = { λ l. AreWithin (length l.text.now) l.vtol.now };
 }
 
@@ -110,8 +110,8 @@ impl<'a> VisualLine<'a> {
         self.columns
     }
 
-    /// Returns the columns left of a visual position, or the line's width past the last position. They are
-    /// those of the text's characters, not of their mirrors.
+    /// Returns the number of columns to the left of a visual position, or the line's width past the last
+    /// position. Columns are those of the text's characters, not of their mirrors.
     pub fn columns_left(&self, place: usize) -> usize
         ensures value { result ≡ columns_left self.now place }
         ensures fits { result < 2 ^ 63 }
@@ -123,8 +123,8 @@ impl<'a> VisualLine<'a> {
         columns
     }
 
-    /// Returns the width in columns of the text's character at a visual position, not of its mirror, or 0
-    /// past the last position.
+    /// Returns the width in columns of the character at a visual position, or 0 past the last position. The
+    /// width is that of the text's character, not of its mirror.
     pub fn columns_at(&self, place: usize) -> usize
         ensures { result ≡ columns_at self.now place }
     {
@@ -135,8 +135,8 @@ impl<'a> VisualLine<'a> {
         }
     }
 
-    /// Returns the visual position of the character whose columns include `column`, counted from the left
-    /// edge, or `None` past the right edge. No column belongs to a character of width 0.
+    /// Returns the visual position of the character that covers `column`, or `None` past the right edge.
+    /// Columns are counted from the left edge. A character of width 0 covers no column.
     pub fn covering(&self, column: usize) -> Option<usize>
         ensures { result ≡ covering self.now column }
     {
@@ -150,8 +150,8 @@ impl<'a> VisualLine<'a> {
         None
     }
 
-    /// Returns how many columns of padding the line has at a width, unless printing omits padding. Only lines
-    /// of right-to-left paragraphs have any.
+    /// Returns the number of columns of padding that the line has at a width, unless printing omits padding.
+    /// Only lines of right-to-left paragraphs have padding.
     pub fn padding(&self, width: u16) -> u32
         ensures value { result ≡ padding_of width self.now }
         ensures spaces { (print : Print) → print.nopad ≡ false
@@ -163,7 +163,7 @@ impl<'a> VisualLine<'a> {
         0
     }
 
-    /// Writes the line, and nothing after a failed write. Allocates nothing.
+    /// Writes the line. Stops at the first failed write. Allocates nothing.
     pub fn write<W: Sink>(
         &self,
         writer: &mut W,
@@ -180,8 +180,8 @@ impl<'a> VisualLine<'a> {
         Ok(())
     }
 
-    /// Writes the line. `before` is the number of bytes already written. The returned count, and that in a
-    /// fault, include it.
+    /// Writes the line. `before` is the number of bytes already written. The returned byte count includes
+    /// these bytes, as does the count in a `WriteFault`.
     pub fn write_after<W: Sink>(
         &self,
         writer: &mut W,
@@ -204,7 +204,7 @@ impl<'a> VisualLine<'a> {
     }
 }
 
-// Returns the columns of the character at a visual position.
+// Returns the width in columns of the character at a visual position.
 fn columns_at(text: &[char], vtol: &[u32], place: usize) -> usize
     requires within { AreWithin (length text.now) vtol.now }
     requires place { place < length vtol.now }

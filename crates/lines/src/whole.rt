@@ -1,6 +1,6 @@
-//! A fast path for paragraphs without a mandatory break before their end, if lines end at mandatory breaks
-//! only and no characters are printed. Such a paragraph is one line, and neither break marks nor columns are
-//! found.
+//! A fast path for paragraphs without a mandatory break before their end, used if lines end only at mandatory
+//! breaks and no characters are printed. Such a paragraph is one line. Neither its break marks nor its
+//! columns are computed.
 ghost use Rattle.std.specs.Prelude.{◌≡◌, ◌<◌, ◌≤◌, Bool, true, false, length, IfOk, IfErr};
 ghost use Rattle.breaks.specs.Bases.{resolved};
 ghost use Rattle.lines.specs.Buffers.{CanHold};
@@ -22,7 +22,7 @@ use breaks::marks_are_as_many;
 use device::Sink;
 use ucd::LineClass;
 
-/// Whether no line must end before the last character.
+/// Returns whether no line must end before the last character.
 pub(crate) fn is_whole(text: &Text<'_>) -> bool
     requires { IsLookedUp text.now }
     ensures yes { result ≡ true → IsWhole text.now.rules.tables.now text.now.characters.now }
@@ -40,7 +40,7 @@ pub(crate) fn is_whole(text: &Text<'_>) -> bool
     true
 }
 
-// Whether a line must end after a character of a class, except between CR and LF.
+// Returns whether a line must end after a character of a class, except between CR and LF.
 fn ends_line(class: LineClass) -> bool
     ensures { (is_mark : Bool) → result ≡ ends_line (resolved class is_mark) }
 {
@@ -53,7 +53,7 @@ fn ends_line(class: LineClass) -> bool
     }
 }
 
-// Returns how many characters of a paragraph of one line are shown: all but its tail.
+// Returns how many characters of a one-line paragraph are shown: all but its tail.
 fn shown_len(text: &Text<'_>) -> usize
     requires { IsLookedUp text.now }
     ensures { IsShownLen text.now.rules.tables.now text.now.characters.now result }
@@ -66,7 +66,7 @@ fn shown_len(text: &Text<'_>) -> usize
     len
 }
 
-/// Writes a paragraph of one line, by its levels before L1, and returns the number of bytes. Uses the front
+/// Writes a one-line paragraph, given its levels before L1, and returns the number of bytes. Uses the front
 /// of the buffers. Counts the characters.
 pub(crate) fn write_whole<W: Sink>(
     writer: &mut W,

@@ -18,7 +18,8 @@ use breaks::{Mark, marks_into};
 use std::alloc::{AllocError, Global};
 use ucd::Properties;
 
-/// The buffers of an engine. If they are large enough for a paragraph, only what is kept of it is allocated.
+/// The buffers of an engine. If they are large enough for a paragraph, laying it out allocates only the parts
+/// that are kept.
 #[derive(Debug)]
 pub(crate) struct Workspace {
     pub(crate) analysis: Analysis,
@@ -51,7 +52,7 @@ impl Workspace {
     }
 }
 
-/// Finds the levels of paragraphs, and keeps the properties of the last one's characters.
+/// Finds the levels of paragraphs, and keeps the properties of the last paragraph's characters.
 #[derive(Debug)]
 pub(crate) struct Analysis {
     pub(crate) properties: Vec<Properties>,
@@ -68,8 +69,8 @@ impl Drop for Analysis {
 }
 
 impl Analysis {
-    /// Looks up the properties of a paragraph, replaces `levels` with its levels, and returns its base level.
-    /// Counts the characters.
+    /// Looks up the properties of a paragraph's characters, replaces the contents of `levels` with their
+    /// levels, and returns the base level. Counts the characters.
     pub(crate) fn resolve(
         &mut self,
         rules: &LentRules<'_>,
@@ -95,7 +96,7 @@ impl Analysis {
     }
 }
 
-/// Replaces `marks` with the break marks of a paragraph.
+/// Replaces the contents of `marks` with the break marks of a paragraph.
 pub(crate) fn fill_marks(text: &Text<'_>, marks: &mut Vec<Mark>) -> Result<(), AllocError>
     requires { IsLookedUp text.now }
     ensures { OnOk result (marks.new.items ≡ marks_of text.now.rules.tables.now

@@ -1,5 +1,5 @@
-//! Writes the lines of a paragraph one after another, and keeps nothing of them. Only what is printed of a
-//! line is computed.
+//! Writes the lines of a paragraph one after another without keeping them. Computes only the parts of a line
+//! that are printed.
 ghost use Rattle.std.specs.Prelude.{◌≡◌, ◌≤◌, ℕ, List, true, false, length, slice_index, take, IfOk, IfErr};
 ghost use Rattle.ucd.specs.Within.{AreWithin};
 ghost use Rattle.lines.specs.Asked.{asks_places};
@@ -24,15 +24,15 @@ use crate::showing::{end_of, is_plain, reset_line, show_chars, show_part};
 use crate::visual_line::VisualLine;
 use device::Sink;
 
-/// What is printed of each line, and the width.
+/// What to print for each line, and the width.
 #[derive(Clone, Copy)]
 pub(crate) struct Form<'a> {
     pub(crate) width: u16,
     pub(crate) print: &'a Print,
 }
 
-/// Writes all lines of a paragraph, by the levels before L1, and returns the number of bytes. Uses the front
-/// of the buffers for each line. Counts the characters.
+/// Writes all lines of a paragraph, given the levels before L1, and returns the number of bytes. Uses the
+/// front of the buffers for each line. Counts the characters.
 pub(crate) fn write_each<W: Sink>(
     writer: &mut W,
     form: &Form<'_>,
@@ -87,7 +87,7 @@ pub(crate) fn write_each<W: Sink>(
     Ok(written)
 }
 
-/// Writes a line. `before` is the number of bytes already written, and the returned count includes it.
+/// Writes a line. `before` is the number of bytes already written, and the returned byte count includes it.
 pub(crate) fn write_line<W: Sink>(
     writer: &mut W,
     before: u64,
@@ -117,7 +117,7 @@ pub(crate) fn write_line<W: Sink>(
     write_part(writer, before, form, line, is_flat, visual)
 }
 
-// Writes the shown part of a line, whose levels after L1 are in the buffers.
+// Writes a line whose levels after L1 are at the front of `visual.levels`.
 fn write_part<W: Sink>(
     writer: &mut W,
     before: u64,
@@ -170,8 +170,8 @@ fn write_part<W: Sink>(
     )
 }
 
-// Applies L1 to a line, and writes its levels to the front of `levels`. Returns `true` only if all of them
-// are then 0.
+// Applies L1 to a line, and writes its levels to the front of `levels`. Returns `true` only if all levels are
+// then 0.
 fn reset_front(line: &LogicalLine<'_>, levels: &mut [u8]) -> bool
     requires line { IsLookedUp line.now.text }
     requires shown { line.now.shown.len ≤ length line.now.text.characters.now }
@@ -185,7 +185,7 @@ fn reset_front(line: &LogicalLine<'_>, levels: &mut [u8]) -> bool
     reset_line(line.text.properties, line.text.base, front)
 }
 
-// Applies L2, L3 and L4 to the shown part of a line, by its levels after L1 at the front of `levels`. Writes
+// Applies L2, L3 and L4 to the shown part of a line. Its levels after L1 are at the front of `levels`. Writes
 // the results to the front of the other lists.
 fn order_front(
     line: &LogicalLine<'_>,
@@ -238,7 +238,7 @@ fn chars_front(line: &LogicalLine<'_>, levels: &[u8], places: &mut [u32], chars:
     show_chars(&line.text, &levels[..n], &mut places[..n], &mut chars[..n]);
 }
 
-// Writes a line that the buffers hold.
+// Writes a line whose levels, position maps and characters are at the front of the buffers.
 fn write_visual<W: Sink>(
     writer: &mut W,
     before: u64,
@@ -274,7 +274,7 @@ fn write_visual<W: Sink>(
     view.write_after(writer, before, form.width, form.print)
 }
 
-// Writes a line of which no position maps are printed, given its characters in visual order.
+// Writes a line without its position maps, given its characters in visual order.
 fn write_ordered<W: Sink>(
     writer: &mut W,
     before: u64,

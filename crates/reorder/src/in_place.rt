@@ -1,5 +1,4 @@
-//! The visual order of one line (UAX #9, L2 and, as an option, L3), applied to the items of an array in
-//! place.
+//! Moves the items of an array in place into the visual order of one line (UAX #9, L2 and, optionally, L3).
 ghost use Rattle.std.specs.Prelude.{◌≡◌, ◌<◌, ◌≤◌, ◌+◌, ◌==◌, ◌&&◌, if◌then◌else◌};
 ghost use Rattle.std.specs.Prelude.{ℕ, [], length, map, true, false, nat_le, nat_lt, slice_index};
 ghost use Rattle.std.specs.Prelude.{IfSome, Some, None};
@@ -11,8 +10,8 @@ ghost use Rattle.reorder.specs.Order.{has_base, highest, is_mark_at, is_odd, low
 use crate::order::{groups_stand_together, maps_are_inverse, others_stay};
 use ucd::{BidiClass, Classes};
 
-/// Moves the items of an array, one for each character of a line, into visual order, by the levels after L1.
-/// With `reordernsm`, applies L3 too. Allocates nothing.
+/// Moves the items of an array, one for each character of a line, into visual order, given the levels after
+/// L1. With `reordernsm`, also applies L3. Allocates nothing.
 pub fn reorder_in_place<C: Classes>(line: &C, levels: &[u8], reordernsm: bool, items: &mut [u32])
     requires line { length (C.all line.now) ≡ length levels.now }
     requires items { length items.old ≡ length levels.now }
@@ -27,7 +26,7 @@ pub fn reorder_in_place<C: Classes>(line: &C, levels: &[u8], reordernsm: bool, i
     }
 }
 
-// Reverses each base at an odd level with its marks, so that L2 puts the base first.
+// Reverses each group of a base at an odd level and its marks, so that L2 then puts the base first.
 fn reverse_groups<C: Classes>(line: &C, levels: &[u8], items: &mut [u32])
     requires line { length (C.all line.now) ≡ length levels.now }
     requires items { length items.old ≡ length levels.now }
@@ -66,7 +65,7 @@ fn group_len<C: Classes>(line: &C, levels: &[u8], start: usize) -> usize
     len
 }
 
-// Whether there is a mark at an index, at a level.
+// Returns whether the character at an index is a mark and has the given level.
 fn is_mark_of<C: Classes>(line: &C, levels: &[u8], place: usize, level: u8) -> bool
     requires { length (C.all line.now) ≡ length levels.now }
     ensures { result ≡ (nat_lt place (length levels.now)
@@ -81,7 +80,7 @@ fn is_mark(class: BidiClass) -> bool
     matches!(class, BidiClass::NSM)
 }
 
-// Whether the line contains a mark.
+// Returns whether the line contains a mark.
 fn has_mark<C: Classes>(line: &C) -> bool
     ensures { result ≡ list_any is_mark (C.all line.now) }
 {
@@ -92,7 +91,8 @@ fn has_mark<C: Classes>(line: &C) -> bool
     found
 }
 
-// Reverses the intervals of each level, from the highest down to the lowest odd one.
+// For each level from the highest down to the lowest odd one, reverses the runs of characters at that level
+// or higher.
 fn reverse_levels(levels: &[u8], top: u8, low: u8, items: &mut [u32])
     requires items { length items.old ≡ length levels.now }
     requires top { top ≡ highest levels.now }
@@ -100,7 +100,7 @@ fn reverse_levels(levels: &[u8], top: u8, low: u8, items: &mut [u32])
     requires ordered { (0 < low) × (low ≤ top) }
     ensures { items.new ≡ map (slice_index items.old) (order_of levels.now) }
 {
-    // Terminates, since an odd level is not 0.
+    // The loop terminates, because `low` is odd and therefore not 0.
     let mut level = top;
     while level >= low {
         reverse_runs(levels, level, items);
@@ -108,7 +108,7 @@ fn reverse_levels(levels: &[u8], top: u8, low: u8, items: &mut [u32])
     }
 }
 
-// Reverses each maximal interval of characters at `level` or higher.
+// Reverses each maximal run of characters at `level` or higher.
 fn reverse_runs(levels: &[u8], level: u8, items: &mut [u32])
     requires { length items.old ≡ length levels.now }
     ensures { items.new ≡ reverse_flagged (flags_at level levels.now) [] items.old }
@@ -125,7 +125,7 @@ fn reverse_runs(levels: &[u8], level: u8, items: &mut [u32])
     }
 }
 
-// Returns how many characters at `level` or higher the list begins with.
+// Returns the number of characters at `level` or higher at the start of the list.
 fn run_len(levels: &[u8], level: u8) -> usize
     requires { (0 < length levels.now) × (level ≤ slice_index levels.now 0) }
     ensures len { result ≡ prefix_len (nat_le level) levels.now }
@@ -158,7 +158,7 @@ pub fn highest_and_lowest_odd(levels: &[u8]) -> (u8, Option<u8>)
     (highest, if any { Some(lowest) } else { None })
 }
 
-// Returns an odd level, or 255 for an even one.
+// Returns the level if it is odd, or else 255.
 fn odd_or_most(level: u8) -> u8
     ensures { result ≡ (if is_odd level then level else 255) }
 {

@@ -1,7 +1,8 @@
 //! The order of a line's characters on a screen (UAX #9, section 3.4, L1 to L4).
 //!
-//! A caller that breaks lines itself takes the levels of a line from its paragraph (`bidi::resolve`). These
-//! calls reset some of them (L1), find the visual order (L2, L3), and mirror characters (L4):
+//! A caller that breaks lines itself takes the levels of a line from the levels of its paragraph
+//! (`bidi::resolve`). These calls reset some of the levels (L1), find the visual order (L2, L3), and mirror
+//! characters (L4):
 //!
 //! ```rust
 //! let line = TextClasses { tables, text };
@@ -12,7 +13,8 @@
 //! assert!(rt; chars == ['(', 'ב', ')', ' ']);
 //! ```
 //!
-//! No call allocates. Arrays of positions have at most `u32::MAX` items; `reorder_in_place` has no limit.
+//! No function of this crate allocates. Arrays of positions have at most `u32::MAX` items. `reorder_in_place`
+//! has no such limit.
 #![tactic(auto)]
 
 mod in_place;

@@ -1,4 +1,4 @@
-//! The characters of a line in visual order, mirrored at odd levels (UAX #9, L4).
+//! Writes the characters of a line in visual order, mirrored at odd levels (UAX #9, L4).
 ghost use Rattle.std.specs.Prelude.{◌≡◌, length, map, reverse, if◌then◌else◌};
 ghost use Rattle.std.specs.List.{flat_map};
 ghost use Rattle.ucd.specs.Properties.{properties_of};
@@ -31,8 +31,8 @@ pub fn visual_chars(
     }
 }
 
-/// Writes the characters of a line, whose level runs start at the logical positions `runs`, in visual order.
-/// Left-to-right runs are copied.
+/// Writes the characters of a line in visual order. `runs` has the logical position at which each level run
+/// starts, in visual order. Left-to-right runs are copied.
 pub fn visual_runs(
     tables: &Tables,
     line: &[char],
@@ -65,7 +65,7 @@ pub fn visual_runs(
     }
 }
 
-// Writes the characters of a run: those of a right-to-left run mirrored and in reverse order.
+// Writes the characters of a run. In a right-to-left run, they are mirrored and written in reverse order.
 fn visual_run(
     tables: &Tables,
     run: &[char],

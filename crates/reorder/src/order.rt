@@ -1,4 +1,4 @@
-//! The visual order of one line (UAX #9, L2 and, as an option, L3).
+//! The visual order of one line (UAX #9, L2 and, optionally, L3).
 ghost use Rattle.std.specs.Prelude.{◌≡◌, ◌<◌, ◌≤◌, ◌==◌, ◌++◌, min, if◌then◌else◌};
 ghost use Rattle.std.specs.Prelude.{ℕ, Bool, true, false, List, [], length, map, take, drop, slice_index};
 ghost use Rattle.std.specs.Prelude.{unwrap_or, IfSome, None};
@@ -15,9 +15,9 @@ ghost use Rattle.reorder.specs.Order.{vtol_of, AreInverse};
 
 use ucd::{BidiClass, Classes};
 
-/// Orders a line, or a first part of it, by the levels of its characters after L1. Writes the logical
-/// position of each visual position to `vtol`, and the visual position of each logical position to `ltov`.
-/// With `reordernsm`, applies L3 too.
+/// Orders a line, or a prefix of it, given the levels of its characters after L1. Writes the logical position
+/// of each visual position to `vtol`, and the visual position of each logical position to `ltov`. With
+/// `reordernsm`, also applies L3.
 pub fn visual_order<C: Classes>(
     line: &C,
     levels: &[u8],
@@ -38,28 +38,28 @@ pub fn visual_order<C: Classes>(
     invert(vtol, ltov);
 }
 
-/// States, as a theorem, that the two maps of a line are inverse, for any classes and levels. Costs nothing
-/// at run time.
+/// States, as a theorem, that the two maps of a line are inverses of each other, for any classes and levels.
+/// Costs nothing at run time.
 pub fn maps_are_inverse()
     ensures { (reordernsm : Bool) (classes : List BidiClass) (levels : List ℕ) → AreInverse (length levels)
         (vtol_of reordernsm classes levels) (ltov_of reordernsm classes levels) }
 {}
 
-/// States, as a theorem, that a base at an odd level and its marks are adjacent: in logical order with L3, in
-/// reverse order without it. Costs nothing at run time.
+/// States, as a theorem, that a base at an odd level and its marks are adjacent in visual order. With L3 they
+/// are in logical order, and without it in reverse order. Costs nothing at run time.
 pub fn groups_stand_together()
     ensures { (classes : List BidiClass) (levels : List ℕ) (base n : ℕ)
         → IsGroup classes levels base n → StandsTogether classes levels base n }
 {}
 
-/// States, as a theorem, that L3 does not move any other character. Costs nothing at run time.
+/// States, as a theorem, that L3 moves only bases at odd levels and their marks. Costs nothing at run time.
 pub fn others_stay()
     ensures { (classes : List BidiClass) (levels : List ℕ) (k : ℕ) → k < length levels
         → IsAlone classes levels (slice_index (vtol_of false classes levels) k)
         → slice_index (vtol_of true classes levels) k ≡ slice_index (vtol_of false classes levels) k }
 {}
 
-/// Writes 0, 1, 2 and so on.
+/// Sets the items to 0, 1, 2 and so on.
 pub fn identity(items: &mut [u32])
     requires { length items.old ≤ u32.MAX }
     ensures { items.new ≡ range_with_len 0 (length items.old) }
@@ -67,7 +67,7 @@ pub fn identity(items: &mut [u32])
     count_from(0, items);
 }
 
-// Writes `start`, `start + 1` and so on.
+// Sets the items to `start`, `start + 1` and so on.
 fn count_from(start: u32, items: &mut [u32])
     requires { start + length items.old ≤ u32.MAX }
     ensures { items.new ≡ range_with_len start (length items.old) }
@@ -91,7 +91,7 @@ pub fn visual_places<C: Classes>(line: &C, levels: &[u8], reordernsm: bool, vtol
     }
 }
 
-// Writes the logical position of each visual position by L2.
+// Writes the logical position of each visual position according to L2.
 fn order_places(levels: &[u8], vtol: &mut [u32])
     requires vtol { length vtol.old ≡ length levels.now }
     requires limit { length levels.now ≤ u32.MAX }
@@ -102,9 +102,9 @@ fn order_places(levels: &[u8], vtol: &mut [u32])
     }
 }
 
-/// Writes where each level run of a line starts, in visual order, to the front of a list, and returns the
-/// number of runs. So L2 moves runs, not characters. If most runs have one character, writes the logical
-/// positions of all characters in visual order instead, and returns `None`.
+/// Writes the start of each level run of a line, in visual order, to the front of a list, and returns the
+/// number of runs. L2 then moves runs instead of single characters. If most runs have one character, writes
+/// the logical positions of all characters in visual order instead, and returns `None`.
 pub fn order_runs(levels: &[u8], items: &mut [u32]) -> Option<usize>
     requires len { length items.old ≡ length levels.now }
     requires limit { length levels.now ≤ u32.MAX }
@@ -124,7 +124,7 @@ pub fn order_runs(levels: &[u8], items: &mut [u32]) -> Option<usize>
     Some(count)
 }
 
-// Writes where each level run of a line starts to the front of a list. Returns the number of runs, the
+// Writes the start of each level run of a line to the front of a list. Returns the number of runs, the
 // highest level, or 0 if there is none, and the lowest odd level, if there is one.
 fn find_runs(levels: &[u8], items: &mut [u32]) -> (usize, u8, Option<u8>)
     requires len { length items.old ≡ length levels.now }
@@ -165,8 +165,8 @@ pub fn level_run_len(levels: &[u8], start: usize) -> usize
     end - start
 }
 
-// Replaces the starts of runs at the front of a list by the logical positions of all their characters.
-// Proceeds from the last run to the first: a run has at least one character, so no start is overwritten
+// Replaces the starts of runs at the front of a list with the logical positions of all their characters.
+// Works from the last run to the first. Each run has at least one character, so no start is overwritten
 // before it is read.
 fn lay_runs(levels: &[u8], count: usize, items: &mut [u32])
     requires count { count ≤ length items.old }
@@ -202,7 +202,7 @@ fn lay_run(start: u32, is_odd: bool, items: &mut [u32])
     }
 }
 
-// Reverses each base at an odd level with the marks that L2 put to its left.
+// Reverses each group of a base at an odd level and the marks that L2 put to its left.
 fn reverse_groups<C: Classes>(line: &C, levels: &[u8], vtol: &mut [u32])
     requires line { length levels.now ≤ length (C.all line.now) }
     requires vtol { vtol.old ≡ order_of levels.now }
@@ -215,7 +215,7 @@ fn reverse_groups<C: Classes>(line: &C, levels: &[u8], vtol: &mut [u32])
 }
 
 // Reverses the group at the front of a list, if there is one. Returns the number of positions that are then
-// final: up to a base, or up to a mark without a base.
+// final. The last of these positions is that of a base, or of a mark without a base.
 fn reverse_group<C: Classes>(line: &C, levels: &[u8], items: &mut [u32]) -> usize
     requires line { length levels.now ≤ length (C.all line.now) }
     requires items { (start : ℕ) × (items.old ≡ drop start (order_of levels.now)) }
@@ -233,8 +233,8 @@ fn reverse_group<C: Classes>(line: &C, levels: &[u8], items: &mut [u32]) -> usiz
     len + 1
 }
 
-// Returns how many marks at the front of a list are each directly to the left of the character that they
-// follow.
+// Counts the marks at the front of a list, as long as each mark is directly to the left of the character that
+// it follows in logical order.
 fn bound_len<C: Classes>(line: &C, levels: &[u8], items: &[u32]) -> usize
     requires line { length levels.now ≤ length (C.all line.now) }
     requires items { AreWithin (length levels.now) items.now }
@@ -248,7 +248,8 @@ fn bound_len<C: Classes>(line: &C, levels: &[u8], items: &[u32]) -> usize
     len
 }
 
-// Whether a mark follows a character, both at the same odd level.
+// Returns whether the character at `place` is a mark directly after the character at `next`, and both have
+// the same odd level.
 fn is_bound<C: Classes>(line: &C, levels: &[u8], place: u32, next: u32) -> bool
     requires line { length levels.now ≤ length (C.all line.now) }
     requires places { (place < length levels.now) × (next < length levels.now) }
@@ -261,7 +262,7 @@ fn is_bound<C: Classes>(line: &C, levels: &[u8], place: u32, next: u32) -> bool
         && levels[at] == levels[before]
 }
 
-// Whether a character is a mark, by its class in the tables.
+// Returns whether a character is a mark, according to its class in the tables.
 fn is_mark_at<C: Classes>(line: &C, place: u32) -> bool
     requires { place < length (C.all line.now) }
     ensures { result ≡ is_mark_at (C.all line.now) place }
@@ -272,7 +273,8 @@ fn is_mark_at<C: Classes>(line: &C, place: u32) -> bool
     }
 }
 
-// Reverses the intervals of each level, from the highest down to the lowest odd one, if there is one.
+// For each level from the highest down to the lowest odd one, reverses the runs of positions at that level or
+// higher. Does nothing if there is no odd level.
 fn reverse_levels(levels: &[u8], top: u8, low: Option<u8>, items: &mut [u32])
     requires within { AreWithin (length levels.now) items.old }
     requires highest { top ≡ highest levels.now }
@@ -281,7 +283,7 @@ fn reverse_levels(levels: &[u8], top: u8, low: Option<u8>, items: &mut [u32])
     ensures { items.new ≡ turned levels.now items.old }
 {
     if let Some(lowest) = low {
-        // Terminates, since an odd level is not 0.
+        // The loop terminates, because `lowest` is odd and therefore not 0.
         let mut level = top;
         while level >= lowest {
             reverse_runs(levels, level, items);
@@ -290,7 +292,7 @@ fn reverse_levels(levels: &[u8], top: u8, low: Option<u8>, items: &mut [u32])
     }
 }
 
-// Returns the lowest odd level so far, with `level` included.
+// Returns the lowest odd level so far, including `level`.
 fn lower_odd(lowest: Option<u8>, level: u8) -> Option<u8>
     ensures { result ≡ (if is_odd level then Some (min (unwrap_or lowest level) level) else lowest) }
 {
@@ -301,7 +303,7 @@ fn lower_odd(lowest: Option<u8>, level: u8) -> Option<u8>
     }
 }
 
-// Reverses each maximal interval of positions at `level` or higher.
+// Reverses each maximal run of positions at `level` or higher.
 fn reverse_runs(levels: &[u8], level: u8, items: &mut [u32])
     requires { AreWithin (length levels.now) items.old }
     ensures { items.new ≡ reverse_runs (is_at_least levels.now level) [] items.old }
@@ -314,7 +316,7 @@ fn reverse_runs(levels: &[u8], level: u8, items: &mut [u32])
     }
 }
 
-// Returns how many positions at `level` or higher the list begins with.
+// Returns the number of positions at `level` or higher at the start of the list.
 fn run_len(levels: &[u8], level: u8, items: &[u32]) -> usize
     requires { AreWithin (length levels.now) items.now }
     ensures len { result ≡ prefix_len (is_at_least levels.now level) items.now }
@@ -328,7 +330,7 @@ fn run_len(levels: &[u8], level: u8, items: &[u32]) -> usize
     items.len()
 }
 
-// Writes the index of each position in `vtol`.
+// Writes the inverse of `vtol`: for each position, its index in `vtol`.
 fn invert(vtol: &[u32], ltov: &mut [u32])
     requires places { IsPermutation (range_with_len 0 (length vtol.now)) vtol.now }
     requires len { length ltov.old ≡ length vtol.now }

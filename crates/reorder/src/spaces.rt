@@ -1,18 +1,19 @@
-//! L1 (UAX #9): separators, the blanks before them, and the blanks at the end of a line get the paragraph
-//! level.
+//! Applies L1 (UAX #9): separators, the blanks before them, and the blanks at the end of a line get the
+//! paragraph level.
 ghost use Rattle.std.specs.Prelude.{◌≡◌, ◌≤◌, ◌&&◌, ◌||◌, false, true, length};
 ghost use Rattle.reorder.specs.Spaces.{ends_segment, is_blank, line_levels};
 ghost use Rattle.reorder.specs.NoEnds.{AreNoEnds};
 
 use ucd::{BidiClass, Classes};
 
-/// Resets levels of a line to the paragraph level, `base`, by L1. The classes are those of the tables,
-/// unchanged by earlier rules.
+/// Applies L1 to a line: resets some of its levels to the paragraph level, `base`. The classes must be the
+/// original ones, unchanged by earlier rules.
 pub fn reset_levels<C: Classes>(line: &C, base: u8, levels: &mut [u8])
     requires { length (C.all line.now) ≡ length levels.old }
     ensures { levels.new ≡ line_levels base (C.all line.now) levels.old }
 {
-    // Whether a blank before this index would be reset. If not, no character is, back to the last separator.
+    // Whether a blank before this index would be reset. If not, no character back to the last separator is
+    // reset.
     let mut resets = true;
     let mut at = line.len();
     while at > 0 {
@@ -28,7 +29,7 @@ pub fn reset_levels<C: Classes>(line: &C, base: u8, levels: &mut [u8])
     }
 }
 
-// Returns the end of the characters before `at` that may have to be reset, or 0 if there are none.
+// Returns the index after the last character before `at` that may have to be reset, or 0 if there is none.
 fn changed_end<C: Classes>(line: &C, resets: bool, at: usize) -> usize
     requires { at ≤ length (C.all line.now) }
     ensures within { result ≤ at }
@@ -41,7 +42,7 @@ fn changed_end<C: Classes>(line: &C, resets: bool, at: usize) -> usize
 // The number of characters that are tested together.
 const AT_ONCE: usize = 16;
 
-// Returns the index after the last separator before `end`, or 0.
+// Returns the index after the last separator before `end`, or 0 if there is none.
 fn separator_end<C: Classes>(line: &C, end: usize) -> usize
     requires { end ≤ length (C.all line.now) }
     ensures within { result ≤ end }
@@ -57,7 +58,8 @@ fn separator_end<C: Classes>(line: &C, end: usize) -> usize
     at
 }
 
-// Whether there is a separator in a range. Reads all of it, which is faster than leaving the loop early.
+// Returns whether there is a separator in a range. Reads the whole range, which is faster than leaving the
+// loop early.
 fn has_separator<C: Classes>(line: &C, start: usize, end: usize) -> bool
     requires { end ≤ length (C.all line.now) }
     ensures { result ≡ false → AreNoEnds (C.all line.now) start end }
@@ -75,7 +77,7 @@ fn ends_segment(class: BidiClass) -> bool
     matches!(class, BidiClass::S | BidiClass::B)
 }
 
-// Whether a character is reset: a separator always is, and a blank is if `after` is true.
+// Returns whether a character is reset: a separator always is, and a blank is if `after` is true.
 fn is_reset(class: BidiClass, after: bool) -> bool
     ensures { result ≡ (ends_segment class || (is_blank class && after)) }
 {

@@ -13,29 +13,30 @@ ghost use Rattle.script_commands.specs.Commands.{parted, query_in, command_in, s
 
 use std::alloc::AllocError;
 
-/// A query about the current text. Positions are in characters. Positions, lines and columns start at 0.
+/// A query about the current text. Positions count characters. Positions, lines and columns start at 0.
 #[derive(Clone, Copy, Debug, PartialEq, Eq)]
 pub enum Query {
-    /// A number of lines, the second field, from a line on, the first.
+    /// A range of lines. The fields are the first line and the number of lines.
     Lines(usize, usize),
-    /// The column of the screen at which to draw the caret before the character at a position.
+    /// The screen column at which to draw the caret before the character at a position.
     Caret(usize),
-    /// The character at a column of the screen, the second field, in a line, the first.
+    /// The character at a place on the screen. The fields are the line and the screen column.
     Hit(usize, usize),
     /// The grapheme cluster of the character at a position.
     Cluster(usize),
     /// The numbers of characters, lines and paragraphs.
     Size,
-    /// A number of characters, the second field, from a position on, the first.
+    /// A range of characters. The fields are the position of the first character and the number of
+    /// characters.
     Text(usize, usize),
 }
 
 /// A command, which is one line of a script.
 #[derive(Clone, Copy, Debug, PartialEq, Eq)]
 pub enum Command {
-    /// Inserts a text, which is passed beside the command, before the character at a position.
+    /// Inserts a text before the character at a position. The text is passed separately from the command.
     Insert(usize),
-    /// Deletes a number of characters, the second field, from a position on, the first.
+    /// Deletes characters. The fields are the position of the first character and the number of characters.
     Delete(usize, usize),
     /// Sets the width, in columns.
     SetWidth(usize),
@@ -65,7 +66,7 @@ const SIZE: [char; 4] = ['s', 'i', 'z', 'e'];
 
 const TEXT: [char; 5] = ['t', 'e', 'x', 't', ' '];
 
-/// Parses a line, which may be a query only if `queries`. Returns `None` if it is not a line of a script.
+/// Parses a line, which may be a query only if `queries` is true. Returns `None` if the line is not valid.
 /// Stores the text of an insert in `piece`.
 pub fn read_command(
     queries: bool,
@@ -82,7 +83,7 @@ pub fn read_command(
     }
 }
 
-// A line that is no other command may be a query.
+// Parses a line as a query. Returns `None` if the line is not a query.
 fn read_query(line: &[char]) -> Option<Command>
     ensures { (piece : List ℕ)
         → option_map (command_of piece) result ≡ option_map Ask (query_in line.now) }
@@ -118,7 +119,7 @@ fn parse_query(line: &[char]) -> Option<Query>
     Some(Query::Text(pos, count))
 }
 
-// Two numbers with a space between them.
+// Parses two numbers with a space between them.
 fn both(text: &[char]) -> Option<(usize, usize)>
     ensures { result ≡ both_in (parted text.now) }
 {
@@ -183,14 +184,14 @@ fn width(text: &[char]) -> Option<Command>
     Some(Command::SetWidth(number(text)?))
 }
 
-// Returns what follows a prefix of a text, if it has that prefix.
+// Returns the rest of a text after the prefix `word`, if the text has this prefix.
 fn after<'a>(word: &[char], text: &'a [char]) -> Option<&'a [char]>
     ensures { option_map (λ rest. rest.now) result ≡ stripped word.now text.now }
 {
     text.strip_prefix(word)
 }
 
-// Returns the parts before and after the first space, if there is one.
+// Returns the parts of a text before and after its first space, if it has one.
 fn words(text: &[char]) -> Option<(&[char], &[char])>
     ensures { option_map (λ words. (words.0.now, words.1.now)) result ≡ parted text.now }
 {
@@ -200,7 +201,7 @@ fn words(text: &[char]) -> Option<(&[char], &[char])>
     }
 }
 
-// Returns the number that a text of 1 to 9 decimal digits represents.
+// Parses a number of 1 to 9 decimal digits.
 fn number(text: &[char]) -> Option<usize>
     ensures { result ≡ number_in text.now }
 {
@@ -222,7 +223,7 @@ fn are_digits(text: &[char], radix: u32) -> bool
     true
 }
 
-// Returns the number that digits represent.
+// Returns the number that digits represent in a radix.
 fn value(digits: &[char], radix: u32) -> usize
     requires radix { (2 ≤ radix) × (radix ≤ 16) }
     requires digits { are_digits radix digits.now ≡ true }
@@ -240,7 +241,7 @@ fn value(digits: &[char], radix: u32) -> usize
     number
 }
 
-// Whether all escapes of a text are valid.
+// Returns whether all escapes in a text are valid.
 fn has_right_escapes(text: &[char]) -> bool
     ensures { result ≡ is_some (unescaped text.now) }
 {
@@ -254,8 +255,8 @@ fn has_right_escapes(text: &[char]) -> bool
     true
 }
 
-// Stores the text that these characters represent in `piece`, if their escapes are valid. Checks the escapes
-// before it allocates.
+// Replaces the escapes in a text, and stores the result in `piece`. Returns `false` if an escape is not
+// valid. Checks the escapes before allocating.
 fn unescape(text: &[char], piece: &mut String) -> Result<bool, AllocError>
     ensures ok { IfOk result (λ right.
         (if right then Some (chars (string_bytes piece.new)) else None) ≡ unescaped text.now) }
@@ -279,7 +280,7 @@ fn unescape(text: &[char], piece: &mut String) -> Result<bool, AllocError>
     Ok(true)
 }
 
-// The character that a text represents first, and the number of characters that represent it.
+// Returns the first character that a text represents, and the number of characters that represent it.
 fn written(c: char, after: &[char]) -> Option<(char, usize)>
     ensures value { result ≡ written c after.now }
     ensures within { IfSome result (λ w. (0 < w.1) × (w.1 ≤ length after.now + 1)) }
@@ -291,7 +292,7 @@ fn written(c: char, after: &[char]) -> Option<(char, usize)>
     }
 }
 
-// The character of an escape, given the text after its backslash, and the length of the whole escape.
+// Returns the character of an escape and the length of the whole escape, given the text after its backslash.
 fn escaped(text: &[char]) -> Option<(char, usize)>
     ensures value { result ≡ escaped text.now }
     ensures within { IfSome result (λ w. (0 < w.1) × (w.1 ≤ length text.now + 1)) }
@@ -310,7 +311,7 @@ fn escaped(text: &[char]) -> Option<(char, usize)>
     }
 }
 
-// The character of an escape `\u{H}`, given the text after `\u{`, and the length of the whole escape.
+// Returns the character of an escape `\u{H}` and the length of the whole escape, given the text after `\u{`.
 fn braced(text: &[char]) -> Option<(char, usize)>
     ensures value { result ≡ braced text.now }
     ensures within { IfSome result (λ w. (0 < w.1) × (w.1 ≤ length text.now + 3)) }

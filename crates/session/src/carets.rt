@@ -9,15 +9,15 @@ use lines::VisualLine;
 /// Where to draw a caret.
 #[derive(Clone, Copy, Debug, PartialEq, Eq)]
 pub struct Caret {
-    /// The line, counted from 0 through the whole text.
+    /// The line, numbered from 0 across the whole text.
     pub line: usize,
-    /// The columns left of the caret, counted from the left edge of the line's shown part.
+    /// The number of columns from the left edge of the line's shown part to the caret.
     pub column: usize,
     /// The level of the character after L1, or the base level if the character is not shown.
     pub level: u8,
 }
 
-// The caret at the end of a line, in the direction of its paragraph.
+// Returns the caret at the end of a line, in the base direction of its paragraph.
 fn line_end(line: &VisualLine<'_>, n: usize) -> Caret
     ensures caret { result ≡ line_end n line.now }
     ensures fits { result.column < 2 ^ 63 }
@@ -40,7 +40,7 @@ fn is_odd(level: u8) -> bool
     level % 2 == 1
 }
 
-// Returns the visual position of a character of a line, counted from the line's start.
+// Returns the visual position of a character, given its index in the line.
 fn visual(line: &VisualLine<'_>, k: usize) -> usize
     ensures value { result ≡ slice_index line.now.ltov k }
     ensures fits { result < 2 ^ 32 }
@@ -51,8 +51,9 @@ fn visual(line: &VisualLine<'_>, k: usize) -> usize
     }
 }
 
-/// Returns the caret before the character at a place of a line: at its left edge if its level is even, else
-/// at its right edge. If the character is not shown, the caret is at the end of the line.
+/// Returns the caret before the character at a place in a line. The caret is at the character's left edge if
+/// its level is even, or else at its right edge. If the character is not shown, the caret is at the end of
+/// the line.
 pub fn caret_in(line: &VisualLine<'_>, place: Place) -> Caret
     ensures caret { result ≡ caret_in line.now place }
     ensures fits { result.column < 2 ^ 63 }

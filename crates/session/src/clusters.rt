@@ -1,4 +1,5 @@
-//! The grapheme cluster of a character, so that a caret never falls inside one.
+//! Finds the grapheme cluster of a character. An editor can use it to keep its caret from landing inside a
+//! cluster.
 ghost use Rattle.std.specs.Prelude.{◌≡◌, ◌<◌, ◌≤◌, All, length, IfOk, OnErr};
 ghost use Rattle.session.specs.Clusters.{cluster_at, cluster_begin, cluster_end};
 ghost use Rattle.session.specs.Kept.{text_of};
@@ -11,13 +12,14 @@ use store::ParagraphStore;
 /// A grapheme cluster of a text.
 #[derive(Clone, Copy, Debug, PartialEq, Eq)]
 pub struct Cluster {
-    /// The position of its first character.
+    /// The position of the cluster's first character.
     pub start: usize,
-    /// The position after its last one.
+    /// The position after the cluster's last character.
     pub end: usize,
 }
 
-// Returns where the cluster of a character starts. `ends` says after which characters a cluster ends.
+// Returns the start of the cluster of character `k`. `ends[i]` says whether a cluster ends after character
+// `i`.
 fn begin(ends: &[bool], k: usize) -> usize
     requires { k < length ends.now }
     ensures value { result ≡ cluster_begin ends.now k }
@@ -33,7 +35,7 @@ fn begin(ends: &[bool], k: usize) -> usize
     0
 }
 
-// Returns where the cluster of a character ends. `ends` says after which characters a cluster ends.
+// Returns the end of the cluster of character `k`. `ends[i]` says whether a cluster ends after character `i`.
 fn end_of(ends: &[bool], k: usize) -> usize
     requires { k < length ends.now }
     ensures value { result ≡ cluster_end ends.now k }

@@ -1,4 +1,4 @@
-//! Where an edit lies among the paragraphs of a store, found by the store's sums.
+//! Finds the paragraphs of a store that an edit touches, using the store's sums.
 ghost use Rattle.std.specs.Prelude.{◌≡◌, ◌≤◌, ◌-◌, List, [], ℕ, length, take, drop, slice_index_or};
 ghost use Rattle.session.specs.Edges.{IsBackEdge, IsFrontEdge};
 ghost use Rattle.session.specs.Kept.{pars_of, text_of};
@@ -14,7 +14,7 @@ pub struct Edge {
     pub lines: usize,
 }
 
-/// Returns the start of the first paragraph that an edit from `pos` on touches.
+/// Returns the start of the first paragraph that is touched by an edit starting at `pos`.
 pub fn front_edge<S: ParagraphStore<Kept>>(store: &S, pos: usize) -> Edge
     requires { pos ≤ length (text_of (S.items store.now)) }
     ensures { IsFrontEdge (S.items store.now) pos result }
@@ -34,7 +34,7 @@ pub fn front_edge<S: ParagraphStore<Kept>>(store: &S, pos: usize) -> Edge
     }
 }
 
-/// Returns the end of the last paragraph that an edit up to `to` touches.
+/// Returns the end of the last paragraph that is touched by an edit ending at `to`.
 pub fn back_edge<S: ParagraphStore<Kept>>(store: &S, to: usize) -> Edge
     requires { to ≤ length (text_of (S.items store.now)) }
     ensures { IsBackEdge (S.items store.now) to result }
@@ -59,21 +59,21 @@ pub fn back_edge<S: ParagraphStore<Kept>>(store: &S, to: usize) -> Edge
     }
 }
 
-/// Returns the first `to` characters, or all if there are fewer.
+/// Returns the first `to` characters, or all characters if there are fewer.
 pub fn front(text: &[char], to: usize) -> &[char]
     ensures { result.now ≡ take to text.now }
 {
     &text[..to.min(text.len())]
 }
 
-/// Returns the characters from an index on.
+/// Returns the characters at and after an index.
 pub fn back(text: &[char], from: usize) -> &[char]
     ensures { result.now ≡ drop from text.now }
 {
     &text[from.min(text.len())..]
 }
 
-/// Returns the characters before `pos` of the paragraph that starts at an edge.
+/// Returns the characters before `pos` in the paragraph that starts at an edge.
 pub fn front_text<S: ParagraphStore<Kept>>(store: &S, edge: Edge, pos: usize) -> &[char]
     ensures { result.now
         ≡ take (pos - edge.chars) (slice_index_or (pars_of (S.items store.now)) edge.index []) }
@@ -84,7 +84,7 @@ pub fn front_text<S: ParagraphStore<Kept>>(store: &S, edge: Edge, pos: usize) ->
     }
 }
 
-/// Returns the characters from `from` on of the paragraph that ends at an edge.
+/// Returns the characters at and after `from` in the paragraph that ends at an edge.
 pub fn back_text<S: ParagraphStore<Kept>>(store: &S, edge: Edge, from: usize) -> &[char]
     ensures { (text : List ℕ) → text ≡ slice_index_or (pars_of (S.items store.now)) (edge.index - 1) []
         → result.now ≡ drop (length text - (edge.chars - from)) text }

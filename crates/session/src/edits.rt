@@ -1,7 +1,7 @@
-//! Edits of a text, their damage, and the errors.
+//! Edits of a text, their damage, and their errors.
 use thiserror::Error;
 
-/// The maximum number of characters of a text.
+/// The maximum number of characters in a text.
 pub const TEXT_LIMIT: usize = 16_777_216;
 
 /// An edit of a text, or a change of its width. Positions count characters (Unicode scalar values).
@@ -9,14 +9,15 @@ pub const TEXT_LIMIT: usize = 16_777_216;
 pub enum Edit<'a> {
     /// Inserts a text before the character at a position, or at the end.
     Insert(usize, &'a str),
-    /// Deletes characters: the position of the first, and how many.
+    /// Deletes characters. The fields are the position of the first character and the number of characters.
     Delete(usize, usize),
     /// Sets the width, in columns, and rewraps every paragraph.
     SetWidth(u16),
 }
 
-/// What an edit replaced: starting at line `first_line`, `new_lines` lines replace `old_lines` lines.
-/// Likewise for paragraphs. Lines and paragraphs are numbered from 0.
+/// What an edit replaced. Starting at line `first_line`, `new_lines` lines replace `old_lines` lines.
+/// Starting at paragraph `first_par`, `new_pars` paragraphs replace `old_pars` paragraphs. Lines and
+/// paragraphs are numbered from 0.
 #[derive(Clone, Copy, Debug, PartialEq, Eq)]
 pub struct Damage {
     pub first_line: usize,
@@ -27,7 +28,7 @@ pub struct Damage {
     pub new_pars: usize,
 }
 
-/// Why an edit fails, in the order in which the causes are tested.
+/// Why an edit failed. The causes are listed in the order in which they are tested.
 #[derive(Clone, Copy, Debug, PartialEq, Eq, Error)]
 pub enum EditFault {
     /// The edit reaches past the end of the text.

@@ -9,14 +9,14 @@ use lines::VisualLine;
 /// The character at a column of a line.
 #[derive(Clone, Copy, Debug, PartialEq, Eq)]
 pub struct Hit {
-    /// Its position in the text.
+    /// The position of the character in the text.
     pub pos: usize,
-    /// Whether the column is past the character in the character's direction, so that a caret belongs after
-    /// it. That is right of a character at an even level, left of one at an odd level.
+    /// Whether the column is past the character in the character's direction, so a caret belongs after the
+    /// character. Past the character means to its right at an even level, and to its left at an odd level.
     pub trailing: bool,
 }
 
-// Returns the character at a visual position of a line, counted from the line's start.
+// Returns the index in a line of the character at a visual position.
 fn logical(line: &VisualLine<'_>, place: usize) -> usize
     ensures value { result ≡ slice_index line.now.vtol place }
     ensures fits { result < 2 ^ 32 }
@@ -27,7 +27,7 @@ fn logical(line: &VisualLine<'_>, place: usize) -> usize
     }
 }
 
-// Whether a character of a line is at an even level.
+// Returns whether a character of a line has an even level.
 fn is_even(line: &VisualLine<'_>, k: usize) -> bool
     ensures { result ≡ not (is_odd (slice_index line.now.levels k)) }
 {
@@ -37,7 +37,7 @@ fn is_even(line: &VisualLine<'_>, k: usize) -> bool
     }
 }
 
-// Returns the visual position whose character includes the last column.
+// Returns the visual position of the character that covers the last column, if there is one.
 fn rightmost(line: &VisualLine<'_>) -> Option<usize>
     ensures { result ≡ rightmost line.now }
 {
@@ -45,7 +45,7 @@ fn rightmost(line: &VisualLine<'_>) -> Option<usize>
     line.covering(columns.saturating_sub(1))
 }
 
-/// Returns the character at a column of a line that starts at the position `start`.
+/// Returns the character at a column of a line. `start` is the position in the text at which the line starts.
 pub fn hit_in(line: &VisualLine<'_>, start: usize, column: usize) -> Hit
     requires { start < 2 ^ 33 }
     ensures { result ≡ hit_in start line.now column }

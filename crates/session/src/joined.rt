@@ -1,5 +1,5 @@
-//! Lays out the paragraphs of a text that is given as three parts: what comes before an edit, the inserted
-//! text, and what comes after.
+//! Lays out the paragraphs of a text given in three parts: the text before an edit, the inserted text, and
+//! the text after the edit.
 ghost use Rattle.std.specs.Prelude.{◌≡◌, ◌<◌, ◌++◌, true, false, not, List, [], ℕ, length};
 ghost use Rattle.std.specs.Prelude.{IfOk, IfErr, IsErrOf};
 ghost use Rattle.std.specs.Str.{chars};
@@ -18,7 +18,7 @@ use bidi::paragraphs_are_pieces;
 use lines::Engine;
 use std::alloc::{AllocError, Global};
 
-// Whether a paragraph is too long. Allocates nothing.
+// Returns whether any paragraph of the joined text is too long. Allocates nothing.
 fn has_long(engine: &Engine, front: &[char], piece: &str, back: &[char]) -> bool
     ensures { result ≡ not (is_within_limit (cut_by (rules_of engine.now))
         (front.now ++ (chars piece.now ++ back.now))) }
@@ -30,7 +30,7 @@ fn has_long(engine: &Engine, front: &[char], piece: &str, back: &[char]) -> bool
     scan.is_long()
 }
 
-// Whether the text is empty.
+// Returns whether all three parts are empty.
 fn are_empty(front: &[char], piece: &str, back: &[char]) -> bool
     ensures none { result ≡ true → length (front.now ++ (chars piece.now ++ back.now)) ≡ 0 }
     ensures some { result ≡ false → 0 < length (front.now ++ (chars piece.now ++ back.now)) }
@@ -44,7 +44,7 @@ fn are_empty(front: &[char], piece: &str, back: &[char]) -> bool
     piece.is_empty()
 }
 
-// Joins the three parts.
+// Joins the three parts into one text.
 fn joined(
     alloc: Global,
     front: &[char],
@@ -81,7 +81,7 @@ fn lay_out_one(
     }
 }
 
-// Lays out the paragraphs of a text, each once.
+// Lays out each paragraph of a text once.
 fn lay_out(
     alloc: Global,
     engine: &mut Engine,
@@ -109,8 +109,8 @@ fn lay_out(
     Ok(kept)
 }
 
-/// Lays out the paragraphs of the three parts. Fails with `ParagraphTooLong` if one is too long, without
-/// allocating, and with `NoMemory` if an allocation fails.
+/// Lays out the paragraphs of the joined text. Fails with `ParagraphTooLong` if a paragraph is too long,
+/// without allocating. Fails with `NoMemory` if an allocation fails.
 pub fn lay_out_joined(
     alloc: Global,
     engine: &mut Engine,

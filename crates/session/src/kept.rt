@@ -9,8 +9,8 @@ use std::alloc::{AllocError, Global};
 use std::marker::Model;
 use store::{Exchange, Exchanger, Measured};
 
-/// The layout of a paragraph, as an item of a store. The layout is in a box beside its counts of characters
-/// and lines, so a search reads the counts only.
+/// The layout of a paragraph, as an item of a store. The layout is in a box, and its counts of characters and
+/// lines are stored beside the box. So a search reads only the counts.
 #[derive(Debug)]
 pub struct Kept {
     chars: usize,
@@ -91,14 +91,14 @@ impl Measured for Kept {
     }
 }
 
-/// The part of a paragraph is its lines at some width.
+/// The part of a paragraph that is exchanged is its lines at some width.
 impl Exchange for Kept {
     type Part = Fill;
 
     ghost use Rattle.std.specs.Prelude.{length, refl};
     ghost use Rattle.lines.specs.Layouts.{AreLinesOf, IsLaidOut, Rules};
 
-    // The lines are this paragraph's, by the rules of its layout.
+    // The lines are this paragraph's, found with the tables and options of its layout.
     ghost fits = { λ kept fill.
         (rules : Rules) × IsLaidOut rules kept × AreLinesOf rules kept.text fill };
 
@@ -114,11 +114,12 @@ impl Exchange for Kept {
     ghost keeps_chars = { λ kept fill fits. refl };
 }
 
-/// Writes the lines of paragraphs at another width over the old ones, by an engine's tables and options. The
-/// part of a paragraph is the extents of its lines, or `None` if its lines stay.
+/// Overwrites the lines of paragraphs with those at another width, using an engine's tables and options. The
+/// part of a paragraph that is exchanged is the extents of its lines, or `None` if its lines do not change.
 pub struct Reflow<'a> {
     pub engine: &'a Engine,
-    /// Its capacity is the length of the longest paragraph. It counts the characters whose lines are written.
+    /// Scratch space with capacity for the longest paragraph. It counts the characters whose lines are
+    /// written.
     pub scratch: ReflowScratch,
 }
 
@@ -153,7 +154,7 @@ impl<'a> Exchanger<Kept> for Reflow<'a> {
 
     ghost worked = { λ reflow. reflow.written };
 
-    // The characters of a paragraph whose lines are written.
+    // How many characters of a paragraph have their lines written.
     ghost cost = { written_for };
 
     ghost keeps_chars = { λ by kept part _. chars_stay by kept part };

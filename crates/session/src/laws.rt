@@ -8,9 +8,10 @@ ghost use Rattle.session.specs.Kept.{layouts_of, IsCutAt};
 
 use bidi::paragraphs_are_pieces;
 
-/// States, as a theorem, that a text split at a paragraph boundary is laid out as its parts are, by any rules
-/// and at any width. Its layouts are those of the first part, then those of the second. The same holds of
-/// what is printed. So parts of a long text may be laid out in any order. Costs nothing at run time.
+/// States, as a theorem, that a text split at a paragraph boundary is laid out as its two parts are, for any
+/// tables, options and width. The layouts of the text are those of the first part, followed by those of the
+/// second part. The same holds for what is printed. So the parts of a long text may be laid out in any order.
+/// Costs nothing at run time.
 pub fn texts_are_laid_out_in_parts()
     ensures layouts { (rules : Rules) (width : ℕ) (front rest : List ℕ)
         → IsCutAt (cut_by rules) front rest

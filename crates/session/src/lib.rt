@@ -1,8 +1,8 @@
-//! Sessions: a text that is edited, with the layout of each of its paragraphs. After any edits, the layouts
-//! equal fresh layouts of the current text.
+//! Sessions: an editable text with the layout of each of its paragraphs. After any edits, the layouts are the
+//! same as new layouts of the current text.
 //!
-//! A `Session` is opened on an engine, a text and a width. Each edit returns its `Damage`: how many lines
-//! were replaced, and by how many. Positions count characters. Lines and columns are numbered from 0.
+//! A `Session` is opened with an engine, a text and a width. Each edit returns its `Damage`: which lines were
+//! replaced, and by how many new ones. Positions count characters. Lines and columns are numbered from 0.
 //!
 //! ```rust
 //! let damage = session.insert(4, "שלום")?; // after "abc\n"
@@ -17,8 +17,8 @@
 //! assert!(rt; session.caret(5) == Some(caret));
 //! ```
 //!
-//! `line` borrows a line, `print` and `print_lines` write lines, `place` and `line_start` find them. `text`
-//! and `write_text` return the text. A refused edit changes nothing.
+//! `line` borrows a line, `print` and `print_lines` write lines, and `place` and `line_start` locate lines.
+//! `text` returns part of the text, and `write_text` writes part of it. A refused edit changes nothing.
 #![tactic(auto)]
 
 mod carets;

@@ -1,5 +1,5 @@
-//! Where the lines of a text start, and on which line a character is. Paragraphs are found by the store's
-//! sums, lines by where they start in their paragraph.
+//! Finds where the lines of a text start, and which line a character is on. Paragraphs are found with the
+//! store's sums, and lines by where they start in their paragraph.
 ghost use Rattle.std.specs.Prelude.{◌≡◌, ◌^◌, ◌<◌, ◌≤◌, ℕ, All, nat_le, count_by, length};
 ghost use Rattle.std.specs.Prelude.{slice_get, slice_index, IfSome};
 ghost use Rattle.std.specs.List.Sorted.{IsNonDecreasing};
@@ -12,18 +12,18 @@ use crate::kept::Kept;
 use lines::Engine;
 use store::ParagraphStore;
 
-/// Where a character of a text is, or the end of the text. All numbers count from 0.
+/// The place of a character of a text, or of the end of the text. All numbers start at 0.
 #[derive(Clone, Copy, Debug, PartialEq, Eq)]
 pub struct Place {
-    /// Its paragraph.
+    /// The paragraph that contains the place.
     pub paragraph: usize,
-    /// Its line, counted through the whole text.
+    /// The line that contains the place, numbered across the whole text.
     pub line: usize,
-    /// How many characters of this line come before it.
+    /// The number of characters of this line before the place.
     pub offset: usize,
 }
 
-// Returns the n-th line start.
+// Returns the line start at index `n`.
 fn start_of_nth(starts: &[u32], n: usize) -> usize
     requires { n < length starts.now }
     ensures start { result ≡ slice_index starts.now n }
@@ -83,7 +83,7 @@ fn place_in<S: ParagraphStore<Kept>>(store: &S, pos: usize) -> Place
     }
 }
 
-// Returns a character of the text.
+// Returns the character at a position of the text.
 fn char_at<S: ParagraphStore<Kept>>(store: &S, pos: usize) -> char
     requires { pos < length (text_of (S.items store.now)) }
     ensures { result ≡ slice_index (text_of (S.items store.now)) pos }
@@ -98,7 +98,7 @@ fn char_at<S: ParagraphStore<Kept>>(store: &S, pos: usize) -> char
     }
 }
 
-// Whether a new paragraph would start at the end of the text.
+// Returns whether a new paragraph would start at the end of the text.
 fn is_closed<S: ParagraphStore<Kept>>(store: &S, engine: &Engine) -> bool
     ensures { result ≡ is_closed (rules_of engine.now) (text_of (S.items store.now)) }
 {
@@ -110,7 +110,7 @@ fn is_closed<S: ParagraphStore<Kept>>(store: &S, engine: &Engine) -> bool
     engine.is_cut(last, last)
 }
 
-/// Returns the place of a position, or `None` past the end.
+/// Returns the place of a position, or `None` past the end of the text.
 pub fn place_of<S: ParagraphStore<Kept>>(store: &S, engine: &Engine, pos: usize) -> Option<Place>
     requires { All IsLined (S.items store.now) }
     ensures { result ≡ place_at (rules_of engine.now) (S.items store.now) pos }

@@ -12,10 +12,10 @@ use lines::{Laid, Print, WriteFault};
 use store::{Measured, ParagraphStore};
 use thiserror::Error;
 
-/// Why lines or characters were not, or not completely, written.
+/// Why writing a range of lines or characters failed.
 #[derive(Clone, Copy, Debug, PartialEq, Eq, Error)]
 pub enum RangeFault {
-    /// The range is past the end, and nothing was written.
+    /// The range reaches past the end, and nothing was written.
     #[error("out of range")]
     OutOfRange,
     /// The sink failed.
@@ -24,7 +24,7 @@ pub enum RangeFault {
 }
 
 // Writes `count` lines of a paragraph, starting at line `from`. `before` is the number of bytes already
-// written, and the returned count includes it.
+// written, and the returned byte count includes it.
 fn write_part<W: Sink>(
     laid: &Laid,
     from: usize,
@@ -57,7 +57,8 @@ fn write_part<W: Sink>(
 }
 
 /// Writes `count` lines, starting at line `first`. `before` is the number of bytes already written, and the
-/// returned count includes it. Writes nothing after a failed write. Only the first line is searched for.
+/// returned byte count includes it. Stops at the first failed write. Searches the store only for the first
+/// line.
 pub fn write_lines<S: ParagraphStore<Kept>, W: Sink>(
     store: &S,
     first: usize,

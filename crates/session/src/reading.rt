@@ -1,4 +1,4 @@
-//! Reads the characters of a text: those of one paragraph at a time, or as UTF-8.
+//! Reads the characters of a text, one paragraph at a time or as UTF-8.
 ghost use Rattle.std.specs.Prelude.{◌≡◌, ◌+◌, ◌*◌, ◌<◌, ◌≤◌, All, length, option_map};
 ghost use Rattle.std.specs.Prelude.{encode_utf8_all, IfOk, IfErr, IfSome};
 ghost use Rattle.lines.specs.Writing.{PassedOn, StoppedIn};
@@ -13,8 +13,8 @@ use device::Sink;
 use lines::{WriteFault, write_chars};
 use store::ParagraphStore;
 
-/// Returns those of the `count` characters from `pos` on that are in the first one's paragraph, or `None` if
-/// the range is past the end.
+/// Of the `count` characters starting at `pos`, returns those in the same paragraph as the first one. Returns
+/// `None` if the range reaches past the end.
 pub fn text_part<S: ParagraphStore<Kept>>(store: &S, pos: usize, count: usize) -> Option<&[char]>
     requires { All IsLined (S.items store.now) }
     ensures part { option_map (λ part. part.now) result ≡ text_part (S.items store.now) pos count }
@@ -34,7 +34,7 @@ pub fn text_part<S: ParagraphStore<Kept>>(store: &S, pos: usize, count: usize) -
     }
 }
 
-// Returns the length of characters in UTF-8.
+// Returns the length in bytes of the characters in UTF-8.
 fn bytes_of(chars: &[char]) -> usize
     requires { length chars.now ≤ TEXT_LIMIT }
     ensures count { result ≡ length (encode_utf8_all chars.now) }
@@ -47,7 +47,8 @@ fn bytes_of(chars: &[char]) -> usize
     bytes
 }
 
-/// Returns the length of `count` characters from `pos` on in UTF-8, or `None` if the range is past the end.
+/// Returns the length in bytes of `count` characters, starting at `pos`, in UTF-8. Returns `None` if the
+/// range reaches past the end.
 pub fn utf8_len<S: ParagraphStore<Kept>>(store: &S, pos: usize, count: usize) -> Option<usize>
     requires lined { All IsLined (S.items store.now) }
     requires few { length (text_of (S.items store.now)) ≤ TEXT_LIMIT }
@@ -69,8 +70,8 @@ pub fn utf8_len<S: ParagraphStore<Kept>>(store: &S, pos: usize, count: usize) ->
     Some(bytes)
 }
 
-/// Writes `count` characters from `pos` on as UTF-8. `before` is the number of bytes already written, and the
-/// returned count includes it. Writes nothing after a failed write.
+/// Writes `count` characters, starting at `pos`, as UTF-8. `before` is the number of bytes already written,
+/// and the returned byte count includes it. Stops at the first failed write.
 pub fn write_text<S: ParagraphStore<Kept>, W: Sink>(
     store: &S,
     pos: usize,

@@ -1,4 +1,4 @@
-//! An edit of the text in a store. Everything that can fail precedes the change.
+//! Edits the text in a store. Everything that can fail happens before the store is changed.
 ghost use Rattle.std.specs.Prelude.{◌≡◌, ◌+◌, ◌-◌, ◌^◌, ◌<◌, ◌≤◌, List, ℕ, length, sum_by};
 ghost use Rattle.std.specs.Prelude.{IfOk, IfErr, IsErrOf, OnOk, OnErr};
 ghost use Rattle.std.specs.List.{splice};
@@ -54,7 +54,7 @@ fn put<S: ParagraphStore<Kept>>(
     })
 }
 
-/// Replaces `count` characters from `pos` on by `piece`.
+/// Replaces `count` characters, starting at `pos`, with `piece`.
 pub fn replace<S: ParagraphStore<Kept>>(
     alloc: Global,
     engine: &mut Engine,
@@ -82,7 +82,8 @@ pub fn replace<S: ParagraphStore<Kept>>(
     if len - count + piece.chars().count() > TEXT_LIMIT {
         return Err(EditFault::TextTooLong);
     }
-    // By these theorems, the paragraphs that are not touched stay, and the sum of lines has no overflow.
+    // By these theorems, the paragraphs that the edit does not touch stay the same, and the sum of lines does
+    // not overflow.
     paragraphs_are_pieces();
     lines_are_few();
     let (front, back) = (front_edge(store, pos), back_edge(store, end));

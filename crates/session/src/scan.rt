@@ -6,7 +6,7 @@ ghost use Rattle.lines.specs.Layouts.{cut_by};
 
 use lines::{Engine, PARAGRAPH_LIMIT};
 
-/// What is known of the characters read so far.
+/// What is known about the characters read so far.
 #[derive(Clone, Copy, Debug)]
 pub struct Scan {
     last: Option<char>,
@@ -18,7 +18,7 @@ pub struct Scan {
 impl Scan {
     ghost use Rattle.session.specs.Scans.{HasScanned, is_long_scan};
 
-    /// The state before any character.
+    /// Returns the state before any character is read.
     pub fn new() -> Scan
         ensures { (is_cut : ℕ → ℕ → Bool) → HasScanned is_cut [] result }
     {
@@ -46,7 +46,7 @@ impl Scan {
         self.last = Some(c);
     }
 
-    /// Reads characters.
+    /// Reads more characters.
     pub fn take_all(&mut self, engine: &Engine, part: &[char])
         ensures { (text : List ℕ) → HasScanned (cut_by (rules_of engine.now)) text self.old
             → HasScanned (cut_by (rules_of engine.now)) (text ++ part.now) self.new }
@@ -66,7 +66,7 @@ impl Scan {
         }
     }
 
-    /// Whether one of the paragraphs so far is too long.
+    /// Returns whether any paragraph read so far is too long.
     pub fn is_long(&self) -> bool
         ensures { result ≡ is_long_scan self.now }
     {

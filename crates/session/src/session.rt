@@ -1,4 +1,4 @@
-//! Sessions, over any `ParagraphStore`.
+//! Sessions, which are generic over the `ParagraphStore`.
 ghost use Rattle.std.specs.Prelude.{◌≡◌, ◌+◌, ◌^◌, ◌<◌, ◌≤◌, nat_le, nat_lt, length};
 ghost use Rattle.std.specs.Prelude.{is_none, option_map, slice_get};
 ghost use Rattle.std.specs.Prelude.{IfOk, IfErr, IfSome, IsErrOf, OnOk, OnErr};
@@ -72,7 +72,7 @@ impl<S: ParagraphStore<Kept>> Model for Session<S> {
         IsWholeLayout (record { engine = s.engine; width = s.width; kept = S.items s.store }) };
 }
 
-// Lays out the paragraphs of a text, in a new store.
+// Lays out the paragraphs of a text, and puts them into a new store.
 fn fill_store<S: ParagraphStore<Kept> + Drop>(
     alloc: Global,
     engine: &mut Engine,
@@ -90,7 +90,7 @@ fn fill_store<S: ParagraphStore<Kept> + Drop>(
     if text.chars().count() > TEXT_LIMIT {
         return Err(EditFault::TextTooLong);
     }
-    // By these theorems, the paragraphs make up the text, and the sum of lines has no overflow.
+    // By these theorems, the paragraphs make up the text, and the sum of lines does not overflow.
     paragraphs_are_pieces();
     lines_are_few();
     let paragraphs = match lay_out_joined(alloc, engine, &[], text, &[], width) {
@@ -105,7 +105,7 @@ fn fill_store<S: ParagraphStore<Kept> + Drop>(
 }
 
 impl<S: ParagraphStore<Kept> + Drop> Session<S> {
-    /// Opens a session on a text, at a width in columns. After an error the engine is returned.
+    /// Opens a session on a text at a width in columns. After an error, returns the engine with the error.
     pub fn open(
         alloc: Global,
         engine: Engine,
@@ -137,7 +137,7 @@ impl<S: ParagraphStore<Kept>> Session<S> {
         self.store.total_lines()
     }
 
-    /// Returns a line, or `None` past the last one.
+    /// Returns line `n`, or `None` past the last line.
     pub fn line(&self, n: usize) -> Option<VisualLine<'_>>
         ensures { result ≡ slice_get (lines_in self.now.kept) n }
     {
@@ -161,8 +161,8 @@ impl<S: ParagraphStore<Kept>> Session<S> {
 
     /// Returns the paragraph and the line of the character at a position, or `None` past the end of the text.
     ///
-    /// The end of the text is after its last character. If the text is empty or ends with a separator, it is
-    /// where the next paragraph would start, so its `line` is `line_count`.
+    /// The end of the text is also a position, after the last character. If the text is empty or ends with a
+    /// separator, the end is where the next paragraph would start, and its `line` is `line_count`.
     pub fn place(&self, pos: usize) -> Option<Place>
         ensures place { result ≡ place_at (rules_of self.now.engine) self.now.kept pos }
         ensures none { is_none result ≡ nat_lt (length (text_at self.now)) pos }
@@ -175,14 +175,14 @@ impl<S: ParagraphStore<Kept>> Session<S> {
 
     /// Returns where to draw a caret before the character at a position, or `None` past the end of the text.
     ///
-    /// The caret is at the leading edge of the character: the left one if its level is even, the right one if
-    /// it is odd. Before a character that is not shown, and at the end of the text, it is at the end of the
-    /// line in the base direction. At the end of a text that is empty or ends with a separator, it is at
-    /// column 0 of the line after the last.
+    /// The caret is at the leading edge of the character: the left edge if the character's level is even, and
+    /// the right edge if it is odd. Before a character that is not shown, and at the end of the text, the
+    /// caret is at the end of the line in the base direction. At the end of a text that is empty or ends with
+    /// a separator, the caret is at column 0 of the line after the last line.
     ///
     /// Where the direction changes, a position has a second edge: the trailing edge of the character before
-    /// it, which is the other side of the caret at `pos - 1`. For a caret between a Latin `c` and the first
-    /// letter of a Hebrew word, shown right of it:
+    /// it. This second edge is opposite the caret at `pos - 1`. For example, in a text of Latin letters
+    /// followed by a Hebrew word:
     ///
     /// ```text
     /// positions   0 1 2 3 4 5 6       a b c, a space, and the letters 4, 5 and 6
@@ -205,9 +205,9 @@ impl<S: ParagraphStore<Kept>> Session<S> {
         }
     }
 
-    /// Returns the character whose columns include a column of a line, counted from the left edge of the
-    /// line's shown part, or `None` past the last line. Right of that part it is the rightmost character of
-    /// nonzero width, and in a line of width 0 the start of the line.
+    /// Returns the character that covers a column of line `n`, or `None` past the last line. Columns are
+    /// counted from the left edge of the line's shown part. For a column to the right of the shown part,
+    /// returns the rightmost character of nonzero width. In a line of width 0, returns the start of the line.
     pub fn hit(&self, n: usize, column: usize) -> Option<Hit>
         ensures hit { result ≡ hit_at self.now.kept n column }
         ensures none { is_none result ≡ nat_le (length (lines_in self.now.kept)) n }
@@ -229,9 +229,9 @@ impl<S: ParagraphStore<Kept>> Session<S> {
         cluster_of(&self.store, self.alloc, pos)
     }
 
-    /// Returns a first part of the `count` characters from `pos` on: those in the paragraph of the first.
-    /// Returns `None` if the range is past the end. The part is not empty unless `count` is 0. To read the
-    /// rest, call again with `pos + part.len()` and `count - part.len()`.
+    /// Of the `count` characters starting at `pos`, returns those in the same paragraph as the first one.
+    /// Returns `None` if the range reaches past the end. The returned part is empty only if `count` is 0. To
+    /// read the rest, call again with `pos + part.len()` and `count - part.len()`.
     pub fn text(&self, pos: usize, count: usize) -> Option<&[char]>
         ensures part { option_map (λ part. part.now) result ≡ text_part self.now.kept pos count }
         ensures some { 0 < count → IfSome result (λ part. 0 < length part.now) }
@@ -243,8 +243,8 @@ impl<S: ParagraphStore<Kept>> Session<S> {
         text_part(&self.store, pos, count)
     }
 
-    /// Returns the length of `count` characters from `pos` on in UTF-8, or `None` if the range is past the
-    /// end. Needs time linear in `count`, and allocates nothing.
+    /// Returns the length in bytes of `count` characters, starting at `pos`, in UTF-8. Returns `None` if the
+    /// range reaches past the end. Needs time linear in `count`, and allocates nothing.
     pub fn utf8_len(&self, pos: usize, count: usize) -> Option<usize>
         ensures { result ≡ utf8_len self.now.kept pos count }
     {
@@ -254,8 +254,8 @@ impl<S: ParagraphStore<Kept>> Session<S> {
         utf8_len(&self.store, pos, count)
     }
 
-    /// Writes `count` characters from `pos` on as UTF-8. Fails with `OutOfRange` if the range is past the
-    /// end, and then writes nothing. Allocates nothing.
+    /// Writes `count` characters, starting at `pos`, as UTF-8. If the range reaches past the end, writes
+    /// nothing and fails with `OutOfRange`. Allocates nothing.
     pub fn write_text<W: Sink>(
         &self,
         writer: &mut W,
@@ -274,8 +274,8 @@ impl<S: ParagraphStore<Kept>> Session<S> {
         Ok(())
     }
 
-    /// Writes `count` characters from `pos` on as UTF-8. `before` is the number of bytes already written. The
-    /// returned count, and that in a fault, include it.
+    /// Writes `count` characters, starting at `pos`, as UTF-8. `before` is the number of bytes already
+    /// written. The returned byte count includes these bytes, as does the count in a `WriteFault`.
     pub fn write_text_after<W: Sink>(
         &self,
         writer: &mut W,
@@ -320,7 +320,7 @@ impl<S: ParagraphStore<Kept>> Session<S> {
         self.store.count()
     }
 
-    /// Returns the layout of a paragraph, or `None` past the last one.
+    /// Returns the layout of a paragraph, or `None` past the last paragraph.
     pub fn paragraph(&self, index: usize) -> Option<&Laid>
         ensures { option_map (λ laid. laid.now) result ≡ slice_get self.now.kept index }
     {
@@ -335,21 +335,21 @@ impl<S: ParagraphStore<Kept>> Session<S> {
         self.width
     }
 
-    /// Returns the number of characters that were analysed. The count stops at 2^64−1.
+    /// Returns the number of characters that were analysed. The count saturates at 2^64−1.
     pub fn analysed(&self) -> u64
         ensures { result ≡ analysed_of self.now.engine }
     {
         self.engine.analysed()
     }
 
-    /// Returns the number of characters that were filled into lines. The count stops at 2^64−1.
+    /// Returns the number of characters that were filled into lines. The count saturates at 2^64−1.
     pub fn filled(&self) -> u64
         ensures { result ≡ filled_of self.now.engine }
     {
         self.engine.filled()
     }
 
-    /// Returns the number of characters whose lines were written. The count stops at 2^64−1.
+    /// Returns the number of characters whose lines were written. The count saturates at 2^64−1.
     pub fn written(&self) -> u64
         ensures { result ≡ written_of self.now.engine }
     {
@@ -366,7 +366,7 @@ impl<S: ParagraphStore<Kept>> Session<S> {
         self.replace(pos, 0, text)
     }
 
-    /// Deletes `count` characters from `pos` on.
+    /// Deletes `count` characters, starting at `pos`.
     pub fn delete(&mut self, pos: usize, count: usize) -> Result<Damage, EditFault>
         ensures ok { IfOk result (Edits (deletion pos count) self.old self.new) }
         ensures err { IfErr result (EditsNot (deletion pos count) self.old self.new) }
@@ -375,7 +375,8 @@ impl<S: ParagraphStore<Kept>> Session<S> {
         self.replace(pos, count, "")
     }
 
-    /// Replaces `count` characters from `pos` on by a text, as one edit with one damage.
+    /// Replaces `count` characters, starting at `pos`, with a text. Counts as one edit, and returns one
+    /// damage.
     pub fn replace(&mut self, pos: usize, count: usize, piece: &str) -> Result<Damage, EditFault>
         ensures ok { IfOk result (Edits (replacing pos count (chars piece.now)) self.old self.new) }
         ensures err { IfErr result (EditsNot (replacing pos count (chars piece.now)) self.old self.new) }
@@ -393,8 +394,8 @@ impl<S: ParagraphStore<Kept>> Session<S> {
         )
     }
 
-    /// Sets the width, in columns, and rewraps every paragraph. A paragraph of one line that fits is left as
-    /// it is; each other one is filled and written once.
+    /// Sets the width, in columns, and rewraps every paragraph. A paragraph whose only line fits is left as
+    /// it is. Every other paragraph is filled and written once.
     pub fn set_width(&mut self, width: u16) -> Result<Damage, EditFault>
         ensures ok { IfOk result (SetsWidth width self.old self.new) }
         ensures err { IfErr result (SetsWidthNot width self.old self.new) }
@@ -409,7 +410,7 @@ impl<S: ParagraphStore<Kept>> Session<S> {
         )
     }
 
-    /// Writes all lines, and nothing after a failed write. Allocates nothing.
+    /// Writes all lines. Stops at the first failed write. Allocates nothing.
     pub fn print<W: Sink>(&self, writer: &mut W, print: &Print) -> Result<(), WriteFault>
         ensures ok { OnOk result (Wrote (page_at self.now print.now)
             (W.state writer.old) (W.state writer.new)) }
@@ -424,8 +425,8 @@ impl<S: ParagraphStore<Kept>> Session<S> {
         }
     }
 
-    /// Writes all lines. `before` is the number of bytes already written. The returned count, and that in a
-    /// fault, include it.
+    /// Writes all lines. `before` is the number of bytes already written. The returned byte count includes
+    /// these bytes, as does the count in a `WriteFault`.
     pub fn print_after<W: Sink>(
         &self,
         writer: &mut W,
@@ -447,8 +448,8 @@ impl<S: ParagraphStore<Kept>> Session<S> {
         }
     }
 
-    /// Writes `count` lines, from the line `first` on, as `print` writes them. Fails with `OutOfRange` if the
-    /// range is past the end, and then writes nothing. Allocates nothing.
+    /// Writes `count` lines, starting at line `first`, as `print` writes them. If the range reaches past the
+    /// last line, writes nothing and fails with `OutOfRange`. Allocates nothing.
     pub fn print_lines<W: Sink>(
         &self,
         writer: &mut W,
@@ -469,7 +470,7 @@ impl<S: ParagraphStore<Kept>> Session<S> {
     }
 
     /// Writes `count` lines, starting at line `first`. `before` is the number of bytes already written. The
-    /// returned count, and that in a fault, include it.
+    /// returned byte count includes these bytes, as does the count in a `WriteFault`.
     pub fn print_lines_after<W: Sink>(
         &self,
         writer: &mut W,
@@ -498,20 +499,20 @@ impl<S: ParagraphStore<Kept>> Session<S> {
         }
     }
 
-    /// States, as a theorem, that `print` writes the lines one after another, as `line` returns them and
+    /// States, as a theorem, that `print` writes the lines that `line` returns, one after another, as
     /// `VisualLine::write` writes them. Costs nothing at run time.
     pub fn prints_its_lines(&self)
         ensures { (print : Print) → page_at self.now print
             ≡ flat_map (line_bytes self.now.width print) (lines_in self.now.kept) }
     {
-        // The same theorem for each paragraph, and the fact that each is laid out.
+        // Uses the same theorem for each paragraph, and the fact that each paragraph is laid out.
         paragraphs_print_their_lines();
         let _ = &self.engine;
     }
 
-    /// Executes edits in order. Refused edits change nothing. Stops at the first edit that is not refused and
-    /// for which an allocation fails. The counters rise by at most the sum of the edits' bounds, including
-    /// that edit's.
+    /// Executes edits in order. A refused edit changes nothing. Stops if an allocation fails for an edit that
+    /// is not refused. The work counters rise by at most the sum of the bounds of the edits, including the
+    /// edit that failed.
     pub fn run(&mut self, edits: &[Edit<'_>]) -> Result<(), AllocError>
         ensures ok { OnOk result (held_at self.new
             ≡ after_all (cuts_at self.old) (held_at self.old) edits.now) }
@@ -522,7 +523,7 @@ impl<S: ParagraphStore<Kept>> Session<S> {
         ensures laid_out { IsWholeLayout self.new }
         ensures rules { SameRules self.old.engine self.new.engine }
     {
-        // Gives the fact that each paragraph is laid out before the first edit.
+        // Gives the prover the fact that each paragraph is laid out before the first edit.
         let _ = &self.engine;
         for edit in edits {
             let result = match *edit {

@@ -1,5 +1,5 @@
-//! A width change. The starts and shown lengths of all lines that change are found before the first line is
-//! written over.
+//! Changes the width. The starts and shown lengths of all lines that change are found before any line is
+//! overwritten.
 ghost use Rattle.std.specs.Prelude.{◌≡◌, ◌^◌, ◌<◌, ◌≤◌, ℕ, false, true, is_none, length, map, sum_by};
 ghost use Rattle.std.specs.Prelude.{IfOk, IfErr, IfSome, IsErrOf, OnErr, OnOk};
 ghost use Rattle.std.specs.List.{All, AllZip};
@@ -18,7 +18,7 @@ use lines::{Engine, Extents, Laid, ReflowScratch, lines_are_few};
 use std::alloc::{AllocError, Global};
 use store::{Measured, ParagraphStore};
 
-// Returns the extents of a paragraph's lines at another width, or `None` if its lines stay.
+// Returns the extents of a paragraph's lines at another width, or `None` if its lines do not change.
 fn find_one(
     alloc: Global,
     engine: &mut Engine,
@@ -43,7 +43,8 @@ fn find_one(
     Ok(Some(engine.extents(alloc, laid, width)?))
 }
 
-// Returns the extents of each paragraph's lines at another width, or `None` if its lines stay.
+// Returns the extents of each paragraph's lines at another width, or `None` for a paragraph whose lines do
+// not change.
 fn find_each(
     alloc: Global,
     engine: &mut Engine,
@@ -87,8 +88,8 @@ fn longest(list: &[&Kept]) -> usize
     most
 }
 
-// Finds the extents of all lines of a store that change at another width, and allocates scratch space to
-// write them.
+// Finds the extents of all lines of a store that change at another width, and allocates scratch space for
+// writing them.
 fn find_all<S: ParagraphStore<Kept>>(
     alloc: Global,
     engine: &mut Engine,
@@ -119,7 +120,7 @@ fn find_all<S: ParagraphStore<Kept>>(
     Ok((parts, scratch))
 }
 
-// Writes all lines of a store that change over the old ones, by their extents.
+// Overwrites all lines of a store that change, given the extents of the new lines.
 fn reflow_all<S: ParagraphStore<Kept>>(
     engine: &mut Engine,
     store: &mut S,
@@ -148,7 +149,7 @@ fn reflow_all<S: ParagraphStore<Kept>>(
     engine.take_back(scratch);
 }
 
-/// Sets the width and rewraps every paragraph. Everything that can fail precedes the change.
+/// Sets the width and rewraps every paragraph. Everything that can fail happens before the store is changed.
 pub fn set_width<S: ParagraphStore<Kept>>(
     alloc: Global,
     engine: &mut Engine,
@@ -168,7 +169,7 @@ pub fn set_width<S: ParagraphStore<Kept>>(
     if new_width == 0 {
         return Err(EditFault::WidthOutOfRange);
     }
-    // By these theorems, the new lines belong to the paragraphs, and their sum has no overflow.
+    // By these theorems, the new lines belong to the paragraphs, and the sum of lines does not overflow.
     paragraphs_are_pieces();
     lines_are_few();
     let Ok((mut parts, scratch)) = find_all(alloc, engine, store, new_width) else {

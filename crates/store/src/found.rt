@@ -4,18 +4,18 @@ ghost use Rattle.store.specs.Finding.{measure};
 
 use crate::measured::Measured;
 
-/// The item that has a character or a line.
+/// The item that contains a character or a line.
 #[derive(Clone, Copy, Debug, PartialEq, Eq)]
 pub struct Found {
     /// The index of the item, from 0.
     pub index: usize,
-    /// The index of the character or line in the item, from 0.
+    /// The index of the character or line within the item, from 0.
     pub rest: usize,
-    /// The number of characters of the items before it.
+    /// The number of characters in the items before this one.
     pub chars_before: usize,
-    /// The number of lines of the items before it.
+    /// The number of lines in the items before this one.
     pub lines_before: usize,
-    /// The number of items that the search looked at.
+    /// The number of items that the search visited.
     pub visits: usize,
 }
 
@@ -27,7 +27,7 @@ pub(crate) enum Unit {
 }
 
 impl Unit {
-    /// The number of characters or of lines of an item.
+    /// Returns the number of characters or the number of lines of an item.
     pub(crate) fn size_of<P: Measured>(self, item: &P) -> usize
         ensures { result ≡ measure P.chars P.lines self item.now }
     {

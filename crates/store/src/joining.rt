@@ -1,4 +1,4 @@
-//! Joins and splits balanced trees, without allocation. The work is proportional to their heights.
+//! Joins and splits balanced trees without allocating. The work is proportional to the heights of the trees.
 ghost use Rattle.std.specs.Prelude.{◌≡◌, ◌+◌, ◌^◌, ◌<◌, ◌≤◌, ◌∷◌, ◌++◌};
 ghost use Rattle.std.specs.Prelude.{ℕ, length, sum_by, [], take, drop, max};
 ghost use Rattle.std.specs.Prelude.{map, reverse, slice_range, MatchOption, vec_capacity, ◌-◌};
@@ -38,7 +38,7 @@ pub(crate) fn join<P: Measured>(
     node.over(left, right)
 }
 
-// Joins two trees whose heights differ by at most 2.
+// Joins two trees, whose heights differ by at most 2, with a node between them.
 fn balance<P: Measured>(left: Subtree<P>, node: DetachedNode<P>, right: Subtree<P>) -> Subtree<P>
     requires fits { Fits P.chars P.lines (in_order left ++ node ∷ in_order right) }
     requires near { (height left ≤ height right + 2) × (height right ≤ height left + 2) }
@@ -59,8 +59,8 @@ fn balance<P: Measured>(left: Subtree<P>, node: DetachedNode<P>, right: Subtree<
     node.over(left, right)
 }
 
-// Joins two trees, of which the left one is higher by 2: one rotation, or two if its inner side is the higher
-// one.
+// Joins two trees if the left one is higher by 2. Makes one rotation, or two if the inner side of the left
+// tree is higher than its outer side.
 fn lean_left<P: Measured>(left: Subtree<P>, node: DetachedNode<P>, right: Subtree<P>) -> Subtree<P>
     requires fits { Fits P.chars P.lines (in_order left ++ node ∷ in_order right) }
     requires two_higher { height left ≡ height right + 2 }
@@ -77,7 +77,7 @@ fn lean_left<P: Measured>(left: Subtree<P>, node: DetachedNode<P>, right: Subtre
     lift(outer, top, inner, node, right)
 }
 
-// Joins two trees, of which the right one is higher by 2.
+// Joins two trees if the right one is higher by 2.
 fn lean_right<P: Measured>(left: Subtree<P>, node: DetachedNode<P>, right: Subtree<P>) -> Subtree<P>
     requires fits { Fits P.chars P.lines (in_order left ++ node ∷ in_order right) }
     requires two_higher { height right ≡ height left + 2 }
@@ -94,8 +94,8 @@ fn lean_right<P: Measured>(left: Subtree<P>, node: DetachedNode<P>, right: Subtr
     lift(left, node, inner, top, outer)
 }
 
-// Makes two rotations: the root of the middle tree, which is higher by 1 than those on both sides of it,
-// becomes the root of all.
+// Makes two rotations. The middle tree is higher by 1 than the trees on both sides of it. Its root becomes
+// the root of the joined tree.
 fn lift<P: Measured>(
     left: Subtree<P>,
     before: DetachedNode<P>,
@@ -115,7 +115,7 @@ fn lift<P: Measured>(
     middle.over(before.over(left, first), after.over(second, right))
 }
 
-// Splits a tree into the items before an index and those from it on.
+// Splits a tree into the items before an index and the items at and after it.
 fn split<P: Measured>(tree: Subtree<P>, at: usize) -> (Subtree<P>, Subtree<P>)
     requires { at ≤ length (in_order tree) }
     ensures front { in_order result.0 ≡ take at (in_order tree) }
@@ -155,7 +155,7 @@ fn append<P: Measured>(left: Subtree<P>, right: Subtree<P>) -> Subtree<P>
     join(left, first, rest)
 }
 
-// Builds a tree of the nodes of a list, from the last one back.
+// Builds a tree from the nodes of a list in reverse order.
 fn build_all<P: Measured>(nodes: Vec<DetachedNode<P>>) -> Subtree<P>
     requires { Fits P.chars P.lines (reverse nodes.items) }
     ensures { in_order result ≡ reverse nodes.items }
@@ -167,7 +167,7 @@ fn build_all<P: Measured>(nodes: Vec<DetachedNode<P>>) -> Subtree<P>
     tree
 }
 
-// Builds a tree of the last nodes of a list, from the last one back.
+// Removes the last `count` nodes of a list, and builds a tree from them in reverse order.
 fn build<P: Measured>(nodes: &mut Vec<DetachedNode<P>>, count: usize) -> Subtree<P>
     requires enough { count ≤ length nodes.old.items }
     requires fits { Fits P.chars P.lines (reverse nodes.old.items) }
@@ -184,8 +184,8 @@ fn build<P: Measured>(nodes: &mut Vec<DetachedNode<P>>, count: usize) -> Subtree
     join(left, top, right)
 }
 
-/// Replaces the items of a range by those of a list of nodes, from the last one back, and returns a tree of
-/// the old ones.
+/// Replaces the items of a range with the nodes of a list in reverse order, and returns a tree of the old
+/// items.
 pub(crate) fn put_in<P: Measured>(
     tree: &mut Subtree<P>,
     first: usize,
@@ -206,7 +206,7 @@ pub(crate) fn put_in<P: Measured>(
     gone
 }
 
-/// Moves the items to the end of a list that has the capacity for them, and frees the nodes.
+/// Moves the items to the end of a list, which must have capacity for them, and frees the nodes.
 pub(crate) fn move_items<P: Measured>(tree: Subtree<P>, items: &mut Vec<P>)
     requires { length items.old.items + length (in_order tree) ≤ vec_capacity items.old }
     ensures items { items.new.items ≡ items.old.items ++ in_order tree }

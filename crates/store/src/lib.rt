@@ -1,8 +1,8 @@
 //! Stores of paragraphs: lists of items with the sums of their characters and lines.
 //!
-//! A `ParagraphStore` holds items that are `Measured`. `replace` replaces a range of them, and searches find
-//! the item of a character or a line. A `VecStore` is a list. A `TreeStore` is a balanced tree, in which a
-//! search looks at few items.
+//! A `ParagraphStore` holds items that are `Measured`. `replace` replaces a range of items. `find_char` and
+//! `find_line` find the item that contains a character or a line. A `VecStore` is a list. A `TreeStore` is a
+//! balanced tree, in which a search visits only a few items.
 //!
 //! ```rust
 //! let paragraphs = vec![in alloc; Paragraph(5, 1), Paragraph(90, 2)]?;

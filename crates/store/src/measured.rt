@@ -2,7 +2,7 @@
 ghost use Rattle.std.specs.Prelude.{◌≡◌, ℕ, refl};
 ghost use Rattle.store.specs.Exchanging.{raised};
 
-/// An item that has a number of characters and of lines.
+/// An item with a number of characters and a number of lines.
 pub trait Measured {
     ghost chars: { Self → ℕ };
 
@@ -15,55 +15,55 @@ pub trait Measured {
         ensures { result ≡ lines self.now };
 }
 
-/// An item that exchanges a part of itself.
+/// An item that can exchange a part of itself for another part.
 pub trait Exchange: Measured {
     /// The type of the parts that are exchanged.
     type Part;
 
-    // Whether a part may be put in.
+    // Whether a part may be put into an item.
     ghost fits: { Self → Self.Part → Type 0 };
 
-    // The item with the part in it, and the part that comes out.
+    // The item after an exchange, and the part that comes out of it.
     ghost exchanged: { Self → Self.Part → Self };
 
     ghost handed_out: { Self → Self.Part → Self.Part };
 
-    /// Exchanges the item's part with `part`, which must fit.
+    /// Exchanges the item's part for `part`, which must fit.
     fn exchange(&mut self, part: &mut Self::Part)
         requires { fits self.old part.old }
         ensures item { self.new ≡ exchanged self.old part.old }
         ensures part { part.new ≡ handed_out self.old part.old };
 
-    // The number of characters stays the same.
+    // An exchange does not change the number of characters.
     ghost keeps_chars: { (item : Self) (part : Self.Part) → fits item part
         → Self.chars (exchanged item part) ≡ Self.chars item };
 }
 
-/// Exchanges parts of items. It may count its work.
+/// Exchanges parts of items, and may count its work.
 pub trait Exchanger<P: Measured> {
     /// The type of the parts that are exchanged.
     type Part;
 
-    // The facts that decide which parts fit, and the result of an exchange. They stay the same while the
+    // The facts that determine which parts fit, and the result of an exchange. They do not change while the
     // exchanger counts its work.
     ghost Kind: { Type 0 };
 
     ghost kind: { Self → Kind };
 
-    // Whether a part may be put in.
+    // Whether a part may be put into an item.
     ghost fits: { Kind → P → Self.Part → Type 0 };
 
-    // The item with the part in it, and the part that comes out.
+    // The item after an exchange, and the part that comes out of it.
     ghost exchanged: { Kind → P → Self.Part → P };
 
     ghost handed_out: { Kind → P → Self.Part → Self.Part };
 
-    // The work counted so far, up to the greatest `u64`, and the cost of an exchange.
+    // The work counted so far, saturating at `u64::MAX`, and the cost of an exchange.
     ghost worked: { Self → ℕ };
 
     ghost cost: { P → Self.Part → ℕ };
 
-    /// Exchanges the item's part with `part`, which must fit.
+    /// Exchanges the item's part for `part`, which must fit.
     fn exchange(&mut self, item: &mut P, part: &mut Self::Part)
         requires { fits (kind self.old) item.old part.old }
         ensures item { item.new ≡ exchanged (kind self.old) item.old part.old }
@@ -71,7 +71,7 @@ pub trait Exchanger<P: Measured> {
         ensures same { kind self.new ≡ kind self.old }
         ensures worked { worked self.new ≡ raised (worked self.old) (cost item.old part.old) };
 
-    // The number of characters stays the same.
+    // An exchange does not change the number of characters.
     ghost keeps_chars: { (by : Kind) (item : P) (part : Self.Part) → fits by item part
         → P.chars (exchanged by item part) ≡ P.chars item };
 }

@@ -1,4 +1,4 @@
-//! The interface of stores: a list of items with sums.
+//! The interface of stores, which are lists of items with sums.
 ghost use Rattle.std.specs.Prelude.{◌≡◌, ◌+◌, ◌-◌, ◌^◌, ◌<◌, ◌≤◌};
 ghost use Rattle.std.specs.Prelude.{ℕ, List, [], length, map, slice_get, slice_range, option_map, sum_by};
 ghost use Rattle.std.specs.Prelude.{IfOk, IfErr, OnOk, OnErr};
@@ -12,32 +12,32 @@ use std::alloc::{AllocError, Global};
 use std::ops::Range;
 
 /// A list of items, with the sums of their characters and lines. Only `replace` and `list` allocate, and only
-/// if there are items to list or to replace. No call drops or copies an item.
+/// if there are items to list or to replace. No method drops or copies an item.
 pub trait ParagraphStore<P: Measured> {
     // The items in order.
     ghost items: { Self → List P };
 
-    /// Creates an empty store. `replace` allocates from `alloc`.
+    /// Creates an empty store, whose `replace` allocates from `alloc`.
     fn new(alloc: Global) -> Self
         ensures { items result ≡ [] };
 
-    /// The number of items.
+    /// Returns the number of items.
     fn count(&self) -> usize
         ensures { result ≡ length (items self.now) };
 
-    /// The number of characters of all items.
+    /// Returns the total number of characters of all items.
     fn total_chars(&self) -> usize
         ensures { result ≡ sum_by P.chars (items self.now) };
 
-    /// The number of lines of all items.
+    /// Returns the total number of lines of all items.
     fn total_lines(&self) -> usize
         ensures { result ≡ sum_by P.lines (items self.now) };
 
-    /// Returns an item by its index, from 0.
+    /// Returns the item at an index, or `None` past the last item.
     fn get(&self, index: usize) -> Option<&P>
         ensures { option_map (λ item. item.now) result ≡ slice_get (items self.now) index };
 
-    /// Returns all items in order, from one traversal of the store.
+    /// Returns all items in order. Traverses the store once.
     fn list(&self, alloc: Global) -> Result<Vec<&P>, AllocError>
         ensures ok { IfOk result (λ list. map (λ item. item.now) list.items ≡ items self.now) }
         ensures memory { OnErr result (0 < length (items self.now)) };
@@ -52,8 +52,8 @@ pub trait ParagraphStore<P: Measured> {
         requires { n < sum_by P.lines (items self.now) }
         ensures { Finds P.lines P.chars P.lines (items self.now) n result };
 
-    /// Replaces the items of a range by new ones, and returns the old ones. The new sums must fit a `usize`.
-    /// If an allocation fails, nothing changes, and the new items are returned.
+    /// Replaces the items of a range with new ones, and returns the old items. The new sums must fit in a
+    /// `usize`. If an allocation fails, changes nothing, and returns the new items with the error.
     fn replace(
         &mut self,
         range: Range<usize>,
@@ -72,8 +72,8 @@ pub trait ParagraphStore<P: Measured> {
         ensures back { IfErr result (λ e. e.0.items ≡ new_items.items) }
         ensures memory { OnErr result (0 < range.end - range.start + length new_items.items) };
 
-    /// Exchanges a part of each item, in order, by an exchanger. There must be as many parts as items, each
-    /// must fit its item, and the new sum of lines must fit a `usize`. Does not allocate.
+    /// Exchanges a part of each item, in order, using an exchanger. There must be as many parts as items.
+    /// Each part must fit its item, and the new sum of lines must fit in a `usize`. Does not allocate.
     fn exchange_all_by<E: Exchanger<P>>(&mut self, by: &mut E, parts: &mut Vec<E::Part>)
         requires fit { AllZip (E.fits (E.kind by.old)) (items self.old) parts.old.items }
         requires lines_fit { sum_by P.lines
@@ -87,8 +87,9 @@ pub trait ParagraphStore<P: Measured> {
             ≡ raised (E.worked by.old) (total_cost E.cost (items self.old) parts.old.items) }
         ensures chars { sum_by P.chars (items self.new) ≡ sum_by P.chars (items self.old) };
 
-    /// Exchanges a part of each item, in order: item `i` with `parts[i]`. There must be as many parts as
-    /// items, each must fit its item, and the new sum of lines must fit a `usize`. Does not allocate.
+    /// Exchanges a part of each item, in order: the part of item `i` for `parts[i]`. There must be as many
+    /// parts as items. Each part must fit its item, and the new sum of lines must fit in a `usize`. Does not
+    /// allocate.
     fn exchange_all(&mut self, parts: &mut Vec<P::Part>)
     where
         P: Exchange,

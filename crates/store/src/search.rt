@@ -11,7 +11,7 @@ use crate::measured::{Exchanger, Measured};
 use crate::subtree::{Node, Subtree};
 
 impl<P: Measured> Subtree<P> {
-    /// Returns an item by its index, from 0.
+    /// Returns the item at an index, or `None` past the last item.
     pub(crate) fn get(&self, index: usize) -> Option<&P>
         ensures { option_map (λ item. item.now) result ≡ slice_get (in_order self.now) index }
     {
@@ -26,7 +26,7 @@ impl<P: Measured> Subtree<P> {
         Some(&node.item)
     }
 
-    /// Appends all items in order to a list that has the capacity for them.
+    /// Appends all items, in order, to a list that has capacity for them.
     pub(crate) fn list_into<'a>(&'a self, list: &mut Vec<&'a P>)
         requires { length list.old.items + length (in_order self.now) ≤ vec_capacity list.old }
         ensures items { map (λ item. item.now) list.new.items
@@ -42,7 +42,7 @@ impl<P: Measured> Subtree<P> {
         node.right.list_into(list);
     }
 
-    /// Finds the item that has the character or line with number `n`.
+    /// Finds the item that contains the character or line with number `n`.
     pub(crate) fn find(&self, unit: Unit, n: usize) -> Found
         requires { n < sum_by (measure P.chars P.lines unit) (in_order self.now) }
         ensures found { Finds (measure P.chars P.lines unit) P.chars P.lines (in_order self.now) n result }
@@ -52,7 +52,7 @@ impl<P: Measured> Subtree<P> {
             unreachable!()
         };
         let node: &Node<P> = node;
-        // Their invariants bound the sums.
+        // The invariants of the trees bound the sums.
         let (_height, _count) = (self.height(), self.count());
         let (_chars, _lines) = (self.chars(), self.lines());
         let before = node.left.total(unit);

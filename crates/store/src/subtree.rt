@@ -1,4 +1,4 @@
-//! Balanced trees whose nodes store the sums of their items.
+//! Balanced trees. Each node stores the sums of all items in its subtree.
 ghost use Rattle.std.specs.Prelude.{◌≡◌, ℕ, ◌+◌, ◌^◌, ◌<◌, ◌≤◌, length, sum_by, ◌∷◌, ◌++◌, max, Option};
 ghost use Rattle.std.specs.Prelude.{IfOk, IfErr, MatchOption};
 ghost use Rattle.store.specs.Finding.{measure};
@@ -70,14 +70,14 @@ impl<P: Measured> Model for DetachedNode<P> {
 }
 
 impl<P: Measured> Subtree<P> {
-    /// A tree without items.
+    /// Returns a tree without items.
     pub(crate) fn empty() -> Subtree<P>
         ensures { result ≡ Empty }
     {
         Subtree { root: None }
     }
 
-    /// The number of nodes on the longest path down.
+    /// Returns the height: the number of nodes on the longest path down from the root.
     pub(crate) fn height(&self) -> usize
         ensures value { result ≡ height self.now }
         ensures low { result ≤ length (in_order self.now) }
@@ -89,7 +89,7 @@ impl<P: Measured> Subtree<P> {
         }
     }
 
-    /// The number of items.
+    /// Returns the number of items.
     pub(crate) fn count(&self) -> usize
         ensures { result ≡ length (in_order self.now) }
     {
@@ -99,7 +99,7 @@ impl<P: Measured> Subtree<P> {
         }
     }
 
-    /// The number of characters of all items.
+    /// Returns the total number of characters of all items.
     pub(crate) fn chars(&self) -> usize
         ensures { result ≡ sum_by P.chars (in_order self.now) }
     {
@@ -109,7 +109,7 @@ impl<P: Measured> Subtree<P> {
         }
     }
 
-    /// The number of lines of all items.
+    /// Returns the total number of lines of all items.
     pub(crate) fn lines(&self) -> usize
         ensures { result ≡ sum_by P.lines (in_order self.now) }
     {
@@ -119,7 +119,7 @@ impl<P: Measured> Subtree<P> {
         }
     }
 
-    /// The number of lines of all items, of one more item, and of those of another tree.
+    /// Returns the total number of lines of all items, of one more item, and of all items of another tree.
     pub(crate) fn lines_with(&self, item: &P, right: &Subtree<P>) -> usize
         requires { sum_by P.lines (in_order self.now ++ item.now ∷ in_order right.now) < 2 ^ 64 }
         ensures { result ≡ sum_by P.lines (in_order self.now ++ item.now ∷ in_order right.now) }
@@ -127,7 +127,7 @@ impl<P: Measured> Subtree<P> {
         self.lines() + item.lines() + right.lines()
     }
 
-    /// The number of characters or of lines of all items.
+    /// Returns the total number of characters or of lines of all items.
     pub(crate) fn total(&self, unit: Unit) -> usize
         ensures { result ≡ sum_by (measure P.chars P.lines unit) (in_order self.now) }
     {
@@ -148,13 +148,14 @@ impl<P: Measured> Subtree<P> {
         }
     }
 
-    /// Takes a tree apart: its left subtree, its root and its right subtree.
+    /// Takes a tree apart. Returns its left subtree, its root and its right subtree, or `None` if it is
+    /// empty.
     pub(crate) fn open(self) -> Option<(Subtree<P>, DetachedNode<P>, Subtree<P>)>
         ensures parts { MatchOption result (self ≡ Empty) (λ p. self ≡ Fork p.0 p.1 p.2) }
         ensures fits { Fits P.chars P.lines (in_order self) }
         ensures balanced { IsBalanced self }
     {
-        // Their invariants bound the sums.
+        // The invariants of the trees bound the sums.
         let (_count, _chars, _lines) = (self.count(), self.chars(), self.lines());
         match self.root {
             None => None,
@@ -168,7 +169,7 @@ impl<P: Measured> Subtree<P> {
 }
 
 impl<P: Measured> DetachedNode<P> {
-    /// Puts an item into a node. If the allocation fails, the item is returned.
+    /// Puts an item into a new node. If the allocation fails, returns the item with the error.
     pub(crate) fn new(alloc: Global, item: P) -> Result<DetachedNode<P>, AllocFailed<P>>
         ensures ok { IfOk result (λ node. node ≡ item) }
         ensures err { IfErr result (λ failed. failed.value ≡ item) }
@@ -197,7 +198,7 @@ impl<P: Measured> DetachedNode<P> {
         Box::into_inner(self.node).into_item()
     }
 
-    /// Puts the node above two trees whose heights differ by at most 1.
+    /// Makes the node the root of two trees whose heights differ by at most 1.
     pub(crate) fn over(self, left: Subtree<P>, right: Subtree<P>) -> Subtree<P>
         requires fits { Fits P.chars P.lines (in_order left ++ self ∷ in_order right) }
         requires near { (height left ≤ height right + 1) × (height right ≤ height left + 1) }
@@ -210,7 +211,8 @@ impl<P: Measured> DetachedNode<P> {
 }
 
 impl<P: Measured> Node<P> {
-    // Puts two trees whose heights differ by at most 1 below a node that has none, and computes its sums.
+    // Puts two trees, whose heights differ by at most 1, below a node without subtrees, and computes the
+    // node's sums.
     fn hang(&mut self, left: Subtree<P>, right: Subtree<P>)
         requires empty { (self.old.left ≡ Empty) × (self.old.right ≡ Empty) }
         requires fits { Fits P.chars P.lines (in_order left ++ self.old.item ∷ in_order right) }
@@ -228,7 +230,7 @@ impl<P: Measured> Node<P> {
         mem::replace(&mut self.right, right).discard();
     }
 
-    // The item of a node outside any tree.
+    // Returns the item of a node outside any tree.
     fn into_item(self) -> P
         requires left { self.left ≡ Empty }
         requires right { self.right ≡ Empty }

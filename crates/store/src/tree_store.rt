@@ -1,4 +1,4 @@
-//! The tree store: a balanced tree that stores the sums of its items in every node.
+//! The tree store: a balanced tree in which each node stores the sums of all items in its subtree.
 ghost use Rattle.std.specs.Prelude.{◌≡◌, ◌+◌, ◌-◌, ◌/◌, ◌^◌, ◌<◌, ◌≤◌, ◌++◌};
 ghost use Rattle.std.specs.Prelude.{ℕ, List, [], length, reverse, drop, take};
 ghost use Rattle.std.specs.Prelude.{slice_range, sum_by, vec_capacity};
@@ -18,8 +18,8 @@ use std::marker::Model;
 use std::mem;
 use std::ops::Range;
 
-/// A store that is a balanced tree: the heights of two subtrees differ by at most 1. A search and `replace`
-/// go down from the root, so their time is proportional to the height.
+/// A store that is a balanced tree: the heights of the two subtrees of a node differ by at most 1. Searches
+/// and `replace` go down from the root, so their time is proportional to the height.
 #[derive(Debug)]
 pub struct TreeStore<P: Measured> {
     root: Subtree<P>,
@@ -43,14 +43,14 @@ impl<P: Measured> Model for TreeStore<P> {
 }
 
 impl<P: Measured> TreeStore<P> {
-    /// States a bound on the height, as a theorem: the store has at least as many items as the smallest
-    /// balanced tree of its height. Their number doubles with every second level.
+    /// States, as a theorem, a bound on the height: the store has at least as many items as the smallest
+    /// balanced tree of its height. That tree at least doubles in size with every second level.
     pub fn stays_balanced(&self)
         ensures balanced { IsBalanced self.now }
         ensures items { fewest_nodes (height self.now) ≤ length (in_order self.now) }
         ensures height { 2 ^ (height self.now / 2) ≤ length (in_order self.now) + 1 }
 
-        // This bound is reached: some balanced tree of each height has no more.
+        // The bound is tight: for each height, there is a balanced tree with exactly this many items.
         ensures fewest { P → (h : ℕ) → (t : Tree P) × IsBalanced t × (height t ≡ h)
             × (length (in_order t) ≡ fewest_nodes h) }
     {
@@ -58,8 +58,8 @@ impl<P: Measured> TreeStore<P> {
     }
 }
 
-// Puts each item into a node of its own, from the last one on. If an allocation fails, all items are
-// returned.
+// Moves each item into a node of its own, starting with the last item. If an allocation fails, moves all
+// items back.
 fn hang<P: Measured>(alloc: Global, items: &mut Vec<P>) -> Result<Vec<DetachedNode<P>>, AllocError>
     ensures ok { IfOk result (λ nodes. nodes.items ≡ reverse items.old.items) }
     ensures left { OnOk result (items.new.items ≡ []) }
@@ -80,7 +80,7 @@ fn hang<P: Measured>(alloc: Global, items: &mut Vec<P>) -> Result<Vec<DetachedNo
     Ok(nodes)
 }
 
-// Moves items out of their nodes, from the last one on, into a list that has the capacity for them.
+// Moves items out of their nodes, starting with the last node, into a list that has capacity for them.
 fn take_down<P: Measured>(nodes: Vec<DetachedNode<P>>, items: &mut Vec<P>)
     requires { length items.old.items + length nodes.items ≤ vec_capacity items.old }
     ensures { items.new.items ≡ items.old.items ++ reverse nodes.items }
@@ -92,8 +92,8 @@ fn take_down<P: Measured>(nodes: Vec<DetachedNode<P>>, items: &mut Vec<P>)
     nodes.destroy_empty();
 }
 
-// Allocates what a replacement needs: capacity for the old items, and a node for each of the new ones. Fails
-// if the kept and the new items together are too many to be counted.
+// Allocates what a replacement needs: capacity for the old items, and a node for each new item. Fails if the
+// total number of kept and new items overflows.
 fn take_memory<P: Measured>(
     alloc: Global,
     kept: usize,
@@ -152,7 +152,7 @@ impl<P: Measured> ParagraphStore<P> for TreeStore<P> {
         Ok(list)
     }
 
-    /// Looks at the nodes from the root to the item found.
+    /// Visits the nodes from the root to the item found.
     fn find_char(&self, pos: usize) -> Found
         requires { pos < sum_by P.chars (in_order self.now) }
         ensures found { Finds P.chars P.chars P.lines (in_order self.now) pos result }
@@ -163,7 +163,7 @@ impl<P: Measured> ParagraphStore<P> for TreeStore<P> {
         self.root.find(Unit::Char, pos)
     }
 
-    /// Looks at the nodes from the root to the item found.
+    /// Visits the nodes from the root to the item found.
     fn find_line(&self, n: usize) -> Found
         requires { n < sum_by P.lines (in_order self.now) }
         ensures found { Finds P.lines P.chars P.lines (in_order self.now) n result }

@@ -1,4 +1,4 @@
-//! The simple store: a list with its sums beside it.
+//! The simple store: a list of items and its sums.
 ghost use Rattle.std.specs.Prelude.{◌≡◌, ◌+◌, ◌-◌, ◌^◌, ◌<◌, ◌≤◌, ◌++◌};
 ghost use Rattle.std.specs.Prelude.{ℕ, List, [], length, take, drop, reverse};
 ghost use Rattle.std.specs.Prelude.{slice_get, slice_range, option_map, sum_by, vec_len, vec_capacity};
@@ -14,7 +14,7 @@ use std::alloc::{AllocError, Global};
 use std::marker::Model;
 use std::ops::Range;
 
-/// A store that is a list. A search walks over the items, and `replace` moves those after the range.
+/// A store that is a list. A search walks over the items, and `replace` moves the items after the range.
 #[derive(Debug)]
 pub struct VecStore<P: Measured> {
     items: Vec<P>,
@@ -45,7 +45,7 @@ impl<P: Measured> Model for VecStore<P> {
         (s.chars ≡ sum_by P.chars s.items.items) × (s.lines ≡ sum_by P.lines s.items.items) };
 }
 
-// The sums of characters and of lines.
+// Returns the sums of characters and of lines.
 fn sums<P: Measured>(items: &[P]) -> (usize, usize)
     requires chars_fit { sum_by P.chars items.now < 2 ^ 64 }
     requires lines_fit { sum_by P.lines items.now < 2 ^ 64 }
@@ -61,7 +61,7 @@ fn sums<P: Measured>(items: &[P]) -> (usize, usize)
     (chars, lines)
 }
 
-// Finds the item that has the character or line with number `n`, by a walk over the items.
+// Finds the item that contains the character or line with number `n` by walking over the items.
 fn find<P: Measured>(items: &[P], unit: Unit, n: usize) -> Found
     requires within { n < sum_by (measure P.chars P.lines unit) items.now }
     requires chars_fit { sum_by P.chars items.now < 2 ^ 64 }
@@ -89,7 +89,7 @@ fn find<P: Measured>(items: &[P], unit: Unit, n: usize) -> Found
     unreachable!()
 }
 
-// Moves the last items, in their order, to a list that has the capacity for them.
+// Moves the last `count` items, in order, to an empty list that has capacity for them.
 fn move_last<P>(items: &mut Vec<P>, count: usize, old: &mut Vec<P>)
     requires enough { count ≤ length items.old.items }
     requires empty { old.old.items ≡ [] }
@@ -104,7 +104,7 @@ fn move_last<P>(items: &mut Vec<P>, count: usize, old: &mut Vec<P>)
     old.reverse();
 }
 
-// Exchanges the items from `first` to `second` with those from `second` on.
+// Swaps the items in `first..second` with the items at and after `second`.
 fn rotate<P>(items: &mut Vec<P>, first: usize, second: usize)
     requires { (first ≤ second) × (second ≤ length items.old.items) }
     ensures items { items.new.items ≡ take first items.old.items
@@ -115,8 +115,8 @@ fn rotate<P>(items: &mut Vec<P>, first: usize, second: usize)
     items[first..].rotate_left(start);
 }
 
-// Replaces the items from the first index up to the second, and moves the old ones out. There is capacity for
-// both.
+// Replaces the items in `first..second` with the new items, and moves the old items to `old`. Both lists have
+// enough capacity.
 fn put_in<P>(
     items: &mut Vec<P>,
     first: usize,
@@ -189,24 +189,24 @@ impl<P: Measured> ParagraphStore<P> for VecStore<P> {
         self.items.iter().collect(alloc)
     }
 
-    /// Looks at each item up to the one found.
+    /// Visits each item up to the one found.
     fn find_char(&self, pos: usize) -> Found
         requires { pos < sum_by P.chars self.now }
         ensures found { Finds P.chars P.chars P.lines self.now pos result }
         ensures visits { result.visits ≡ result.index + 1 }
     {
-        // Their invariants bound the sums.
+        // The store's invariants bound the sums.
         let (_chars, _lines) = (self.chars, self.lines);
         find(&self.items, Unit::Char, pos)
     }
 
-    /// Looks at each item up to the one found.
+    /// Visits each item up to the one found.
     fn find_line(&self, n: usize) -> Found
         requires { n < sum_by P.lines self.now }
         ensures found { Finds P.lines P.chars P.lines self.now n result }
         ensures visits { result.visits ≡ result.index + 1 }
     {
-        // Their invariants bound the sums.
+        // The store's invariants bound the sums.
         let (_chars, _lines) = (self.chars, self.lines);
         find(&self.items, Unit::Line, n)
     }

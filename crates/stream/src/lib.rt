@@ -1,6 +1,8 @@
-//! Chunked reading: bytes from a source, their characters, and bytes collected before they are written.
+//! Chunked input and output: reads bytes from a source, decodes them, and collects bytes before they are
+//! written.
 //!
-//! `front` splits bytes that end anywhere: the text of the whole characters, and whether the rest is invalid.
+//! `front` takes bytes that may end inside a character. It returns the text of the whole characters, and
+//! whether the rest is invalid:
 //!
 //! ```rust
 //! let (text, is_bad) = front(b"ab\xd7");

@@ -5,8 +5,8 @@ use device::Sink;
 use std::alloc::Global;
 use std::io::ErrorKind;
 
-/// Bytes that are collected before they are written, so that the writer gets large chunks, or none at all. As
-/// a sink it fails only if an allocation fails.
+/// Bytes that are collected before they are written, so that the writer receives large chunks or nothing at
+/// all. As a sink, a page fails only if an allocation fails.
 #[derive(Debug, Drop)]
 pub struct Page {
     pub bytes: Vec<u8>,

@@ -18,7 +18,7 @@ pub fn zeroed(alloc: Global, len: usize) -> Result<Vec<u8>, AllocError>
     vec![in alloc; 0; len]
 }
 
-/// Reads bytes into a buffer from index `place` on, and returns their number.
+/// Reads bytes into a buffer, starting at index `place`, and returns the number of bytes read.
 pub fn read_to<R: Source>(
     reader: &mut R,
     buffer: &mut [u8],

@@ -18,14 +18,15 @@ pub fn push_characters(text: &str, characters: &mut Vec<char>) -> Result<(), All
     ensures capacity { vec_capacity characters.old ≤ vec_capacity characters.new }
 {
     characters.reserve(text.len())?;
-    // Moving the list out keeps its length in a register: otherwise it is stored for each character.
+    // Moving the list out keeps its length in a register. Otherwise, the length would be stored for each
+    // character.
     let alloc = *characters.allocator();
     let list = mem::replace(characters, Vec::new(alloc));
     *characters = with_all(text, list);
     Ok(())
 }
 
-// Adds the characters of a text to a list with capacity for its bytes.
+// Adds the characters of a text to a list that has capacity for as many items as the text has bytes.
 fn with_all(text: &str, characters: Vec<char>) -> Vec<char>
     requires { vec_len characters + length text.now ≤ vec_capacity characters }
     ensures items { result.items ≡ characters.items ++ chars text.now }
@@ -39,7 +40,8 @@ fn with_all(text: &str, characters: Vec<char>) -> Vec<char>
     list
 }
 
-// Adds the first characters of a text with the same number of bytes, and returns the rest.
+// Adds the characters at the start of a text that have the same length in bytes, and returns the rest of the
+// text.
 #[inline(always)]
 fn push_some<'a>(text: &'a str, characters: &mut Vec<char>) -> &'a str
     requires some { 0 < length text.now }
@@ -59,8 +61,8 @@ fn push_some<'a>(text: &'a str, characters: &mut Vec<char>) -> &'a str
     }
 }
 
-// Adds the first character of a text, and those after it while their first byte is in a range. A loop for
-// each length in bytes has fewer steps, and its end is predicted better.
+// Adds the first character of a text, and the following characters as long as their first byte is in a range.
+// A separate loop for each length in bytes has fewer steps, and the end of the loop is predicted better.
 #[inline(always)]
 fn push_row<'a>(text: &'a str, low: u8, high: u8, characters: &mut Vec<char>) -> &'a str
     requires some { 0 < length text.now }
@@ -96,14 +98,14 @@ fn begins_between(text: &str, low: u8, high: u8) -> bool
     }
 }
 
-/// Returns the longest prefix of `bytes` that is UTF-8, and whether no character begins with the bytes after
-/// it.
+/// Returns the longest prefix of `bytes` that is valid UTF-8, and whether the bytes after it are invalid.
+/// They are invalid if no character begins with them.
 pub fn front(bytes: &[u8]) -> (&str, bool)
     ensures text { result.0.now ≡ take (utf8_valid_len bytes.now) bytes.now }
     ensures bad { result.1 ≡ is_bad bytes.now }
     ensures few { result.1 ≡ false → length bytes.now < utf8_valid_len bytes.now + 4 }
 {
-    // A chunk mostly ends inside a character: with this, it is also validated once.
+    // A chunk usually ends inside a character. Splitting it here means that it is validated only once.
     let (whole, cut) = bytes.split_at(whole_len(bytes));
     match from_utf8(whole) {
         Ok(text) if is_beginning(cut) => (text, false),
@@ -111,7 +113,7 @@ pub fn front(bytes: &[u8]) -> (&str, bool)
     }
 }
 
-// Returns the longest UTF-8 prefix likewise, for bytes that may end anywhere.
+// Does the work of `front` for any bytes, which may be validated twice.
 fn checked(bytes: &[u8]) -> (&str, bool)
     ensures text { result.0.now ≡ take (utf8_valid_len bytes.now) bytes.now }
     ensures bad { result.1 ≡ is_bad bytes.now }
@@ -127,7 +129,7 @@ fn checked(bytes: &[u8]) -> (&str, bool)
     }
 }
 
-// Whether some bytes are empty, or only the beginning of a character.
+// Returns whether there are no bytes, or only the beginning of a character.
 fn is_beginning(bytes: &[u8]) -> bool
     ensures none { result ≡ true → utf8_valid_len bytes.now ≡ 0 }
     ensures fault { result ≡ true → utf8_error_len bytes.now ≡ None }
@@ -140,7 +142,7 @@ fn is_beginning(bytes: &[u8]) -> bool
     }
 }
 
-// Returns the index of the last character of some bytes, if it seems to be cut off, or else their length.
+// Returns the index of the last character if it seems to be cut off, or else the number of bytes.
 fn whole_len(bytes: &[u8]) -> usize
     ensures within { result ≤ length bytes.now }
     ensures cut { result < length bytes.now → IsCutOff bytes.now result }
@@ -151,7 +153,7 @@ fn whole_len(bytes: &[u8]) -> usize
             break;
         }
         let at = bytes.len() - after;
-        // The bytes after the first one of a character are below 0xC0.
+        // The continuation bytes of a character are below 0xC0.
         if bytes[at] >= 0xc0 {
             return if after < char_len(bytes[at]) {
                 at
@@ -163,7 +165,7 @@ fn whole_len(bytes: &[u8]) -> usize
     bytes.len()
 }
 
-// Returns the length of a character by its first byte, which is not ASCII.
+// Returns the length of a character in bytes, given its first byte, which must not be ASCII.
 fn char_len(first: u8) -> usize
     ensures { result ≡ char_len first }
 {

@@ -1,8 +1,8 @@
 //! Runs a text: reads its bytes, and writes the lines of its paragraphs.
 //!
-//! `run_text` reads any source in chunks. Before it reads more, it writes the lines of each paragraph that is
-//! known to end, to any sink. A `RunFault` says why a run ended early, and the contract says what was written
-//! by then. The program runs each of its texts this way:
+//! `run_text` reads any source in chunks. Before it reads more, it writes the lines of each paragraph whose
+//! end is known. A `RunFault` says why a run ended early, and the contract says what had been written by
+//! then. The program runs each of its texts this way:
 //!
 //! ```rust
 //! let mut reader = FromRead::new(text);

@@ -11,7 +11,7 @@ use lines::{Engine, Print};
 use std::alloc::{AllocError, Global};
 use stream::Page;
 
-/// Adds the lines of one paragraph. Allocates nothing if nothing of the paragraph is printed.
+/// Adds the lines of one paragraph. Allocates nothing if `print` selects nothing.
 pub fn push_paragraph(
     alloc: Global,
     page: &mut Page,
@@ -35,14 +35,15 @@ pub fn push_paragraph(
     }
 }
 
-/// Whether anything of a paragraph is printed.
+/// Returns whether anything is printed for a paragraph.
 pub fn prints_some(print: &Print) -> bool
     ensures { result ≡ prints_some print.now }
 {
     print.basedir || !print.novisual || print.ltov || print.vtol || print.levels
 }
 
-/// An engine's counters are 64-bit numbers, so printing 0 characters leaves them unchanged.
+/// States, as a theorem, that printing 0 characters leaves an engine's counters unchanged. This holds because
+/// the counters are 64-bit numbers.
 pub fn counts_fit(engine: &Engine)
     ensures { (print : Print) → Prints 0 print engine.now engine.now }
 {

@@ -1,5 +1,5 @@
-//! The paragraphs of a text whose end is not known yet. Those that end at a paragraph boundary are laid out,
-//! and the rest is kept.
+//! Handles the paragraphs of a text that has not been read to its end. Paragraphs that end at a paragraph
+//! boundary are laid out, and the rest of the text is kept.
 ghost use Rattle.std.specs.Prelude.{◌≡◌, ◌+◌, ◌++◌, ◌<◌, ◌≤◌, ℕ, ⊤, false, true, length};
 ghost use Rattle.std.specs.Prelude.{vec_len, vec_capacity};
 ghost use Rattle.std.specs.Prelude.{None, Some, IfSome, OnErr, OnOk, MatchOption, if◌then◌else◌};
@@ -30,14 +30,15 @@ enum Ahead {
     Open,
 }
 
-/// Returns the fault in the first paragraph of a text, if it is known from `more`, the characters that
-/// follow. Allocates nothing.
+/// Returns the fault in the first paragraph of `text`, if it is already known from `more`, the characters
+/// that follow. Allocates nothing.
 ///
-/// The text has no paragraph boundary and is not too long. `more` has no more characters than a paragraph may
-/// have. If `is_bad`, the bytes at `place` in the input, after `more`, are not UTF-8.
+/// `text` must have no paragraph boundary and must not be too long. `more` must not have more characters than
+/// a paragraph may have. `is_bad` says whether the bytes after `more`, at `place` in the input, are invalid
+/// UTF-8.
 ///
 /// - `ParagraphTooLong`: with the characters of `more`, the first paragraph is too long.
-/// - `NotUtf8(place)`: the paragraph does not end within `more`, and `is_bad`.
+/// - `NotUtf8(place)`: the paragraph does not end within `more`, and `is_bad` is true.
 pub fn fault_ahead(
     engine: &Engine,
     text: &[char],
@@ -56,7 +57,7 @@ pub fn fault_ahead(
         → 1 < length (paragraphs (cut_by (rules_of engine.now)) (text.now ++ chars more.now)) }
 {
     paragraphs_are_pieces();
-    // Fast path: nearly always the bytes are UTF-8, and `text` and `more` together are short.
+    // Fast path: the bytes are nearly always UTF-8, and `text` and `more` together are nearly always short.
     if !is_bad && text.len() + more.len() <= PARAGRAPH_LIMIT {
         return None;
     }
@@ -67,7 +68,8 @@ pub fn fault_ahead(
     }
 }
 
-/// Returns `NotUtf8(place)` if the bytes at a place in the input are not UTF-8.
+/// Returns `NotUtf8(place)` if `is_bad` is true, which means that the bytes at `place` in the input are not
+/// UTF-8.
 pub fn bad_at(is_bad: bool, place: u64) -> Option<RunFault>
     ensures { result ≡ (if is_bad then Some (RunFault.NotUtf8 place) else None) }
 {
@@ -78,8 +80,8 @@ pub fn bad_at(is_bad: bool, place: u64) -> Option<RunFault>
     }
 }
 
-// Returns what `more`, which has no more characters than a paragraph may have, means for a text that has no
-// paragraph boundary and is not too long.
+// Returns what `more` means for a text that has no paragraph boundary and is not too long. `more` must not
+// have more characters than a paragraph may have.
 fn look_ahead(engine: &Engine, text: &[char], more: &str) -> Ahead
     requires uncut { SplitsAt (cut_by (rules_of engine.now)) text.now None }
     requires short { length text.now ≤ PARAGRAPH_LIMIT }
@@ -107,7 +109,7 @@ fn look_ahead(engine: &Engine, text: &[char], more: &str) -> Ahead
     Ahead::Open
 }
 
-// Whether there is a paragraph boundary between the last character, if there is one, and the next.
+// Returns whether there is a paragraph boundary between the last character, if there is one, and `c`.
 fn is_cut_after(engine: &Engine, last: Option<char>, c: char) -> bool
     ensures cut { result ≡ true
         → (a : ℕ) × (last ≡ Some a) × (cut_by (rules_of engine.now) a c ≡ true) }
@@ -120,11 +122,11 @@ fn is_cut_after(engine: &Engine, last: Option<char>, c: char) -> bool
     }
 }
 
-/// Adds to a page the lines of the paragraphs that end at a paragraph boundary in a text: the characters in
-/// `held`, then `text`. Keeps the rest in `held`.
+/// Adds to a page the lines of the paragraphs that end at a paragraph boundary in the characters of `held`
+/// followed by `text`. Keeps the rest of these characters in `held`.
 ///
-/// The characters in `held` have no paragraph boundary, and no paragraph of the whole is too long. Allocates
-/// only if `text` is not empty. If nothing is printed, it allocates before it counts any characters.
+/// The characters in `held` must contain no paragraph boundary, and no paragraph may be too long. Allocates
+/// only if `text` is not empty. If nothing is printed, allocates before counting any characters.
 pub fn push_text(
     alloc: Global,
     page: &mut Page,

@@ -1,6 +1,6 @@
-//! Runs a text. Its bytes are read in chunks, each paragraph is laid out as soon as its end is known, and the
-//! lines are written before more is read. What is written, and how the run ends, is one function of the
-//! source's bytes and of how they end.
+//! Runs a text. The text is read in chunks. Each paragraph is laid out as soon as its end is known, and its
+//! lines are written before more is read. What is written and how the run ends depend only on the source's
+//! bytes and on how the source ends.
 ghost use Rattle.std.specs.Prelude.{◌≡◌, ◌+◌, ◌-◌, ◌++◌, ◌<◌, ◌≤◌, ◌^◌, ◌⊎◌, ℕ, [], false, true};
 ghost use Rattle.std.specs.Prelude.{None, Some, Ok};
 ghost use Rattle.std.specs.Prelude.{take, drop, length, vec_len};
@@ -36,7 +36,7 @@ struct Held {
     // The last chunk. Its first `waiting` bytes are the beginning of a character.
     chunk: Vec<u8>,
     waiting: usize,
-    // The number of bytes decoded before the waiting ones.
+    // The number of bytes decoded before the waiting bytes.
     decoded: u64,
     // The characters after the last paragraph boundary.
     text: Vec<char>,
@@ -75,7 +75,7 @@ impl Held {
         })
     }
 
-    // Reads bytes after the waiting ones, and returns their number.
+    // Reads bytes into the chunk, after the waiting bytes, and returns the number of bytes read.
     fn read<R: Source>(&mut self, reader: &mut R) -> Result<usize, ErrorKind>
         requires { self.old.waiting < vec_len self.old.chunk }
         ensures ok { IfOk result (λ n.
@@ -85,11 +85,11 @@ impl Held {
         read_to(reader, &mut self.chunk, self.waiting)
     }
 
-    // Decodes the waiting bytes and `len` more, and adds to the page the lines of the paragraphs known to end
-    // then. Returns what is wrong with the text, if anything.
+    // Decodes the waiting bytes and `len` more bytes. Adds to the page the lines of the paragraphs whose end
+    // is then known. Returns what is wrong with the text, if anything.
     //
-    // Allocates only if a character is decoded and no paragraph is too long. If bytes are not UTF-8, it
-    // allocates only if a paragraph ends before them.
+    // Allocates only if a character is decoded and no paragraph is too long. If some of the bytes are not
+    // UTF-8, allocates only if a paragraph ends before them.
     fn gather(
         &mut self,
         alloc: Global,
@@ -117,7 +117,7 @@ impl Held {
             (self.old.text.items ++ front_of (take (self.old.waiting + len) self.old.chunk.items)))) }
         ensures decoded { OnErr result
             (0 < utf8_valid_len (take (self.old.waiting + len) self.old.chunk.items)) }
-        // If nothing is printed, allocation fails before anything is counted.
+        // If nothing is printed, an allocation can fail only before anything is counted.
         ensures some { OnErr result (prints_some print.now ≡ false → engine.new ≡ engine.old) }
         ensures chunk { OnErr result ((self.new.chunk ≡ self.old.chunk)
             × (self.new.waiting ≡ self.old.waiting)) }
@@ -166,7 +166,7 @@ impl Held {
         Ok(())
     }
 
-    // Writes the lines on the page.
+    // Writes the lines collected in the page.
     fn write<W: Sink>(&mut self, writer: &mut W) -> Result<(), RunFault>
         requires { self.old.written ≤ (W.state writer.old).passed }
         ensures ok { OnOk result (Writes self.old self.new (W.state writer.old) (W.state writer.new)) }
@@ -183,7 +183,7 @@ impl Held {
         }
     }
 
-    // Moves bytes that are not a whole character yet, from `start` to `end`, to the front of the chunk.
+    // Moves the bytes in `start..end`, which are not a whole character yet, to the front of the chunk.
     fn keep_bytes(&mut self, start: usize, end: usize)
         requires within { (start ≤ end) × (end ≤ vec_len self.old.chunk) }
         requires counted { self.old.decoded + start ≤ 2 ^ 64 - 1 }
@@ -220,7 +220,8 @@ fn finish<W: Sink>(
     ensures counts { OnOk result (Prints (length held.old.text.items) print.now engine.old engine.new) }
     ensures at_most { PrintsAtMost (length held.old.text.items) print.now engine.old engine.new }
 
-    // If the text ends inside a character, its last paragraph is not printed. If the sink failed, it is.
+    // If the text ends inside a character, its last paragraph does not count as printed. If the sink fails,
+    // the last paragraph does count as printed.
     ensures inside { 0 < held.old.waiting → engine.new ≡ engine.old }
     ensures stopped { (n : ℕ) → IsErrOf result (RunFault.Write n)
         → Prints (length held.old.text.items) print.now engine.old engine.new }
@@ -235,7 +236,8 @@ fn finish<W: Sink>(
     held.write(writer)
 }
 
-// Reads a chunk, and writes the lines of the paragraphs known to end then. Returns whether the text goes on.
+// Reads a chunk, and writes the lines of the paragraphs whose end is then known. Returns whether the text
+// continues.
 fn step<R: Source, W: Sink>(
     alloc: Global,
     reader: &mut R,
@@ -256,21 +258,22 @@ fn step<R: Source, W: Sink>(
         (R.state reader.new) (W.state writer.new) engine.new held.new result }
     ensures reads { TellsReads result (R.state reader.old) (R.state reader.new) }
 
-    // If an allocation fails, nothing is written. So this error is not returned once the lines before a fault
-    // are.
+    // If an allocation fails, nothing is written. So this error is not returned after the lines before a
+    // fault have been written.
     ensures memory { IsErrOf result RunFault.Memory → W.state writer.new ≡ W.state writer.old }
 
-    // If no more was read, allocation fails only for the last paragraph: something of it is printed, and the
-    // text does not end inside a character.
+    // If no bytes were read, an allocation can fail only for the last paragraph. In that case, something is
+    // printed for the paragraph, and the text does not end inside a character.
     ensures last { IsErrOf result RunFault.Memory → (R.state reader.new).passed ≡ (R.state reader.old).passed
         → (held.old.waiting ≡ 0) × (0 < length held.old.text.items) × (prints_some print.now ≡ true) }
 
-    // If more was read, a character of it is decoded.
+    // If bytes were read, an allocation can fail only if a character was decoded.
     ensures decoded { IsErrOf result RunFault.Memory → (n : ℕ)
         → (R.state reader.new).passed ≡ (R.state reader.old).passed + n → 0 < n
         → 0 < utf8_valid_len (take (held.new.waiting + n) held.new.chunk.items) }
 
-    // If the sink fails after bytes were read, only what was to be written was printed.
+    // If the sink fails after bytes were read, only the paragraphs whose lines were to be written count as
+    // printed.
     ensures stopped { (n : ℕ) → IsErrOf result (RunFault.Write n)
         → (R.state reader.old).passed < (R.state reader.new).passed
         → StopsAfter (rules_of engine.old) print.now held.old (R.state reader.old) (R.state reader.new)
@@ -303,8 +306,8 @@ fn step<R: Source, W: Sink>(
 
 /// Writes the lines of a text's paragraphs, at a width in columns, which must not be 0.
 ///
-/// Paragraphs known to end are written before more is read. Of the input, only the last paragraph and one
-/// chunk are kept in memory. Never fails with `BadLine` or `TextTooLong`.
+/// A paragraph is written as soon as its end is known, before more is read. Only the last paragraph and one
+/// chunk of the input are kept in memory. Never fails with `BadLine` or `TextTooLong`.
 pub fn run_text<R: Source, W: Sink>(
     alloc: Global,
     reader: &mut R,

@@ -20,7 +20,7 @@ pub const ANSWER_ROOM: usize = 65;
 /// The bytes of a reply.
 pub type Answer = ArrayVec<u8, ANSWER_ROOM>;
 
-/// Returns the reply to an edit: which lines were replaced by how many, or why the edit was refused.
+/// Returns the reply to an edit: which lines were replaced, and by how many, or why the edit was refused.
 pub fn answer_of(edit: &Result<Damage, EditFault>) -> Answer
     ensures { result.items ≡ answer_text edit.now }
 {
@@ -45,14 +45,15 @@ pub fn told(numbers: &[usize]) -> Answer
     answer
 }
 
-/// Returns the reply to a position or line that is past the end.
+/// Returns the reply to a command with a position or line past the end.
 pub fn out_of_range() -> Answer
     ensures { result.items ≡ out_of_range }
 {
     refusal_answer(EditFault::OutOfRange)
 }
 
-/// Writes bytes after `written` others, and returns the total. A fault counts the others too.
+/// Writes bytes. `written` is the number of bytes already written. The returned total includes these bytes,
+/// as does the count in a fault.
 pub fn write_bytes<W: Sink>(writer: &mut W, written: u64, bytes: &[u8]) -> Result<u64, RunFault>
     requires { written ≤ (W.state writer.old).passed }
     ensures ok { IfOk result (PassedOn bytes.now written (W.state writer.old) (W.state writer.new)) }
@@ -96,7 +97,7 @@ fn push_number(answer: &mut Answer, number: usize)
     push(answer, buffer.format(number).as_bytes());
 }
 
-// Appends bytes to a reply, which has the capacity for them.
+// Appends bytes to a reply, which must have capacity for them.
 fn push(answer: &mut Answer, bytes: &[u8])
     requires { array_vec_len answer.old + length bytes.now ≤ 65 }
     ensures items { answer.new.items ≡ answer.old.items ++ bytes.now }

@@ -6,13 +6,13 @@ use text_run::RunFault;
 use thiserror::Error;
 use ucd::TableFault;
 
-/// Why the program ended. It displays as the message on standard error, or, for help and the version, as the
-/// text on standard output.
+/// Why the program ended. `Display` writes the message for standard error or, for help and the version, the
+/// text for standard output.
 #[derive(Debug, Drop, Error)]
 pub enum ProgramFault {
     #[error("{0}")]
     Line(LineFault),
-    /// The table file of this name cannot be read.
+    /// The table file with this name cannot be read.
     #[error("fribidi: cannot read {0}")]
     TableFile(&'static str),
     #[error("fribidi: {0}")]
@@ -24,7 +24,7 @@ pub enum ProgramFault {
 impl ProgramFault {
     ghost use Rattle.tool.specs.Program.{status_of};
 
-    /// Returns the exit status: that of the fault if the arguments are refused, and otherwise 1.
+    /// Returns the exit status: the fault's status if the arguments were refused, and otherwise 1.
     pub fn status(&self) -> u8
         ensures { result ≡ status_of self.now }
     {

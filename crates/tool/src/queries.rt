@@ -1,4 +1,4 @@
-//! The queries of a script about the current text, and the replies to them.
+//! The queries that a script makes about the current text, and the replies to them.
 ghost use Rattle.std.specs.Prelude.{◌≡◌, ◌^◌, ◌<◌, ◌≤◌, IfOk, IfErr, OnErr, length, slice_index};
 ghost use Rattle.lines.specs.Engine.{rules_of};
 ghost use Rattle.reorder.specs.Order.{is_odd};
@@ -18,7 +18,7 @@ use std::alloc::AllocError;
 use store::ParagraphStore;
 use text_run::RunFault;
 
-// Returns the number of columns of the screen to the left of a line's shown part.
+// Returns the number of screen columns to the left of a line's shown part.
 fn screen_left(line: &VisualLine<'_>, width: u16, print: &Print) -> usize
     ensures value { result ≡ screen_left print.now width line.now }
     ensures fits { result < 2 ^ 32 }
@@ -30,7 +30,7 @@ fn screen_left(line: &VisualLine<'_>, width: u16, print: &Print) -> usize
     }
 }
 
-// Returns the number of columns of the screen to the left of a line that does not exist yet, by its level.
+// Returns the number of screen columns to the left of a line that does not exist yet, given its base level.
 fn empty_left(level: u8, width: u16, print: &Print) -> usize
     ensures value { result ≡ empty_left print.now width level }
     ensures fits { result < 2 ^ 32 }
@@ -56,7 +56,7 @@ fn caret_answer<S: ParagraphStore<Kept>>(session: &Session<S>, print: &Print, po
     told(&[caret.line, left + caret.column, caret.level as usize])
 }
 
-// Whether the character at a visual position of a line is at an odd level.
+// Returns whether the character at a visual position of a line has an odd level.
 fn is_odd_at(line: &VisualLine<'_>, place: Option<usize>) -> bool
     ensures { result ≡ is_odd_at line.now place }
 {
@@ -78,7 +78,7 @@ fn is_odd_level(line: &VisualLine<'_>, k: usize) -> bool
     }
 }
 
-// Returns the character at a column of the screen in a line.
+// Returns the character at a screen column of a line.
 fn screen_hit<S: ParagraphStore<Kept>>(
     session: &Session<S>,
     print: &Print,
@@ -136,7 +136,7 @@ fn size_answer<S: ParagraphStore<Kept>>(session: &Session<S>) -> Answer
     ])
 }
 
-// Writes `count` lines from line `first` on, after `written` bytes.
+// Writes `count` lines, starting at line `first`. `written` is the number of bytes already written.
 fn write_lines<W: Sink, S: ParagraphStore<Kept>>(
     session: &Session<S>,
     writer: &mut W,
@@ -164,7 +164,7 @@ fn write_lines<W: Sink, S: ParagraphStore<Kept>>(
     }
 }
 
-// Writes `count` characters from a position on, after `written` bytes.
+// Writes `count` characters, starting at `pos`. `written` is the number of bytes already written.
 fn write_part<W: Sink, S: ParagraphStore<Kept>>(
     session: &Session<S>,
     writer: &mut W,
@@ -191,8 +191,8 @@ fn write_part<W: Sink, S: ParagraphStore<Kept>>(
     write_bytes(writer, part, b"\n")
 }
 
-/// Writes the reply to a query after `written` bytes, and returns the total. Allocates only for a query for
-/// the grapheme cluster of a character.
+/// Writes the reply to a query. `written` is the number of bytes already written, and the returned total
+/// includes it. Allocates only if the query is for a grapheme cluster.
 pub fn write_query<W: Sink, S: ParagraphStore<Kept>>(
     session: &Session<S>,
     writer: &mut W,

@@ -1,5 +1,5 @@
-//! Runs an edit script. Its bytes are read in chunks, each line is executed as soon as its end was read, and
-//! its reply is written before more is read.
+//! Runs an edit script. The script is read in chunks. Each line is executed as soon as its end has been read,
+//! and its reply is written before more is read.
 ghost use Rattle.std.specs.Prelude.{◌≡◌, ◌+◌, ◌-◌, ◌<◌, ◌≤◌, ◌++◌, ◌^◌, ◌∷◌, ◌⊎◌, [], true, false};
 ghost use Rattle.std.specs.Prelude.{None, Ok};
 ghost use Rattle.std.specs.Prelude.{length, nat_lt, take, drop, vec_capacity, vec_len, option_map};
@@ -34,13 +34,13 @@ use store::ParagraphStore;
 use stream::{CHUNK, front, push_characters, zeroed};
 use text_run::RunFault;
 
-/// The maximum length of a line in bytes, without its end.
+/// The maximum length of a line in bytes, excluding the line end.
 pub const LINE_LIMIT: usize = 1_048_576;
 
 /// Options for running a script.
 #[derive(Clone, Copy, Debug, PartialEq, Eq)]
 pub struct ScriptOptions {
-    /// What is printed of each line of the text.
+    /// What to print for each line of the text.
     pub print: Print,
     /// Whether lines of the script may be queries.
     pub queries: bool,
@@ -71,7 +71,7 @@ impl Drop for Reading {
     }
 }
 
-// Sets the width of a session. Fails with `WidthOutOfRange` if it has more than 16 bits.
+// Sets the width of a session. Fails with `WidthOutOfRange` if the width has more than 16 bits.
 fn set_width<S: ParagraphStore<Kept>>(
     session: &mut Session<S>,
     width: usize,
@@ -122,7 +122,7 @@ fn delete<S: ParagraphStore<Kept>>(
     session.delete(pos, count)
 }
 
-// Writes the reply to an edit after `written` bytes.
+// Writes the reply to an edit. `written` is the number of bytes already written.
 fn write_answer<W: Sink>(
     writer: &mut W,
     written: u64,
@@ -138,7 +138,7 @@ fn write_answer<W: Sink>(
     write_bytes(writer, written, &answer_of(edit))
 }
 
-// Writes all lines after `written` bytes.
+// Writes all lines. `written` is the number of bytes already written.
 fn show<W: Sink, S: ParagraphStore<Kept>>(
     session: &Session<S>,
     writer: &mut W,
@@ -158,7 +158,7 @@ fn show<W: Sink, S: ParagraphStore<Kept>>(
     }
 }
 
-// Replies to a query after `written` bytes.
+// Writes the reply to a query. `written` is the number of bytes already written.
 fn ask<W: Sink, S: ParagraphStore<Kept>>(
     session: &Session<S>,
     writer: &mut W,
@@ -187,7 +187,7 @@ fn lacks_memory(edit: &Result<Damage, EditFault>) -> bool
     }
 }
 
-// Executes a command, and writes its reply after `written` bytes.
+// Executes a command, and writes its reply. `written` is the number of bytes already written.
 fn execute<W: Sink, S: ParagraphStore<Kept>>(
     session: &mut Session<S>,
     writer: &mut W,
@@ -221,10 +221,10 @@ fn execute<W: Sink, S: ParagraphStore<Kept>>(
     write_answer(writer, written, &edit)
 }
 
-// Parses the bytes of a line. Returns `None` if they are not a line of a script.
+// Parses the bytes of a line. Returns `None` if they are not a valid line of a script.
 //
-// Stores its characters in `text`, and the text of an insert in `piece`. Checks that the bytes are UTF-8
-// before it allocates.
+// Stores the line's characters in `text`, and the text of an insert in `piece`. Checks that the bytes are
+// UTF-8 before allocating.
 fn read_line(
     queries: bool,
     line: &[u8],
@@ -248,7 +248,7 @@ fn read_line(
     read_command(queries, text, piece)
 }
 
-// Executes the line that was read.
+// Executes the line in `reading`, and writes its reply.
 fn execute_line<W: Sink, S: ParagraphStore<Kept>>(
     session: &mut Session<S>,
     writer: &mut W,
@@ -294,8 +294,8 @@ fn execute_line<W: Sink, S: ParagraphStore<Kept>>(
     }
 }
 
-// Appends bytes to the unfinished line. If it would be too long, fails with `BadLine` before anything is
-// allocated.
+// Appends bytes to the unfinished line. If the line would become too long, fails with `BadLine` before
+// allocating.
 fn grow(reading: &mut Reading, bytes: &[u8]) -> Result<(), RunFault>
     requires { reading.old.lines < 2 ^ 64 - 1 }
     ensures ok { OnOk result (Grows bytes.now reading.old reading.new) }
@@ -326,8 +326,8 @@ fn line_end(piece: &[u8]) -> Option<usize>
     piece.iter().position(|&b| b == b'\n')
 }
 
-// Takes the bytes of a chunk up to the first line end, and executes the line. Takes all of them if no line
-// ends there. Returns how many it took.
+// Consumes the bytes of a chunk up to the first line end, and executes the line. If the chunk has no line
+// end, consumes all its bytes. Returns the number of bytes consumed.
 fn take_part<W: Sink, S: ParagraphStore<Kept>>(
     session: &mut Session<S>,
     writer: &mut W,
@@ -377,7 +377,7 @@ fn feed<W: Sink, S: ParagraphStore<Kept>>(
         → Feeds (rules_of session.old.engine) options.now start reader_start writer_start reader_now
         (W.state writer.new) session.new reading.new result }
 
-    // If an allocation fails, it is for one line, after those that were executed.
+    // If an allocation fails, it fails for one line, and all lines before it have been executed.
     ensures wants { (start : SessionState) (reader_start writer_start reader_now : Device)
         → IsAt (rules_of session.old.engine) options.now start reader_start reader_now
         writer_start (W.state writer.old) session.old reading.old piece.now
@@ -396,7 +396,8 @@ fn feed<W: Sink, S: ParagraphStore<Kept>>(
     Ok(())
 }
 
-// Ends a script that has no more bytes. What follows the last line end is a line too, unless it is empty.
+// Ends a script that has no more bytes. The bytes after the last line end are also a line, unless there are
+// none.
 fn finish<W: Sink, S: ParagraphStore<Kept>>(
     session: &mut Session<S>,
     writer: &mut W,
@@ -412,7 +413,7 @@ fn finish<W: Sink, S: ParagraphStore<Kept>>(
         → IsScriptRun (rules_of session.old.engine) options.now start session.new reader_start reader_now
         writer_start (W.state writer.new) result }
 
-    // Allocation fails only for the last line, if there is one.
+    // An allocation can fail only for the last line, if there is one.
     ensures memory { IsErrOf result RunFault.Memory → (0 < length reading.old.line.items)
         × FailsAt (rules_of session.old.engine) options.now reading.old.line.items
         reading.new reading.old.lines reading.old.written (held_at session.old)
@@ -425,7 +426,7 @@ fn finish<W: Sink, S: ParagraphStore<Kept>>(
     execute_line(session, writer, options, reading)
 }
 
-// Reads a chunk, and executes the lines that end in it. Returns whether the script goes on.
+// Reads a chunk, and executes the lines that end in it. Returns whether the script continues.
 fn step<R: Source, W: Sink, S: ParagraphStore<Kept>>(
     reader: &mut R,
     writer: &mut W,
@@ -445,8 +446,8 @@ fn step<R: Source, W: Sink, S: ParagraphStore<Kept>>(
         (R.state reader.new) (W.state writer.new) session.new reading.new result }
     ensures reads { TellsReads result (R.state reader.old) (R.state reader.new) }
 
-    // If an allocation fails, it is for one line, after those that were executed. If no more was read, it is
-    // for the line at the end, which is not empty.
+    // If an allocation fails, it fails for one line, and all lines before it have been executed. If no bytes
+    // were read, it fails for the line at the end, which is not empty.
     ensures wants { (start : SessionState) (reader_start writer_start : Device)
         → IsAt (rules_of session.old.engine) options.now start reader_start (R.state reader.old)
         writer_start (W.state writer.old) session.old reading.old []
@@ -480,8 +481,8 @@ fn step<R: Source, W: Sink, S: ParagraphStore<Kept>>(
     }
 }
 
-/// Runs an edit script over a session, and drops the session when the run ends. All lines of the script must
-/// be commands. [`run_script_in`] borrows the session, and accepts queries.
+/// Runs an edit script on a session, and drops the session when the run ends. All lines of the script must be
+/// commands. [`run_script_in`] borrows the session, and accepts queries.
 pub fn run_script<R: Source, W: Sink, S: ParagraphStore<Kept> + Drop>(
     alloc: Global,
     reader: &mut R,
@@ -502,12 +503,12 @@ pub fn run_script<R: Source, W: Sink, S: ParagraphStore<Kept> + Drop>(
     run_script_in(alloc, reader, writer, &mut session, &options)
 }
 
-/// Runs an edit script over a session. Each line is executed as soon as its end was read, and its reply is
-/// written before more is read. No more of the script is kept in memory than one line and one chunk.
+/// Runs an edit script on a session. Each line is executed as soon as its end has been read, and its reply is
+/// written before more is read. At most one line and one chunk of the script are kept in memory.
 ///
-/// However the run ends, the session has made the edits of the lines that were replied to, and of the line
-/// whose reply failed to be written. Its work is at most what these lines, and the line at which the run
-/// ended, require.
+/// However the run ends, the session contains the edits of all lines whose reply was written, and of the line
+/// whose reply could not be written. The session's work is at most what these lines and the line at which the
+/// run ended require.
 ///
 /// Fails with `Memory` only before anything is read, or while a line is read or executed. That line then
 /// changes nothing, and no byte of its reply is written.

@@ -13,7 +13,7 @@ use text_run::RunFault;
 /// Opens a session on a text, given as bytes, at a width in columns, which must not be 0.
 ///
 /// Fails with the first of `NotUtf8`, `TextTooLong` and `ParagraphTooLong` that applies. Fails with `Memory`
-/// only if none does.
+/// only if none of them applies.
 pub fn open_text<S: ParagraphStore<Kept> + Drop>(
     alloc: Global,
     engine: Engine,
@@ -34,7 +34,8 @@ pub fn open_text<S: ParagraphStore<Kept> + Drop>(
     }
 }
 
-// A text is refused for its length or for that of a paragraph.
+// Converts the fault of opening a session. A session refuses a text only because the text or one of its
+// paragraphs is too long. Any other fault means that memory ran out.
 fn start_fault(fault: EditFault) -> RunFault
     ensures { result ≡ start_fault fault }
 {

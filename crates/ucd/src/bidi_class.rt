@@ -40,7 +40,7 @@ pub enum BidiClass {
 /// The number of classes.
 pub(crate) const BIDI_CLASS_COUNT: usize = 23;
 
-// The classes in the order of the enum, for the lists of variants and names.
+// The classes in the order of the enum, from which the lists of variants and names are made.
 macro_rules! classes {
     ($list:ident) => {
         $list! {
@@ -63,7 +63,7 @@ static ALL: [BidiClass; BIDI_CLASS_COUNT] = classes!(values);
 static NAMES: [&str; BIDI_CLASS_COUNT] = classes!(names);
 
 impl BidiClass {
-    /// Returns the class with this short name.
+    /// Returns the class with this short name, or `None` if there is none.
     pub fn from_name(name: &[u8]) -> Option<BidiClass>
         ensures { result ≡ class_named name.now }
     {

@@ -1,4 +1,4 @@
-//! Brackets and mirrors (UAX #9, BD14 to BD16 and L4), and how BidiBrackets.txt and BidiMirroring.txt name
+//! Brackets and mirrors (UAX #9, BD14 to BD16 and L4), and how BidiBrackets.txt and BidiMirroring.txt express
 //! them.
 ghost use Rattle.std.specs.Prelude.{◌≡◌};
 ghost use Rattle.ucd.specs.Brackets.{character_of, opens_of, bracket_form, mirror_form};
@@ -7,7 +7,7 @@ ghost use Rattle.ucd.specs.Puts.{put_bracket, put_mirror};
 use crate::grammar::{Property, code_point};
 use crate::properties::Properties;
 
-/// A bracket: its pair, and whether it is an opening bracket (UAX #9, BD14 and BD15).
+/// A bracket: the other bracket of its pair, and whether it is an opening bracket (UAX #9, BD14 and BD15).
 #[derive(Clone, Copy, Debug, PartialEq, Eq)]
 pub struct Bracket {
     pub pair: char,
@@ -18,14 +18,14 @@ pub struct Bracket {
 #[derive(Clone, Copy, Debug)]
 pub struct Mirror(pub char);
 
-// The character that 4 to 6 hexadecimal digits denote.
+// Parses a character written as 4 to 6 hexadecimal digits.
 fn character(digits: &[u8]) -> Option<char>
     ensures { result ≡ character_of digits.now }
 {
     char::from_u32(code_point(digits)?)
 }
 
-// Whether a bracket of this type is an opening one (`o`) or a closing one (`c`).
+// Parses a bracket type: `true` for an opening bracket (`o`), `false` for a closing one (`c`).
 fn opens(kind: &[u8]) -> Option<bool>
     ensures { result ≡ opens_of kind.now }
 {

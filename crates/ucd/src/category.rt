@@ -1,5 +1,5 @@
 //! The general categories that line breaking needs (UAX #44, section 5.7.1), and how
-//! DerivedGeneralCategory.txt names them.
+//! DerivedGeneralCategory.txt expresses them.
 ghost use Rattle.std.specs.Prelude.{◌≡◌, codes};
 ghost use Rattle.ucd.specs.Categories.{category_named, category_form};
 ghost use Rattle.ucd.specs.Puts.{put_category};

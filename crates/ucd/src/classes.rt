@@ -8,15 +8,15 @@ use crate::bidi_class::BidiClass;
 use crate::properties::Properties;
 use crate::tables::Tables;
 
-/// The bidi classes of some characters.
+/// The bidi classes of a list of characters.
 pub trait Classes {
     ghost all: { Self → List BidiClass };
 
-    /// The number of characters.
+    /// Returns the number of characters.
     fn len(&self) -> usize
         ensures { result ≡ length (all self.now) };
 
-    /// The class of the character at an index.
+    /// Returns the class of the character at an index.
     fn class_at(&self, k: usize) -> BidiClass
         requires { k < length (all self.now) }
         ensures { result ≡ class_at (all self.now) k };
@@ -41,7 +41,7 @@ impl Classes for TextClasses<'_> {
     }
 }
 
-/// Classes in properties that have been looked up.
+/// Classes in properties that have already been looked up.
 #[derive(Clone, Copy)]
 pub struct KnownClasses<'a> {
     pub properties: &'a [Properties],

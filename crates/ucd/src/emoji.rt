@@ -1,4 +1,4 @@
-//! Pictographs (UTS #51, section 1.4.1), and how emoji-data.txt names them.
+//! Pictographs (UTS #51, section 1.4.1), and how emoji-data.txt expresses them.
 ghost use Rattle.std.specs.Prelude.{◌≡◌, codes};
 ghost use Rattle.ucd.specs.Emoji.{emoji_form};
 ghost use Rattle.ucd.specs.Puts.{put_pictograph};
@@ -6,7 +6,7 @@ ghost use Rattle.ucd.specs.Puts.{put_pictograph};
 use crate::grammar::Property;
 use crate::properties::Properties;
 
-/// The property Extended_Pictographic, the only one that is read from emoji-data.txt.
+/// The property Extended_Pictographic, the only one read from emoji-data.txt.
 #[derive(Clone, Copy)]
 pub struct Pictograph;
 

@@ -1,4 +1,4 @@
-//! The entries of the files, before they are stored in pages.
+//! Parses the files into entries, before the entries are stored in pages.
 ghost use Rattle.std.specs.Prelude.{◌≡◌, IfOk, IfErr};
 ghost use Rattle.ucd.specs.Grammar.{lines_of};
 ghost use Rattle.ucd.specs.Files.{HoldsFile};
@@ -25,7 +25,7 @@ use crate::tables::UcdFiles;
 use crate::width::Width;
 use std::alloc::{AllocError, Global};
 
-// Parses one file. Files are numbered from 1.
+// Parses one file. `number` is its number in `FILE_NAMES`, starting at 1.
 fn read_table<V: Property>(
     alloc: Global,
     number: usize,
@@ -104,7 +104,7 @@ pub struct Entries {
     pub(crate) breaks: BreakEntries,
 }
 
-/// Drops the entries here, so that callers do not have to list what is dropped.
+/// Drops the entries. Without this function, callers would have to list everything that is dropped.
 pub fn drop_entries(_entries: Entries) {}
 
 impl Entries {
@@ -143,8 +143,8 @@ impl Entries {
         put_entries(&mut points, self.bidi.mirrors.as_slice());
         put_entries(&mut points, self.breaks.classes.as_slice());
         put_entries(&mut points, self.breaks.widths.as_slice());
-        // Categories come after pictographs: a pictograph counts as unassigned until its category says
-        // otherwise.
+        // Categories are applied after pictographs, because a pictograph counts as unassigned until its
+        // category says otherwise.
         put_entries(&mut points, self.breaks.pictographs.as_slice());
         put_entries(&mut points, self.breaks.categories.as_slice());
         Ok(points)

@@ -1,4 +1,4 @@
-//! Why a table file is refused.
+//! Errors in table files.
 ghost use Rattle.std.specs.Prelude.{◌≡◌};
 
 use crate::file::FileFault;
@@ -16,34 +16,34 @@ pub const FILE_NAMES: [&str; 7] = [
     "emoji-data.txt",
 ];
 
-/// What is wrong with a line. A line is tested for `NotAscii`, `FieldCount`, `CodePoint`, `Reversed`, `Value`
-/// and `NamedBefore` in this order, and the first that applies is its cause.
+/// What is wrong with a line. If several causes apply, the first in this order is reported: `NotAscii`,
+/// `FieldCount`, `CodePoint`, `Reversed`, `Value`, `NamedBefore`.
 #[derive(Clone, Copy, Debug, PartialEq, Eq)]
 pub enum Cause {
-    /// A byte above 7F is before the `#`.
+    /// The line has a byte above 0x7F before any `#`.
     NotAscii = 1,
-    /// The first field is not a code point, nor a range if the file has ranges.
+    /// The first field is neither a code point nor, in a file with ranges, a range.
     CodePoint = 2,
     /// The end of a range is less than its start.
     Reversed = 3,
     /// The line has too many or too few fields.
     FieldCount = 4,
-    /// The file has no such value.
+    /// The file does not allow this value.
     Value = 5,
-    /// An earlier line of the file names one of the line's characters.
+    /// An earlier line of the file already gives a value to one of the line's characters.
     NamedBefore = 6,
     /// Memory ran out, and no line is at fault.
     Memory = 7,
 }
 
-/// The first faulty line, in the order of the files and of their lines. It displays as the file's name, the
-/// line and the number of the cause.
+/// The first faulty line, in file order and then line order. `Display` writes the file's name, the line's
+/// number and the number of the cause.
 #[derive(Clone, Copy, Debug, PartialEq, Eq, Error)]
 #[error("{}", Message(.file, .line, .cause))]
 pub struct TableFault {
-    /// The file's number in `FILE_NAMES`, from 1, or 0 if memory ran out.
+    /// The file's number in `FILE_NAMES`, starting at 1, or 0 if memory ran out.
     pub file: usize,
-    /// The line's number, from 1, or 0 if memory ran out.
+    /// The line's number, starting at 1, or 0 if memory ran out.
     pub line: usize,
     pub cause: Cause,
 }
@@ -51,7 +51,7 @@ pub struct TableFault {
 impl TableFault {
     ghost use Rattle.ucd.specs.Tables.{fault_in};
 
-    // An allocation failure, which names no file.
+    // Returns the fault for an allocation failure, which names no file.
     pub(crate) fn memory() -> TableFault
         ensures { result ≡ record { file = 0; line = 0; cause = Cause.Memory } }
     {
@@ -62,7 +62,7 @@ impl TableFault {
         }
     }
 
-    // A faulty line of a file, or an allocation failure, which names no file.
+    // Returns the fault for a faulty line of a file, or for an allocation failure, which names no file.
     pub(crate) fn in_file(file: usize, fault: FileFault) -> TableFault
         ensures { result ≡ fault_in file fault }
     {
@@ -77,7 +77,7 @@ impl TableFault {
     }
 }
 
-// What a fault displays as: its place and cause, or that memory ran out.
+// The message of a fault: its file, line and cause, or that memory ran out.
 #[derive(Clone, Copy)]
 struct Message<'a>(&'a usize, &'a usize, &'a Cause);
 

@@ -7,14 +7,14 @@ use crate::fault::Cause;
 use crate::grammar::{Property, cut, read_line};
 use crate::range_table::RangeTable;
 
-/// A faulty line, numbered from 1, and its cause; or the line at which memory ran out.
+/// A faulty line and its cause, or the line at which memory ran out. Lines are numbered from 1.
 #[derive(Clone, Copy)]
 pub struct FileFault {
     pub line: usize,
     pub cause: Cause,
 }
 
-// Adds the entry of one line.
+// Parses one line, and adds its entry if it has one.
 fn add_line<V: Property>(table: &mut RangeTable<V>, line: &[u8]) -> Result<(), Cause>
     ensures ok { OnOk result (AddsLine V.form table.old table.new line.now) }
     ensures err { IfErr result (IsLineCause V.form table.old line.now) }
@@ -25,7 +25,7 @@ fn add_line<V: Property>(table: &mut RangeTable<V>, line: &[u8]) -> Result<(), C
     }
 }
 
-/// Adds the entries of a file to a table that has none. Fails at the first faulty line.
+/// Adds the entries of a file to an empty table. Fails at the first faulty line.
 pub fn read_file<V: Property>(table: RangeTable<V>, file: &[u8]) -> Result<RangeTable<V>, FileFault>
     requires { table ≡ [] }
     ensures ok { IfOk result (HoldsFile V.form (lines_of file.now)) }

@@ -1,4 +1,4 @@
-//! One line of a table file: a comment, or code points and their value.
+//! Parses one line of a table file, which contains code points and their value, or no entry.
 ghost use Rattle.std.specs.Prelude.{◌≡◌, ◌<◌, ◌≤◌, length, IfSome, option_map, if◌then◌else◌};
 ghost use Rattle.std.specs.List.{slice_split, before_first, list_all};
 ghost use Rattle.std.specs.Char.{is_ascii_hexdigit};
@@ -23,7 +23,7 @@ impl<V: Copy> Clone for Entry<V> {
     }
 }
 
-/// A property that a file gives, and how the file's lines express it.
+/// A property that a file assigns to characters, and how the file's lines express it.
 pub trait Property: Copy + Drop {
     ghost use Rattle.ucd.specs.Answers.{PropertyAnswers};
     ghost use Rattle.ucd.specs.Grammar.{Form};
@@ -33,25 +33,25 @@ pub trait Property: Copy + Drop {
     /// The properties of a character after a value of the file has been applied.
     ghost put: { Self → PropertyAnswers → PropertyAnswers };
 
-    /// Whether the first field may be a range.
+    /// Returns whether the first field may be a range.
     fn has_ranges() -> bool
         ensures { result ≡ form.has_ranges };
 
-    /// Whether a line has a third field.
+    /// Returns whether a line has a third field.
     fn has_third() -> bool
         ensures { result ≡ form.has_third };
 
-    /// Parses the second and the third field. Returns `None` if the file has no such value, and `Some(None)`
-    /// if the line names no character.
+    /// Parses the value in the second and third fields. Returns `None` if the file does not allow this value,
+    /// and `Some(None)` if the line gives no character a value.
     fn read_value(second: &[u8], third: &[u8]) -> Option<Option<Self>>
         ensures { result ≡ form.value second.now third.now };
 
-    /// Returns the properties with this value.
+    /// Returns the properties with this value applied.
     fn put(self, properties: Properties) -> Properties
         ensures { result ≡ put self properties };
 }
 
-/// Returns the bytes before the first `mark`, and those after it if there is one.
+/// Returns the bytes before the first `mark`, and the bytes after it if there is one.
 pub(crate) fn cut(bytes: &[u8], mark: u8) -> (&[u8], Option<&[u8]>)
     ensures front { result.0.now ≡ before_first (is_mark mark) bytes.now }
     ensures rest { option_map (λ rest. rest.now) result.1 ≡ rest_after mark bytes.now }
@@ -67,7 +67,7 @@ pub(crate) fn cut(bytes: &[u8], mark: u8) -> (&[u8], Option<&[u8]>)
     (bytes, None)
 }
 
-// The bytes without those at both ends that are in `white`.
+// Removes the bytes in `white` from both ends.
 fn trimmed<'a>(bytes: &'a [u8], white: &[u8]) -> &'a [u8]
     ensures { result.now ≡ trimmed (is_one_of white.now) bytes.now }
 {
@@ -83,7 +83,7 @@ fn trimmed<'a>(bytes: &'a [u8], white: &[u8]) -> &'a [u8]
     &rest[..end]
 }
 
-// The number that up to six hexadecimal digits denote, if they are digits.
+// Parses up to six hexadecimal digits. Returns `None` if a byte is not a digit.
 fn hex_number(digits: &[u8]) -> Option<u32>
     requires { length digits.now ≤ 6 }
     ensures { result ≡ (if list_all is_ascii_hexdigit digits.now then Some (hex_value digits.now) else None) }
@@ -101,7 +101,7 @@ fn hex_number(digits: &[u8]) -> Option<u32>
     Some(number)
 }
 
-/// Returns the code point that 4 to 6 hexadecimal digits denote.
+/// Parses a code point written as 4 to 6 hexadecimal digits.
 pub(crate) fn code_point(digits: &[u8]) -> Option<u32>
     ensures { result ≡ code_point digits.now }
 {
@@ -117,7 +117,7 @@ fn both(first: Option<u32>, last: Option<u32>) -> Option<(u32, u32)>
     Some((first?, last?))
 }
 
-// The first and the last code point of a field, `X` or `X..Y`.
+// Returns the first and the last code point of a field of the form `X` or `X..Y`.
 fn points(field: &[u8], has_ranges: bool) -> Option<(u32, u32)>
     ensures { result ≡ points_of has_ranges field.now }
 {
@@ -182,7 +182,7 @@ const SPACES: &[u8] = b" \t";
 
 const BLANKS: &[u8] = b" \t\r";
 
-/// Parses one line, which may have no entry.
+/// Parses one line. Returns `None` if the line has no entry.
 pub fn read_line<V: Property>(line: &[u8]) -> Result<Option<Entry<V>>, Cause>
     ensures { result ≡ reading_of V.form line.now }
 {

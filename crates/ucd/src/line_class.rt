@@ -60,7 +60,7 @@ pub enum LineClass {
 /// The number of classes.
 pub(crate) const LINE_CLASS_COUNT: usize = 43;
 
-// The classes in the order of the enum, for the lists of variants and names.
+// The classes in the order of the enum, from which the lists of variants and names are made.
 macro_rules! classes {
     ($list:ident) => {
         $list! {
@@ -84,7 +84,7 @@ static ALL: [LineClass; LINE_CLASS_COUNT] = classes!(values);
 static NAMES: [&str; LINE_CLASS_COUNT] = classes!(names);
 
 impl LineClass {
-    /// Returns the class with this short name.
+    /// Returns the class with this short name, or `None` if there is none.
     pub fn from_name(name: &[u8]) -> Option<LineClass>
         ensures { result ≡ class_named name.now }
     {

@@ -1,4 +1,4 @@
-//! Tables of the properties of all characters, for lookups.
+//! Lookup tables for the properties of all characters.
 ghost use Rattle.std.specs.Prelude.{◌≡◌, ◌≢◌, ◌<◌, ℕ, true, false, IfOk};
 ghost use Rattle.ucd.specs.Separators.{may_separate};
 ghost use Rattle.ucd.specs.declared.bidi_class.BidiClass.TheVariants.{B};
@@ -62,7 +62,7 @@ impl PagedTables {
         })
     }
 
-    /// Whether all characters of class B are U+0085, U+2029 or below U+0020.
+    /// Returns whether each character of class B is U+0085, U+2029 or below U+0020.
     pub fn has_usual_separators(&self) -> bool
         ensures yes { result ≡ true
             → (c : ℕ) → c < 1114112 → may_separate c ≡ false → class_of self.now c ≢ B }
@@ -72,7 +72,7 @@ impl PagedTables {
         self.pages.has_usual_separators
     }
 
-    /// Returns the character as a bracket, if it is one.
+    /// Returns the bracket data of the character, if it is a bracket.
     pub fn bracket(&self, c: char) -> Option<Bracket>
         ensures { result ≡ bracket_of self.now c }
     {
@@ -97,7 +97,7 @@ impl PagedTables {
         }
     }
 
-    /// Returns all properties of the character except which bracket and which mirror it has.
+    /// Returns all properties of the character, except the other bracket of its pair and its mirror.
     pub fn properties(&self, c: char) -> Properties
         ensures { result ≡ properties_of self.now c }
     {

@@ -1,5 +1,5 @@
-//! The properties of each code point, in pages of 256 code points, which an index names. Adjacent equal pages
-//! are stored once.
+//! The properties of each code point, in pages of 256 code points. An index has the page number of each block
+//! of 256 code points. Adjacent equal pages are stored once.
 ghost use Rattle.std.specs.Prelude.{◌≡◌, ◌≢◌, ℕ, ◌+◌, ◌*◌, ◌%◌, ◌<◌, ◌≤◌};
 ghost use Rattle.std.specs.Prelude.{length, slice_index, slice_index_or};
 ghost use Rattle.std.specs.Prelude.{nat_le, nat_lt, ◌&&◌, false, true, if◌then◌else◌, IfOk, IsTrue};
@@ -14,13 +14,13 @@ use crate::grammar::{Entry, Property};
 use crate::properties::Properties;
 use std::alloc::{AllocError, Global};
 
-/// The number of code points of a page.
+/// The number of code points in a page.
 const PAGE: usize = 256;
 
-/// The number of pages that all code points need.
+/// The number of pages that all code points would need if none were shared.
 const PLACES: usize = 4_352;
 
-/// The pages, one after another, and the page number of each 256 code points.
+/// The pages, one after another, and the page number of each block of 256 code points.
 #[derive(Debug, Drop)]
 pub struct Pages {
     pub(crate) index: Vec<u16>,
@@ -44,7 +44,7 @@ impl Pages {
     }
 }
 
-/// Returns the properties of code points that no line names.
+/// Returns the properties of `len` code points that no line names.
 pub fn unnamed_points(alloc: Global, len: usize) -> Result<Vec<Properties>, AllocError>
     ensures len { IfOk result (λ points. length points.items ≡ len) }
     ensures each { IfOk result (λ points. (c : ℕ) → slice_index_or points.items c unnamed ≡ unnamed) }
@@ -69,7 +69,7 @@ pub fn put_entries<V: Property>(points: &mut [Properties], entries: &[Entry<V>])
     }
 }
 
-// Adds a value to the properties of the code points from `first` up to `end`.
+// Adds a value to the properties of the code points in `first..end`.
 fn put_value<V: Property>(points: &mut [Properties], first: usize, end: usize, value: V)
     requires { (first ≤ end) × (end ≤ length points.old) }
     ensures { (c : ℕ) → slice_index_or points.new c unnamed ≡ (if nat_le first c && nat_lt c end
@@ -100,7 +100,7 @@ pub fn pages_of(alloc: Global, points: &[Properties]) -> Result<Pages, AllocErro
     })
 }
 
-// Whether U+0085, U+2029 and code points below U+0020 are the only ones of class B.
+// Returns whether only U+0085, U+2029 and code points below U+0020 have class B.
 fn are_usual(points: &[Properties]) -> bool
     requires { length points.now ≡ 1114112 }
     ensures yes { result ≡ true → (c : ℕ) → c < length points.now
@@ -114,8 +114,8 @@ fn are_usual(points: &[Properties]) -> bool
     !(low | middle | high)
 }
 
-// Whether a code point from `first` up to `end` is of class B. Reads all of them, which is faster than
-// leaving the loop at the first.
+// Returns whether any code point in `first..end` has class B. Reads all of them, which is faster than leaving
+// the loop early.
 fn has_separator(points: &[Properties], first: usize, end: usize) -> bool
     requires { (first ≤ end) × (end ≤ length points.now) }
     ensures no { result ≡ false → (c : ℕ) → first ≤ c → c < end
@@ -130,8 +130,8 @@ fn has_separator(points: &[Properties], first: usize, end: usize) -> bool
     found
 }
 
-// The number of a page: that of the last page if both are equal, else the next one, and then the page is
-// added.
+// Returns the number of a page. If the page equals the last one in `entries`, returns the last one's number.
+// Otherwise, appends the page.
 fn page_number(entries: &mut Vec<Properties>, page: &[Properties]) -> Result<u16, AllocError>
     requires page { length page.now ≡ 256 }
     requires whole { length entries.old.items % 256 ≡ 0 }
@@ -147,7 +147,8 @@ fn page_number(entries: &mut Vec<Properties>, page: &[Properties]) -> Result<u16
     Ok((end / PAGE) as u16)
 }
 
-// Whether two pages are equal. Looks at all items, because most pages are equal.
+// Returns whether two pages are equal. Compares all items without leaving the loop early, because most pages
+// are equal.
 fn are_equal(one: &[Properties], other: &[Properties]) -> bool
     requires { length one.now ≡ length other.now }
     ensures same { IsTrue result → one.now ≡ other.now }

@@ -1,4 +1,4 @@
-//! Values of single code points, looked up by a search.
+//! Maps from single code points to values.
 ghost use Rattle.std.specs.Prelude.{◌≡◌, ℕ, ◌<◌, ◌≤◌, IfOk, OnOk, Some, if◌then◌else◌};
 ghost use Rattle.std.specs.BTreeMap.{get};
 ghost use Rattle.std.specs.Ordering.{nat_cmp};
@@ -8,7 +8,7 @@ use crate::grammar::Entry;
 use std::alloc::{AllocError, Global};
 use std::collections::BTreeMap;
 
-/// Maps each code point of some entries to its value.
+/// Returns a map from each code point of the entries to its value.
 pub fn points_of<V: Copy + Drop>(
     alloc: Global,
     entries: &[Entry<V>],
@@ -23,7 +23,7 @@ pub fn points_of<V: Copy + Drop>(
     Ok(points)
 }
 
-// Adds the value of each code point of an entry.
+// Adds each code point of an entry to the map, with the entry's value.
 fn insert_points<V: Copy + Drop>(
     points: &mut BTreeMap<u32, V>,
     entry: &Entry<V>,

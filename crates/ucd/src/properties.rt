@@ -1,4 +1,4 @@
-//! The properties of one character, looked up once, in 16 bits.
+//! The properties of one character in 16 bits, from a single lookup.
 ghost use Rattle.std.specs.Prelude.{◌≡◌, ◌≢◌, ◌<◌, true, false, IsTrue};
 ghost use Rattle.ucd.specs.declared.properties.TheConstants.{LINE_INDEX_COUNT};
 ghost use Rattle.ucd.specs.declared.bidi_class.BidiClass.TheVariants.{B};
@@ -7,15 +7,15 @@ use crate::bidi_class::BidiClass;
 use crate::line_class::LineClass;
 use std::marker::Model;
 
-/// The number of values of `Properties::line_index`: 8 for each line breaking class that six bits can name.
+/// The number of values of `Properties::line_index`: 8 for each line breaking class that six bits can encode.
 pub const LINE_INDEX_COUNT: usize = 512;
 
-/// The properties of one character, except which bracket it pairs with and which mirror it has.
+/// The properties of one character, except the other bracket of its pair and its mirror.
 ///
-/// From the lowest bit: five for the bidi class, five flags, and six for the line breaking class. The flags
-/// are, in order, those of a bracket, a mirror, a future pictograph, a mark and a wide character. So 32 bidi
-/// classes and 64 line breaking classes fit, and all 16 bits are used. Another property would need a `u32`,
-/// and pages of twice the size.
+/// From the lowest bit: five bits for the bidi class, five flags, and six bits for the line breaking class.
+/// The flags say, in order, whether the character is a bracket, has a mirror, is a future pictograph, is a
+/// mark, and is wide. There can be up to 32 bidi classes and 64 line breaking classes. All 16 bits are used.
+/// Another property would require a `u32`, and so pages of twice the size.
 #[derive(Clone, Copy, Debug)]
 pub struct Properties {
     bits: u16,
@@ -40,7 +40,8 @@ impl Model for Properties {
 impl Properties {
     ghost use Rattle.ucd.specs.Answers.{line_index, unnamed};
 
-    /// Returns the properties of a character that no line names: class `L`, class `XX`, and nothing else.
+    /// Returns the properties of a character that no line names: bidi class `L`, line breaking class `XX`,
+    /// and no flags.
     pub(crate) fn unnamed() -> Properties
         ensures { result ≡ unnamed }
     {
@@ -81,7 +82,7 @@ impl Properties {
         }
     }
 
-    /// Returns the properties with a wide width (F, W or H).
+    /// Returns the properties with a wide East Asian width (F, W or H).
     pub(crate) fn with_wide(self) -> Properties
         ensures { result ≡ record self { is_wide = true } }
     {
@@ -90,7 +91,7 @@ impl Properties {
         }
     }
 
-    /// Returns the properties of a mark, which is assigned.
+    /// Returns the properties for a mark. A mark is assigned, so it is not a future pictograph.
     pub(crate) fn with_mark(self) -> Properties
         ensures { result ≡ record self { is_mark = true; is_future_pictograph = false } }
     {
@@ -99,7 +100,7 @@ impl Properties {
         }
     }
 
-    /// Returns the properties of an assigned character.
+    /// Returns the properties for an assigned character, which is not a future pictograph.
     pub(crate) fn with_assignment(self) -> Properties
         ensures { result ≡ record self { is_future_pictograph = false } }
     {
@@ -108,7 +109,7 @@ impl Properties {
         }
     }
 
-    /// Returns the properties with Extended_Pictographic, unassigned.
+    /// Returns the properties for a character that is Extended_Pictographic and unassigned.
     pub(crate) fn with_future_pictograph(self) -> Properties
         ensures { result ≡ record self { is_future_pictograph = true } }
     {
@@ -117,7 +118,7 @@ impl Properties {
         }
     }
 
-    /// Whether both have the same bits.
+    /// Returns whether both have the same bits.
     pub(crate) fn is(self, other: Properties) -> bool
         ensures same { IsTrue result → self ≡ other }
         ensures all { self ≡ other → IsTrue result }
@@ -125,14 +126,14 @@ impl Properties {
         self.bits == other.bits
     }
 
-    /// The bidi class.
+    /// Returns the bidi class.
     pub fn bidi_class(self) -> BidiClass
         ensures { result ≡ self.bidi_class }
     {
         BidiClass::at((self.bits % 32) as usize)
     }
 
-    /// Whether the bidi class is B, from the bits alone.
+    /// Returns whether the bidi class is B, from the bits alone.
     pub(crate) fn is_separator(self) -> bool
         ensures no { result ≡ false → self.bidi_class ≢ B }
         ensures yes { result ≡ true → self.bidi_class ≡ B }
@@ -140,50 +141,50 @@ impl Properties {
         self.bits % 32 == BidiClass::B as u16
     }
 
-    /// The line breaking class.
+    /// Returns the line breaking class.
     pub fn line_class(self) -> LineClass
         ensures { result ≡ self.line_class }
     {
         LineClass::at((self.bits / 1024) as usize)
     }
 
-    /// Whether the East Asian width is F, W or H.
+    /// Returns whether the East Asian width is F, W or H.
     pub fn is_wide(self) -> bool
         ensures { result ≡ self.is_wide }
     {
         self.bits / 512 % 2 == 1
     }
 
-    /// Whether the general category is Mn or Mc.
+    /// Returns whether the general category is Mn or Mc.
     pub fn is_mark(self) -> bool
         ensures { result ≡ self.is_mark }
     {
         self.bits / 256 % 2 == 1
     }
 
-    /// Whether the character is Extended_Pictographic and unassigned.
+    /// Returns whether the character is Extended_Pictographic and unassigned.
     pub fn is_future_pictograph(self) -> bool
         ensures { result ≡ self.is_future_pictograph }
     {
         self.bits / 128 % 2 == 1
     }
 
-    /// Whether the character is a bracket.
+    /// Returns whether the character is a bracket.
     pub fn has_bracket(self) -> bool
         ensures { result ≡ self.has_bracket }
     {
         self.bits / 32 % 2 == 1
     }
 
-    /// Whether the character has a mirror.
+    /// Returns whether the character has a mirror.
     pub fn has_mirror(self) -> bool
         ensures { result ≡ self.has_mirror }
     {
         self.bits / 64 % 2 == 1
     }
 
-    /// All that line breaking needs, as one number: 8 times the index of the line breaking class in
-    /// `LineClass`, plus three flags. These are 4 for a wide character, 2 for a mark and 1 for a future
+    /// Returns all that line breaking needs as one number: 8 times the index of the line breaking class in
+    /// `LineClass`, plus three flags. The flags are 4 for a wide character, 2 for a mark and 1 for a future
     /// pictograph.
     pub fn line_index(self) -> usize
         ensures index { result ≡ line_index self }

@@ -1,4 +1,4 @@
-//! The entries of a file, in the order of its lines, and which code points they name.
+//! The entries of a file, in the order of its lines, and the code points that they name.
 ghost use Rattle.std.specs.Prelude.{◌≡◌, ◌<◌, ◌≤◌, nat_le, nat_lt, ◌&&◌, if◌then◌else◌, IsTrue};
 ghost use Rattle.std.specs.Prelude.{ℕ, List, [], true, false, length, slice_index_or};
 ghost use Rattle.std.specs.Prelude.{IfOk, IfErr, OnOk, OnErr, ◌⊎◌, IsErrOf};
@@ -14,8 +14,8 @@ use std::marker::Model;
 /// The number of code points.
 pub const CODE_POINTS: usize = 0x110000;
 
-/// The entries of a file. No two have a common character. A flag for each code point says whether an entry
-/// names it, so the cost of a line does not depend on the order of the lines.
+/// The entries of a file. No two entries have a character in common. A flag for each code point says whether
+/// an entry names it, so the cost of adding a line does not depend on the order of the lines.
 #[derive(Drop)]
 pub struct RangeTable<V> {
     entries: Vec<Entry<V>>,
@@ -30,7 +30,7 @@ impl<V> Model for RangeTable<V> {
     ghost invariant = { λ t. AreApart t.entries.items × AreNamed t.entries.items t.named.items };
 }
 
-// Flags for `len` code points, none of which is named.
+// Returns flags that mark none of `len` code points as named.
 fn nothing_named(alloc: Global, len: usize) -> Result<Vec<bool>, AllocError>
     ensures len { IfOk result (λ named. length named.items ≡ len) }
     ensures each { IfOk result (λ named. (c : ℕ) → slice_index_or named.items c false ≡ false) }
@@ -38,7 +38,7 @@ fn nothing_named(alloc: Global, len: usize) -> Result<Vec<bool>, AllocError>
     vec![in alloc; false; len]
 }
 
-// Whether a code point from `first` up to `end` is named.
+// Returns whether any code point in `first..end` is named.
 fn has_named(named: &[bool], first: usize, end: usize) -> bool
     requires { (first ≤ end) × (end ≤ length named.now) }
     ensures some { IsTrue result
@@ -55,7 +55,7 @@ fn has_named(named: &[bool], first: usize, end: usize) -> bool
     any
 }
 
-// Marks the code points from `first` up to `end` as named.
+// Marks the code points in `first..end` as named.
 fn name_all(named: &mut [bool], first: usize, end: usize)
     requires { (first ≤ end) × (end ≤ length named.old) }
     ensures { (c : ℕ) → slice_index_or named.new c false
@@ -87,8 +87,8 @@ impl<V: Copy> RangeTable<V> {
         }
     }
 
-    // Whether one of the entry's code points has a value. An entry that ends before it begins has no code
-    // points.
+    // Returns whether any of the entry's code points already has a value. An entry that ends before it begins
+    // has no code points.
     fn meets(&self, entry: Entry<V>) -> bool
         requires { entry.last < 1114112 }
         ensures some { IsTrue result → IsMet self.now entry }
@@ -98,7 +98,7 @@ impl<V: Copy> RangeTable<V> {
         entry.first <= entry.last && has_named(&self.named, first, entry.last as usize + 1)
     }
 
-    // Adds an entry none of whose code points has a value. One that ends before it begins is not added.
+    // Adds an entry whose code points have no values yet. An entry that ends before it begins is not added.
     fn insert(&mut self, entry: Entry<V>) -> Result<(), AllocError>
         requires within { entry.last < 1114112 }
         requires free { IsFree self.old entry }
@@ -119,7 +119,7 @@ impl<V: Copy> RangeTable<V> {
         }
     }
 
-    // Adds two entries none of whose code points has a value: one below the surrogates and one above them.
+    // Adds two entries whose code points have no values yet: one below the surrogates and one above them.
     fn insert_both(&mut self, below: Entry<V>, above: Entry<V>) -> Result<(), AllocError>
         requires below { (below.last < 55296) × IsFree self.old below }
         requires above { (55296 ≤ above.first) × (above.last < 1114112) × IsFree self.old above }
@@ -130,9 +130,9 @@ impl<V: Copy> RangeTable<V> {
         self.insert(above)
     }
 
-    /// Gives the entry's value to each character from its first code point to its last, and skips surrogates.
-    /// Fails with `NamedBefore` if one of them has a value already, even if memory runs out. After an error
-    /// the table must not be used.
+    /// Gives the entry's value to each character from its first code point to its last, skipping surrogates.
+    /// Fails with `NamedBefore` if one of these characters already has a value, even if memory runs out.
+    /// After an error, the table must not be used.
     pub fn add(&mut self, entry: Entry<V>) -> Result<(), Cause>
         ensures ok { OnOk result (AddsCharacters self.old self.new entry) }
         ensures taken { IsErrOf result Cause.NamedBefore → IsTaken self.old entry }
@@ -161,7 +161,7 @@ impl<V: Copy> RangeTable<V> {
     }
 }
 
-/// Entries no two of which have a common character.
+/// Entries that have no characters in common.
 #[derive(Drop)]
 pub struct ApartEntries<V> {
     entries: Vec<Entry<V>>,

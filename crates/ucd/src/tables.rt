@@ -1,4 +1,4 @@
-//! The tables that are read from the files.
+//! The tables read from the files.
 ghost use Rattle.std.specs.Prelude.{◌≡◌, ◌≢◌, ◌<◌, ℕ, true, false, IfOk, IfErr};
 ghost use Rattle.ucd.specs.Separators.{may_separate};
 ghost use Rattle.ucd.specs.declared.bidi_class.BidiClass.TheVariants.{B};
@@ -50,8 +50,8 @@ impl Tables {
     ghost use Rattle.ucd.specs.Properties.{properties_of};
     ghost use Rattle.ucd.specs.Said.{contents_of};
 
-    /// Reads the tables from the files. Fails at the first faulty line, in the order of the files and of
-    /// their lines, with the first cause that applies (docs/reference.md).
+    /// Reads the tables from the files. Fails at the first faulty line, in file order and then line order,
+    /// with the first cause that applies (docs/reference.md).
     pub fn read(alloc: Global, files: &UcdFiles<'_>) -> Result<Tables, TableFault>
         ensures ok { IfOk result (AreTablesOf files.now) }
         ensures err { IfErr result (IsFaultOf files.now) }
@@ -73,8 +73,8 @@ impl Tables {
         Ok(Tables { shared })
     }
 
-    /// Returns the same tables for another owner. Nothing is copied: both share one block of memory with
-    /// an atomic reference count. `alloc` is not used. Fails only if there are already 2^63 owners.
+    /// Returns the same tables for another owner. Nothing is copied: both owners share one block of memory
+    /// with an atomic reference count. `alloc` is not used. Fails only if there are already 2^63 owners.
     pub fn copy(&self, _alloc: Global) -> Result<Tables, AllocError>
         ensures { IfOk result (λ tables. tables ≡ self.now) }
     {
@@ -82,14 +82,14 @@ impl Tables {
         Ok(Tables { shared })
     }
 
-    /// The bidi class, `L` if no line names the character.
+    /// Returns the bidi class, which is `L` if no line names the character.
     pub fn bidi_class(&self, c: char) -> BidiClass
         ensures { result ≡ class_of self.now c }
     {
         self.properties(c).bidi_class()
     }
 
-    /// Whether all characters of class B are U+0085, U+2029 or below U+0020, as in Unicode's files.
+    /// Returns whether each character of class B is U+0085, U+2029 or below U+0020, as in Unicode's files.
     pub fn has_usual_separators(&self) -> bool
         ensures yes { result ≡ true
             → (c : ℕ) → c < 1114112 → may_separate c ≡ false → class_of self.now c ≢ B }
@@ -99,50 +99,51 @@ impl Tables {
         self.shared.has_usual_separators()
     }
 
-    /// The character as a bracket, if it is one.
+    /// Returns the bracket data of the character, if it is a bracket.
     pub fn bracket(&self, c: char) -> Option<Bracket>
         ensures { result ≡ bracket_of self.now c }
     {
         self.shared.bracket(c)
     }
 
-    /// The mirror of the character, if it has one.
+    /// Returns the mirror of the character, if it has one.
     pub fn mirror(&self, c: char) -> Option<char>
         ensures { result ≡ mirror_of self.now c }
     {
         self.shared.mirror(c)
     }
 
-    /// The line breaking class, `XX` if no line names the character.
+    /// Returns the line breaking class, which is `XX` if no line names the character.
     pub fn line_class(&self, c: char) -> LineClass
         ensures { result ≡ line_class_of self.now c }
     {
         self.properties(c).line_class()
     }
 
-    /// Whether the East Asian width is F, W or H.
+    /// Returns whether the East Asian width is F, W or H.
     pub fn is_wide(&self, c: char) -> bool
         ensures { result ≡ is_wide_in self.now c }
     {
         self.properties(c).is_wide()
     }
 
-    /// Whether the general category is Mn or Mc.
+    /// Returns whether the general category is Mn or Mc.
     pub fn is_mark(&self, c: char) -> bool
         ensures { result ≡ is_mark_in self.now c }
     {
         self.properties(c).is_mark()
     }
 
-    /// Whether the character is Extended_Pictographic and unassigned, of category Cn. A character that no
-    /// line names has category Cn.
+    /// Returns whether the character is Extended_Pictographic and unassigned (category Cn). A character that
+    /// no line names has category Cn.
     pub fn is_future_pictograph(&self, c: char) -> bool
         ensures { result ≡ is_future_pictograph_in self.now c }
     {
         self.properties(c).is_future_pictograph()
     }
 
-    /// Returns all these properties by one lookup, except which bracket and which mirror the character has.
+    /// Returns all these properties in one lookup, except the other bracket of the character's pair and its
+    /// mirror.
     pub fn properties(&self, c: char) -> Properties
         ensures { result ≡ properties_of self.now c }
     {

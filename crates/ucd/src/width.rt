@@ -1,4 +1,4 @@
-//! The East Asian widths that line breaking needs (UAX #11), and how EastAsianWidth.txt names them.
+//! The East Asian widths that line breaking needs (UAX #11), and how EastAsianWidth.txt expresses them.
 ghost use Rattle.std.specs.Prelude.{◌≡◌, codes};
 ghost use Rattle.ucd.specs.Widths.{width_named, width_form};
 ghost use Rattle.ucd.specs.Puts.{put_width};
