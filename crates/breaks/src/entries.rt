@@ -18,8 +18,8 @@ const I: u16 = INSIDE;
 
 const W: u16 = WAITS;
 
-// The entries of a row, from the next states after SP, CL, CP, IS, SY, BA, HY, RI and CM, which depend on the
-// row's state, and from the outcome before each symbol.
+// The entries of a row: the next states after SP, CL, CP, IS, SY, BA, HY, RI, CM, which
+// depend on the row's state, and what a line does before each symbol.
 macro_rules! entries {
     ($(
         $to_SP:ident $to_CL:ident $to_CP:ident $to_IS:ident $to_SY:ident $to_BA:ident $to_HY:ident
