@@ -56,14 +56,15 @@ lib-session: lib-lines lib-store
 lib-stream: lib-device
 lib-command_line lib-text_run: lib-lines
 lib-text_run: lib-stream
-lib-tool: lib-session lib-command_line lib-text_run
+lib-program_input: lib-command_line lib-text_run
+lib-tool: lib-session lib-command_line lib-script_commands lib-text_run
 lib-oom_calls lib-hordguli_c: lib-session
 lib-hordguli_c: lib-stream
 lib-oom_calls: lib-test_tables
 lib-hordguli_fribidi: lib-bidi lib-reorder
 run-dump_properties: lib-ucd lib-tables
 run-fribidi run-oom_driver: lib-tool
-run-fribidi: lib-tables
+run-fribidi: lib-tables lib-program_input
 run-oom_driver run-no_allocation: lib-oom_calls
 lib-tables: lib-ucd
 run-bench: lib-session lib-tables

@@ -3,21 +3,19 @@
 
 ghost use Rattle.std.specs.Prelude.{◌<◌};
 
-mod installed;
-
 use command_line::{LineFault, Settings, settings};
 use device::{FromRead, ToWrite};
-use installed::{installed_folder, with_folder};
 use lines::Engine;
+use program_input::{arguments, as_texts, installed_folder, read_text, with_folder, write_texts};
 use session::{Kept, Session};
 use std::alloc::{AllocError, Global};
 use std::fs::File;
-use std::io::{ErrorKind, Read, Stdout};
+use std::io;
+use std::io::{ErrorKind, Stdout};
 use std::process::ExitCode;
-use std::{env, fs, io};
 use store::TreeStore;
 use tables::{FolderFault, in_folder};
-use text_run::{RunFault, run_text};
+use text_run::RunFault;
 use tool::{ProgramFault, ScriptOptions, open_text, run_script_in};
 
 fn main(rt: HostRuntime) -> ExitCode {
@@ -43,8 +41,8 @@ fn report(rt: &HostRuntime, fault: &ProgramFault) -> io::Result<()> {
 }
 
 fn run(rt: &HostRuntime) -> Result<(), ProgramFault> {
-    let words = words(rt).map_err(word_fault)?;
-    let Ok(words) = texts(rt.alloc(), &words) else {
+    let words = arguments(rt).map_err(word_fault)?;
+    let Ok(words) = as_texts(rt.alloc(), &words) else {
         return Err(ProgramFault::Line(LineFault::NoMemory));
     };
     run_words(rt, &words)
@@ -62,9 +60,10 @@ fn run_words(rt: &HostRuntime, words: &[&str]) -> Result<(), ProgramFault> {
 
 // Executes arguments without `--ucd`, with the installed folder of tables if there is one.
 fn run_installed(rt: &HostRuntime, words: &[&str], fault: LineFault) -> Result<(), ProgramFault> {
-    match installed_folder(rt)? {
-        Some(folder) => run_over(rt, folder.as_str(), words),
-        None => Err(ProgramFault::Line(fault)),
+    match installed_folder(rt) {
+        Ok(Some(folder)) => run_over(rt, folder.as_str(), words),
+        Ok(None) => Err(ProgramFault::Line(fault)),
+        Err(AllocError) => Err(ProgramFault::Run(RunFault::Memory)),
     }
 }
 
@@ -84,15 +83,8 @@ fn run_settings(rt: &HostRuntime, settings: &Settings<'_>) -> Result<(), Program
     let mut output = ToWrite::new(rt.stdout());
     match settings.script {
         Some(script) => execute(rt, script, &mut output, engine, settings),
-        None => write_texts(rt, &mut output, &mut engine, settings),
+        None => write_texts(rt, &mut output, &mut engine, settings).map_err(ProgramFault::Run),
     }
-}
-
-// Returns the arguments after the program's name.
-fn words(rt: &HostRuntime) -> io::Result<Vec<String>> {
-    let mut words = env::args(rt)?;
-    let _ = words.next();
-    Ok(words.collect(rt.alloc())?)
 }
 
 // Returns the fault of arguments that cannot be read, because one of them is not UTF-8 or memory ran out.
@@ -104,71 +96,12 @@ fn word_fault(error: io::Error) -> ProgramFault {
     }
 }
 
-fn texts<'a>(alloc: Global, words: &'a [String]) -> Result<Vec<&'a str>, AllocError> {
-    words.iter().map(|word| word.as_str()).collect(alloc)
-}
-
 fn table_fault(fault: FolderFault) -> ProgramFault {
     match fault {
         FolderFault::Unread(name) => ProgramFault::TableFile(name),
         FolderFault::Table(fault) => ProgramFault::Table(fault),
         FolderFault::Memory => ProgramFault::Run(RunFault::Memory),
     }
-}
-
-// Writes the output of each text.
-fn write_texts(
-    rt: &HostRuntime,
-    output: &mut ToWrite<Stdout>,
-    engine: &mut Engine,
-    settings: &Settings<'_>,
-) -> Result<(), ProgramFault>
-    requires { 0 < settings.now.width }
-{
-    if settings.files.is_empty() {
-        return write_text(rt, rt.stdin(), output, engine, settings);
-    }
-    for path in &settings.files {
-        write_file(rt, path, output, engine, settings)?;
-    }
-    Ok(())
-}
-
-fn write_file(
-    rt: &HostRuntime,
-    path: &str,
-    output: &mut ToWrite<Stdout>,
-    engine: &mut Engine,
-    settings: &Settings<'_>,
-) -> Result<(), ProgramFault>
-    requires { 0 < settings.now.width }
-{
-    match File::open(rt, path) {
-        Ok(file) => write_text(rt, file, output, engine, settings),
-        Err(_) => Err(ProgramFault::Run(RunFault::Read)),
-    }
-}
-
-// Writes the output of one text.
-fn write_text<R: Read + Drop>(
-    rt: &HostRuntime,
-    text: R,
-    output: &mut ToWrite<Stdout>,
-    engine: &mut Engine,
-    settings: &Settings<'_>,
-) -> Result<(), ProgramFault>
-    requires { 0 < settings.now.width }
-{
-    let mut reader = FromRead::new(text);
-    run_text(
-        rt.alloc(),
-        &mut reader,
-        output,
-        engine,
-        settings.width,
-        &settings.print,
-    )
-    .map_err(ProgramFault::Run)
 }
 
 // Reads the text of an edit script, and then runs the script on it.
@@ -181,7 +114,10 @@ fn execute(
 ) -> Result<(), ProgramFault>
     requires { 0 < settings.now.width }
 {
-    let text = script_text(rt, settings.files.first().copied())?;
+    let Some(path) = settings.files.first() else {
+        return Err(ProgramFault::Line(LineFault::ScriptFiles));
+    };
+    let text = read_text(rt, path).map_err(ProgramFault::Run)?;
     execute_over(rt, &text, script, output, engine, settings)
 }
 
@@ -210,20 +146,6 @@ fn execute_file(
 ) -> Result<(), ProgramFault> {
     match File::open(rt, script) {
         Ok(script) => execute_lines(rt.alloc(), script, output, session, options),
-        Err(_) => Err(ProgramFault::Run(RunFault::Read)),
-    }
-}
-
-// Reads the text that a script edits.
-fn script_text(rt: &HostRuntime, path: Option<&str>) -> Result<Vec<u8>, ProgramFault> {
-    let Some(path) = path else {
-        return Err(ProgramFault::Line(LineFault::ScriptFiles));
-    };
-    match fs::read(rt, path) {
-        Ok(bytes) => Ok(bytes),
-        Err(error) if error.kind() == ErrorKind::OutOfMemory => {
-            Err(ProgramFault::Run(RunFault::Memory))
-        }
         Err(_) => Err(ProgramFault::Run(RunFault::Read)),
     }
 }

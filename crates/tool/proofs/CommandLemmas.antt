@@ -12,7 +12,7 @@ use Rattle.session.specs.declared.edits.EditFault.{EditFault}
 use Rattle.session.specs.declared.edits.EditFault.TheVariants as e
 use Rattle.tool.specs.Reading.{Edited, Executes, ExecutesNot, Stops, TakesMemory, answer_text, lacks_memory}
 use Rattle.tool.specs.ScriptRun.{after_command, answer_by, answer_to, executed, executed_text, command_refusal}
-use Rattle.tool.specs.Scripts.{Command}
+use Rattle.script_commands.specs.Commands.{Command}
 use Rattle.text_run.specs.declared.faults.RunFault.{RunFault}
 use Rattle.text_run.specs.declared.faults.RunFault.TheVariants as f
 

@@ -1,5 +1,3 @@
-pub mod EscapeLemmas
-pub mod NumberLemmas
 pub mod QueryLemmas
 pub mod CommandLemmas
 pub mod ScriptLemmas

@@ -13,7 +13,8 @@ use Rattle.session.specs.Touched.{fresh}
 use Rattle.session.specs.declared.edits.Damage.{Damage}
 use Rattle.session.specs.declared.edits.EditFault.{EditFault}
 use Rattle.session.specs.declared.edits.EditFault.TheVariants.{OutOfRange, WidthOutOfRange, TextTooLong, ParagraphTooLong, NoMemory}
-use Rattle.tool.specs.Scripts.{Command, SetWidth, command_of_line}
+use Rattle.tool.specs.Scripts.{command_of_line}
+use Rattle.script_commands.specs.Commands.{Command, SetWidth}
 use Rattle.tool.specs.ScriptRun.{after_line, after_lines, is_good, layouts_at, command_refusal}
 use Rattle.tool.specs.Work.{CommandWorks, LineWorks, LinesWork, Works, analysed_by, filled_by, work_of_line, work_of_lines}
 

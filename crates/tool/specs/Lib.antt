@@ -1,7 +1,6 @@
 pub mod Program
 pub mod Queries
 pub mod Reading
-pub mod Commands
 pub mod ScriptEnds
 pub mod ScriptRun
 pub mod Scripts

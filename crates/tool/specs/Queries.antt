@@ -19,8 +19,8 @@ use Rattle.session.specs.declared.carets.Caret.{Caret}
 use Rattle.session.specs.declared.hits.Hit.{Hit}
 use Rattle.text_run.specs.declared.faults.RunFault.{RunFault}
 use Rattle.text_run.specs.declared.faults.RunFault.TheVariants as f
-use Rattle.tool.specs.declared.queries.Query.{Query}
-use Rattle.tool.specs.declared.queries.Query.TheVariants as ask
+use Rattle.script_commands.specs.declared.commands.Query.{Query}
+use Rattle.script_commands.specs.declared.commands.Query.TheVariants as ask
 
 -- the reply that consists of `=`, each of these numbers after a space, and a newline
 abbrev pub told : List ℕ → List ℕ

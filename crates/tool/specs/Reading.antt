@@ -14,7 +14,8 @@ use Rattle.session.specs.declared.edits.Damage.{Damage}
 use Rattle.session.specs.declared.edits.EditFault.{EditFault}
 use Rattle.session.specs.declared.edits.EditFault.TheVariants.{NoMemory}
 use Rattle.tool.specs.Queries.{AsksMemory}
-use Rattle.tool.specs.Scripts.{LacksPiece, Command, Insert, Delete, SetWidth, Show, Ask, is_line_end, command_of_line}
+use Rattle.tool.specs.Scripts.{is_line_end, command_of_line}
+use Rattle.script_commands.specs.Commands.{LacksPiece, Command, Insert, Delete, SetWidth, Show, Ask}
 use Rattle.tool.specs.ScriptEnds.{IsScriptRun}
 use Rattle.tool.specs.ScriptRun.{after_line, after_lines, answer_line, answer_to, after_command, answers, damage_text, is_good, executed, executed_text, command_refusal, refusal_text, with_ends}
 use Rattle.tool.specs.Work.{LineWorks, LinesWork}

@@ -12,7 +12,8 @@ use Rattle.session.specs.Touched.{first_touched, touched_count}
 use Rattle.session.specs.declared.edits.EditFault.{EditFault}
 use Rattle.session.specs.declared.edits.EditFault.TheVariants as refused
 use Rattle.tool.specs.Queries.{query_text}
-use Rattle.tool.specs.Scripts.{Command, Insert, Delete, SetWidth, Show, Ask, command_of_line}
+use Rattle.tool.specs.Scripts.{command_of_line}
+use Rattle.script_commands.specs.Commands.{Command, Insert, Delete, SetWidth, Show, Ask}
 use Rattle.text_run.specs.TextRun.{Ending, AtEnd, AtFailure}
 use Rattle.text_run.specs.declared.faults.RunFault.{RunFault}
 use Rattle.text_run.specs.declared.faults.RunFault.TheVariants as fault

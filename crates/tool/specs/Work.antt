@@ -9,7 +9,8 @@ use Rattle.session.specs.Edits.{Held, deletion, insertion}
 use Rattle.session.specs.Kept.{changed}
 use Rattle.session.specs.Touched.{fresh}
 use Rattle.tool.specs.ScriptRun.{after_line, layouts_at, command_refusal}
-use Rattle.tool.specs.Scripts.{Command, Insert, Delete, SetWidth, Show, Ask, command_of_line}
+use Rattle.tool.specs.Scripts.{command_of_line}
+use Rattle.script_commands.specs.Commands.{Command, Insert, Delete, SetWidth, Show, Ask}
 
 module _ (rules : Rules) where
   -- upper bounds for a command that is not refused: how many characters it analyses, and how many it fills

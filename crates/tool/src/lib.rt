@@ -12,7 +12,6 @@
 #![tactic(auto)]
 
 mod answers;
-mod commands;
 mod program;
 mod queries;
 mod script;
@@ -20,7 +19,7 @@ mod start;
 
 pub use command_line::{LineFault, Settings, settings};
 pub use program::ProgramFault;
-pub use queries::Query;
 pub use script::{LINE_LIMIT, ScriptOptions, run_script, run_script_in};
+pub use script_commands::Query;
 pub use start::open_text;
 pub use text_run::{RunFault, run_text};

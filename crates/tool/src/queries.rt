@@ -12,28 +12,11 @@ ghost use Rattle.tool.specs.Reading.{Stops};
 use crate::answers::{Answer, out_of_range, told, write_bytes};
 use device::Sink;
 use lines::{Print, VisualLine};
+use script_commands::Query;
 use session::{Hit, Kept, RangeFault, Session};
 use std::alloc::AllocError;
 use store::ParagraphStore;
 use text_run::RunFault;
-
-/// A query about the current text. Positions count characters. Positions, lines and columns start at 0.
-#[derive(Clone, Copy, Debug, PartialEq, Eq)]
-pub enum Query {
-    /// A range of lines. The fields are the first line and the number of lines.
-    Lines(usize, usize),
-    /// The screen column at which to draw the caret before the character at a position.
-    Caret(usize),
-    /// The character at a place on the screen. The fields are the line and the screen column.
-    Hit(usize, usize),
-    /// The grapheme cluster of the character at a position.
-    Cluster(usize),
-    /// The numbers of characters, lines and paragraphs.
-    Size,
-    /// A range of characters. The fields are the position of the first character and the number of
-    /// characters.
-    Text(usize, usize),
-}
 
 // Returns the number of screen columns to the left of a line's shown part.
 fn screen_left(line: &VisualLine<'_>, width: u16, print: &Print) -> usize

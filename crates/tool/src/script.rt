@@ -14,19 +14,20 @@ ghost use Rattle.session.specs.Sessions.{SessionState, held_at, page_at, IsWhole
 ghost use Rattle.std.specs.Io.KnownBytes.{IsAtEnd};
 ghost use Rattle.text_run.specs.TextRun.{TellsReads};
 ghost use Rattle.stream.specs.declared.reading.TheConstants.{CHUNK};
-ghost use Rattle.tool.specs.Commands.{command_of};
+ghost use Rattle.script_commands.specs.Parsed.{command_of};
 ghost use Rattle.tool.specs.Reading.{CanFeed, Edited, EndsIn, FailsAt, FailsIn, Feeds, Grows, GrowsNot};
 ghost use Rattle.tool.specs.Reading.{IsAt, NoEnd, Executes, ExecutesLine, ExecutesNot, Steps, Stops};
 ghost use Rattle.tool.specs.Reading.{Takes, WantsIn, answer_text, lacks_memory};
 ghost use Rattle.tool.specs.ScriptEnds.{IsScriptRun};
-ghost use Rattle.tool.specs.Scripts.{Ask, Delete, LacksPiece, SetWidth, Insert, command_of_line};
+ghost use Rattle.tool.specs.Scripts.{command_of_line};
+ghost use Rattle.script_commands.specs.Commands.{Ask, Delete, LacksPiece, SetWidth, Insert};
 ghost use Rattle.tool.specs.Work.{LineWorks, CommandWorks};
 
 use crate::answers::{answer_of, write_bytes};
-use crate::commands::{Command, read_command};
-use crate::queries::{Query, write_query};
+use crate::queries::write_query;
 use device::{Sink, Source};
 use lines::Print;
+use script_commands::{Command, Query, read_command};
 use session::{Damage, EditFault, Kept, Session};
 use std::alloc::{AllocError, Global};
 use store::ParagraphStore;

@@ -1,7 +1,7 @@
 use Rattle.std.proofs.Common.{◌≡◌, refl, sym, false, true, ◌∙◌}
 use Rattle.lines.specs.Engine.{rules_of}
 use Rattle.session.specs.Sessions.{held_at}
-use Rattle.tool.specs.Commands.{command_of}
+use Rattle.script_commands.specs.Parsed.{command_of}
 use Rattle.tool.specs.Reading.{Edited, lacks_memory}
 use Rattle.tool.proofs.CommandLemmas.{executes, stops, wants}
 use Rattle.tool.proofs.script.execute.Goals as goal

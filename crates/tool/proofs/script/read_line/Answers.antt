@@ -7,8 +7,9 @@ use Rattle.std.proofs.lemmas.List.{length-take-le, take_all}
 use Rattle.std.proofs.lemmas.Str.{chars-nil, utf8_valid_len_le}
 use Rattle.bidi.proofs.TextCutLemmas.{some_chars}
 use Rattle.stream.proofs.Utf8Lemmas.{utf8_front}
-use Rattle.tool.specs.Commands.{command_of}
-use Rattle.tool.specs.Scripts.{LacksPiece, Command, command_in, command_of_line}
+use Rattle.script_commands.specs.Parsed.{command_of}
+use Rattle.tool.specs.Scripts.{command_of_line}
+use Rattle.script_commands.specs.Commands.{LacksPiece, Command, command_in}
 use Rattle.tool.proofs.script.read_line.Goals as goal
 use Rattle.tool.specs.declared.script.TheConstants.{LINE_LIMIT}
 

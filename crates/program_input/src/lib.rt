@@ -1,0 +1,12 @@
+//! The input of a program: its arguments, the folder of installed table files, and its texts.
+//!
+//! These functions are all that the command needs besides edit scripts.
+#![tactic(auto)]
+
+mod args;
+mod installed;
+mod texts;
+
+pub use args::{arguments, as_texts, with_folder};
+pub use installed::installed_folder;
+pub use texts::{read_text, write_texts};

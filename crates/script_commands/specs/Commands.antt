@@ -1,0 +1,157 @@
+-- The command of each line of an edit script.
+use Rattle.std.specs.Prelude.{◌≡◌, ◌<◌, ℕ, zero, suc, ◌+◌, ◌*◌, ◌-◌, ◌==◌, nat_lt, nat_le, ◌&&◌, ◌||◌, Bool, List, [], ◌∷◌, length, fold, take, drop, take_while, slice_index, codes, Option, Some, None, is_some, true, option_map, if◌then◌else◌}
+use Rattle.std.specs.Char.{digit_value, is_digit}
+use Rattle.std.specs.Cmp.Lexicographic.{pointwise}
+use Rattle.std.specs.List.{after_first, before_first, list_all, position_or_len}
+use Rattle.script_commands.specs.declared.commands.Query.{Query}
+use Rattle.script_commands.specs.declared.commands.Query.TheVariants as ask
+
+-- A command inserts a text before the character at a position, deletes characters from a position on, sets
+-- the width, prints all lines, or replies to a query.
+pub data Command : Type 0 where
+  Insert : (pos : ℕ) (piece : List ℕ) → Command
+  Delete : (pos count : ℕ) → Command
+  SetWidth : (width : ℕ) → Command
+  Show : Command
+  Ask : (query : Query) → Command
+
+-- the number that 1 to 9 decimal digits denote
+abbrev pub number_by : ℕ → List ℕ → ℕ
+number_by radix digits = fold (λ n d. radix * n + digit_value d) 0 digits
+
+abbrev pub are_digits : ℕ → List ℕ → Bool
+are_digits radix text = list_all (λ c. is_digit c radix) text
+
+abbrev pub number_in : List ℕ → Option ℕ
+number_in text = if nat_lt 0 (length text) && (nat_le (length text) 9 && are_digits 10 text) then Some (number_by 10 text) else None
+
+-- An escape is a backslash and `n`, `r`, another backslash, or `u{H}`. H is a Unicode scalar value in 1 to 6
+-- hexadecimal digits. From the text after the backslash, these definitions compute the character and the
+-- length of the whole escape.
+abbrev pub is_character : ℕ → Bool
+is_character n = nat_lt n 0xD800 || (nat_le 0xE000 n && nat_le n 0x10FFFF)
+
+abbrev pub braced_by : List ℕ → List ℕ → Option (ℕ × ℕ)
+braced_by digits text =
+    if nat_lt 0 (length digits) && (nat_le (length digits) 6 && (slice_index text (length digits) == 125 && is_character (number_by 16 digits)))
+    then Some (number_by 16 digits, length digits + 4) else None
+
+abbrev pub braced : List ℕ → Option (ℕ × ℕ)
+braced text = braced_by (take_while (λ c. is_digit c 16) text) text
+
+abbrev pub escaped : List ℕ → Option (ℕ × ℕ)
+escaped text =
+    if slice_index text 0 == 110 then Some (10, 2)
+    else (if slice_index text 0 == 114 then Some (13, 2)
+    else (if slice_index text 0 == 92 then Some (92, 2)
+    else (if slice_index text 0 == 117 && slice_index text 1 == 123 then braced (drop 2 text) else None)))
+
+-- the first character that a text represents, and the number of characters that represent it
+abbrev pub written : ℕ → List ℕ → Option (ℕ × ℕ)
+written c after = if c == 92 then escaped after else Some (c, 1)
+
+-- the characters that a text represents after its first `skip` characters, which belong to an escape
+abbrev pub onto : Option (ℕ × ℕ) → (ℕ → Option (List ℕ)) → Option (List ℕ)
+onto None others = None
+onto (Some (c, len)) others = option_map (λ cs. c ∷ cs) (others len)
+
+unfoldable pub unescaped_after : ℕ → List ℕ → Option (List ℕ)
+unescaped_after skip [] = Some []
+unescaped_after (suc skip) (c ∷ text) = unescaped_after skip text
+unescaped_after zero (c ∷ text) = onto (written c text) (λ len. unescaped_after (len - 1) text)
+
+abbrev pub unescaped : List ℕ → Option (List ℕ)
+unescaped text = unescaped_after 0 text
+
+-- the parts of a text before and after its first space
+abbrev pub is_space : ℕ → Bool
+is_space c = c == 32
+
+abbrev pub parted : List ℕ → Option (List ℕ × List ℕ)
+parted text = if nat_lt (position_or_len is_space text) (length text) then Some (before_first is_space text, after_first is_space text) else None
+
+-- the rest of a text after a prefix, if the text starts with that prefix
+abbrev pub stripped : List ℕ → List ℕ → Option (List ℕ)
+stripped word text = if pointwise (◌==◌) (take (length word) text) word then Some (drop (length word) text) else None
+
+-- `insert POS TEXT`, `delete POS COUNT`, `width N` and `show`
+abbrev pub insertion_of : Option ℕ → Option (List ℕ) → Option Command
+insertion_of (Some pos) (Some piece) = Some (Insert pos piece)
+insertion_of (Some pos) None = None
+insertion_of None piece = None
+
+abbrev pub insertion_in : Option (List ℕ × List ℕ) → Option Command
+insertion_in None = None
+insertion_in (Some (pos, text)) = insertion_of (number_in pos) (unescaped text)
+
+-- A text whose escapes are valid represents more characters than were kept.
+pub record LacksText (text kept : List ℕ) : Type 0 where
+  pub whole : List ℕ
+  pub right : unescaped text ≡ Some whole
+  pub short : length kept < length whole
+
+-- The text of an insert at a valid position represents more characters than were kept.
+pub record LacksPieceIn (text kept : List ℕ) : Type 0 where
+  pub pos : List ℕ
+  pub piece : List ℕ
+  pub parts : parted text ≡ Some (pos, piece)
+  pub place : is_some (number_in pos) ≡ true
+  pub some : 0 < length piece
+  pub lacks : LacksText piece kept
+
+pub record LacksPiece (line kept : List ℕ) : Type 0 where
+  pub rest : List ℕ
+  pub word : stripped (codes "insert ") line ≡ Some rest
+  pub piece : LacksPieceIn rest kept
+
+abbrev pub deletion_of : Option ℕ → Option ℕ → Option Command
+deletion_of (Some pos) (Some count) = Some (Delete pos count)
+deletion_of (Some pos) None = None
+deletion_of None count = None
+
+abbrev pub deletion_in : Option (List ℕ × List ℕ) → Option Command
+deletion_in None = None
+deletion_in (Some (pos, count)) = deletion_of (number_in pos) (number_in count)
+
+abbrev pub command_by : Option (List ℕ) → Option (List ℕ) → Option (List ℕ) → Option (List ℕ) → Option Command
+command_by (Some rest) insert delete width = if length rest == 0 then Some Show else None
+command_by None (Some rest) delete width = insertion_in (parted rest)
+command_by None None (Some rest) width = deletion_in (parted rest)
+command_by None None None (Some rest) = option_map SetWidth (number_in rest)
+command_by None None None None = None
+
+abbrev pub edit_command_in : List ℕ → Option Command
+edit_command_in line =
+    command_by (stripped (codes "show") line) (stripped (codes "insert ") line) (stripped (codes "delete ") line) (stripped (codes "width ") line)
+
+-- `lines FIRST COUNT`, `caret POS`, `hit LINE COLUMN`, `cluster POS`, `size` and `text POS COUNT`
+abbrev pub both_of : Option ℕ → Option ℕ → Option (ℕ × ℕ)
+both_of (Some a) (Some b) = Some (a, b)
+both_of (Some a) None = None
+both_of None b = None
+
+abbrev pub both_in : Option (List ℕ × List ℕ) → Option (ℕ × ℕ)
+both_in None = None
+both_in (Some (a, b)) = both_of (number_in a) (number_in b)
+
+abbrev pub query_by : Option (List ℕ) → Option (List ℕ) → Option (List ℕ) → Option (List ℕ) → Option (List ℕ) → Option (List ℕ) → Option Query
+query_by (Some rest) caret hit cluster size text = option_map (λ n. ask.Lines n.0 n.1) (both_in (parted rest))
+query_by None (Some rest) hit cluster size text = option_map ask.Caret (number_in rest)
+query_by None None (Some rest) cluster size text = option_map (λ n. ask.Hit n.0 n.1) (both_in (parted rest))
+query_by None None None (Some rest) size text = option_map ask.Cluster (number_in rest)
+query_by None None None None (Some rest) text = if length rest == 0 then Some ask.Size else None
+query_by None None None None None (Some rest) = option_map (λ n. ask.Text n.0 n.1) (both_in (parted rest))
+query_by None None None None None None = None
+
+abbrev pub query_in : List ℕ → Option Query
+query_in line =
+    query_by (stripped (codes "lines ") line) (stripped (codes "caret ") line) (stripped (codes "hit ") line) (stripped (codes "cluster ") line)
+    (stripped (codes "size") line) (stripped (codes "text ") line)
+
+-- if queries are allowed, a line that is no other command may be a query
+abbrev pub or_query : Option Command → Option Query → Option Command
+or_query (Some command) query = Some command
+or_query None query = option_map Ask query
+
+abbrev pub command_in : Bool → List ℕ → Option Command
+command_in queries line = or_query (edit_command_in line) (if queries then query_in line else None)

@@ -1,0 +1,342 @@
+//! Parses the lines of an edit script.
+ghost use Rattle.std.specs.Prelude.{◌≡◌, ◌+◌, ◌<◌, ◌≤◌, ◌^◌, List, ℕ, take, drop, length, true};
+ghost use Rattle.std.specs.Prelude.{IfOk, IfSome, None, OnErr, Some, is_some, option_map};
+ghost use Rattle.std.specs.Prelude.{if◌then◌else◌, string_bytes};
+ghost use Rattle.std.specs.List.{prefix_len};
+ghost use Rattle.std.specs.Char.{is_digit};
+ghost use Rattle.std.specs.Str.{chars};
+ghost use Rattle.script_commands.specs.Parsed.{command_of};
+ghost use Rattle.script_commands.specs.Commands.{LacksPiece, LacksPieceIn, LacksText};
+ghost use Rattle.script_commands.specs.Commands.{Ask, SetWidth, are_digits, both_in, braced, deletion_in};
+ghost use Rattle.script_commands.specs.Commands.{edit_command_in, escaped, insertion_in, number_by, number_in};
+ghost use Rattle.script_commands.specs.Commands.{parted, query_in, command_in, stripped, unescaped, written};
+
+use std::alloc::AllocError;
+
+/// A query about the current text. Positions count characters. Positions, lines and columns start at 0.
+#[derive(Clone, Copy, Debug, PartialEq, Eq)]
+pub enum Query {
+    /// A range of lines. The fields are the first line and the number of lines.
+    Lines(usize, usize),
+    /// The screen column at which to draw the caret before the character at a position.
+    Caret(usize),
+    /// The character at a place on the screen. The fields are the line and the screen column.
+    Hit(usize, usize),
+    /// The grapheme cluster of the character at a position.
+    Cluster(usize),
+    /// The numbers of characters, lines and paragraphs.
+    Size,
+    /// A range of characters. The fields are the position of the first character and the number of
+    /// characters.
+    Text(usize, usize),
+}
+
+/// A command, which is one line of a script.
+#[derive(Clone, Copy, Debug, PartialEq, Eq)]
+pub enum Command {
+    /// Inserts a text before the character at a position. The text is passed separately from the command.
+    Insert(usize),
+    /// Deletes characters. The fields are the position of the first character and the number of characters.
+    Delete(usize, usize),
+    /// Sets the width, in columns.
+    SetWidth(usize),
+    /// Writes all lines.
+    Show,
+    /// Replies to a query.
+    Ask(Query),
+}
+
+const SHOW: [char; 4] = ['s', 'h', 'o', 'w'];
+
+const INSERT: [char; 7] = ['i', 'n', 's', 'e', 'r', 't', ' '];
+
+const DELETE: [char; 7] = ['d', 'e', 'l', 'e', 't', 'e', ' '];
+
+const WIDTH: [char; 6] = ['w', 'i', 'd', 't', 'h', ' '];
+
+const LINES: [char; 6] = ['l', 'i', 'n', 'e', 's', ' '];
+
+const CARET: [char; 6] = ['c', 'a', 'r', 'e', 't', ' '];
+
+const HIT: [char; 4] = ['h', 'i', 't', ' '];
+
+const CLUSTER: [char; 8] = ['c', 'l', 'u', 's', 't', 'e', 'r', ' '];
+
+const SIZE: [char; 4] = ['s', 'i', 'z', 'e'];
+
+const TEXT: [char; 5] = ['t', 'e', 'x', 't', ' '];
+
+/// Parses a line, which may be a query only if `queries` is true. Returns `None` if the line is not valid.
+/// Stores the text of an insert in `piece`.
+pub fn read_command(
+    queries: bool,
+    line: &[char],
+    piece: &mut String,
+) -> Result<Option<Command>, AllocError>
+    ensures ok { IfOk result (λ command. option_map (command_of (string_bytes piece.new)) command
+        ≡ command_in queries line.now) }
+    ensures memory { OnErr result (LacksPiece line.now (chars (string_bytes piece.new))) }
+{
+    match read_edit_command(line, piece) {
+        Ok(None) if queries => Ok(read_query(line)),
+        command => command,
+    }
+}
+
+// Parses a line as a query. Returns `None` if the line is not a query.
+fn read_query(line: &[char]) -> Option<Command>
+    ensures { (piece : List ℕ)
+        → option_map (command_of piece) result ≡ option_map Ask (query_in line.now) }
+{
+    Some(Command::Ask(parse_query(line)?))
+}
+
+fn parse_query(line: &[char]) -> Option<Query>
+    ensures { result ≡ query_in line.now }
+{
+    if let Some(rest) = after(&LINES, line) {
+        let (first, count) = both(rest)?;
+        return Some(Query::Lines(first, count));
+    }
+    if let Some(rest) = after(&CARET, line) {
+        return Some(Query::Caret(number(rest)?));
+    }
+    if let Some(rest) = after(&HIT, line) {
+        let (n, column) = both(rest)?;
+        return Some(Query::Hit(n, column));
+    }
+    if let Some(rest) = after(&CLUSTER, line) {
+        return Some(Query::Cluster(number(rest)?));
+    }
+    if let Some(rest) = after(&SIZE, line) {
+        return if rest.is_empty() {
+            Some(Query::Size)
+        } else {
+            None
+        };
+    }
+    let (pos, count) = both(after(&TEXT, line)?)?;
+    Some(Query::Text(pos, count))
+}
+
+// Parses two numbers with a space between them.
+fn both(text: &[char]) -> Option<(usize, usize)>
+    ensures { result ≡ both_in (parted text.now) }
+{
+    let (one, other) = words(text)?;
+    Some((number(one)?, number(other)?))
+}
+
+// Parses a line that is not a query.
+fn read_edit_command(line: &[char], piece: &mut String) -> Result<Option<Command>, AllocError>
+    ensures ok { IfOk result (λ command. option_map (command_of (string_bytes piece.new)) command
+        ≡ edit_command_in line.now) }
+    ensures memory { OnErr result (LacksPiece line.now (chars (string_bytes piece.new))) }
+{
+    if let Some(rest) = after(&SHOW, line) {
+        return Ok(if rest.is_empty() {
+            Some(Command::Show)
+        } else {
+            None
+        });
+    }
+    if let Some(rest) = after(&INSERT, line) {
+        return insertion(rest, piece);
+    }
+    if let Some(rest) = after(&DELETE, line) {
+        return Ok(deletion(rest));
+    }
+    match after(&WIDTH, line) {
+        Some(rest) => Ok(width(rest)),
+        None => Ok(None),
+    }
+}
+
+fn insertion(text: &[char], piece: &mut String) -> Result<Option<Command>, AllocError>
+    ensures ok { IfOk result (λ command. option_map (command_of (string_bytes piece.new)) command
+        ≡ insertion_in (parted text.now)) }
+    ensures memory { OnErr result (LacksPieceIn text.now (chars (string_bytes piece.new))) }
+{
+    let Some((pos, text)) = words(text) else {
+        return Ok(None);
+    };
+    let Some(pos) = number(pos) else {
+        return Ok(None);
+    };
+    match unescape(text, piece) {
+        Ok(true) => Ok(Some(Command::Insert(pos))),
+        Ok(false) => Ok(None),
+        Err(error) => Err(error),
+    }
+}
+
+fn deletion(text: &[char]) -> Option<Command>
+    ensures { (piece : List ℕ) → option_map (command_of piece) result ≡ deletion_in (parted text.now) }
+{
+    let (pos, count) = words(text)?;
+    Some(Command::Delete(number(pos)?, number(count)?))
+}
+
+fn width(text: &[char]) -> Option<Command>
+    ensures { (piece : List ℕ)
+        → option_map (command_of piece) result ≡ option_map SetWidth (number_in text.now) }
+{
+    Some(Command::SetWidth(number(text)?))
+}
+
+// Returns the rest of a text after the prefix `word`, if the text has this prefix.
+fn after<'a>(word: &[char], text: &'a [char]) -> Option<&'a [char]>
+    ensures { option_map (λ rest. rest.now) result ≡ stripped word.now text.now }
+{
+    text.strip_prefix(word)
+}
+
+// Returns the parts of a text before and after its first space, if it has one.
+fn words(text: &[char]) -> Option<(&[char], &[char])>
+    ensures { option_map (λ words. (words.0.now, words.1.now)) result ≡ parted text.now }
+{
+    match text.iter().position(|&c| c == ' ') {
+        Some(at) => Some((&text[..at], &text[at + 1..])),
+        None => None,
+    }
+}
+
+// Parses a number of 1 to 9 decimal digits.
+fn number(text: &[char]) -> Option<usize>
+    ensures { result ≡ number_in text.now }
+{
+    if text.is_empty() || text.len() > 9 || !are_digits(text, 10) {
+        return None;
+    }
+    Some(value(text, 10))
+}
+
+fn are_digits(text: &[char], radix: u32) -> bool
+    requires { (2 ≤ radix) × (radix ≤ 16) }
+    ensures { result ≡ are_digits radix text.now }
+{
+    for c in text {
+        if !c.is_digit(radix) {
+            return false;
+        }
+    }
+    true
+}
+
+// Returns the number that digits represent in a radix.
+fn value(digits: &[char], radix: u32) -> usize
+    requires radix { (2 ≤ radix) × (radix ≤ 16) }
+    requires digits { are_digits radix digits.now ≡ true }
+    requires few { length digits.now ≤ 9 }
+    ensures value { result ≡ number_by radix digits.now }
+    ensures bound { result < radix ^ length digits.now }
+{
+    let mut number = 0;
+    for c in digits {
+        match c.to_digit(radix) {
+            Some(digit) => number = radix as usize * number + digit as usize,
+            None => unreachable!(),
+        }
+    }
+    number
+}
+
+// Returns whether all escapes in a text are valid.
+fn has_right_escapes(text: &[char]) -> bool
+    ensures { result ≡ is_some (unescaped text.now) }
+{
+    let mut at = 0;
+    while at < text.len() {
+        match written(text[at], &text[at + 1..]) {
+            Some((_, len)) => at += len,
+            None => return false,
+        }
+    }
+    true
+}
+
+// Replaces the escapes in a text, and stores the result in `piece`. Returns `false` if an escape is not
+// valid. Checks the escapes before allocating.
+fn unescape(text: &[char], piece: &mut String) -> Result<bool, AllocError>
+    ensures ok { IfOk result (λ right.
+        (if right then Some (chars (string_bytes piece.new)) else None) ≡ unescaped text.now) }
+    ensures memory { OnErr result (0 < length text.now) }
+    ensures lacks { OnErr result (LacksText text.now (chars (string_bytes piece.new))) }
+{
+    if !has_right_escapes(text) {
+        return Ok(false);
+    }
+    piece.clear();
+    let mut at = 0;
+    while at < text.len() {
+        match written(text[at], &text[at + 1..]) {
+            Some((c, len)) => {
+                piece.push(c)?;
+                at += len;
+            }
+            None => return Ok(false),
+        }
+    }
+    Ok(true)
+}
+
+// Returns the first character that a text represents, and the number of characters that represent it.
+fn written(c: char, after: &[char]) -> Option<(char, usize)>
+    ensures value { result ≡ written c after.now }
+    ensures within { IfSome result (λ w. (0 < w.1) × (w.1 ≤ length after.now + 1)) }
+{
+    if c == '\\' {
+        escaped(after)
+    } else {
+        Some((c, 1))
+    }
+}
+
+// Returns the character of an escape and the length of the whole escape, given the text after its backslash.
+fn escaped(text: &[char]) -> Option<(char, usize)>
+    ensures value { result ≡ escaped text.now }
+    ensures within { IfSome result (λ w. (0 < w.1) × (w.1 ≤ length text.now + 1)) }
+{
+    let letter = *text.first()?;
+    if letter == 'n' {
+        Some(('\n', 2))
+    } else if letter == 'r' {
+        Some(('\r', 2))
+    } else if letter == '\\' {
+        Some(('\\', 2))
+    } else if letter == 'u' && text.len() > 1 && text[1] == '{' {
+        braced(&text[2..])
+    } else {
+        None
+    }
+}
+
+// Returns the character of an escape `\u{H}` and the length of the whole escape, given the text after `\u{`.
+fn braced(text: &[char]) -> Option<(char, usize)>
+    ensures value { result ≡ braced text.now }
+    ensures within { IfSome result (λ w. (0 < w.1) × (w.1 ≤ length text.now + 3)) }
+{
+    let len = hex_len(text);
+    if len == 0 || len > 6 || len == text.len() || text[len] != '}' {
+        return None;
+    }
+    let number = value(&text[..len], 16);
+    match char::from_u32(number as u32) {
+        Some(c) => Some((c, len + 4)),
+        None => None,
+    }
+}
+
+// Returns the number of hexadecimal digits at the start of a text.
+fn hex_len(text: &[char]) -> usize
+    ensures len { result ≡ prefix_len (λ c. is_digit c 16) text.now }
+    ensures within { result ≤ length text.now }
+    ensures digits { are_digits 16 (take result text.now) ≡ true }
+{
+    for (at, c) in text.iter().enumerate() {
+        if !c.is_digit(16) {
+            return at;
+        }
+    }
+    text.len()
+}
