@@ -143,7 +143,7 @@ breaks_between c d before after one other =
     let conjunct = none_joined (ends_in_linker (map indic_conjunct_break (c ∷ before))) _ (not_consonant _ d_parts.1) in
     rw (conjunct, no_joiner _ c_parts.0, no_flag _ c_parts.0) (parts_of (break_by_pair true (grapheme_cluster_break c) (grapheme_cluster_break d)) (by_pair _ _ c_parts.0 d_parts.0))
 
-ends_apart : (before text : List ℕ) → list_all is_alone text ≡ true → ends_after before text ≡ map (λ _. true) text
+ends_apart : (before text : List ℕ) → list_all is_alone text ≡ true → ends_after (is_grapheme_break true) before text ≡ map (λ _. true) text
 ends_apart before [] all = refl
 ends_apart before (c ∷ []) all = unfold is_grapheme_break in refl
 ends_apart before (c ∷ d ∷ text) all =

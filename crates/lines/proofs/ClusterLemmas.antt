@@ -9,7 +9,9 @@ use Rattle.std.specs.Prelude.{encode_utf8, encode_utf8_all}
 use Rattle.std.specs.Str.{chars, IsUtf8}
 use Rattle.unicode_segmentation.specs.Grapheme.{graphemes, is_grapheme_break}
 use Rattle.unicode_segmentation.specs.Segments.{Rule, cut, prepend, segments}
+use Rattle.unicode_segmentation.specs.Word.{is_word_break, word_bounds}
 use Rattle.lines.specs.Clusters.{cluster_ends, ends_after, ends_of}
+use Rattle.lines.specs.Words.{word_ends}
 
 -- for each character of a cluster, whether the cluster ends after it: true for the last character only
 abbrev ends_of_piece : List ℕ → List Bool
@@ -40,16 +42,19 @@ ends_attach false c d p ps =
     let more : length (c ∷ (d ∷ p)) - 1 ≡ suc (length (d ∷ p) - 1) = omega arith in
     ap (λ n. (replicate n false ++ true ∷ []) ++ flat_map ends_of_piece ps) more
 
-ends_of_cut : (before cs : List ℕ) → flat_map ends_of_piece (cut (is_grapheme_break true) before cs []) ≡ ends_after before cs
+-- A rule that ends a segment at the end of the text.
+abbrev pub EndsAtEnd : Rule → Type 0
+EndsAtEnd rule = (before : List ℕ) (c : ℕ) → rule (c ∷ before) [] ≡ true
+
+ends_of_cut : (rule : Rule) → EndsAtEnd rule → (before cs : List ℕ) → flat_map ends_of_piece (cut rule before cs []) ≡ ends_after rule before cs
 unfolding cut
-ends_of_cut before [] = refl
-ends_of_cut before (c ∷ []) = unfold is_grapheme_break in refl
-ends_of_cut before (c ∷ (d ∷ cs)) =
-    let rule = is_grapheme_break true in
+ends_of_cut rule last before [] = refl
+ends_of_cut rule last before (c ∷ []) = rw (last before c) refl
+ends_of_cut rule last before (c ∷ (d ∷ cs)) =
     let inner = cut_begins rule (c ∷ before) d cs [] in
     let b = rule (c ∷ before) ((d ∷ cs) ++ []) in
     ap (λ rest. flat_map ends_of_piece (attach b c rest)) inner.2 ∙ ends_attach b c d inner.0 inner.1
-    ∙ ap₂ ◌∷◌ (ap (rule (c ∷ before)) (append-nil (d ∷ cs))) (ap (flat_map ends_of_piece) (sym inner.2) ∙ ends_of_cut (c ∷ before) (d ∷ cs))
+    ∙ ap₂ ◌∷◌ (ap (rule (c ∷ before)) (append-nil (d ∷ cs))) (ap (flat_map ends_of_piece) (sym inner.2) ∙ ends_of_cut rule last (c ∷ before) (d ∷ cs))
 
 -- concatenating the pieces gives the original characters
 concat_attach : (b : Bool) (c : ℕ) (pieces : List (List ℕ)) → concat (attach b c pieces) ≡ c ∷ concat pieces
@@ -78,12 +83,19 @@ ends_of_bytes (p ∷ ps) h =
     let parts = scalars_parts p (concat ps) h in
     ap₂ ◌++◌ (ap ends_of_piece (chars-encodes p parts.0)) (ends_of_bytes ps parts.1)
 
-pub ends_of_graphemes : (bs : List ℕ) → IsUtf8 bs → flat_map ends_of (graphemes true bs) ≡ cluster_ends (chars bs)
-unfolding segments cluster_ends
-ends_of_graphemes bs u =
-    let rule = is_grapheme_break true in
+ends_of_segments : (rule : Rule) → EndsAtEnd rule → (bs : List ℕ) → IsUtf8 bs → flat_map ends_of (segments rule bs) ≡ ends_after rule [] (chars bs)
+unfolding segments
+ends_of_segments rule last bs u =
     let all : scalars (concat (cut rule [] (chars bs) [])) ≡ true = ap scalars (concat_cut rule [] (chars bs) []) ∙ scalars-chars bs u in
-    ends_of_bytes _ all ∙ ends_of_cut [] (chars bs)
+    ends_of_bytes _ all ∙ ends_of_cut rule last [] (chars bs)
+
+pub ends_of_graphemes : (bs : List ℕ) → IsUtf8 bs → flat_map ends_of (graphemes true bs) ≡ cluster_ends (chars bs)
+unfolding cluster_ends
+ends_of_graphemes bs u = ends_of_segments (is_grapheme_break true) (λ before c. unfold is_grapheme_break in refl) bs u
+
+pub ends_of_words : (bs : List ℕ) → IsUtf8 bs → flat_map ends_of (word_bounds bs) ≡ word_ends (chars bs)
+unfolding word_ends
+ends_of_words bs u = ends_of_segments is_word_break (λ before c. unfold is_word_break in refl) bs u
 
 -- decoding the UTF-8 bytes of characters gives these characters
 bytes_of_each : (cs : List ℕ) → flat_map encode_utf8 cs ≡ encode_utf8_all cs
@@ -97,18 +109,25 @@ spelled char items text bytes same e u =
     sym (chars_from_encodes text bytes u (sym (e ∙ sym all ∙ ap (flat_map encode_utf8) same ∙ bytes_of_each text)))
 
 -- `cluster_ends` has one item per character
-length_ends_after : (before text : List ℕ) → length (ends_after before text) ≡ length text
-length_ends_after before [] = refl
-length_ends_after before (c ∷ text) = ap suc (length_ends_after (c ∷ before) text)
+length_ends_after : (rule : Rule) (before text : List ℕ) → length (ends_after rule before text) ≡ length text
+length_ends_after rule before [] = refl
+length_ends_after rule before (c ∷ text) = ap suc (length_ends_after rule (c ∷ before) text)
 
 pub length-cluster_ends : (text : List ℕ) → length (cluster_ends text) ≡ length text
 unfolding cluster_ends
-length-cluster_ends text = length_ends_after [] text
+length-cluster_ends text = length_ends_after (is_grapheme_break true) [] text
 
--- an empty text has no cluster ends
+pub length-word_ends : (text : List ℕ) → length (word_ends text) ≡ length text
+unfolding word_ends
+length-word_ends text = length_ends_after is_word_break [] text
+
+-- an empty text has no cluster ends and no word boundaries
+empty : (ends : List Bool) → length ends ≡ 0 → ends ≡ []
+empty [] none = refl
+empty (e ∷ ends) none = absurd (omega arith)
+
 pub no_ends : (text : List ℕ) → length text ≡ 0 → cluster_ends text ≡ []
 no_ends text none = empty (cluster_ends text) (length-cluster_ends text ∙ none)
-  where
-    empty : (ends : List Bool) → length ends ≡ 0 → ends ≡ []
-    empty [] none = refl
-    empty (e ∷ ends) none = absurd (omega arith)
+
+pub no_words : (text : List ℕ) → length text ≡ 0 → word_ends text ≡ []
+no_words text none = empty (word_ends text) (length-word_ends text ∙ none)

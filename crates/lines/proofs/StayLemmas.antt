@@ -16,7 +16,7 @@ use Rattle.lines.specs.Clusters.{cluster_ends}
 use Rattle.lines.specs.Filling.{by_break, by_cluster, cluster_ends_at, columns, first_end, fits, fits_to, is_break, is_must, line_end}
 use Rattle.lines.specs.Filling.{line_len, line_starts_of, may_end, must_end, or_else, place_at, shown, starts, stop}
 use Rattle.lines.specs.Layouts.{IsLaidOut, Layout, Rules, base_of, is_line_within, lines_of}
-use Rattle.lines.specs.CharInfos.{info, infos, infos_of}
+use Rattle.lines.specs.CharInfos.{infos, infos_of}
 use Rattle.lines.specs.Visual.{lines_from}
 use Rattle.lines.specs.declared.options.Options.{Options}
 use Rattle.lines.specs.declared.char_info.CharInfo.{CharInfo}

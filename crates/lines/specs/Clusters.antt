@@ -3,16 +3,18 @@
 use Rattle.std.specs.Prelude.{ℕ, ◌-◌, nat_le, Bool, true, false, ◌&&◌, ◌||◌, List, [], ◌∷◌, ◌++◌, length, replicate}
 use Rattle.std.specs.Str.{chars}
 use Rattle.unicode_segmentation.specs.Grapheme.{is_grapheme_break}
+use Rattle.unicode_segmentation.specs.Segments.{Rule}
 
--- whether a cluster ends after each character of a text; `before` has the characters before the text, the nearest first
-abbrev pub ends_after : List ℕ → List ℕ → List Bool
-ends_after before [] = []
-ends_after before (c ∷ text) = is_grapheme_break true (c ∷ before) text ∷ ends_after (c ∷ before) text
+-- whether a segment by a rule, such as a cluster or a word, ends after each character of a text; `before` has the characters
+-- before the text, the nearest first
+abbrev pub ends_after : Rule → List ℕ → List ℕ → List Bool
+ends_after rule before [] = []
+ends_after rule before (c ∷ text) = rule (c ∷ before) text ∷ ends_after rule (c ∷ before) text
 
 unfoldable pub cluster_ends : List ℕ → List Bool
-cluster_ends text = ends_after [] text
+cluster_ends text = ends_after (is_grapheme_break true) [] text
 
--- the ends of one cluster, given its bytes: true for its last character only
+-- the ends of one segment, given its bytes: true for its last character only
 abbrev pub ends_of : List ℕ → List Bool
 ends_of cluster = replicate (length (chars cluster) - 1) false ++ true ∷ []
 

@@ -22,4 +22,5 @@ pub mod Spans
 pub mod Sums
 pub mod Visual
 pub mod Whole
+pub mod Words
 pub mod Writing

@@ -1,8 +1,10 @@
-//! Finds where the grapheme clusters of a paragraph end (UAX #29), using the crate `unicode_segmentation`.
+//! Finds where the grapheme clusters and the words of a paragraph end (UAX #29), using the crate
+//! `unicode_segmentation`.
 ghost use Rattle.std.specs.Prelude.{◌≡◌, ◌<◌, ◌++◌, length, IfOk, OnErr, OnOk};
 ghost use Rattle.std.specs.List.{list_all};
 ghost use Rattle.lines.specs.Bare.{with_ends};
 ghost use Rattle.lines.specs.Clusters.{cluster_ends, ends_of, is_alone};
+ghost use Rattle.lines.specs.Words.{word_ends};
 
 use crate::char_info::CharInfo;
 use std::alloc::{AllocError, Global};
@@ -24,6 +26,23 @@ pub fn cluster_ends(alloc: Global, text: &[char]) -> Result<Vec<bool>, AllocErro
     let mut ends = Vec::with_capacity(alloc, text.len())?;
     for cluster in utf8.graphemes(true) {
         push_ends(&mut ends, cluster)?;
+    }
+    Ok(ends)
+}
+
+/// Returns, for each character of a paragraph, whether there is a word boundary after it.
+pub fn word_ends(alloc: Global, text: &[char]) -> Result<Vec<bool>, AllocError>
+    ensures ends { IfOk result (λ ends. ends.items ≡ word_ends text.now) }
+    ensures len { IfOk result (λ ends. length ends.items ≡ length text.now) }
+    ensures memory { OnErr result (0 < length text.now) }
+{
+    if text.is_empty() {
+        return Ok(Vec::new(alloc));
+    }
+    let utf8: String = text.iter().collect(alloc)?;
+    let mut ends = Vec::with_capacity(alloc, text.len())?;
+    for word in utf8.split_word_bounds() {
+        push_ends(&mut ends, word)?;
     }
     Ok(ends)
 }

@@ -216,6 +216,7 @@ impl Laid {
     ghost use Rattle.lines.specs.Beginnings.{BeginInOrder};
     ghost use Rattle.lines.specs.Clusters.{cluster_ends};
     ghost use Rattle.lines.specs.Layouts.{Rules, lines_of};
+    ghost use Rattle.lines.specs.Words.{word_ends};
 
     /// States, as a theorem, that the lines of a paragraph start in order, the first one at 0, for any
     /// tables, options and width. `Laid::line_starts` returns these starts. Costs nothing at run time.
@@ -237,5 +238,14 @@ impl Laid {
         ensures memory { OnErr result (0 < length self.now.text) }
     {
         crate::clusters::cluster_ends(alloc, &self.text)
+    }
+
+    /// Returns, for each character, whether there is a word boundary after it (UAX #29).
+    pub fn word_ends(&self, alloc: std::alloc::Global) -> Result<Vec<bool>, std::alloc::AllocError>
+        ensures ends { IfOk result (λ ends. ends.items ≡ word_ends self.now.text) }
+        ensures len { IfOk result (λ ends. length ends.items ≡ length self.now.text) }
+        ensures memory { OnErr result (0 < length self.now.text) }
+    {
+        crate::clusters::word_ends(alloc, &self.text)
     }
 }

@@ -12,3 +12,4 @@ pub mod Runs
 pub mod Scans
 pub mod Sessions
 pub mod Touched
+pub mod Words

@@ -18,9 +18,9 @@ pub struct Cluster {
     pub end: usize,
 }
 
-// Returns the start of the cluster of character `k`. `ends[i]` says whether a cluster ends after character
-// `i`.
-fn begin(ends: &[bool], k: usize) -> usize
+/// Returns the start of the cluster of character `k`. `ends[i]` says whether a cluster ends after character
+/// `i`.
+pub fn begin(ends: &[bool], k: usize) -> usize
     requires { k < length ends.now }
     ensures value { result ≡ cluster_begin ends.now k }
     ensures most { result ≤ k }
@@ -35,11 +35,13 @@ fn begin(ends: &[bool], k: usize) -> usize
     0
 }
 
-// Returns the end of the cluster of character `k`. `ends[i]` says whether a cluster ends after character `i`.
-fn end_of(ends: &[bool], k: usize) -> usize
+/// Returns the end of the cluster of character `k`. `ends[i]` says whether a cluster ends after character
+/// `i`.
+pub fn end_of(ends: &[bool], k: usize) -> usize
     requires { k < length ends.now }
     ensures value { result ≡ cluster_end ends.now k }
     ensures most { result ≤ length ends.now }
+    ensures past { k < result }
 {
     let mut last = k;
     while last < ends.len() {

@@ -36,6 +36,7 @@ mod replace;
 mod scan;
 mod session;
 mod width;
+mod words;
 
 pub use carets::Caret;
 pub use clusters::Cluster;
@@ -46,3 +47,4 @@ pub use laws::texts_are_laid_out_in_parts;
 pub use places::Place;
 pub use printing::RangeFault;
 pub use session::Session;
+pub use words::Word;

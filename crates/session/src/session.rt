@@ -20,6 +20,7 @@ ghost use Rattle.session.specs.Reading.{text_part, utf8_len, utf8_part};
 ghost use Rattle.session.specs.Runs.{StopsAt, WorksAtMost};
 ghost use Rattle.session.specs.Sessions.{cuts_at, held_at, page_at, text_at, IsWholeLayout};
 ghost use Rattle.session.specs.Sessions.{Edits, EditsNot, Opens, OpensNot, SetsWidth, SetsWidthNot};
+ghost use Rattle.session.specs.Words.{word_at};
 ghost use Rattle.session.specs.declared.edits.EditFault.TheVariants.{NoMemory};
 
 use crate::carets::{Caret, caret_in};
@@ -33,6 +34,7 @@ use crate::printing::{RangeFault, write_lines};
 use crate::reading::{text_part, utf8_len, write_text};
 use crate::replace::replace;
 use crate::width::set_width;
+use crate::words::{Word, word_of};
 use bidi::paragraphs_are_pieces;
 use device::Sink;
 use lines::{
@@ -227,6 +229,19 @@ impl<S: ParagraphStore<Kept>> Session<S> {
         paragraphs_are_pieces();
         Laid::lines_begin_in_order();
         cluster_of(&self.store, self.alloc, pos)
+    }
+
+    /// Returns the word of the character at a position: the segment between two word boundaries (UAX #29) of
+    /// its paragraph. Returns `None` past the last character. Spaces and punctuation are segments too.
+    /// Allocates a copy of the paragraph, and needs time linear in its length.
+    pub fn word(&self, pos: usize) -> Result<Option<Word>, AllocError>
+        ensures ok { IfOk result (λ word. word ≡ word_at self.now.kept pos) }
+        ensures memory { OnErr result (pos < length (text_at self.now)) }
+    {
+        // By this theorem, no paragraph is empty.
+        paragraphs_are_pieces();
+        Laid::lines_begin_in_order();
+        word_of(&self.store, self.alloc, pos)
     }
 
     /// Of the `count` characters starting at `pos`, returns those in the same paragraph as the first one.

@@ -1,4 +1,4 @@
-use Rattle.std.proofs.Common.{◌≡◌, ◌∙◌, List, ℕ, ◌≤◌, length, ap, subst, sym, arith}
+use Rattle.std.proofs.Common.{◌≡◌, ◌∙◌, List, ℕ, ◌≤◌, length, ap, subst, sym}
 use Rattle.bidi.specs.Levels.{levels_of}
 use Rattle.breaks.specs.Marks.{marks_of}
 use Rattle.lines.specs.Layouts.{base_of, fill_of, Layout}

@@ -1,0 +1,71 @@
+//! The word of a character (UAX #29), for moves by words and for selecting one.
+ghost use Rattle.std.specs.Prelude.{◌≡◌, ◌+◌, ◌^◌, ◌<◌, ◌≤◌, All, length, IfOk, OnErr};
+ghost use Rattle.session.specs.Kept.{text_of};
+ghost use Rattle.session.specs.Places.{IsLined};
+ghost use Rattle.session.specs.Words.{has_letter, word_at, word_by};
+
+use crate::clusters::{begin, end_of};
+use crate::kept::Kept;
+use std::alloc::{AllocError, Global};
+use store::ParagraphStore;
+
+/// A segment between two word boundaries of a text.
+#[derive(Clone, Copy, Debug, PartialEq, Eq)]
+pub struct Word {
+    /// The position of its first character.
+    pub start: usize,
+    /// The position after its last character.
+    pub end: usize,
+    /// Whether it has a letter or a digit. Other segments are spaces and punctuation.
+    pub has_letter: bool,
+}
+
+// Returns whether a text has a letter or a digit.
+fn has_letter(text: &[char]) -> bool
+    ensures { result ≡ has_letter text.now }
+{
+    text.iter().any(|c| c.is_alphanumeric())
+}
+
+// Returns the word of character `k` of a paragraph that starts at the position `start`. `ends` says after
+// which characters there is a boundary.
+fn word_by(start: usize, text: &[char], ends: &[bool], k: usize) -> Word
+    requires within { k < length ends.now }
+    requires ends { length ends.now ≡ length text.now }
+    requires fits { start + length text.now < 2 ^ 64 }
+    ensures { result ≡ word_by start text.now ends.now k }
+{
+    let first = begin(ends, k);
+    let end = end_of(ends, k);
+    Word {
+        start: start + first,
+        end: start + end,
+        has_letter: has_letter(&text[first..end]),
+    }
+}
+
+/// Returns the word of the character at a position, or `None` past the last character.
+pub fn word_of<S: ParagraphStore<Kept>>(
+    store: &S,
+    alloc: Global,
+    pos: usize,
+) -> Result<Option<Word>, AllocError>
+    requires { All IsLined (S.items store.now) }
+    ensures ok { IfOk result (λ word. word ≡ word_at (S.items store.now) pos) }
+    ensures memory { OnErr result (pos < length (text_of (S.items store.now))) }
+{
+    // The contract of `total_chars` bounds the number of characters.
+    let len = store.total_chars();
+    if pos >= len {
+        return Ok(None);
+    }
+    let found = store.find_char(pos);
+    match store.get(found.index) {
+        Some(kept) => {
+            let laid = kept.laid();
+            let ends = laid.word_ends(alloc)?;
+            Ok(Some(word_by(pos - found.rest, laid.text(), &ends, found.rest)))
+        }
+        None => unreachable!(),
+    }
+}
