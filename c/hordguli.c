@@ -176,6 +176,12 @@ PUBLIC hordguli_status hordguli_cluster_at(hordguli_session *session, size_t pos
     return (hordguli_status)hordguli_core_cluster_at(session, pos, cluster);
 }
 
+PUBLIC hordguli_status hordguli_word_at(hordguli_session *session, size_t pos, hordguli_word *word) {
+    if (session == NULL || word == NULL) return HORDGULI_NULL;
+    if (OVERLAP(AT(session), AT(word))) return HORDGULI_OVERLAP;
+    return (hordguli_status)hordguli_core_word_at(session, pos, word);
+}
+
 /* ---- Lines and text ---- */
 
 PUBLIC hordguli_status hordguli_line(hordguli_session *session, size_t line, hordguli_line_info *info, size_t capacity,

@@ -411,6 +411,24 @@ typedef struct hordguli_cluster {
  * Cost: O(log n), plus time and memory proportional to the whole paragraph. */
 hordguli_status hordguli_cluster_at(hordguli_session *session, size_t pos, hordguli_cluster *cluster);
 
+/* The characters from `start` up to but not including `end`. `kind` is 1 if they have a letter or a digit, and 0 for
+ * spaces and punctuation. `zero` is 0. */
+typedef struct hordguli_word {
+    size_t start;
+    size_t end;
+    uint32_t kind;
+    uint32_t zero;
+} hordguli_word;
+
+/* Stores the word of the character at `pos` in `*word`: the segment between two word boundaries (UAX #29) of its
+ * paragraph. Fails with OUT_OF_RANGE if `pos` is the end of the text.
+ *
+ * The next word starts at `word.end`, and the previous one holds the character at `word.start - 1`.
+ *
+ * Errors: NULL, OVERLAP, CLOSED, OUT_OF_RANGE, NO_MEMORY.
+ * Cost: O(log n), plus time and memory proportional to the whole paragraph. */
+hordguli_status hordguli_word_at(hordguli_session *session, size_t pos, hordguli_word *word);
+
 /* ---- Lines and text ---- */
 
 typedef struct hordguli_line_info {

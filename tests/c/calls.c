@@ -262,6 +262,7 @@ static void places(void) {
     hordguli_caret caret = {7, 7, 7, 7};
     hordguli_hit hit = {7, 7, 7};
     hordguli_cluster cluster = {7, 7};
+    hordguli_word word = {7, 7, 7, 7};
     IS(hordguli_line_start(NULL, 0, &start), NULL);
     IS(hordguli_line_start(&session, 0, NULL), NULL);
     IS(hordguli_line_start(&session, 0, (size_t *)&session), OVERLAP);
@@ -287,6 +288,12 @@ static void places(void) {
     IS(hordguli_cluster_at(&session, 0, (hordguli_cluster *)&session), OVERLAP);
     IS(hordguli_cluster_at(&no_session, 0, &cluster), CLOSED);
     IS(hordguli_cluster_at(&session, 18, &cluster), OUT_OF_RANGE);
+    IS(hordguli_word_at(NULL, 0, &word), NULL);
+    IS(hordguli_word_at(&session, 0, NULL), NULL);
+    IS(hordguli_word_at(&session, 0, (hordguli_word *)&session), OVERLAP);
+    IS(hordguli_word_at(&no_session, 0, &word), CLOSED);
+    IS(hordguli_word_at(&session, 18, &word), OUT_OF_RANGE);
+    HOLDS(word.start == 7 && word.end == 7 && word.kind == 7 && word.zero == 7);
     HOLDS(start == 77 && place.line == 7 && caret.line == 7 && hit.pos == 7 && cluster.start == 7);
     OK(hordguli_line_start(&session, 2, &start));
     HOLDS(start == 15);
@@ -298,6 +305,10 @@ static void places(void) {
     HOLDS(caret.line == 0 && caret.column == 6 && caret.level == 1 && caret.zero == 0);
     OK(hordguli_caret_at(&session, 18, &caret));
     HOLDS(caret.line == 2 && caret.column == 3 && caret.level == 0);
+    OK(hordguli_word_at(&session, 5, &word)); /* these letters */
+    HOLDS(word.start == 4 && word.end == 7 && word.kind == 1 && word.zero == 0);
+    OK(hordguli_word_at(&session, 3, &word)); /* the space before them */
+    HOLDS(word.start == 3 && word.end == 4 && word.kind == 0 && word.zero == 0);
     OK(hordguli_hit_at(&session, 0, 4, &hit)); /* the third of these letters */
     HOLDS(hit.pos == 6 && hit.trailing == 0 && hit.zero == 0);
     OK(hordguli_hit_at(&session, 0, 99, &hit));

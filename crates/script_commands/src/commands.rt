@@ -24,6 +24,8 @@ pub enum Query {
     Hit(usize, usize),
     /// The grapheme cluster of the character at a position.
     Cluster(usize),
+    /// The word of the character at a position.
+    Word(usize),
     /// The numbers of characters, lines and paragraphs.
     Size,
     /// A range of characters. The fields are the position of the first character and the number of
@@ -61,6 +63,8 @@ const CARET: [char; 6] = ['c', 'a', 'r', 'e', 't', ' '];
 const HIT: [char; 4] = ['h', 'i', 't', ' '];
 
 const CLUSTER: [char; 8] = ['c', 'l', 'u', 's', 't', 'e', 'r', ' '];
+
+const WORD: [char; 5] = ['w', 'o', 'r', 'd', ' '];
 
 const SIZE: [char; 4] = ['s', 'i', 'z', 'e'];
 
@@ -107,6 +111,9 @@ fn parse_query(line: &[char]) -> Option<Query>
     }
     if let Some(rest) = after(&CLUSTER, line) {
         return Some(Query::Cluster(number(rest)?));
+    }
+    if let Some(rest) = after(&WORD, line) {
+        return Some(Query::Word(number(rest)?));
     }
     if let Some(rest) = after(&SIZE, line) {
         return if rest.is_empty() {

@@ -5,7 +5,7 @@ ghost use Rattle.reorder.specs.Order.{is_odd};
 ghost use Rattle.lines.specs.Writing.{PassedOn};
 ghost use Rattle.session.specs.Kept.{text_of};
 ghost use Rattle.tool.specs.Queries.{caret_text, cluster_text, hit_text, lines_text, part_text};
-ghost use Rattle.tool.specs.Queries.{query_text, size_text};
+ghost use Rattle.tool.specs.Queries.{query_text, size_text, word_text};
 ghost use Rattle.tool.specs.Queries.{empty_left, is_odd_at, screen_hit, screen_left, AnswersNot};
 ghost use Rattle.tool.specs.Reading.{Stops};
 
@@ -126,6 +126,19 @@ fn cluster_answer<S: ParagraphStore<Kept>>(
     }
 }
 
+fn word_answer<S: ParagraphStore<Kept>>(
+    session: &Session<S>,
+    pos: usize,
+) -> Result<Answer, AllocError>
+    ensures ok { IfOk result (λ answer. answer.items ≡ word_text session.now.kept pos) }
+    ensures memory { OnErr result (pos < length (text_of session.now.kept)) }
+{
+    match session.word(pos)? {
+        Some(word) => Ok(told(&[word.start, word.end, usize::from(word.has_letter)])),
+        None => Ok(out_of_range()),
+    }
+}
+
 fn size_answer<S: ParagraphStore<Kept>>(session: &Session<S>) -> Answer
     ensures { result.items ≡ size_text session.now.kept }
 {
@@ -192,7 +205,7 @@ fn write_part<W: Sink, S: ParagraphStore<Kept>>(
 }
 
 /// Writes the reply to a query. `written` is the number of bytes already written, and the returned total
-/// includes it. Allocates only if the query is for a grapheme cluster.
+/// includes it. Allocates only if the query is for a grapheme cluster or a word.
 pub fn write_query<W: Sink, S: ParagraphStore<Kept>>(
     session: &Session<S>,
     writer: &mut W,
@@ -218,6 +231,10 @@ pub fn write_query<W: Sink, S: ParagraphStore<Kept>>(
         Query::Hit(n, column) => hit_answer(session, print, n, column),
         Query::Size => size_answer(session),
         Query::Cluster(pos) => match cluster_answer(session, pos) {
+            Ok(answer) => answer,
+            Err(_) => return Err(RunFault::Memory),
+        },
+        Query::Word(pos) => match word_answer(session, pos) {
             Ok(answer) => answer,
             Err(_) => return Err(RunFault::Memory),
         },
