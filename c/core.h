@@ -72,5 +72,6 @@ uint32_t hordguli_core_marks(hordguli_tables *tables, uint32_t options, const ui
                              uint8_t *marks, size_t room);
 
 uint32_t hordguli_core_count_utf8(const uint8_t *bytes, size_t length, size_t *count);
+uint32_t hordguli_core_valid_utf8(const uint8_t *bytes, size_t length, size_t *valid);
 
 #endif

@@ -275,3 +275,9 @@ PUBLIC hordguli_status hordguli_count_utf8(const char *bytes, size_t length, siz
     if (OVERLAP(AT(count), ARRAY(bytes, length))) return HORDGULI_OVERLAP;
     return (hordguli_status)hordguli_core_count_utf8(BYTES(bytes), length, count);
 }
+
+PUBLIC hordguli_status hordguli_valid_utf8(const char *bytes, size_t length, size_t *valid) {
+    if (valid == NULL || LACKS(bytes, length)) return HORDGULI_NULL;
+    if (OVERLAP(AT(valid), ARRAY(bytes, length))) return HORDGULI_OVERLAP;
+    return (hordguli_status)hordguli_core_valid_utf8(BYTES(bytes), length, valid);
+}

@@ -486,6 +486,12 @@ hordguli_status hordguli_utf8_length(hordguli_session *session, size_t pos, size
  * Cost: O(length). */
 hordguli_status hordguli_count_utf8(const char *bytes, size_t length, size_t *count);
 
+/* Stores in `*valid` the length of the longest prefix of `bytes` that is valid UTF-8: `length` if all of it is, else
+ * the index of the first byte that belongs to no character. An incomplete character at the end is not valid.
+ * Errors: NULL, OVERLAP.
+ * Cost: O(length). */
+hordguli_status hordguli_valid_utf8(const char *bytes, size_t length, size_t *valid);
+
 typedef struct hordguli_paragraph_info {
     size_t length;  /* characters, including the separator */
     size_t lines;

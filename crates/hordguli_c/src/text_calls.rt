@@ -1,5 +1,6 @@
 //! Functions that write lines and characters as bytes.
 ghost use Rattle.std.specs.Prelude.{◌≡◌, ◌+◌, ◌≤◌, chars, length, IfErr, IfOk};
+ghost use Rattle.std.specs.Str.Lossy.{utf8_valid_len};
 ghost use Rattle.session.specs.Kept.{lines_in};
 ghost use Rattle.session.specs.Printing.{lines_page};
 ghost use Rattle.session.specs.Reading.{utf8_len, utf8_part};
@@ -211,4 +212,17 @@ pub extern "C" fn hordguli_core_count_utf8(bytes: &[u8], count: &mut usize) -> u
         }
         Err(_) => number_of(Status::NotUtf8),
     }
+}
+
+/// Stores the length of the longest valid prefix of UTF-8 text.
+#[unsafe(no_mangle)]
+pub extern "C" fn hordguli_core_valid_utf8(bytes: &[u8], valid: &mut usize) -> u32
+    ensures status { Returns (λ status. status ≡ Ok) result }
+    ensures valid { valid.new ≡ utf8_valid_len bytes.now }
+{
+    *valid = match from_utf8(bytes) {
+        Ok(_) => bytes.len(),
+        Err(error) => error.valid_up_to(),
+    };
+    number_of(Status::Ok)
 }
