@@ -214,15 +214,21 @@ pub extern "C" fn hordguli_core_count_utf8(bytes: &[u8], count: &mut usize) -> u
     }
 }
 
+fn valid_len(bytes: &[u8]) -> usize
+    ensures { result ≡ utf8_valid_len bytes.now }
+{
+    let Err(error) = from_utf8(bytes) else {
+        return bytes.len();
+    };
+    error.valid_up_to()
+}
+
 /// Stores the length of the longest valid prefix of UTF-8 text.
 #[unsafe(no_mangle)]
 pub extern "C" fn hordguli_core_valid_utf8(bytes: &[u8], valid: &mut usize) -> u32
     ensures status { Returns (λ status. status ≡ Ok) result }
     ensures valid { valid.new ≡ utf8_valid_len bytes.now }
 {
-    *valid = match from_utf8(bytes) {
-        Ok(_) => bytes.len(),
-        Err(error) => error.valid_up_to(),
-    };
+    *valid = valid_len(bytes);
     number_of(Status::Ok)
 }
