@@ -411,8 +411,8 @@ typedef struct hordguli_cluster {
  * Cost: O(log n), plus time and memory proportional to the whole paragraph. */
 hordguli_status hordguli_cluster_at(hordguli_session *session, size_t pos, hordguli_cluster *cluster);
 
-/* The characters from `start` up to but not including `end`. `kind` is 1 if they have a letter or a digit, and 0 for
- * spaces and punctuation. `zero` is 0. */
+/* The characters from `start` up to but not including `end`. `kind` is 1 if any of them is a letter or a digit,
+ * else 0, as for spaces and punctuation. `zero` is 0. */
 typedef struct hordguli_word {
     size_t start;
     size_t end;

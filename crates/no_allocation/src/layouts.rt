@@ -1,4 +1,4 @@
-//! The calls of a layout and of its lines, and exchanging its lines.
+//! Calls to a layout and to its lines, and exchanging its lines.
 ghost use Rattle.std.specs.Prelude.{IfOk, IfErr};
 ghost use Rattle.lines.specs.Engine.{rules_of};
 ghost use Rattle.lines.specs.Layouts.{AreLinesOf, IsLaidOut, Rules};

@@ -1,4 +1,4 @@
-//! The calls of a session, and edits that it refuses.
+//! Calls to a session, and edits that it refuses.
 use crate::layouts::{ALL, of_bytes, of_laid, of_line};
 use crate::texts::{mixed, mixed_place};
 use device::ToWrite;

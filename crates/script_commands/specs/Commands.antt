@@ -9,7 +9,7 @@ use Rattle.script_commands.specs.declared.commands.Query.TheVariants as ask
 -- A command inserts a text before the character at a position, deletes characters from a position on, sets
 -- the width, prints all lines, or replies to a query.
 pub data Command : Type 0 where
-  Insert : (pos : ℕ) (piece : List ℕ) → Command
+  Insert : (pos : ℕ) (inserted : List ℕ) → Command
   Delete : (pos count : ℕ) → Command
   SetWidth : (width : ℕ) → Command
   Show : Command
@@ -76,9 +76,9 @@ stripped word text = if pointwise (◌==◌) (take (length word) text) word then
 
 -- `insert POS TEXT`, `delete POS COUNT`, `width N` and `show`
 abbrev pub insertion_of : Option ℕ → Option (List ℕ) → Option Command
-insertion_of (Some pos) (Some piece) = Some (Insert pos piece)
+insertion_of (Some pos) (Some inserted) = Some (Insert pos inserted)
 insertion_of (Some pos) None = None
-insertion_of None piece = None
+insertion_of None inserted = None
 
 abbrev pub insertion_in : Option (List ℕ × List ℕ) → Option Command
 insertion_in None = None
@@ -91,18 +91,18 @@ pub record LacksText (text kept : List ℕ) : Type 0 where
   pub short : length kept < length whole
 
 -- The text of an insert at a valid position represents more characters than were kept.
-pub record LacksPieceIn (text kept : List ℕ) : Type 0 where
+pub record LacksInsertedIn (text kept : List ℕ) : Type 0 where
   pub pos : List ℕ
-  pub piece : List ℕ
-  pub parts : parted text ≡ Some (pos, piece)
+  pub inserted : List ℕ
+  pub parts : parted text ≡ Some (pos, inserted)
   pub place : is_some (number_in pos) ≡ true
-  pub some : 0 < length piece
-  pub lacks : LacksText piece kept
+  pub some : 0 < length inserted
+  pub lacks : LacksText inserted kept
 
-pub record LacksPiece (line kept : List ℕ) : Type 0 where
+pub record LacksInserted (line kept : List ℕ) : Type 0 where
   pub rest : List ℕ
   pub word : stripped (codes "insert ") line ≡ Some rest
-  pub piece : LacksPieceIn rest kept
+  pub inserted : LacksInsertedIn rest kept
 
 abbrev pub deletion_of : Option ℕ → Option ℕ → Option Command
 deletion_of (Some pos) (Some count) = Some (Delete pos count)

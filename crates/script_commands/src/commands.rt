@@ -6,7 +6,7 @@ ghost use Rattle.std.specs.List.{prefix_len};
 ghost use Rattle.std.specs.Char.{is_digit};
 ghost use Rattle.std.specs.Str.{chars};
 ghost use Rattle.script_commands.specs.Parsed.{command_of};
-ghost use Rattle.script_commands.specs.Commands.{LacksPiece, LacksPieceIn, LacksText};
+ghost use Rattle.script_commands.specs.Commands.{LacksInserted, LacksInsertedIn, LacksText};
 ghost use Rattle.script_commands.specs.Commands.{Ask, SetWidth, are_digits, both_in, braced, deletion_in};
 ghost use Rattle.script_commands.specs.Commands.{edit_command_in, escaped, insertion_in, number_by, number_in};
 ghost use Rattle.script_commands.specs.Commands.{parted, query_in, command_in, stripped, unescaped, written};
@@ -71,17 +71,17 @@ const SIZE: [char; 4] = ['s', 'i', 'z', 'e'];
 const TEXT: [char; 5] = ['t', 'e', 'x', 't', ' '];
 
 /// Parses a line, which may be a query only if `queries` is true. Returns `None` if the line is not valid.
-/// Stores the text of an insert in `piece`.
+/// Stores the text of an insert in `inserted`.
 pub fn read_command(
     queries: bool,
     line: &[char],
-    piece: &mut String,
+    inserted: &mut String,
 ) -> Result<Option<Command>, AllocError>
-    ensures ok { IfOk result (λ command. option_map (command_of (string_bytes piece.new)) command
+    ensures ok { IfOk result (λ command. option_map (command_of (string_bytes inserted.new)) command
         ≡ command_in queries line.now) }
-    ensures memory { OnErr result (LacksPiece line.now (chars (string_bytes piece.new))) }
+    ensures memory { OnErr result (LacksInserted line.now (chars (string_bytes inserted.new))) }
 {
-    match read_edit_command(line, piece) {
+    match read_edit_command(line, inserted) {
         Ok(None) if queries => Ok(read_query(line)),
         command => command,
     }
@@ -89,8 +89,8 @@ pub fn read_command(
 
 // Parses a line as a query. Returns `None` if the line is not a query.
 fn read_query(line: &[char]) -> Option<Command>
-    ensures { (piece : List ℕ)
-        → option_map (command_of piece) result ≡ option_map Ask (query_in line.now) }
+    ensures { (inserted : List ℕ)
+        → option_map (command_of inserted) result ≡ option_map Ask (query_in line.now) }
 {
     Some(Command::Ask(parse_query(line)?))
 }
@@ -135,10 +135,10 @@ fn both(text: &[char]) -> Option<(usize, usize)>
 }
 
 // Parses a line that is not a query.
-fn read_edit_command(line: &[char], piece: &mut String) -> Result<Option<Command>, AllocError>
-    ensures ok { IfOk result (λ command. option_map (command_of (string_bytes piece.new)) command
+fn read_edit_command(line: &[char], inserted: &mut String) -> Result<Option<Command>, AllocError>
+    ensures ok { IfOk result (λ command. option_map (command_of (string_bytes inserted.new)) command
         ≡ edit_command_in line.now) }
-    ensures memory { OnErr result (LacksPiece line.now (chars (string_bytes piece.new))) }
+    ensures memory { OnErr result (LacksInserted line.now (chars (string_bytes inserted.new))) }
 {
     if let Some(rest) = after(&SHOW, line) {
         return Ok(if rest.is_empty() {
@@ -148,7 +148,7 @@ fn read_edit_command(line: &[char], piece: &mut String) -> Result<Option<Command
         });
     }
     if let Some(rest) = after(&INSERT, line) {
-        return insertion(rest, piece);
+        return insertion(rest, inserted);
     }
     if let Some(rest) = after(&DELETE, line) {
         return Ok(deletion(rest));
@@ -159,10 +159,10 @@ fn read_edit_command(line: &[char], piece: &mut String) -> Result<Option<Command
     }
 }
 
-fn insertion(text: &[char], piece: &mut String) -> Result<Option<Command>, AllocError>
-    ensures ok { IfOk result (λ command. option_map (command_of (string_bytes piece.new)) command
+fn insertion(text: &[char], inserted: &mut String) -> Result<Option<Command>, AllocError>
+    ensures ok { IfOk result (λ command. option_map (command_of (string_bytes inserted.new)) command
         ≡ insertion_in (parted text.now)) }
-    ensures memory { OnErr result (LacksPieceIn text.now (chars (string_bytes piece.new))) }
+    ensures memory { OnErr result (LacksInsertedIn text.now (chars (string_bytes inserted.new))) }
 {
     let Some((pos, text)) = words(text) else {
         return Ok(None);
@@ -170,7 +170,7 @@ fn insertion(text: &[char], piece: &mut String) -> Result<Option<Command>, Alloc
     let Some(pos) = number(pos) else {
         return Ok(None);
     };
-    match unescape(text, piece) {
+    match unescape(text, inserted) {
         Ok(true) => Ok(Some(Command::Insert(pos))),
         Ok(false) => Ok(None),
         Err(error) => Err(error),
@@ -178,15 +178,15 @@ fn insertion(text: &[char], piece: &mut String) -> Result<Option<Command>, Alloc
 }
 
 fn deletion(text: &[char]) -> Option<Command>
-    ensures { (piece : List ℕ) → option_map (command_of piece) result ≡ deletion_in (parted text.now) }
+    ensures { (inserted : List ℕ) → option_map (command_of inserted) result ≡ deletion_in (parted text.now) }
 {
     let (pos, count) = words(text)?;
     Some(Command::Delete(number(pos)?, number(count)?))
 }
 
 fn width(text: &[char]) -> Option<Command>
-    ensures { (piece : List ℕ)
-        → option_map (command_of piece) result ≡ option_map SetWidth (number_in text.now) }
+    ensures { (inserted : List ℕ)
+        → option_map (command_of inserted) result ≡ option_map SetWidth (number_in text.now) }
 {
     Some(Command::SetWidth(number(text)?))
 }
@@ -262,23 +262,23 @@ fn has_right_escapes(text: &[char]) -> bool
     true
 }
 
-// Replaces the escapes in a text, and stores the result in `piece`. Returns `false` if an escape is not
+// Replaces the escapes in a text, and stores the result in `inserted`. Returns `false` if an escape is not
 // valid. Checks the escapes before allocating.
-fn unescape(text: &[char], piece: &mut String) -> Result<bool, AllocError>
+fn unescape(text: &[char], inserted: &mut String) -> Result<bool, AllocError>
     ensures ok { IfOk result (λ right.
-        (if right then Some (chars (string_bytes piece.new)) else None) ≡ unescaped text.now) }
+        (if right then Some (chars (string_bytes inserted.new)) else None) ≡ unescaped text.now) }
     ensures memory { OnErr result (0 < length text.now) }
-    ensures lacks { OnErr result (LacksText text.now (chars (string_bytes piece.new))) }
+    ensures lacks { OnErr result (LacksText text.now (chars (string_bytes inserted.new))) }
 {
     if !has_right_escapes(text) {
         return Ok(false);
     }
-    piece.clear();
+    inserted.clear();
     let mut at = 0;
     while at < text.len() {
         match written(text[at], &text[at + 1..]) {
             Some((c, len)) => {
-                piece.push(c)?;
+                inserted.push(c)?;
                 at += len;
             }
             None => return Ok(false),
