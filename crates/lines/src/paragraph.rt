@@ -31,7 +31,7 @@ pub(crate) struct Paragraph<'a> {
 
 /// Where the lines of a paragraph start, and how much of each is shown.
 #[derive(Clone, Copy)]
-pub(crate) struct Spans<'a> {
+pub(crate) struct LentExtents<'a> {
     pub(crate) starts: &'a [u32],
     pub(crate) shown: &'a [Shown],
 }
