@@ -46,6 +46,7 @@ mod properties;
 mod reflow;
 mod reserve;
 mod showing;
+mod spans;
 mod visual_line;
 mod whole;
 mod workspace;
@@ -60,4 +61,5 @@ pub use laws::{lines_are_few, lines_have_all_characters, paragraphs_print_their_
 pub use options::Options;
 pub use print::{Print, PrintFault};
 pub use reflow::ReflowScratch;
+pub use spans::{Span, Spans};
 pub use visual_line::VisualLine;
