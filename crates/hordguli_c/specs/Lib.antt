@@ -12,3 +12,4 @@ pub mod Places
 pub mod Arrays
 pub mod Lines
 pub mod Texts
+pub mod Spans

@@ -11,6 +11,7 @@ mod place_calls;
 mod raw_box;
 mod session_calls;
 mod session_handle;
+mod span_calls;
 mod status;
 mod tables_calls;
 mod tables_handle;

@@ -8,7 +8,8 @@ ghost use Rattle.session.specs.Sessions.{text_at};
 ghost use Rattle.hordguli_c.specs.Calls.{Asks, AsksBy, Gives, OfText};
 ghost use Rattle.hordguli_c.specs.Statuses.{Returns};
 ghost use Rattle.hordguli_c.specs.Options.{print_of};
-ghost use Rattle.hordguli_c.specs.Texts.{PutsBytes, PutsLines, PutsText, RangeNot};
+ghost use Rattle.hordguli_c.specs.Arrays.{PutsItems};
+ghost use Rattle.hordguli_c.specs.Texts.{PutsLines, PutsText, RangeNot};
 ghost use Rattle.hordguli_c.specs.declared.status.Status.TheVariants.{Ok};
 
 use crate::options::print_of;
@@ -22,7 +23,7 @@ use stream::Page;
 
 // Copies bytes to an array, if they fit, and stores the number of bytes.
 fn put_bytes(bytes: &[u8], array: &mut [u8], len: &mut usize) -> Status
-    ensures { PutsBytes bytes.now result (array.old, len.old) (array.new, len.new) }
+    ensures { PutsItems bytes.now result (array.old, len.old) (array.new, len.new) }
 {
     *len = bytes.len();
     if array.len() < bytes.len() {
