@@ -39,6 +39,8 @@ uint32_t hordguli_core_caret_at(hordguli_session *session, size_t pos, hordguli_
 uint32_t hordguli_core_hit_at(hordguli_session *session, size_t line, size_t column, hordguli_hit *hit);
 uint32_t hordguli_core_cluster_at(hordguli_session *session, size_t pos, hordguli_cluster *cluster);
 uint32_t hordguli_core_word_at(hordguli_session *session, size_t pos, hordguli_word *word);
+uint32_t hordguli_core_spans(hordguli_session *session, size_t line, size_t from, size_t to, hordguli_span *spans,
+                             size_t capacity, size_t *count);
 
 /* Bits of `wanted`, which select the requested arrays. The other arrays have length 0 and are ignored. */
 #define HORDGULI_CORE_CHARACTERS UINT32_C(1)

@@ -182,6 +182,15 @@ PUBLIC hordguli_status hordguli_word_at(hordguli_session *session, size_t pos, h
     return (hordguli_status)hordguli_core_word_at(session, pos, word);
 }
 
+PUBLIC hordguli_status hordguli_spans(hordguli_session *session, size_t line, size_t from, size_t to, size_t capacity,
+                                      hordguli_span *spans, size_t *count) {
+    hordguli_span none[1];
+    if (session == NULL || count == NULL || LACKS(spans, capacity)) return HORDGULI_NULL;
+    if (OVERLAP(AT(session), AT(count), ARRAY(spans, capacity))) return HORDGULI_OVERLAP;
+    return (hordguli_status)hordguli_core_spans(session, line, from, to, ROOM(hordguli_span, spans, none), capacity,
+                                                count);
+}
+
 /* ---- Lines and text ---- */
 
 PUBLIC hordguli_status hordguli_line(hordguli_session *session, size_t line, hordguli_line_info *info, size_t capacity,

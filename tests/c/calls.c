@@ -263,6 +263,8 @@ static void places(void) {
     hordguli_hit hit = {7, 7, 7};
     hordguli_cluster cluster = {7, 7};
     hordguli_word word = {7, 7, 7, 7};
+    hordguli_span spans[3] = {{7, 7}, {7, 7}, {7, 7}};
+    size_t count = 77;
     IS(hordguli_line_start(NULL, 0, &start), NULL);
     IS(hordguli_line_start(&session, 0, NULL), NULL);
     IS(hordguli_line_start(&session, 0, (size_t *)&session), OVERLAP);
@@ -294,6 +296,13 @@ static void places(void) {
     IS(hordguli_word_at(&no_session, 0, &word), CLOSED);
     IS(hordguli_word_at(&session, 18, &word), OUT_OF_RANGE);
     HOLDS(word.start == 7 && word.end == 7 && word.kind == 7 && word.zero == 7);
+    IS(hordguli_spans(NULL, 0, 0, 9, 3, spans, &count), NULL);
+    IS(hordguli_spans(&session, 0, 0, 9, 3, NULL, &count), NULL);
+    IS(hordguli_spans(&session, 0, 0, 9, 3, spans, NULL), NULL);
+    IS(hordguli_spans(&session, 0, 0, 9, 3, spans, (size_t *)spans), OVERLAP);
+    IS(hordguli_spans(&no_session, 0, 0, 9, 3, spans, &count), CLOSED);
+    IS(hordguli_spans(&session, 3, 0, 9, 3, spans, &count), OUT_OF_RANGE);
+    HOLDS(count == 77 && spans[0].left == 7);
     HOLDS(start == 77 && place.line == 7 && caret.line == 7 && hit.pos == 7 && cluster.start == 7);
     OK(hordguli_line_start(&session, 2, &start));
     HOLDS(start == 15);
@@ -305,6 +314,18 @@ static void places(void) {
     HOLDS(caret.line == 0 && caret.column == 6 && caret.level == 1 && caret.zero == 0);
     OK(hordguli_caret_at(&session, 18, &caret));
     HOLDS(caret.line == 2 && caret.column == 3 && caret.level == 0);
+    OK(hordguli_spans(&session, 0, 0, 3, 3, spans, &count)); /* the letters before them */
+    HOLDS(count == 1 && spans[0].left == 0 && spans[0].right == 3 && spans[1].left == 7);
+    OK(hordguli_spans(&session, 0, 2, 5, 3, spans, &count)); /* two characters, and the first right-to-left letter */
+    HOLDS(count == 2 && spans[0].left == 2 && spans[0].right == 4 && spans[1].left == 6 && spans[1].right == 7);
+    IS(hordguli_spans(&session, 0, 2, 5, 1, spans, &count), NO_ROOM);
+    HOLDS(count == 2 && spans[0].right == 4);
+    IS(hordguli_spans(&session, 0, 2, 5, 0, NULL, &count), NO_ROOM);
+    HOLDS(count == 2);
+    OK(hordguli_spans(&session, 0, 5, 5, 0, NULL, &count)); /* nothing */
+    HOLDS(count == 0);
+    OK(hordguli_spans(&session, 2, 0, 9, 3, spans, &count)); /* before the line */
+    HOLDS(count == 0);
     OK(hordguli_word_at(&session, 5, &word)); /* these letters */
     HOLDS(word.start == 4 && word.end == 7 && word.kind == 1 && word.zero == 0);
     OK(hordguli_word_at(&session, 3, &word)); /* the space before them */

@@ -810,6 +810,7 @@ MAKE(caret_at, a->session, a->at, a->out)
 MAKE(hit_at, a->session, a->at, a->column, a->out)
 MAKE(cluster_at, a->session, a->at, a->out)
 MAKE(word_at, a->session, a->at, a->out)
+MAKE(spans, a->session, a->at, a->column, a->count, a->capacity, a->arrays[0], a->out)
 MAKE(line, a->session, a->at, a->out, a->capacity, a->arrays[0], a->arrays[1], a->arrays[2], a->arrays[3], a->arrays[4])
 MAKE(lines_utf8, a->session, a->at, a->count, a->flags, a->capacity, a->arrays[0], a->out)
 MAKE(text, a->session, a->at, a->count, a->capacity, a->arrays[0], a->out)
@@ -866,6 +867,8 @@ static const call calls[] = {
          .out_size = sizeof(hordguli_cluster), .at = 17, .end = 18),
     CALL(word_at, READING ", NO_MEMORY", .never = NOT_BOTH, .ways = {of_session, of_at},
          .out_size = sizeof(hordguli_word), .at = 17, .end = 18),
+    CALL(spans, READING ", NO_ROOM", .ways = {of_session, of_at, of_buffer}, .out_size = sizeof(size_t), .at = 1,
+         .count = 19, .end = 3, .needed = 1),
     CALL(line, READING ", NO_ROOM", .ways = {of_session, of_at, of_line}, .out_size = sizeof(hordguli_line_info),
          .at = 1, .end = 3, .needed = 6),
     CALL(lines_utf8, "NULL, OVERLAP, UNKNOWN_OPTION, CLOSED, OUT_OF_RANGE, NO_MEMORY, NO_ROOM",

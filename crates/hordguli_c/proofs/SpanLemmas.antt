@@ -65,10 +65,10 @@ put_next all array_old array rest x k within put =
       len = length-append put.done (x ∷ []) ∙ ap (λ n. n + 1) put.len;
       items = append_assoc put.done (x ∷ []) rest ∙ put.items;
       array_is =
-        ap (λ t. set t k x) (put.array_is ∙ ap (λ t. put.done ++ t) at.1)
-        ∙ ap (λ i. set (put.done ++ at.0 ∷ drop (k + 1) array_old) i x) (sym put.len)
-        ∙ set-append_seam put.done at.0 (drop (k + 1) array_old) x
-        ∙ sym (append_assoc put.done (x ∷ []) (drop (k + 1) array_old));
+          ap (λ t. set t k x) (put.array_is ∙ ap (λ t. put.done ++ t) at.1)
+          ∙ ap (λ i. set (put.done ++ at.0 ∷ drop (k + 1) array_old) i x) (sym put.len)
+          ∙ set-append_seam put.done at.0 (drop (k + 1) array_old) x
+          ∙ sym (append_assoc put.done (x ∷ []) (drop (k + 1) array_old));
     }
 
 -- the spans that an iterator has at first are as many as those of the range
