@@ -438,14 +438,15 @@ typedef struct hordguli_span {
 /* Stores the columns that the characters from `from` up to but not including `to` cover in a line, for drawing a
  * selection: as few spans as possible, from left to right. Where the direction changes, a selection can have several.
  * `from` and `to` are positions in the text; those outside the line are ignored. The number of spans is stored in
- * `*count`, and the spans in an array of `capacity` elements (see BUFFERS).
+ * `*count`, and the spans in an array of `capacity` elements (see BUFFERS). Fails with OUT_OF_RANGE if the line does not
+ * exist.
  *
  *     for (size_t line = first_line; line <= last_line; line++) {
  *         status = hordguli_spans(&session, line, from, to, 16, spans, &count);
  *         for (size_t k = 0; !status && k < count; k++) highlight(line, spans[k].left, spans[k].right);
  *     }
  *
- * Errors: NULL, OVERLAP, CLOSED, OUT_OF_RANGE (`line` does not exist), NO_ROOM.
+ * Errors: NULL, OVERLAP, CLOSED, OUT_OF_RANGE, NO_ROOM.
  * Cost: O(log n), plus O(length of the line). */
 hordguli_status hordguli_spans(hordguli_session *session, size_t line, size_t from, size_t to, size_t capacity,
                                hordguli_span *spans, size_t *count);

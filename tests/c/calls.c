@@ -459,6 +459,11 @@ static void text_of_ranges(void) {
     IS(hordguli_count_utf8((const char *)&length, 1, &length), OVERLAP);
     IS(hordguli_count_utf8(text, SIZE_MAX, &length), OVERLAP);
     IS(hordguli_count_utf8("a\xC3", 2, &length), NOT_UTF8);
+    HOLDS(length == 5);
+    OK(hordguli_count_utf8(text, sizeof text - 1, &length));
+    HOLDS(length == 18);
+    OK(hordguli_count_utf8(NULL, 0, &length));
+    HOLDS(length == 0);
     IS(hordguli_valid_utf8(NULL, 1, &length), NULL);
     IS(hordguli_valid_utf8(text, 1, NULL), NULL);
     IS(hordguli_valid_utf8((const char *)&length, 1, &length), OVERLAP);
@@ -470,11 +475,6 @@ static void text_of_ranges(void) {
     OK(hordguli_valid_utf8(text, sizeof text - 1, &length));
     HOLDS(length == sizeof text - 1);
     OK(hordguli_valid_utf8(NULL, 0, &length));
-    HOLDS(length == 0);
-    HOLDS(length == 5);
-    OK(hordguli_count_utf8(text, sizeof text - 1, &length));
-    HOLDS(length == 18);
-    OK(hordguli_count_utf8(NULL, 0, &length));
     HOLDS(length == 0);
 }
 
