@@ -4,6 +4,7 @@ mod EdgeLemmas
 mod EditLemmas
 mod JoinedLemmas
 mod LineLemmas
+mod OffsetLemmas
 mod OpenLemmas
 mod PartLemmas
 mod PlaceLemmas
