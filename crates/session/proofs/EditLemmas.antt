@@ -24,7 +24,7 @@ use Rattle.session.specs.declared.edge.Edge.{Edge}
 use Rattle.session.specs.declared.edits.Damage.{Damage}
 use Rattle.session.specs.declared.edits.EditFault.{EditFault}
 use Rattle.session.specs.declared.edits.EditFault.TheVariants.{OutOfRange, ParagraphTooLong, NoMemory}
-use Rattle.session.proofs.OffsetLemmas.{few_in_all, AreFew}
+use Rattle.session.proofs.UnitLemmas.{few_in_all, AreFew}
 use Rattle.session.proofs.ReplacementLemmas.{IsSpliced, IsSpliced-from_touched, region_of, length-replaced_text}
 use Rattle.session.proofs.EdgeLemmas.{chars_of, lines_of as line_number, length-text, length-lines}
 use Rattle.session.proofs.RegionParts.{touched_by, front_of, back_of, AreTouched-edges, region_parts, edges_rise, take-both}

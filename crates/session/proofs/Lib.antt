@@ -16,6 +16,7 @@ mod RunLemmas
 mod ScanLemmas
 mod SpliceLemmas
 mod TouchedLemmas
+mod UnitLemmas
 mod WantLemmas
 mod WidthLemmas
 mod WorkedRows

@@ -3,9 +3,10 @@ ghost use Rattle.std.specs.Prelude.{◌≡◌, ◌≤◌, ℕ, length, refl, IfO
 ghost use Rattle.lines.specs.Engine.{counted, rules_of};
 ghost use Rattle.lines.specs.Extents.{extents_in, extents_of, reflowed};
 ghost use Rattle.lines.specs.Layouts.{IsLaidOut};
-ghost use Rattle.session.specs.Offsets.{bytes_in, utf16_in};
+ghost use Rattle.session.specs.Offsets.{length_in, units_of};
+ghost use Rattle.session.specs.declared.offsets.Encoding.TheVariants.{Utf8, Utf16};
 
-use crate::offsets::lengths;
+use crate::offsets::Encoding;
 use lines::{Engine, Extents, Fill, Laid, ReflowScratch};
 use std::alloc::{AllocError, Global};
 use std::marker::Model;
@@ -42,11 +43,12 @@ impl Model for Kept {
 
     ghost view = { λ k. k.laid.value };
 
-    ghost use Rattle.session.specs.Offsets.{bytes_in, utf16_in};
+    ghost use Rattle.session.specs.Offsets.{length_in};
+    ghost use Rattle.session.specs.declared.offsets.Encoding.TheVariants.{Utf8, Utf16};
 
     ghost invariant = { λ k.
         (k.chars ≡ length k.laid.value.text) × (k.lines ≡ length k.laid.value.lines)
-        × (k.bytes ≡ bytes_in k.laid.value.text) × (k.utf16 ≡ utf16_in k.laid.value.text) };
+        × (k.bytes ≡ length_in Utf8 k.laid.value.text) × (k.utf16 ≡ length_in Utf16 k.laid.value.text) };
 }
 
 impl Kept {
@@ -54,12 +56,12 @@ impl Kept {
     pub fn new(alloc: Global, laid: Laid) -> Result<Kept, AllocError>
         ensures { IfOk result (λ kept. kept ≡ laid) }
     {
-        let (bytes, utf16) = lengths(laid.text());
+        let text = laid.text();
         Ok(Kept {
-            chars: laid.text().len(),
+            chars: text.len(),
             lines: laid.line_count(),
-            bytes,
-            utf16,
+            bytes: Encoding::Utf8.length(text),
+            utf16: Encoding::Utf16.length(text),
             laid: Box::new(alloc, laid)?,
         })
     }
@@ -94,9 +96,9 @@ impl Measured for Kept {
 
     ghost lines = { λ kept. length kept.lines };
 
-    ghost bytes = { λ kept. bytes_in kept.text };
+    ghost bytes = { units_of Utf8 };
 
-    ghost utf16 = { λ kept. utf16_in kept.text };
+    ghost utf16 = { units_of Utf16 };
 
     fn chars(&self) -> usize {
         self.chars
@@ -187,9 +189,9 @@ impl<'a> Exchanger<Kept> for Reflow<'a> {
 
     ghost keeps_chars = { λ by kept part _. ap length (text_stays by kept part) };
 
-    ghost keeps_bytes = { λ by kept part _. ap bytes_in (text_stays by kept part) };
+    ghost keeps_bytes = { λ by kept part _. ap (length_in Utf8) (text_stays by kept part) };
 
-    ghost keeps_utf16 = { λ by kept part _. ap utf16_in (text_stays by kept part) };
+    ghost keeps_utf16 = { λ by kept part _. ap (length_in Utf16) (text_stays by kept part) };
 
     fn exchange(&mut self, item: &mut Kept, part: &mut Option<Extents>) {
         let Some(extents) = part else {

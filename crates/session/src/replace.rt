@@ -6,7 +6,8 @@ ghost use Rattle.std.specs.Str.{chars};
 ghost use Rattle.session.specs.Sessions.{Edits, EditsNot, IsWholeLayout};
 ghost use Rattle.session.specs.Edits.{replacing};
 ghost use Rattle.session.specs.Kept.{text_of};
-ghost use Rattle.session.specs.Offsets.{bytes_in, utf16_in};
+ghost use Rattle.session.specs.Offsets.{length_in};
+ghost use Rattle.session.specs.declared.offsets.Encoding.TheVariants.{Utf8, Utf16};
 ghost use Rattle.session.specs.Edges.{damage_between, IsEdge};
 ghost use Rattle.session.specs.declared.edits.EditFault.TheVariants.{NoMemory};
 
@@ -33,9 +34,9 @@ fn put<S: ParagraphStore<Kept>>(
         (splice (S.items store.old) front.index back.index new.items) < 2 ^ 64 }
     requires lines_fit { sum_by (λ l. length l.lines)
         (splice (S.items store.old) front.index back.index new.items) < 2 ^ 64 }
-    requires bytes_fit { sum_by (λ l. bytes_in l.text)
+    requires bytes_fit { sum_by (λ l. length_in Utf8 l.text)
         (splice (S.items store.old) front.index back.index new.items) < 2 ^ 64 }
-    requires utf16_fit { sum_by (λ l. utf16_in l.text)
+    requires utf16_fit { sum_by (λ l. length_in Utf16 l.text)
         (splice (S.items store.old) front.index back.index new.items) < 2 ^ 64 }
     ensures ok { OnOk result
         (S.items store.new ≡ splice (S.items store.old) front.index back.index new.items) }

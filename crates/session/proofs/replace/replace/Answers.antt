@@ -14,7 +14,7 @@ use Rattle.session.specs.Sessions.{IsAnswerFor}
 use Rattle.session.specs.declared.edits.EditFault.TheVariants.{OutOfRange, TextTooLong, ParagraphTooLong, NoMemory}
 use Rattle.session.proofs.EdgeLemmas.{length-text}
 use Rattle.session.proofs.EditLemmas.{rise, chars_fit, lines_fit, units_fit, refusal-past, EditsNot-unchanged, EditsNot-by_region, Edits-after, ends_ok, ends_err}
-use Rattle.session.proofs.OffsetLemmas.{utf8_few, utf16_few}
+use Rattle.session.proofs.UnitLemmas.{utf8_few, utf16_few}
 use Rattle.session.proofs.RefusalLemmas.{allowed-length, refusal-too_long}
 use Rattle.session.specs.declared.edits.TheConstants.{TEXT_LIMIT}
 use Rattle.session.proofs.WantLemmas.{of_err, some_put}

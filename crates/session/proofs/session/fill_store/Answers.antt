@@ -12,7 +12,7 @@ use Rattle.session.specs.Kept.{layouts_of}
 use Rattle.session.specs.Offsets.{len_utf16}
 use Rattle.session.specs.Sessions.{IsAnswerFor}
 use Rattle.session.proofs.EditLemmas.{at_ok}
-use Rattle.session.proofs.OffsetLemmas.{utf8_few, utf16_few}
+use Rattle.session.proofs.UnitLemmas.{utf8_few, utf16_few}
 use Rattle.session.proofs.OpenLemmas.{OpensNot-too_long, OpensNot-refused, OpensNot-no_memory, Opens-laid, opening-chars, opening-lines, opening-units}
 use Rattle.session.specs.declared.edits.TheConstants.{TEXT_LIMIT}
 use Rattle.session.proofs.session.fill_store.Goals as goal
