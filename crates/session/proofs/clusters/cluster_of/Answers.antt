@@ -16,12 +16,12 @@ returns-then-pos-len-clause-ok g c =
 
 pub begin-requires : goal.begin-requires
 begin-requires g c =
-    let read = char_read (g.S.ParagraphStore.items c.args.store.now) c.args.pos c.find_char-found.result c.find_char-found.ensures c.in-Some.kept.now c.in-Some.ensures in
+    let read = char_read (g.S.ParagraphStore.items c.args.store.now) c.args.pos c.find_char-found.result c.find_char-found.ensures.found c.in-Some.kept.now c.in-Some.ensures in
     omega (arith, read.0, ap length c.deref.ensures.value, c.in_ok-ends-in-Some.ensures.len, ap (λ (l : Layout). length l.text) c.laid.ensures)
 
 pub end_of-requires : goal.end_of-requires
 end_of-requires g c =
-    let read = char_read (g.S.ParagraphStore.items c.args.store.now) c.args.pos c.find_char-found.result c.find_char-found.ensures c.in-Some.kept.now c.in-Some.ensures in
+    let read = char_read (g.S.ParagraphStore.items c.args.store.now) c.args.pos c.find_char-found.result c.find_char-found.ensures.found c.in-Some.kept.now c.in-Some.ensures in
     omega (arith, read.0, ap length c.deref-in-Some.ensures.value, c.in_ok-ends-in-Some.ensures.len, ap (λ (l : Layout). length l.text) c.laid.ensures)
 
 pub overflow_add-result-in-Some : goal.overflow_add-result-in-Some
@@ -29,12 +29,12 @@ overflow_add-result-in-Some g c =
     let few : c.end_of.result ≤ length c.in-Some.kept.now.text =
     omega (arith, c.end_of.ensures.most, ap length c.deref-in-Some.ensures.value, c.in_ok-ends-in-Some.ensures.len, ap (λ (l : Layout). length l.text) c.laid.ensures) in
     let fits = cluster-fits (g.S.ParagraphStore.items c.args.store.now) c.args.pos c.find_char-found.result
-    c.find_char-found.ensures c.in-Some.kept.now c.in-Some.ensures c.requires c.total_chars-len.result
+    c.find_char-found.ensures.found c.in-Some.kept.now c.in-Some.ensures c.requires c.total_chars-len.result
     c.end_of.result c.total_chars-len.ensures few in
     omega (arith, fits, c.total_chars-len.type_inv)
 
 pub unreachable-requires : goal.unreachable-requires
-unreachable-requires g c = found_some chars_of (g.S.ParagraphStore.items c.args.store.now) c.args.pos c.find_char-found.result c.find_char-found.ensures c.in-None.ensures
+unreachable-requires g c = found_some chars_of (g.S.ParagraphStore.items c.args.store.now) c.args.pos c.find_char-found.result c.find_char-found.ensures.found c.in-None.ensures
 
 pub returns-in_err-ends-in-Some-clause-memory : goal.returns-in_err-ends-in-Some-clause-memory
 returns-in_err-ends-in-Some-clause-memory g c =
@@ -51,5 +51,5 @@ returns-clause-ok g c =
     let within : c.args.pos < length (text_of kept) = omega (arith, c.if-pos-len.false, c.total_chars-len.ensures, length-text kept) in
     ap₂ (λ (n m : ℕ). let here : Cluster = record { start = c.args.pos - rest + n; end = c.args.pos - rest + m } in Some here) start stop
     ∙ ap (λ (r : ℕ). let here : Cluster = record { start = c.args.pos - rest + cluster_begin (cluster_ends l.text) r; end = c.args.pos - rest + cluster_end (cluster_ends l.text) r } in Some here)
-    (sym (cluster-rest kept c.args.pos c.find_char-found.result c.find_char-found.ensures l c.in-Some.ensures c.requires))
-    ∙ cluster-read kept c.args.pos c.find_char-found.result c.find_char-found.ensures l c.in-Some.ensures c.requires within
+    (sym (cluster-rest kept c.args.pos c.find_char-found.result c.find_char-found.ensures.found l c.in-Some.ensures c.requires))
+    ∙ cluster-read kept c.args.pos c.find_char-found.result c.find_char-found.ensures.found l c.in-Some.ensures c.requires within
