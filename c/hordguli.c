@@ -182,6 +182,30 @@ PUBLIC hordguli_status hordguli_word_at(hordguli_session *session, size_t pos, h
     return (hordguli_status)hordguli_core_word_at(session, pos, word);
 }
 
+PUBLIC hordguli_status hordguli_byte_of(hordguli_session *session, size_t pos, size_t *byte) {
+    if (session == NULL || byte == NULL) return HORDGULI_NULL;
+    if (OVERLAP(AT(session), AT(byte))) return HORDGULI_OVERLAP;
+    return (hordguli_status)hordguli_core_byte_of(session, pos, byte);
+}
+
+PUBLIC hordguli_status hordguli_utf16_of(hordguli_session *session, size_t pos, size_t *unit) {
+    if (session == NULL || unit == NULL) return HORDGULI_NULL;
+    if (OVERLAP(AT(session), AT(unit))) return HORDGULI_OVERLAP;
+    return (hordguli_status)hordguli_core_utf16_of(session, pos, unit);
+}
+
+PUBLIC hordguli_status hordguli_position_of_byte(hordguli_session *session, size_t byte, hordguli_position *position) {
+    if (session == NULL || position == NULL) return HORDGULI_NULL;
+    if (OVERLAP(AT(session), AT(position))) return HORDGULI_OVERLAP;
+    return (hordguli_status)hordguli_core_position_of_byte(session, byte, position);
+}
+
+PUBLIC hordguli_status hordguli_position_of_utf16(hordguli_session *session, size_t unit, hordguli_position *position) {
+    if (session == NULL || position == NULL) return HORDGULI_NULL;
+    if (OVERLAP(AT(session), AT(position))) return HORDGULI_OVERLAP;
+    return (hordguli_status)hordguli_core_position_of_utf16(session, unit, position);
+}
+
 PUBLIC hordguli_status hordguli_spans(hordguli_session *session, size_t line, size_t from, size_t to, size_t capacity,
                                       hordguli_span *spans, size_t *count) {
     hordguli_span none[1];

@@ -429,6 +429,27 @@ typedef struct hordguli_word {
  * Cost: O(log n), plus time and memory proportional to the whole paragraph. */
 hordguli_status hordguli_word_at(hordguli_session *session, size_t pos, hordguli_word *word);
 
+/* Stores in `*byte` how many bytes of UTF-8, and in `*unit` how many UTF-16 code units, the text before `pos` has.
+ * Editors and the Language Server Protocol count these. Fails with OUT_OF_RANGE if `pos` is past the end.
+ * Errors: NULL, OVERLAP, CLOSED, OUT_OF_RANGE.
+ * Cost: O(log n), plus O(length of the paragraph) unless the paragraph is ASCII or, for UTF-16, has no character above
+ * U+FFFF. */
+hordguli_status hordguli_byte_of(hordguli_session *session, size_t pos, size_t *byte);
+hordguli_status hordguli_utf16_of(hordguli_session *session, size_t pos, size_t *unit);
+
+/* The character at `pos`, and how many of its bytes or code units come before an offset: 0 at its start. */
+typedef struct hordguli_position {
+    size_t pos;
+    size_t rest;
+} hordguli_position;
+
+/* Stores the position of a UTF-8 byte or of a UTF-16 code unit, counted from 0, in `*position`. At the end of the text,
+ * `pos` is the number of characters and `rest` is 0. Fails with OUT_OF_RANGE if the offset is past the end.
+ * Errors: NULL, OVERLAP, CLOSED, OUT_OF_RANGE.
+ * Cost: as `hordguli_byte_of`. */
+hordguli_status hordguli_position_of_byte(hordguli_session *session, size_t byte, hordguli_position *position);
+hordguli_status hordguli_position_of_utf16(hordguli_session *session, size_t unit, hordguli_position *position);
+
 /* The columns from `left` up to but not including `right`, counted from the left edge of a line's shown part. */
 typedef struct hordguli_span {
     size_t left;

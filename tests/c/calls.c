@@ -263,6 +263,8 @@ static void places(void) {
     hordguli_hit hit = {7, 7, 7};
     hordguli_cluster cluster = {7, 7};
     hordguli_word word = {7, 7, 7, 7};
+    hordguli_position position = {7, 7};
+    size_t offset = 77;
     hordguli_span spans[3] = {{7, 7}, {7, 7}, {7, 7}};
     size_t count = 77;
     IS(hordguli_line_start(NULL, 0, &start), NULL);
@@ -296,6 +298,27 @@ static void places(void) {
     IS(hordguli_word_at(&no_session, 0, &word), CLOSED);
     IS(hordguli_word_at(&session, 18, &word), OUT_OF_RANGE);
     HOLDS(word.start == 7 && word.end == 7 && word.kind == 7 && word.zero == 7);
+    IS(hordguli_byte_of(NULL, 0, &offset), NULL);
+    IS(hordguli_byte_of(&session, 0, NULL), NULL);
+    IS(hordguli_byte_of(&session, 0, (size_t *)&session), OVERLAP);
+    IS(hordguli_byte_of(&no_session, 0, &offset), CLOSED);
+    IS(hordguli_byte_of(&session, 19, &offset), OUT_OF_RANGE);
+    IS(hordguli_utf16_of(NULL, 0, &offset), NULL);
+    IS(hordguli_utf16_of(&session, 0, NULL), NULL);
+    IS(hordguli_utf16_of(&session, 0, (size_t *)&session), OVERLAP);
+    IS(hordguli_utf16_of(&no_session, 0, &offset), CLOSED);
+    IS(hordguli_utf16_of(&session, 19, &offset), OUT_OF_RANGE);
+    IS(hordguli_position_of_byte(NULL, 0, &position), NULL);
+    IS(hordguli_position_of_byte(&session, 0, NULL), NULL);
+    IS(hordguli_position_of_byte(&session, 0, (hordguli_position *)&session), OVERLAP);
+    IS(hordguli_position_of_byte(&no_session, 0, &position), CLOSED);
+    IS(hordguli_position_of_byte(&session, 99, &position), OUT_OF_RANGE);
+    IS(hordguli_position_of_utf16(NULL, 0, &position), NULL);
+    IS(hordguli_position_of_utf16(&session, 0, NULL), NULL);
+    IS(hordguli_position_of_utf16(&session, 0, (hordguli_position *)&session), OVERLAP);
+    IS(hordguli_position_of_utf16(&no_session, 0, &position), CLOSED);
+    IS(hordguli_position_of_utf16(&session, 99, &position), OUT_OF_RANGE);
+    HOLDS(offset == 77 && position.pos == 7 && position.rest == 7);
     IS(hordguli_spans(NULL, 0, 0, 9, 3, spans, &count), NULL);
     IS(hordguli_spans(&session, 0, 0, 9, 3, NULL, &count), NULL);
     IS(hordguli_spans(&session, 0, 0, 9, 3, spans, NULL), NULL);
@@ -314,6 +337,14 @@ static void places(void) {
     HOLDS(caret.line == 0 && caret.column == 6 && caret.level == 1 && caret.zero == 0);
     OK(hordguli_caret_at(&session, 18, &caret));
     HOLDS(caret.line == 2 && caret.column == 3 && caret.level == 0);
+    OK(hordguli_byte_of(&session, 5, &offset)); /* after `abc ` and a letter of two bytes */
+    HOLDS(offset == 6);
+    OK(hordguli_utf16_of(&session, 5, &offset));
+    HOLDS(offset == 5);
+    OK(hordguli_position_of_byte(&session, 7, &position)); /* the second byte of the second letter */
+    HOLDS(position.pos == 5 && position.rest == 1);
+    OK(hordguli_position_of_utf16(&session, 5, &position));
+    HOLDS(position.pos == 5 && position.rest == 0);
     OK(hordguli_spans(&session, 0, 0, 3, 3, spans, &count)); /* the letters before them */
     HOLDS(count == 1 && spans[0].left == 0 && spans[0].right == 3 && spans[1].left == 7);
     OK(hordguli_spans(&session, 0, 2, 5, 3, spans, &count)); /* two characters, and the first right-to-left letter */

@@ -810,6 +810,10 @@ MAKE(caret_at, a->session, a->at, a->out)
 MAKE(hit_at, a->session, a->at, a->column, a->out)
 MAKE(cluster_at, a->session, a->at, a->out)
 MAKE(word_at, a->session, a->at, a->out)
+MAKE(byte_of, a->session, a->at, a->out)
+MAKE(utf16_of, a->session, a->at, a->out)
+MAKE(position_of_byte, a->session, a->at, a->out)
+MAKE(position_of_utf16, a->session, a->at, a->out)
 MAKE(spans, a->session, a->at, a->column, a->count, a->capacity, a->arrays[0], a->out)
 MAKE(line, a->session, a->at, a->out, a->capacity, a->arrays[0], a->arrays[1], a->arrays[2], a->arrays[3], a->arrays[4])
 MAKE(lines_utf8, a->session, a->at, a->count, a->flags, a->capacity, a->arrays[0], a->out)
@@ -867,6 +871,14 @@ static const call calls[] = {
          .out_size = sizeof(hordguli_cluster), .at = 17, .end = 18),
     CALL(word_at, READING ", NO_MEMORY", .never = NOT_BOTH, .ways = {of_session, of_at},
          .out_size = sizeof(hordguli_word), .at = 17, .end = 18),
+    CALL(byte_of, READING, .never = NOT_BOTH, .ways = {of_session, of_at}, .out_size = sizeof(size_t), .at = 18,
+         .end = 19),
+    CALL(utf16_of, READING, .never = NOT_BOTH, .ways = {of_session, of_at}, .out_size = sizeof(size_t), .at = 18,
+         .end = 19),
+    CALL(position_of_byte, READING, .never = NOT_BOTH, .ways = {of_session, of_at},
+         .out_size = sizeof(hordguli_position), .at = 17, .end = 99),
+    CALL(position_of_utf16, READING, .never = NOT_BOTH, .ways = {of_session, of_at},
+         .out_size = sizeof(hordguli_position), .at = 17, .end = 99),
     CALL(spans, READING ", NO_ROOM", .ways = {of_session, of_at, of_buffer}, .out_size = sizeof(size_t), .at = 0,
          .count = 5, .end = 3, .needed = 2),
     CALL(line, READING ", NO_ROOM", .ways = {of_session, of_at, of_line}, .out_size = sizeof(hordguli_line_info),

@@ -13,3 +13,4 @@ pub mod Arrays
 pub mod Lines
 pub mod Texts
 pub mod Spans
+pub mod Offsets

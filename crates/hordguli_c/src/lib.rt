@@ -5,6 +5,7 @@ mod arrays;
 mod edit_calls;
 mod layout_calls;
 mod line_calls;
+mod offset_calls;
 mod options;
 mod paragraph_calls;
 mod place_calls;

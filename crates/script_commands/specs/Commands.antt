@@ -149,6 +149,14 @@ abbrev pub by_word : Option (List ℕ) → (List ℕ → Option Query) → Optio
 by_word (Some rest) query other = query rest
 by_word None query other = other
 
+-- `byte POS`, `utf16 POS`, `frombyte BYTE` and `fromutf16 UNIT`
+abbrev pub offset_query_in : List ℕ → Option Query
+offset_query_in line =
+    by_word (stripped (codes "byte ") line) (with_one ask.Byte)
+    (by_word (stripped (codes "utf16 ") line) (with_one ask.Utf16)
+    (by_word (stripped (codes "frombyte ") line) (with_one ask.FromByte)
+    (by_word (stripped (codes "fromutf16 ") line) (with_one ask.FromUtf16) None)))
+
 abbrev pub query_in : List ℕ → Option Query
 query_in line =
     by_word (stripped (codes "lines ") line) (with_two ask.Lines)
@@ -157,7 +165,7 @@ query_in line =
     (by_word (stripped (codes "cluster ") line) (with_one ask.Cluster)
     (by_word (stripped (codes "word ") line) (with_one ask.Word)
     (by_word (stripped (codes "size") line) (with_none ask.Size)
-    (by_word (stripped (codes "text ") line) (with_two ask.Text) None))))))
+    (by_word (stripped (codes "text ") line) (with_two ask.Text) (offset_query_in line)))))))
 
 -- if queries are allowed, a line that is no other command may be a query
 abbrev pub or_query : Option Command → Option Query → Option Command

@@ -9,7 +9,7 @@ ghost use Rattle.script_commands.specs.Parsed.{command_of};
 ghost use Rattle.script_commands.specs.Commands.{LacksInserted, LacksInsertedIn, LacksText};
 ghost use Rattle.script_commands.specs.Commands.{Ask, SetWidth, are_digits, both_in, braced, deletion_in};
 ghost use Rattle.script_commands.specs.Commands.{edit_command_in, escaped, insertion_in, number_by, number_in};
-ghost use Rattle.script_commands.specs.Commands.{parted, query_in, command_in, stripped, unescaped, written};
+ghost use Rattle.script_commands.specs.Commands.{offset_query_in, parted, query_in, command_in, stripped, unescaped, written};
 
 use std::alloc::AllocError;
 
@@ -31,6 +31,14 @@ pub enum Query {
     /// A range of characters. The fields are the position of the first character and the number of
     /// characters.
     Text(usize, usize),
+    /// The number of UTF-8 bytes before a position.
+    Byte(usize),
+    /// The number of UTF-16 code units before a position.
+    Utf16(usize),
+    /// The position of a UTF-8 byte.
+    FromByte(usize),
+    /// The position of a UTF-16 code unit.
+    FromUtf16(usize),
 }
 
 /// A command, which is one line of a script.
@@ -69,6 +77,14 @@ const WORD: [char; 5] = ['w', 'o', 'r', 'd', ' '];
 const SIZE: [char; 4] = ['s', 'i', 'z', 'e'];
 
 const TEXT: [char; 5] = ['t', 'e', 'x', 't', ' '];
+
+const BYTE: [char; 5] = ['b', 'y', 't', 'e', ' '];
+
+const UTF16: [char; 6] = ['u', 't', 'f', '1', '6', ' '];
+
+const FROM_BYTE: [char; 9] = ['f', 'r', 'o', 'm', 'b', 'y', 't', 'e', ' '];
+
+const FROM_UTF16: [char; 10] = ['f', 'r', 'o', 'm', 'u', 't', 'f', '1', '6', ' '];
 
 /// Parses a line, which may be a query only if `queries` is true. Returns `None` if the line is not valid.
 /// Stores the text of an insert in `inserted`.
@@ -122,8 +138,26 @@ fn parse_query(line: &[char]) -> Option<Query>
             None
         };
     }
-    let (pos, count) = both(after(&TEXT, line)?)?;
-    Some(Query::Text(pos, count))
+    if let Some(rest) = after(&TEXT, line) {
+        let (pos, count) = both(rest)?;
+        return Some(Query::Text(pos, count));
+    }
+    parse_offset_query(line)
+}
+
+fn parse_offset_query(line: &[char]) -> Option<Query>
+    ensures { result ≡ offset_query_in line.now }
+{
+    if let Some(rest) = after(&BYTE, line) {
+        return Some(Query::Byte(number(rest)?));
+    }
+    if let Some(rest) = after(&UTF16, line) {
+        return Some(Query::Utf16(number(rest)?));
+    }
+    if let Some(rest) = after(&FROM_BYTE, line) {
+        return Some(Query::FromByte(number(rest)?));
+    }
+    Some(Query::FromUtf16(number(after(&FROM_UTF16, line)?)?))
 }
 
 // Parses two numbers with a space between them.

@@ -12,8 +12,8 @@ use std::alloc::{AllocError, Global};
 use std::marker::Model;
 use store::{Exchange, Exchanger, Measured};
 
-/// The layout of a paragraph, as an item of a store. The layout is in a box beside its counts of characters,
-/// lines, UTF-8 bytes and UTF-16 code units, so a search reads the counts only.
+/// The layout of a paragraph, as an item of a store. The layout is in a box, and its counts of characters,
+/// lines, UTF-8 bytes and UTF-16 code units are stored beside the box. So a search reads only the counts.
 #[derive(Debug)]
 pub struct Kept {
     chars: usize,

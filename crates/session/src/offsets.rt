@@ -1,5 +1,5 @@
-//! Positions of a text as numbers of UTF-8 bytes or UTF-16 code units. Paragraphs are found by the store's
-//! sums. A paragraph with as many units as characters is not read.
+//! Converts positions to offsets in UTF-8 bytes or UTF-16 code units, and back. The sums in the store find the
+//! paragraph. A paragraph with as many units as characters is not scanned.
 ghost use Rattle.std.specs.Prelude.{◌≡◌, ◌<◌, ◌≤◌, List, ℕ, length, sum_by, take};
 ghost use Rattle.session.specs.Kept.{text_of};
 ghost use Rattle.session.specs.Offsets.{before_in, length_in, offset_of, position_of, size_in};
@@ -18,7 +18,7 @@ pub enum Encoding {
 }
 
 impl Encoding {
-    // The number of units of a character.
+    // Returns the number of units of a character.
     fn size_of(self, c: char) -> usize
         ensures size { result ≡ size_in self c }
         ensures few { result ≤ 4 }
@@ -40,7 +40,7 @@ impl Encoding {
         length
     }
 
-    // The number of units of a paragraph.
+    // Returns the number of units of a paragraph.
     fn units(self, kept: &Kept) -> usize
         ensures { result ≡ units_of self kept.now }
     {
@@ -50,7 +50,7 @@ impl Encoding {
         }
     }
 
-    // The number of units of the text.
+    // Returns the number of units of the text.
     fn total<S: ParagraphStore<Kept>>(self, store: &S) -> usize
         ensures { result ≡ sum_by (units_of self) (S.items store.now) }
     {
@@ -72,7 +72,7 @@ impl Encoding {
         }
     }
 
-    // The number of units before a found paragraph.
+    // Returns the number of units before a found paragraph.
     fn before(self, found: Found) -> usize
         ensures { result ≡ before_in self found }
     {
@@ -83,7 +83,7 @@ impl Encoding {
     }
 }
 
-// The number of units of the first characters of a paragraph.
+// Returns the number of units of the first characters of a paragraph.
 fn length_to(kept: &Kept, count: usize, encoding: Encoding) -> usize
     requires { count ≤ length kept.now.text }
     ensures { result ≡ length_in encoding (take count kept.now.text) }
@@ -94,7 +94,7 @@ fn length_to(kept: &Kept, count: usize, encoding: Encoding) -> usize
     encoding.length(front(kept.laid().text(), count))
 }
 
-// The position of a unit in a text, and its number within the character there.
+// Returns the position of a unit in a text, and its number within the character there.
 fn unit_at(text: &[char], offset: usize, encoding: Encoding) -> (usize, usize)
     requires { offset < length_in encoding text.now }
     ensures { IsUnitAt encoding text.now offset result.0 result.1 }
@@ -110,7 +110,7 @@ fn unit_at(text: &[char], offset: usize, encoding: Encoding) -> (usize, usize)
     unreachable!()
 }
 
-// The position of a unit in a paragraph, and its number within the character there.
+// Returns the position of a unit in a paragraph, and its number within the character there.
 fn unit_in(kept: &Kept, offset: usize, encoding: Encoding) -> (usize, usize)
     requires { offset < units_of encoding kept.now }
     ensures { IsUnitAt encoding kept.now.text offset result.0 result.1 }

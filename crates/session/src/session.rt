@@ -311,8 +311,8 @@ impl<S: ParagraphStore<Kept>> Session<S> {
         position_of(&self.store, unit, Encoding::Utf16)
     }
 
-    /// Writes `count` characters from `pos` on as UTF-8. Fails with `OutOfRange` if the range is past the
-    /// end, and then writes nothing. Allocates nothing.
+    /// Writes `count` characters, starting at `pos`, as UTF-8. If the range reaches past the end, writes
+    /// nothing and fails with `OutOfRange`. Allocates nothing.
     pub fn write_text<W: Sink>(
         &self,
         writer: &mut W,

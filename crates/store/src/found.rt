@@ -4,12 +4,12 @@ ghost use Rattle.store.specs.Finding.{found_at};
 
 use crate::sums::Sums;
 
-/// The item that has a character, line, byte or UTF-16 code unit.
+/// The item that contains a character, a line, a byte or a UTF-16 code unit.
 #[derive(Clone, Copy, Debug, PartialEq, Eq)]
 pub struct Found {
     /// The index of the item, from 0.
     pub index: usize,
-    /// The index of the character, line, byte or code unit in the item, from 0.
+    /// The index of the character, line, byte or code unit within the item, from 0.
     pub rest: usize,
     /// The number of characters in the items before this one.
     pub chars_before: usize,
@@ -19,11 +19,11 @@ pub struct Found {
     pub bytes_before: usize,
     /// The number of UTF-16 code units of the items before it.
     pub utf16_before: usize,
-    /// The number of items that the search looked at.
+    /// The number of items that the search visited.
     pub visits: usize,
 }
 
-/// A `Found` in the making, with its sums in one value.
+/// The result of a search so far, with the sums of the items before it in one value.
 #[derive(Clone, Copy)]
 pub(crate) struct Place {
     pub(crate) index: usize,
@@ -33,7 +33,7 @@ pub(crate) struct Place {
 }
 
 impl Place {
-    /// The place as the result of a search.
+    /// Returns the place as the result of a search.
     pub(crate) fn found(self) -> Found
         ensures { result ≡ found_at self }
     {

@@ -2,7 +2,7 @@
 ghost use Rattle.std.specs.Prelude.{◌≡◌, ℕ, refl};
 ghost use Rattle.store.specs.Exchanging.{raised};
 
-/// An item that has a number of characters, lines, UTF-8 bytes and UTF-16 code units.
+/// An item with numbers of characters, lines, UTF-8 bytes and UTF-16 code units.
 pub trait Measured {
     ghost chars: { Self → ℕ };
 
@@ -18,11 +18,11 @@ pub trait Measured {
     fn lines(&self) -> usize
         ensures { result ≡ lines self.now };
 
-    /// The length in UTF-8 bytes.
+    /// Returns the length in UTF-8 bytes.
     fn bytes(&self) -> usize
         ensures { result ≡ bytes self.now };
 
-    /// The length in UTF-16 code units.
+    /// Returns the length in UTF-16 code units.
     fn utf16(&self) -> usize
         ensures { result ≡ utf16 self.now };
 }
@@ -46,7 +46,7 @@ pub trait Exchange: Measured {
         ensures item { self.new ≡ exchanged self.old part.old }
         ensures part { part.new ≡ handed_out self.old part.old };
 
-    // The numbers of characters, bytes and code units stay the same.
+    // An exchange does not change the numbers of characters, bytes and code units.
     ghost keeps_chars: { (item : Self) (part : Self.Part) → fits item part
         → Self.chars (exchanged item part) ≡ Self.chars item };
 
@@ -89,7 +89,7 @@ pub trait Exchanger<P: Measured> {
         ensures same { kind self.new ≡ kind self.old }
         ensures worked { worked self.new ≡ raised (worked self.old) (cost item.old part.old) };
 
-    // The numbers of characters, bytes and code units stay the same.
+    // An exchange does not change the numbers of characters, bytes and code units.
     ghost keeps_chars: { (by : Kind) (item : P) (part : Self.Part) → fits by item part
         → P.chars (exchanged by item part) ≡ P.chars item };
 

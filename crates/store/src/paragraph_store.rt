@@ -12,7 +12,7 @@ use std::alloc::{AllocError, Global};
 use std::ops::Range;
 
 /// A list of items, with the sums of their characters, lines, bytes and code units. Only `replace` and `list`
-/// allocate, and only if there are items to list or to replace. No call drops or copies an item.
+/// allocate, and only if there are items to list or to replace. No method drops or copies an item.
 pub trait ParagraphStore<P: Measured> {
     // The items in order.
     ghost items: { Self → List P };
@@ -33,15 +33,15 @@ pub trait ParagraphStore<P: Measured> {
     fn total_lines(&self) -> usize
         ensures { result ≡ sum_by P.lines (items self.now) };
 
-    /// The number of UTF-8 bytes of all items.
+    /// Returns the total number of UTF-8 bytes of all items.
     fn total_bytes(&self) -> usize
         ensures { result ≡ sum_by P.bytes (items self.now) };
 
-    /// The number of UTF-16 code units of all items.
+    /// Returns the total number of UTF-16 code units of all items.
     fn total_utf16(&self) -> usize
         ensures { result ≡ sum_by P.utf16 (items self.now) };
 
-    /// Returns an item by its index, from 0.
+    /// Returns the item at an index, or `None` past the last item.
     fn get(&self, index: usize) -> Option<&P>
         ensures { option_map (λ item. item.now) result ≡ slice_get (items self.now) index };
 
@@ -68,7 +68,7 @@ pub trait ParagraphStore<P: Measured> {
         ensures found { Finds P.bytes P.chars P.lines (items self.now) byte result }
         ensures counts { CountsBefore P.bytes P.utf16 (items self.now) result };
 
-    /// Finds the item that contains UTF-16 code unit `unit`. They are numbered from 0 across all items.
+    /// Finds the item that contains UTF-16 code unit `unit`. Code units are numbered from 0 across all items.
     fn find_utf16(&self, unit: usize) -> Found
         requires { unit < sum_by P.utf16 (items self.now) }
         ensures found { Finds P.utf16 P.chars P.lines (items self.now) unit result }

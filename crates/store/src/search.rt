@@ -44,7 +44,7 @@ impl<P: Measured> Subtree<P> {
         node.right.list_into(list);
     }
 
-    /// Finds the item that has the character, line, byte or code unit with number `n`.
+    /// Finds the item that contains the character, line, byte or code unit with number `n`.
     pub(crate) fn find(&self, unit: Unit, n: usize) -> Place
         requires { n < sum_by (measure P.Measured unit) (in_order self.now) }
         ensures found { IsPlace P.Measured unit (in_order self.now) n result }
@@ -54,7 +54,7 @@ impl<P: Measured> Subtree<P> {
             unreachable!()
         };
         let node: &Node<P> = node;
-        // Their invariants bound the sums.
+        // The invariants of the trees bound the sums.
         let (_height, _count, _sums) = (self.height(), self.count(), self.sums());
         let left = node.left.total(unit);
         if n < left {

@@ -1,4 +1,4 @@
-//! Balanced trees whose nodes store the sums of their items.
+//! Balanced trees. Each node stores the sums of all items in its subtree.
 ghost use Rattle.std.specs.Prelude.{◌≡◌, ◌+◌, ◌≤◌, length, sum_by, ◌∷◌, ◌++◌, max};
 ghost use Rattle.std.specs.Prelude.{IfOk, IfErr, MatchOption};
 ghost use Rattle.store.specs.Subtrees.{Fits, IsSummed};
@@ -98,7 +98,7 @@ impl<P: Measured> Subtree<P> {
         }
     }
 
-    /// The sums of all items.
+    /// Returns the sums of all items.
     pub(crate) fn sums(&self) -> Sums
         ensures sums { AreSums P.Measured (in_order self.now) result }
         ensures fit { SumsFit P.Measured (in_order self.now) }
@@ -112,14 +112,14 @@ impl<P: Measured> Subtree<P> {
         }
     }
 
-    /// The total size of all items in one unit.
+    /// Returns the total size of all items, in one unit.
     pub(crate) fn total(&self, unit: Unit) -> usize
         ensures { result ≡ sum_by (measure P.Measured unit) (in_order self.now) }
     {
         self.sums().total(unit)
     }
 
-    /// The sums of all items, of one more item, and of those of another tree.
+    /// Returns the sums of all items, of one more item, and of all items of another tree.
     pub(crate) fn sums_with(&self, item: &P, right: &Subtree<P>) -> Sums
         requires { SumsFit P.Measured (in_order self.now ++ item.now ∷ in_order right.now) }
         ensures { AreSums P.Measured (in_order self.now ++ item.now ∷ in_order right.now) result }
@@ -145,7 +145,7 @@ impl<P: Measured> Subtree<P> {
         ensures fits { Fits P.Measured (in_order self) }
         ensures balanced { IsBalanced self }
     {
-        // Their invariants bound the sums.
+        // The invariants of the trees bound the sums.
         let (_count, _sums) = (self.count(), self.sums());
         match self.root {
             None => None,

@@ -5,7 +5,7 @@ ghost use Rattle.store.specs.declared.sums.Unit.{Unit as Counted};
 
 use crate::measured::Measured;
 
-// What a search counts.
+// The unit in which a search counts.
 #[derive(Clone, Copy)]
 pub(crate) enum Unit {
     Char,
@@ -15,7 +15,7 @@ pub(crate) enum Unit {
 }
 
 impl Unit {
-    /// The size of an item in this unit.
+    /// Returns the size of an item in this unit.
     pub(crate) fn size_of<P: Measured>(self, item: &P) -> usize
         ensures { result ≡ measure P.Measured self item.now }
     {
@@ -38,7 +38,7 @@ pub(crate) struct Sums {
 }
 
 impl Sums {
-    /// The sums of no items.
+    /// Returns the sums of no items.
     pub(crate) fn none() -> Sums
         ensures { (unit : Counted) → part result unit ≡ 0 }
     {
@@ -50,7 +50,7 @@ impl Sums {
         }
     }
 
-    /// The sizes of one item.
+    /// Returns the sizes of one item.
     pub(crate) fn of<P: Measured>(item: &P) -> Sums
         ensures { (unit : Counted) → part result unit ≡ measure P.Measured unit item.now }
     {
@@ -62,7 +62,7 @@ impl Sums {
         }
     }
 
-    /// States that each of the sums fits, as a theorem.
+    /// States, as a theorem, that each of the sums fits in a `usize`.
     pub(crate) fn fits(self)
         ensures { (unit : Counted) → part self unit < 2 ^ 64 }
     {
@@ -70,7 +70,7 @@ impl Sums {
         let (_bytes, _utf16) = (self.total(Unit::Byte), self.total(Unit::Utf16));
     }
 
-    /// The sum in one unit.
+    /// Returns the sum in one unit.
     pub(crate) fn total(self, unit: Unit) -> usize
         ensures { result ≡ part self unit }
     {

@@ -45,7 +45,7 @@ impl<P: Measured> Model for VecStore<P> {
     ghost invariant = { λ s. AreSums P.Measured s.items.items s.sums };
 }
 
-// The sums of the items.
+// Returns the sums of the items.
 fn sums<P: Measured>(items: &[P]) -> Sums
     requires { SumsFit P.Measured items.now }
     ensures { AreSums P.Measured items.now result }
@@ -57,7 +57,8 @@ fn sums<P: Measured>(items: &[P]) -> Sums
     sums
 }
 
-// Finds the item that has the character, line, byte or code unit with number `n`, by a walk over the items.
+// Finds the item that contains the character, line, byte or code unit with number `n`, by walking over the
+// items.
 fn find<P: Measured>(items: &[P], unit: Unit, n: usize) -> Place
     requires within { n < sum_by (measure P.Measured unit) items.now }
     requires fit { SumsFit P.Measured items.now }
@@ -147,7 +148,7 @@ fn exchange_each<P: Measured, E: Exchanger<P>>(by: &mut E, items: &mut [P], part
 }
 
 impl<P: Measured> VecStore<P> {
-    // The total size of all items in one unit.
+    // Returns the total size of all items, in one unit.
     fn total(&self, unit: Unit) -> usize
         ensures { result ≡ sum_by (measure P.Measured unit) self.now }
     {

@@ -5,7 +5,7 @@ ghost use Rattle.reorder.specs.Order.{is_odd};
 ghost use Rattle.lines.specs.Writing.{PassedOn};
 ghost use Rattle.session.specs.Kept.{text_of};
 ghost use Rattle.tool.specs.Queries.{caret_text, cluster_text, hit_text, lines_text, part_text};
-ghost use Rattle.tool.specs.Queries.{query_text, size_text, word_text};
+ghost use Rattle.tool.specs.Queries.{query_text, size_text, told_of, word_text};
 ghost use Rattle.tool.specs.Queries.{empty_left, is_odd_at, screen_hit, screen_left, AnswersNot};
 ghost use Rattle.tool.specs.Reading.{Stops};
 
@@ -139,6 +139,24 @@ fn word_answer<S: ParagraphStore<Kept>>(
     }
 }
 
+fn offset_answer(offset: Option<usize>) -> Answer
+    ensures { result.items ≡ told_of (option_map (λ offset. offset ∷ []) offset) }
+{
+    match offset {
+        Some(offset) => told(&[offset]),
+        None => out_of_range(),
+    }
+}
+
+fn position_answer(found: Option<(usize, usize)>) -> Answer
+    ensures { result.items ≡ told_of (option_map (λ place. place.0 ∷ place.1 ∷ []) found) }
+{
+    match found {
+        Some((pos, rest)) => told(&[pos, rest]),
+        None => out_of_range(),
+    }
+}
+
 fn size_answer<S: ParagraphStore<Kept>>(session: &Session<S>) -> Answer
     ensures { result.items ≡ size_text session.now.kept }
 {
@@ -230,6 +248,10 @@ pub fn write_query<W: Sink, S: ParagraphStore<Kept>>(
         Query::Caret(pos) => caret_answer(session, print, pos),
         Query::Hit(n, column) => hit_answer(session, print, n, column),
         Query::Size => size_answer(session),
+        Query::Byte(pos) => offset_answer(session.byte_of(pos)),
+        Query::Utf16(pos) => offset_answer(session.utf16_of(pos)),
+        Query::FromByte(byte) => position_answer(session.position_of_byte(byte)),
+        Query::FromUtf16(unit) => position_answer(session.position_of_utf16(unit)),
         Query::Cluster(pos) => match cluster_answer(session, pos) {
             Ok(answer) => answer,
             Err(_) => return Err(RunFault::Memory),
