@@ -11,8 +11,10 @@ pub mod KeptLemmas
 pub mod LayoutLemmas
 mod LengthLemmas
 pub mod PageLemmas
+mod SegmentLemmas
 mod ShowLemmas
 pub mod SkippedLemmas
+mod SplitLemmas
 mod StayLemmas
 pub mod VisualLemmas
 mod WholeLemmas
