@@ -53,6 +53,7 @@ mod workspace;
 mod writing;
 
 pub use bytes::{WriteFault, write_chars};
+pub use clusters::{cluster_begin, cluster_end};
 pub use engine::{Engine, PARAGRAPH_LIMIT};
 pub use extents::Extents;
 pub use fill::Fill;

@@ -1,6 +1,6 @@
 use Rattle.std.proofs.Common.{◌-◌, ◌≤◌, length}
-use Rattle.session.proofs.ClusterLemmas.{EndsBy}
-use Rattle.session.proofs.clusters.end_of.Given as goal
+use Rattle.lines.proofs.SegmentLemmas.{EndsBy}
+use Rattle.lines.proofs.clusters.cluster_end.Given as goal
 
 abbrev pub invariant-loop-last : goal.invariant-loop-last
 invariant-loop-last l = record {

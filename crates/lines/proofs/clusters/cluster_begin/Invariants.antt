@@ -1,6 +1,6 @@
 use Rattle.std.proofs.Common.{◌≤◌}
-use Rattle.session.proofs.ClusterLemmas.{BeginsBy}
-use Rattle.session.proofs.clusters.begin.Given as goal
+use Rattle.lines.proofs.SegmentLemmas.{BeginsBy}
+use Rattle.lines.proofs.clusters.cluster_begin.Given as goal
 
 abbrev pub invariant-loop-start : goal.invariant-loop-start
 invariant-loop-start l = record {
