@@ -1,6 +1,5 @@
 -- Positions of a text, and numbers of UTF-8 bytes or UTF-16 code units before them.
-use Rattle.std.proofs.Common.{◌≡◌, ℕ, ◌+◌, ◌-◌, ◌*◌, ◌<◌, ◌≤◌, nat_le, nat_lt, Bool, true, false, if◌then◌else◌, List, [], ◌∷◌, ◌++◌, length, take, drop, get_or, sum_by, Option, Some, None, is_none, inl, inr, zero, suc, add-one, refl, sym, ap, ap₂, ◌∙◌, arith, append_assoc, length-append}
-use Rattle.std.specs.Char.{len_utf8}
+use Rattle.std.proofs.Common.{◌≡◌, ℕ, ◌+◌, ◌-◌, ◌<◌, ◌≤◌, nat_le, nat_lt, Bool, true, false, if◌then◌else◌, List, [], ◌∷◌, ◌++◌, length, take, drop, get_or, sum_by, Option, Some, None, is_none, inl, inr, zero, suc, add-one, refl, sym, ap, ap₂, ◌∙◌, arith, append_assoc, length-append}
 use Rattle.std.specs.List.{slice_get}
 use Rattle.std.specs.Option.{option_map}
 use Rattle.std.proofs.lemmas.Bool.{cases_Bool, cond-true, cond-false, le-ltb, lt-ltb, le-leb, lt-leb}
@@ -13,7 +12,7 @@ use Rattle.bidi.proofs.PairLemmas.{greatest_here}
 use Rattle.lines.proofs.FillingLemmas.{greatest_skips}
 use Rattle.lines.specs.Layouts.{Layout}
 use Rattle.session.specs.Kept.{text_of}
-use Rattle.session.specs.Offsets.{len_utf16, length_in, offset_of, position_of, before_in, size_in, units_of, IsUnitAt}
+use Rattle.session.specs.Offsets.{length_in, offset_of, position_of, before_in, size_in, units_of, IsUnitAt}
 use Rattle.session.specs.declared.offsets.Encoding.{Encoding}
 use Rattle.session.specs.declared.offsets.Encoding.TheVariants.{Utf8, Utf16}
 use Rattle.store.specs.Finding.{CountsBefore, Finds}

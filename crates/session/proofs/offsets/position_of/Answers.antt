@@ -1,6 +1,6 @@
-use Rattle.std.proofs.Common.{◌≡◌, ◌+◌, Some, sum_by, length, sym, ap, ◌∙◌, arith}
+use Rattle.std.proofs.Common.{◌≡◌, Some, length, sym, ap, ◌∙◌, arith}
 use Rattle.session.specs.Kept.{text_of}
-use Rattle.session.specs.Offsets.{length_in, units_of}
+use Rattle.session.specs.Offsets.{units_of}
 use Rattle.session.proofs.EdgeLemmas.{found_some, length-text}
 use Rattle.session.proofs.OffsetLemmas.{length-units, position_end, position_fits, position_past, position_read, unit_within}
 use Rattle.session.proofs.offsets.position_of.Goals as goal
