@@ -408,7 +408,8 @@ typedef struct hordguli_cluster {
 /* Stores the grapheme cluster of the character at `pos` in `*cluster`. Fails with OUT_OF_RANGE if `pos` is the end of
  * the text.
  * Errors: NULL, OVERLAP, CLOSED, OUT_OF_RANGE, NO_MEMORY.
- * Cost: O(log n), plus time and memory proportional to the whole paragraph. */
+ * Cost: O(log n), plus time and memory proportional to the characters around `pos`, up to the nearest places where a
+ * cluster ends whatever comes before and after. At worst, as among flags, these are the whole paragraph. */
 hordguli_status hordguli_cluster_at(hordguli_session *session, size_t pos, hordguli_cluster *cluster);
 
 /* The characters from `start` up to but not including `end`. `kind` is 1 if any of them is a letter or a digit,
