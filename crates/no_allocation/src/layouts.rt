@@ -95,6 +95,9 @@ pub fn of_line(line: &VisualLine<'_>) -> u64 {
     sum = mixed(sum, line.columns_left(1) as u64);
     sum = mixed(sum, line.columns_at(1) as u64);
     sum = mixed_place(sum, line.covering(1));
+    for span in line.spans(1, 3) {
+        sum = mixed(mixed(sum, span.left as u64), span.right as u64);
+    }
     mixed(sum, written(line))
 }
 
