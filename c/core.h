@@ -38,6 +38,13 @@ uint32_t hordguli_core_place_of(hordguli_session *session, size_t pos, hordguli_
 uint32_t hordguli_core_caret_at(hordguli_session *session, size_t pos, hordguli_caret *caret);
 uint32_t hordguli_core_hit_at(hordguli_session *session, size_t line, size_t column, hordguli_hit *hit);
 uint32_t hordguli_core_cluster_at(hordguli_session *session, size_t pos, hordguli_cluster *cluster);
+uint32_t hordguli_core_word_at(hordguli_session *session, size_t pos, hordguli_word *word);
+uint32_t hordguli_core_byte_of(hordguli_session *session, size_t pos, size_t *byte);
+uint32_t hordguli_core_utf16_of(hordguli_session *session, size_t pos, size_t *unit);
+uint32_t hordguli_core_position_of_byte(hordguli_session *session, size_t byte, hordguli_position *position);
+uint32_t hordguli_core_position_of_utf16(hordguli_session *session, size_t unit, hordguli_position *position);
+uint32_t hordguli_core_spans(hordguli_session *session, size_t line, size_t from, size_t to, hordguli_span *spans,
+                             size_t capacity, size_t *count);
 
 /* Bits of `wanted`, which select the requested arrays. The other arrays have length 0 and are ignored. */
 #define HORDGULI_CORE_CHARACTERS UINT32_C(1)
@@ -71,5 +78,6 @@ uint32_t hordguli_core_marks(hordguli_tables *tables, uint32_t options, const ui
                              uint8_t *marks, size_t room);
 
 uint32_t hordguli_core_count_utf8(const uint8_t *bytes, size_t length, size_t *count);
+uint32_t hordguli_core_valid_utf8(const uint8_t *bytes, size_t length, size_t *valid);
 
 #endif

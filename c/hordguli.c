@@ -176,6 +176,45 @@ PUBLIC hordguli_status hordguli_cluster_at(hordguli_session *session, size_t pos
     return (hordguli_status)hordguli_core_cluster_at(session, pos, cluster);
 }
 
+PUBLIC hordguli_status hordguli_word_at(hordguli_session *session, size_t pos, hordguli_word *word) {
+    if (session == NULL || word == NULL) return HORDGULI_NULL;
+    if (OVERLAP(AT(session), AT(word))) return HORDGULI_OVERLAP;
+    return (hordguli_status)hordguli_core_word_at(session, pos, word);
+}
+
+PUBLIC hordguli_status hordguli_byte_of(hordguli_session *session, size_t pos, size_t *byte) {
+    if (session == NULL || byte == NULL) return HORDGULI_NULL;
+    if (OVERLAP(AT(session), AT(byte))) return HORDGULI_OVERLAP;
+    return (hordguli_status)hordguli_core_byte_of(session, pos, byte);
+}
+
+PUBLIC hordguli_status hordguli_utf16_of(hordguli_session *session, size_t pos, size_t *unit) {
+    if (session == NULL || unit == NULL) return HORDGULI_NULL;
+    if (OVERLAP(AT(session), AT(unit))) return HORDGULI_OVERLAP;
+    return (hordguli_status)hordguli_core_utf16_of(session, pos, unit);
+}
+
+PUBLIC hordguli_status hordguli_position_of_byte(hordguli_session *session, size_t byte, hordguli_position *position) {
+    if (session == NULL || position == NULL) return HORDGULI_NULL;
+    if (OVERLAP(AT(session), AT(position))) return HORDGULI_OVERLAP;
+    return (hordguli_status)hordguli_core_position_of_byte(session, byte, position);
+}
+
+PUBLIC hordguli_status hordguli_position_of_utf16(hordguli_session *session, size_t unit, hordguli_position *position) {
+    if (session == NULL || position == NULL) return HORDGULI_NULL;
+    if (OVERLAP(AT(session), AT(position))) return HORDGULI_OVERLAP;
+    return (hordguli_status)hordguli_core_position_of_utf16(session, unit, position);
+}
+
+PUBLIC hordguli_status hordguli_spans(hordguli_session *session, size_t line, size_t from, size_t to, size_t capacity,
+                                      hordguli_span *spans, size_t *count) {
+    hordguli_span none[1];
+    if (session == NULL || count == NULL || LACKS(spans, capacity)) return HORDGULI_NULL;
+    if (OVERLAP(AT(session), AT(count), ARRAY(spans, capacity))) return HORDGULI_OVERLAP;
+    return (hordguli_status)hordguli_core_spans(session, line, from, to, ROOM(hordguli_span, spans, none), capacity,
+                                                count);
+}
+
 /* ---- Lines and text ---- */
 
 PUBLIC hordguli_status hordguli_line(hordguli_session *session, size_t line, hordguli_line_info *info, size_t capacity,
@@ -268,4 +307,10 @@ PUBLIC hordguli_status hordguli_count_utf8(const char *bytes, size_t length, siz
     if (count == NULL || LACKS(bytes, length)) return HORDGULI_NULL;
     if (OVERLAP(AT(count), ARRAY(bytes, length))) return HORDGULI_OVERLAP;
     return (hordguli_status)hordguli_core_count_utf8(BYTES(bytes), length, count);
+}
+
+PUBLIC hordguli_status hordguli_valid_utf8(const char *bytes, size_t length, size_t *valid) {
+    if (valid == NULL || LACKS(bytes, length)) return HORDGULI_NULL;
+    if (OVERLAP(AT(valid), ARRAY(bytes, length))) return HORDGULI_OVERLAP;
+    return (hordguli_status)hordguli_core_valid_utf8(BYTES(bytes), length, valid);
 }

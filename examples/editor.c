@@ -132,7 +132,7 @@ static void shift(size_t row, size_t out, size_t in) {
     memset(stale + row, 1, in);
 }
 
-/* Marks the lines that an edit replaced. */
+/* Updates the screen after an edit: marks the changed rows as stale, and moves the rows below them. */
 static void damaged(const hordguli_damage *damage) {
     size_t first = damage->first_line, end = first + damage->old_lines;
     if (end <= top && first < top) {

@@ -408,8 +408,70 @@ typedef struct hordguli_cluster {
 /* Stores the grapheme cluster of the character at `pos` in `*cluster`. Fails with OUT_OF_RANGE if `pos` is the end of
  * the text.
  * Errors: NULL, OVERLAP, CLOSED, OUT_OF_RANGE, NO_MEMORY.
- * Cost: O(log n), plus time and memory proportional to the whole paragraph. */
+ * Cost: O(log n), plus time and memory proportional to the characters around `pos`, up to the nearest places where a
+ * cluster ends whatever comes before and after. At worst, as among flags, these are the whole paragraph. */
 hordguli_status hordguli_cluster_at(hordguli_session *session, size_t pos, hordguli_cluster *cluster);
+
+/* The characters from `start` up to but not including `end`. `kind` is 1 if any of them is a letter or a digit,
+ * else 0, as for spaces and punctuation. `zero` is 0. */
+typedef struct hordguli_word {
+    size_t start;
+    size_t end;
+    uint32_t kind;
+    uint32_t zero;
+} hordguli_word;
+
+/* Stores the word of the character at `pos` in `*word`: the segment between two word boundaries (UAX #29) of its
+ * paragraph. Fails with OUT_OF_RANGE if `pos` is the end of the text.
+ *
+ * The next word starts at `word.end`, and the previous one holds the character at `word.start - 1`.
+ *
+ * Errors: NULL, OVERLAP, CLOSED, OUT_OF_RANGE, NO_MEMORY.
+ * Cost: O(log n), plus time and memory proportional to the whole paragraph. */
+hordguli_status hordguli_word_at(hordguli_session *session, size_t pos, hordguli_word *word);
+
+/* Stores in `*byte` how many bytes of UTF-8, and in `*unit` how many UTF-16 code units, the text before `pos` has.
+ * Editors and the Language Server Protocol count these. Fails with OUT_OF_RANGE if `pos` is past the end.
+ * Errors: NULL, OVERLAP, CLOSED, OUT_OF_RANGE.
+ * Cost: O(log n), plus O(length of the paragraph) unless the paragraph is ASCII or, for UTF-16, has no character above
+ * U+FFFF. */
+hordguli_status hordguli_byte_of(hordguli_session *session, size_t pos, size_t *byte);
+hordguli_status hordguli_utf16_of(hordguli_session *session, size_t pos, size_t *unit);
+
+/* The character at `pos`, and how many of its bytes or code units come before an offset: 0 at its start. */
+typedef struct hordguli_position {
+    size_t pos;
+    size_t rest;
+} hordguli_position;
+
+/* Stores the position of a UTF-8 byte or of a UTF-16 code unit, counted from 0, in `*position`. At the end of the text,
+ * `pos` is the number of characters and `rest` is 0. Fails with OUT_OF_RANGE if the offset is past the end.
+ * Errors: NULL, OVERLAP, CLOSED, OUT_OF_RANGE.
+ * Cost: as `hordguli_byte_of`. */
+hordguli_status hordguli_position_of_byte(hordguli_session *session, size_t byte, hordguli_position *position);
+hordguli_status hordguli_position_of_utf16(hordguli_session *session, size_t unit, hordguli_position *position);
+
+/* The columns from `left` up to but not including `right`, counted from the left edge of a line's shown part. */
+typedef struct hordguli_span {
+    size_t left;
+    size_t right;
+} hordguli_span;
+
+/* Stores the columns that the characters from `from` up to but not including `to` cover in a line, for drawing a
+ * selection: as few spans as possible, from left to right. Where the direction changes, a selection can have several.
+ * `from` and `to` are positions in the text; those outside the line are ignored. The number of spans is stored in
+ * `*count`, and the spans in an array of `capacity` elements (see BUFFERS). Fails with OUT_OF_RANGE if the line does not
+ * exist.
+ *
+ *     for (size_t line = first_line; line <= last_line; line++) {
+ *         status = hordguli_spans(&session, line, from, to, 16, spans, &count);
+ *         for (size_t k = 0; !status && k < count; k++) highlight(line, spans[k].left, spans[k].right);
+ *     }
+ *
+ * Errors: NULL, OVERLAP, CLOSED, OUT_OF_RANGE, NO_ROOM.
+ * Cost: O(log n), plus O(length of the line). */
+hordguli_status hordguli_spans(hordguli_session *session, size_t line, size_t from, size_t to, size_t capacity,
+                               hordguli_span *spans, size_t *count);
 
 /* ---- Lines and text ---- */
 
@@ -467,6 +529,12 @@ hordguli_status hordguli_utf8_length(hordguli_session *session, size_t pos, size
  * Errors: NULL, OVERLAP, NOT_UTF8.
  * Cost: O(length). */
 hordguli_status hordguli_count_utf8(const char *bytes, size_t length, size_t *count);
+
+/* Stores in `*valid` the length of the longest prefix of `bytes` that is valid UTF-8: `length` if all of it is, else
+ * the index of the first byte that belongs to no character. An incomplete character at the end is not valid.
+ * Errors: NULL, OVERLAP.
+ * Cost: O(length). */
+hordguli_status hordguli_valid_utf8(const char *bytes, size_t length, size_t *valid);
 
 typedef struct hordguli_paragraph_info {
     size_t length;  /* characters, including the separator */

@@ -1,5 +1,5 @@
 /* Measures finding the levels of each paragraph of standard input, with hordguli_levels, FriBidi's library and ICU. Prints
- * nanoseconds per character, the least of five alternating runs. Also prints how many paragraphs have the same levels in all
+ * nanoseconds per character, the minimum of five alternating runs. Also prints how many paragraphs have the same levels in all
  * three, except for spaces, which L1 changes in the results of the other two. Usage: levels FOLDER, where FOLDER has the table
  * files. */
 #define _POSIX_C_SOURCE 200809L

@@ -262,6 +262,11 @@ static void places(void) {
     hordguli_caret caret = {7, 7, 7, 7};
     hordguli_hit hit = {7, 7, 7};
     hordguli_cluster cluster = {7, 7};
+    hordguli_word word = {7, 7, 7, 7};
+    hordguli_position position = {7, 7};
+    size_t offset = 77;
+    hordguli_span spans[3] = {{7, 7}, {7, 7}, {7, 7}};
+    size_t count = 77;
     IS(hordguli_line_start(NULL, 0, &start), NULL);
     IS(hordguli_line_start(&session, 0, NULL), NULL);
     IS(hordguli_line_start(&session, 0, (size_t *)&session), OVERLAP);
@@ -287,6 +292,40 @@ static void places(void) {
     IS(hordguli_cluster_at(&session, 0, (hordguli_cluster *)&session), OVERLAP);
     IS(hordguli_cluster_at(&no_session, 0, &cluster), CLOSED);
     IS(hordguli_cluster_at(&session, 18, &cluster), OUT_OF_RANGE);
+    IS(hordguli_word_at(NULL, 0, &word), NULL);
+    IS(hordguli_word_at(&session, 0, NULL), NULL);
+    IS(hordguli_word_at(&session, 0, (hordguli_word *)&session), OVERLAP);
+    IS(hordguli_word_at(&no_session, 0, &word), CLOSED);
+    IS(hordguli_word_at(&session, 18, &word), OUT_OF_RANGE);
+    HOLDS(word.start == 7 && word.end == 7 && word.kind == 7 && word.zero == 7);
+    IS(hordguli_byte_of(NULL, 0, &offset), NULL);
+    IS(hordguli_byte_of(&session, 0, NULL), NULL);
+    IS(hordguli_byte_of(&session, 0, (size_t *)&session), OVERLAP);
+    IS(hordguli_byte_of(&no_session, 0, &offset), CLOSED);
+    IS(hordguli_byte_of(&session, 19, &offset), OUT_OF_RANGE);
+    IS(hordguli_utf16_of(NULL, 0, &offset), NULL);
+    IS(hordguli_utf16_of(&session, 0, NULL), NULL);
+    IS(hordguli_utf16_of(&session, 0, (size_t *)&session), OVERLAP);
+    IS(hordguli_utf16_of(&no_session, 0, &offset), CLOSED);
+    IS(hordguli_utf16_of(&session, 19, &offset), OUT_OF_RANGE);
+    IS(hordguli_position_of_byte(NULL, 0, &position), NULL);
+    IS(hordguli_position_of_byte(&session, 0, NULL), NULL);
+    IS(hordguli_position_of_byte(&session, 0, (hordguli_position *)&session), OVERLAP);
+    IS(hordguli_position_of_byte(&no_session, 0, &position), CLOSED);
+    IS(hordguli_position_of_byte(&session, 99, &position), OUT_OF_RANGE);
+    IS(hordguli_position_of_utf16(NULL, 0, &position), NULL);
+    IS(hordguli_position_of_utf16(&session, 0, NULL), NULL);
+    IS(hordguli_position_of_utf16(&session, 0, (hordguli_position *)&session), OVERLAP);
+    IS(hordguli_position_of_utf16(&no_session, 0, &position), CLOSED);
+    IS(hordguli_position_of_utf16(&session, 99, &position), OUT_OF_RANGE);
+    HOLDS(offset == 77 && position.pos == 7 && position.rest == 7);
+    IS(hordguli_spans(NULL, 0, 0, 9, 3, spans, &count), NULL);
+    IS(hordguli_spans(&session, 0, 0, 9, 3, NULL, &count), NULL);
+    IS(hordguli_spans(&session, 0, 0, 9, 3, spans, NULL), NULL);
+    IS(hordguli_spans(&session, 0, 0, 9, 3, spans, (size_t *)spans), OVERLAP);
+    IS(hordguli_spans(&no_session, 0, 0, 9, 3, spans, &count), CLOSED);
+    IS(hordguli_spans(&session, 3, 0, 9, 3, spans, &count), OUT_OF_RANGE);
+    HOLDS(count == 77 && spans[0].left == 7);
     HOLDS(start == 77 && place.line == 7 && caret.line == 7 && hit.pos == 7 && cluster.start == 7);
     OK(hordguli_line_start(&session, 2, &start));
     HOLDS(start == 15);
@@ -298,6 +337,30 @@ static void places(void) {
     HOLDS(caret.line == 0 && caret.column == 6 && caret.level == 1 && caret.zero == 0);
     OK(hordguli_caret_at(&session, 18, &caret));
     HOLDS(caret.line == 2 && caret.column == 3 && caret.level == 0);
+    OK(hordguli_byte_of(&session, 5, &offset)); /* after `abc ` and a letter of two bytes */
+    HOLDS(offset == 6);
+    OK(hordguli_utf16_of(&session, 5, &offset));
+    HOLDS(offset == 5);
+    OK(hordguli_position_of_byte(&session, 7, &position)); /* the second byte of the second letter */
+    HOLDS(position.pos == 5 && position.rest == 1);
+    OK(hordguli_position_of_utf16(&session, 5, &position));
+    HOLDS(position.pos == 5 && position.rest == 0);
+    OK(hordguli_spans(&session, 0, 0, 3, 3, spans, &count)); /* the letters before them */
+    HOLDS(count == 1 && spans[0].left == 0 && spans[0].right == 3 && spans[1].left == 7);
+    OK(hordguli_spans(&session, 0, 2, 5, 3, spans, &count)); /* two characters, and the first right-to-left letter */
+    HOLDS(count == 2 && spans[0].left == 2 && spans[0].right == 4 && spans[1].left == 6 && spans[1].right == 7);
+    IS(hordguli_spans(&session, 0, 2, 5, 1, spans, &count), NO_ROOM);
+    HOLDS(count == 2 && spans[0].right == 4);
+    IS(hordguli_spans(&session, 0, 2, 5, 0, NULL, &count), NO_ROOM);
+    HOLDS(count == 2);
+    OK(hordguli_spans(&session, 0, 5, 5, 0, NULL, &count)); /* nothing */
+    HOLDS(count == 0);
+    OK(hordguli_spans(&session, 2, 0, 9, 3, spans, &count)); /* before the line */
+    HOLDS(count == 0);
+    OK(hordguli_word_at(&session, 5, &word)); /* these letters */
+    HOLDS(word.start == 4 && word.end == 7 && word.kind == 1 && word.zero == 0);
+    OK(hordguli_word_at(&session, 3, &word)); /* the space before them */
+    HOLDS(word.start == 3 && word.end == 4 && word.kind == 0 && word.zero == 0);
     OK(hordguli_hit_at(&session, 0, 4, &hit)); /* the third of these letters */
     HOLDS(hit.pos == 6 && hit.trailing == 0 && hit.zero == 0);
     OK(hordguli_hit_at(&session, 0, 99, &hit));
@@ -431,6 +494,18 @@ static void text_of_ranges(void) {
     OK(hordguli_count_utf8(text, sizeof text - 1, &length));
     HOLDS(length == 18);
     OK(hordguli_count_utf8(NULL, 0, &length));
+    HOLDS(length == 0);
+    IS(hordguli_valid_utf8(NULL, 1, &length), NULL);
+    IS(hordguli_valid_utf8(text, 1, NULL), NULL);
+    IS(hordguli_valid_utf8((const char *)&length, 1, &length), OVERLAP);
+    IS(hordguli_valid_utf8(text, SIZE_MAX, &length), OVERLAP);
+    OK(hordguli_valid_utf8("a\xC3", 2, &length));
+    HOLDS(length == 1);
+    OK(hordguli_valid_utf8("\xff", 1, &length));
+    HOLDS(length == 0);
+    OK(hordguli_valid_utf8(text, sizeof text - 1, &length));
+    HOLDS(length == sizeof text - 1);
+    OK(hordguli_valid_utf8(NULL, 0, &length));
     HOLDS(length == 0);
 }
 

@@ -68,13 +68,14 @@ static const uint32_t characters[] = {0x5D0, '(', 'a', ')', 0x2067, '1', 0x2069,
 static uint8_t found_levels[9], found_marks[9];
 static uint32_t found_base;
 static hordguli_cluster found_cluster;
+static hordguli_word found_word;
 static hordguli_damage damage;
 static char found_bytes[BYTES];
 static size_t found_length;
 static uint32_t found_characters[100];
 static hordguli_line_info found_info;
 
-enum { OPEN_TABLES, OPEN, INSERT, REPLACE, WIDTH, CLUSTER, DELETE, BASE, LEVELS, MARKS, LINES, TEXT, PAGE, STEPS };
+enum { OPEN_TABLES, OPEN, INSERT, REPLACE, WIDTH, CLUSTER, WORD, DELETE, BASE, LEVELS, MARKS, LINES, TEXT, PAGE, STEPS };
 
 static const char start[] = "ab \u05d0\u05d1 12\nx\n";
 
@@ -86,6 +87,7 @@ static hordguli_status step(int k) {
         case REPLACE: return hordguli_replace(&session, 1, 5, "x\u4e00\ny\n", 7, &damage);
         case WIDTH: return hordguli_set_width(&session, 2, &damage);
         case CLUSTER: return hordguli_cluster_at(&session, 2, &found_cluster);
+        case WORD: return hordguli_word_at(&session, 2, &found_word);
         case DELETE: return hordguli_delete(&session, 2, 4, &damage);
         case BASE: return hordguli_base(&tables, 0, characters, 9, &found_base);
         case LEVELS: return hordguli_levels(&tables, 0, characters, 9, 9, found_levels);

@@ -286,6 +286,7 @@ static void places_have_each_value_in_its_field(void) {
     hordguli_caret caret = {77, 77, 77, 77};
     hordguli_hit hit = {77, 77, 77};
     hordguli_cluster cluster = {77, 77};
+    hordguli_word word = {77, 77, 77, 77};
     size_t start = 77;
     reopen(&session, mixed, 8);
     OK(hordguli_line_start(&session, 3, &start));
@@ -301,6 +302,8 @@ static void places_have_each_value_in_its_field(void) {
     HOLDS(hit.pos == 26), HOLDS(hit.trailing == 0), HOLDS(hit.zero == 0);
     OK(hordguli_cluster_at(&session, 22, &cluster));
     HOLDS(cluster.start == 21), HOLDS(cluster.end == 23);
+    OK(hordguli_word_at(&session, 22, &word));
+    HOLDS(word.start == 21), HOLDS(word.end == 26), HOLDS(word.kind == 1), HOLDS(word.zero == 0);
     hordguli_session_close(&session);
 }
 
@@ -359,6 +362,8 @@ static void parameters_are_not_exchanged(void) {
     HOLDS(length == 6 && memcmp(bytes, "three\n", 6) == 0);
     OK(hordguli_utf8_length(&session, 12, 3, &length));
     HOLDS(length == 4);
+    OK(hordguli_valid_utf8("\u05d0a\xd7\u05d1", 6, &length));
+    HOLDS(length == 3);
     OK(hordguli_count_utf8("\u05d0a\u05d1", 5, &length));
     HOLDS(length == 3);
     OK(hordguli_base(&tables, 0, characters + 1, 2, &base));
@@ -692,6 +697,15 @@ static const way of_count_utf8[] = {
     END,
 };
 
+static const way of_valid_utf8[] = {
+    {"NULL", OUT | OUT_IS, null_out, 0, 0},
+    {"NULL", TEXT, null_text, 1, 2},
+    {"NULL, OVERLAP", TEXT, long_null_text, 0, 0},
+    {"OVERLAP", TEXT, long_text, 0, 1},
+    {"OVERLAP", TEXT | OUT_IS, text_in_out, 0, 1},
+    END,
+};
+
 /* Tables and characters */
 static const way of_characters[] = {
     {"NULL", TABLES | TABLES_IS, null_tables, 0, 0},
@@ -795,11 +809,18 @@ MAKE(place_of, a->session, a->at, a->out)
 MAKE(caret_at, a->session, a->at, a->out)
 MAKE(hit_at, a->session, a->at, a->column, a->out)
 MAKE(cluster_at, a->session, a->at, a->out)
+MAKE(word_at, a->session, a->at, a->out)
+MAKE(byte_of, a->session, a->at, a->out)
+MAKE(utf16_of, a->session, a->at, a->out)
+MAKE(position_of_byte, a->session, a->at, a->out)
+MAKE(position_of_utf16, a->session, a->at, a->out)
+MAKE(spans, a->session, a->at, a->column, a->count, a->capacity, a->arrays[0], a->out)
 MAKE(line, a->session, a->at, a->out, a->capacity, a->arrays[0], a->arrays[1], a->arrays[2], a->arrays[3], a->arrays[4])
 MAKE(lines_utf8, a->session, a->at, a->count, a->flags, a->capacity, a->arrays[0], a->out)
 MAKE(text, a->session, a->at, a->count, a->capacity, a->arrays[0], a->out)
 MAKE(utf8_length, a->session, a->at, a->count, a->out)
 MAKE(count_utf8, a->text, a->length, a->out)
+MAKE(valid_utf8, a->text, a->length, a->out)
 MAKE(paragraph, a->session, a->at, a->out, a->capacity, a->arrays[0], a->arrays[1])
 MAKE(base, a->tables, a->flags, a->characters, a->count, a->out)
 MAKE(levels, a->tables, a->flags, a->characters, a->count, a->capacity, a->arrays[0])
@@ -848,6 +869,18 @@ static const call calls[] = {
          .end = 3),
     CALL(cluster_at, READING ", NO_MEMORY", .never = NOT_BOTH, .ways = {of_session, of_at},
          .out_size = sizeof(hordguli_cluster), .at = 17, .end = 18),
+    CALL(word_at, READING ", NO_MEMORY", .never = NOT_BOTH, .ways = {of_session, of_at},
+         .out_size = sizeof(hordguli_word), .at = 17, .end = 18),
+    CALL(byte_of, READING, .never = NOT_BOTH, .ways = {of_session, of_at}, .out_size = sizeof(size_t), .at = 18,
+         .end = 19),
+    CALL(utf16_of, READING, .never = NOT_BOTH, .ways = {of_session, of_at}, .out_size = sizeof(size_t), .at = 18,
+         .end = 19),
+    CALL(position_of_byte, READING, .never = NOT_BOTH, .ways = {of_session, of_at},
+         .out_size = sizeof(hordguli_position), .at = 17, .end = 99),
+    CALL(position_of_utf16, READING, .never = NOT_BOTH, .ways = {of_session, of_at},
+         .out_size = sizeof(hordguli_position), .at = 17, .end = 99),
+    CALL(spans, READING ", NO_ROOM", .ways = {of_session, of_at, of_buffer}, .out_size = sizeof(size_t), .at = 0,
+         .count = 5, .end = 3, .needed = 2),
     CALL(line, READING ", NO_ROOM", .ways = {of_session, of_at, of_line}, .out_size = sizeof(hordguli_line_info),
          .at = 1, .end = 3, .needed = 6),
     CALL(lines_utf8, "NULL, OVERLAP, UNKNOWN_OPTION, CLOSED, OUT_OF_RANGE, NO_MEMORY, NO_ROOM",
@@ -858,6 +891,7 @@ static const call calls[] = {
     CALL(utf8_length, READING, .never = NOT_BOTH, .ways = {of_session, of_range}, .out_size = sizeof(size_t), .at = 3,
          .count = 4, .end = 19),
     CALL(count_utf8, "NULL, OVERLAP, NOT_UTF8", .ways = {of_count_utf8}, .out_size = sizeof(size_t)),
+    CALL(valid_utf8, "NULL, OVERLAP", .ways = {of_valid_utf8}, .out_size = sizeof(size_t)),
     CALL(paragraph, READING ", NO_ROOM", .ways = {of_session, of_at, of_paragraph},
          .out_size = sizeof(hordguli_paragraph_info), .at = 1, .end = 3, .needed = 7),
     CALL(base, "NULL, OVERLAP, UNKNOWN_OPTION, CLOSED, NOT_A_CHARACTER, NO_MEMORY",

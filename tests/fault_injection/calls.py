@@ -1,4 +1,4 @@
-"""Runs programs in which calls of the C library fail (faults.c). Shared by several scripts."""
+"""Runs programs in which calls to the C library fail (faults.c). Shared by several scripts."""
 import os, re, shutil, subprocess, sys, tempfile
 
 ROOT = os.path.dirname(os.path.dirname(os.path.dirname(os.path.abspath(__file__))))

@@ -1,4 +1,4 @@
-//! Times the calls of a session on the text of a file, for comparison with the same calls through C
+//! Times calls to a session on the text of a file, for comparison with the same calls through C
 //! (`tests/c/speed.c`).
 use crate::edits::{close, open};
 use crate::numbers::Numbers;

@@ -29,8 +29,8 @@ pub enum StoreKind {
     Tree,
 }
 
-/// Makes edits in a session that keeps its paragraphs in a list or a tree, and prints the counts of its
-/// contents.
+/// Makes edits in a session that keeps its paragraphs in a list or a tree, and prints the
+/// session's counts.
 pub fn run(rt: &HostRuntime, kind: StoreKind, paragraphs: usize, edits: usize) -> Result<()> {
     match kind {
         StoreKind::List => show::<VecStore<Kept>>(rt, paragraphs, edits),

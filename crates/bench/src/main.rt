@@ -1,7 +1,7 @@
 //! Measures what the command itself cannot show, for the scripts of `bench/`. Times are in nanoseconds. UCD
 //! is the folder of the table files. KIND is `list` or `tree`, which says how the paragraphs are stored.
 //!
-//! - `bench edits KIND PARAGRAPHS EDITS` makes edits in a session, and prints the counts of its contents.
+//! - `bench edits KIND PARAGRAPHS EDITS` makes edits in a session, and prints the session's counts.
 //! - `bench session UCD KIND PARAGRAPHS EDITS` times opening a session and making an edit.
 //! - `bench calls UCD FILE INSERTS` times opening a session on a text, making inserts, and reading it line by
 //!   line.

@@ -1,4 +1,4 @@
-//! Times the calls of a session on long texts.
+//! Times calls to a session on long texts.
 ghost use Rattle.std.specs.Prelude.{◌<◌, IfOk};
 ghost use Rattle.std.specs.List.{All};
 ghost use Rattle.lines.specs.Engine.{rules_of, SameRules};

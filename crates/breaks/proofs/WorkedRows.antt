@@ -45,7 +45,8 @@ small_kana = refl
 unknown : resolved XX true ≡ AL
 unknown = refl
 
--- LB3 to LB6: a line ends after BK, CR, LF or NL, but not between CR and LF, and not before any of them
+-- LB3 to LB6: a line must end after BK, CR, LF or NL, except between CR and LF. After other characters, no
+-- line ends before one of these.
 ends : marks_by (AL ∷ CR ∷ LF ∷ []) ≡ Never ∷ Never ∷ Must ∷ []
 unfolding rules rows_before_numbers rows_of_numbers rows_after_numbers
 ends = refl

@@ -34,7 +34,7 @@ is_nothing [] = true
 is_nothing (class ∷ rest) = false
 
 -- Whether a list of classes matches the expression from one of its parts on, with the last part first. No
--- class is in two adjacent parts, so each part can match greedily.
+-- optional or repeated part shares a class with a part that can follow it, so each part can match greedily.
 abbrev pub is_end : List LineClass → Bool
 is_end classes = is_nothing (after_one affix classes)
 

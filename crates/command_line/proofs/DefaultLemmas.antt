@@ -1,4 +1,4 @@
--- What a parse gives for an argument that has a default, and for a number in a range.
+-- The result of parsing an argument that has a default, and of parsing a number in a range.
 use Rattle.std.proofs.Common.{◌≡◌, ◌∙◌, ◌<◌, ◌≤◌, ◌==◌, ◌^◌, ap, ℕ, Result, Ok, Err, zero, suc, Bool, true, false, List, [], ◌∷◌, length, drop, cond, is_some, Option, Some, None, refl, sym, subst, inl, inr, arith}
 use Rattle.std.specs.Prelude.{find, option_map, slice_get, unwrap_or, pos}
 use Rattle.std.specs.Borrow.{Bor}

@@ -1,7 +1,7 @@
 //! Prints properties of paragraphs. Each line of standard input is a paragraph, given by the hexadecimal code
 //! points of its characters. UCD is the folder of the table files.
 //!
-//! - `conformance marks-of UCD` prints the break marks of each.
+//! - `conformance marks-of UCD` prints the break marks of each paragraph.
 //! - `conformance lines-of UCD DIRECTION` lays out each as a single line, and prints its base level, its
 //!   levels and its order.
 //! - `conformance levels-of UCD DIRECTION` prints the levels of each, as they are before L1.

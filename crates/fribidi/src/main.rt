@@ -87,7 +87,7 @@ fn run_settings(rt: &HostRuntime, settings: &Settings<'_>) -> Result<(), Program
     }
 }
 
-// Returns the fault of arguments that cannot be read, because one of them is not UTF-8 or memory ran out.
+// Returns the fault to report if the arguments cannot be read: one of them is not UTF-8, or memory ran out.
 fn word_fault(error: io::Error) -> ProgramFault {
     if error.kind() == ErrorKind::OutOfMemory {
         ProgramFault::Line(LineFault::NoMemory)

@@ -1,2 +1,3 @@
 mod SessionSteps
+mod SpanLemmas
 mod TablesSteps

@@ -12,3 +12,5 @@ pub mod Places
 pub mod Arrays
 pub mod Lines
 pub mod Texts
+pub mod Spans
+pub mod Offsets

@@ -1,6 +1,5 @@
 -- Text that is stored as bytes.
-use Rattle.std.specs.Prelude.{◌≡◌, ℕ, ◌+◌, ◌<◌, ◌≤◌, ◌⊎◌, List, Some, length}
-use Rattle.device.specs.Device.{Device}
+use Rattle.std.specs.Prelude.{◌≡◌, ℕ, ◌+◌, ◌<◌, ◌≤◌, List, length}
 use Rattle.lines.specs.declared.print.Print.{Print}
 use Rattle.session.specs.Kept.{lines_in}
 use Rattle.session.specs.Printing.{lines_page}
@@ -8,23 +7,17 @@ use Rattle.session.specs.declared.printing.RangeFault.{RangeFault}
 use Rattle.session.specs.declared.printing.RangeFault.TheVariants.{OutOfRange, Write}
 use Rattle.session.specs.Reading.{utf8_part}
 use Rattle.session.specs.Sessions.{SessionState, text_at}
-use Rattle.hordguli_c.specs.Arrays.{put}
+use Rattle.hordguli_c.specs.Arrays.{PutsItems}
 use Rattle.hordguli_c.specs.Calls.{Given, OrNoMemory}
 use Rattle.hordguli_c.specs.declared.status.Status.{Status}
 use Rattle.hordguli_c.specs.declared.status.Status.TheVariants as is
-
--- Bytes are copied to an array if all of them fit. The number of bytes is stored in either case.
-abbrev pub PutsBytes : List ℕ → Status → List ℕ × ℕ → List ℕ × ℕ → Type 0
-PutsBytes bytes status old new =
-    ((status ≡ is.Ok) × (length bytes ≤ length old.0) × (new ≡ (put bytes old.0, length bytes)))
-    ⊎ ((status ≡ is.NoRoom) × (length old.0 < length bytes) × (new ≡ (old.0, length bytes)))
 
 -- The bytes of a range of items are stored. They are collected before they are copied, so an allocation may
 -- fail before their number is known.
 abbrev pub PutsRange : ℕ → ℕ → ℕ → List ℕ → Status → List ℕ × ℕ → List ℕ × ℕ → Type 0
 PutsRange size first count bytes status old new =
     Given (first + count ≤ size) is.OutOfRange status (new ≡ old)
-    (OrNoMemory (0 < length bytes) status (new ≡ old) (PutsBytes bytes status old new))
+    (OrNoMemory (0 < length bytes) status (new ≡ old) (PutsItems bytes status old new))
 
 -- the reason why the bytes of a range were not collected: the range is past the end, or an allocation failed
 abbrev pub RangeNot : ℕ → ℕ → ℕ → List ℕ → RangeFault → Type 0

@@ -7,6 +7,7 @@ ghost use Rattle.session.specs.Places.{line_starts, place_at};
 ghost use Rattle.hordguli_c.specs.Calls.{Asks, Gives};
 ghost use Rattle.hordguli_c.specs.Statuses.{Returns};
 ghost use Rattle.hordguli_c.specs.Places.{caret_out, cluster_out, flag, hit_out, place_out, GivesCluster};
+ghost use Rattle.hordguli_c.specs.Places.{word_out, GivesWord};
 
 use crate::session_handle::{SessionHandle, SessionObject};
 use crate::status::{Status, number_of};
@@ -242,6 +243,56 @@ pub extern "C" fn hordguli_core_cluster_at(
     match session.swap(alloc, None) {
         Some(object) => {
             let status = find_cluster(&object, pos, cluster);
+            session.swap(alloc, Some(object));
+            number_of(status)
+        }
+        None => number_of(Status::Closed),
+    }
+}
+
+/// A word (`hordguli_word` in C). `kind` is 1 if it has a letter or a digit, else 0.
+#[repr(C)]
+#[derive(Clone, Copy)]
+pub struct WordOut {
+    pub start: usize,
+    pub end: usize,
+    pub kind: u32,
+    pub zero: u32,
+}
+
+fn find_word(session: &SessionObject, pos: usize, word: &mut WordOut) -> Status
+    ensures { GivesWord pos result session.now word.old word.new }
+{
+    match session.word(pos) {
+        Ok(Some(found)) => {
+            *word = WordOut {
+                start: found.start,
+                end: found.end,
+                kind: u32::from(found.has_letter),
+                zero: 0,
+            };
+            Status::Ok
+        }
+        Ok(None) => Status::OutOfRange,
+        Err(_) => Status::NoMemory,
+    }
+}
+
+/// Stores the word of the character at a position.
+#[unsafe(no_mangle)]
+pub extern "C" fn hordguli_core_word_at(
+    alloc: Global,
+    session: &mut SessionHandle,
+    pos: usize,
+    word: &mut WordOut,
+) -> u32
+    ensures unchanged { session.new.held ≡ session.old.held }
+    ensures word { Returns (λ status.
+        Asks (GivesWord pos) status session.old.held word.old word.new) result }
+{
+    match session.swap(alloc, None) {
+        Some(object) => {
+            let status = find_word(&object, pos, word);
             session.swap(alloc, Some(object));
             number_of(status)
         }

@@ -1,5 +1,6 @@
 //! Functions that write lines and characters as bytes.
 ghost use Rattle.std.specs.Prelude.{◌≡◌, ◌+◌, ◌≤◌, chars, length, IfErr, IfOk};
+ghost use Rattle.std.specs.Str.Lossy.{utf8_valid_len};
 ghost use Rattle.session.specs.Kept.{lines_in};
 ghost use Rattle.session.specs.Printing.{lines_page};
 ghost use Rattle.session.specs.Reading.{utf8_len, utf8_part};
@@ -7,7 +8,8 @@ ghost use Rattle.session.specs.Sessions.{text_at};
 ghost use Rattle.hordguli_c.specs.Calls.{Asks, AsksBy, Gives, OfText};
 ghost use Rattle.hordguli_c.specs.Statuses.{Returns};
 ghost use Rattle.hordguli_c.specs.Options.{print_of};
-ghost use Rattle.hordguli_c.specs.Texts.{PutsBytes, PutsLines, PutsText, RangeNot};
+ghost use Rattle.hordguli_c.specs.Arrays.{PutsItems};
+ghost use Rattle.hordguli_c.specs.Texts.{PutsLines, PutsText, RangeNot};
 ghost use Rattle.hordguli_c.specs.declared.status.Status.TheVariants.{Ok};
 
 use crate::options::print_of;
@@ -21,7 +23,7 @@ use stream::Page;
 
 // Copies bytes to an array, if they fit, and stores the number of bytes.
 fn put_bytes(bytes: &[u8], array: &mut [u8], len: &mut usize) -> Status
-    ensures { PutsBytes bytes.now result (array.old, len.old) (array.new, len.new) }
+    ensures { PutsItems bytes.now result (array.old, len.old) (array.new, len.new) }
 {
     *len = bytes.len();
     if array.len() < bytes.len() {
@@ -211,4 +213,23 @@ pub extern "C" fn hordguli_core_count_utf8(bytes: &[u8], count: &mut usize) -> u
         }
         Err(_) => number_of(Status::NotUtf8),
     }
+}
+
+fn valid_len(bytes: &[u8]) -> usize
+    ensures { result ≡ utf8_valid_len bytes.now }
+{
+    let Err(error) = from_utf8(bytes) else {
+        return bytes.len();
+    };
+    error.valid_up_to()
+}
+
+/// Stores the length of the longest valid prefix of UTF-8 text.
+#[unsafe(no_mangle)]
+pub extern "C" fn hordguli_core_valid_utf8(bytes: &[u8], valid: &mut usize) -> u32
+    ensures status { Returns (λ status. status ≡ Ok) result }
+    ensures valid { valid.new ≡ utf8_valid_len bytes.now }
+{
+    *valid = valid_len(bytes);
+    number_of(Status::Ok)
 }

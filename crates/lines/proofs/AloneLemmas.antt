@@ -12,18 +12,25 @@ use Rattle.ucd_breaks.specs.GraphemeClusterBreakRows.{grapheme_cluster_break_row
 use Rattle.ucd_breaks.specs.declared.GraphemeClusterBreak.{GraphemeClusterBreak}
 use Rattle.ucd_breaks.specs.declared.GraphemeClusterBreak.TheVariants.{Control, Lf, Other}
 use Rattle.ucd_derived.specs.IndicConjunctBreak.{indic_conjunct_break}
+use Rattle.ucd_derived.specs.declared.IndicConjunctBreak.{IndicConjunctBreak}
+use Rattle.ucd_derived.specs.declared.IndicConjunctBreak.TheVariants as InCb
 use Rattle.ucd_derived.specs.IndicConjunctBreakRows.{indic_conjunct_break_rows}
 use Rattle.unicode_segmentation.specs.Grapheme.{break_by_pair, ends_in_half_flag, ends_in_linker, is_consonant, is_grapheme_break, is_regional, is_zwj}
 use Rattle.lines.specs.Clusters.{cluster_ends, ends_after, is_alone, lies_in}
 
-abbrev stands_apart : GraphemeClusterBreak → Bool
+abbrev pub stands_apart : GraphemeClusterBreak → Bool
 stands_apart Control = true
 stands_apart Lf = true
 stands_apart Other = true
 stands_apart _ = false
 
-abbrev is_apart : ℕ → Bool
-is_apart c = stands_apart (grapheme_cluster_break c) && not (is_consonant (indic_conjunct_break c))
+-- part of no conjunct
+abbrev pub is_unjoined : IndicConjunctBreak → Bool
+is_unjoined InCb.None = true
+is_unjoined _ = false
+
+abbrev pub is_apart : ℕ → Bool
+is_apart c = stands_apart (grapheme_cluster_break c) && is_unjoined (indic_conjunct_break c)
 
 abbrev all_from : (ℕ → Bool) → ℕ → ℕ → Bool
 all_from test first zero = true
@@ -89,7 +96,7 @@ latin_is_apart c lies =
       | inr after ↦ one_of is_apart 144 112 c more_latin after (omega (arith, to))
     ]
 
-alone_is_apart : (c : ℕ) → is_alone c ≡ true → is_apart c ≡ true
+pub alone_is_apart : (c : ℕ) → is_alone c ≡ true → is_apart c ≡ true
 alone_is_apart c =
     either _ _ (is_apart c ≡ true) (latin_is_apart c)
     (either _ _ (is_apart c ≡ true) (apart_in 9 1 c line_feed)
@@ -111,21 +118,23 @@ by_pair Other Lf one other = refl
 by_pair Other Other one other = refl
 by_pair g h one other = cc
 
-no_joiner : (g : GraphemeClusterBreak) → stands_apart g ≡ true → is_zwj g ≡ false
+pub no_joiner : (g : GraphemeClusterBreak) → stands_apart g ≡ true → is_zwj g ≡ false
 no_joiner Control one = refl
 no_joiner Lf one = refl
 no_joiner Other one = refl
 no_joiner g one = cc
 
-no_flag : (g : GraphemeClusterBreak) → stands_apart g ≡ true → is_regional g ≡ false
+pub no_flag : (g : GraphemeClusterBreak) → stands_apart g ≡ true → is_regional g ≡ false
 no_flag Control one = refl
 no_flag Lf one = refl
 no_flag Other one = refl
 no_flag g one = cc
 
-not_consonant : (b : Bool) → not b ≡ true → b ≡ false
-not_consonant true none = cc
-not_consonant false none = refl
+no_consonant : (v : IndicConjunctBreak) → is_unjoined v ≡ true → is_consonant v ≡ false
+no_consonant InCb.Consonant one = cc
+no_consonant InCb.Extend one = refl
+no_consonant InCb.Linker one = refl
+no_consonant InCb.None one = refl
 
 parts_of : (pair : Option Bool) → unwrap_or pair true ≡ true → unwrap_or pair (not ((true && false) || (false || false))) ≡ true
 parts_of (Some b) is = is
@@ -135,12 +144,12 @@ none_joined : (a b : Bool) → b ≡ false → (a && b) ≡ false
 none_joined true b none = none
 none_joined false b none = refl
 
-breaks_between : (c d : ℕ) (before after : List ℕ) → is_apart c ≡ true → is_apart d ≡ true → is_grapheme_break true (c ∷ before) (d ∷ after) ≡ true
+pub breaks_between : (c d : ℕ) (before after : List ℕ) → is_apart c ≡ true → is_apart d ≡ true → is_grapheme_break true (c ∷ before) (d ∷ after) ≡ true
 unfolding is_grapheme_break ends_in_half_flag
 breaks_between c d before after one other =
     let c_parts = and_parts (stands_apart (grapheme_cluster_break c)) _ one in
     let d_parts = and_parts (stands_apart (grapheme_cluster_break d)) _ other in
-    let conjunct = none_joined (ends_in_linker (map indic_conjunct_break (c ∷ before))) _ (not_consonant _ d_parts.1) in
+    let conjunct = none_joined (ends_in_linker (map indic_conjunct_break (c ∷ before))) _ (no_consonant _ d_parts.1) in
     rw (conjunct, no_joiner _ c_parts.0, no_flag _ c_parts.0) (parts_of (break_by_pair true (grapheme_cluster_break c) (grapheme_cluster_break d)) (by_pair _ _ c_parts.0 d_parts.0))
 
 ends_apart : (before text : List ℕ) → list_all is_alone text ≡ true → ends_after (is_grapheme_break true) before text ≡ map (λ _. true) text

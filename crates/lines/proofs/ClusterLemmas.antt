@@ -33,7 +33,7 @@ cut_begins : (rule : Rule) (before : List ℕ) (c : ℕ) (cs after : List ℕ)
 unfolding cut
 cut_begins rule before c cs after = attach_begins (rule (c ∷ before) (cs ++ after)) c (cut rule (c ∷ before) cs after)
 
--- if `attach` puts a character before pieces, a cluster ends after that character exactly if it is a piece of
+-- if `attach` puts a character before pieces, a cluster ends after that character if and only if it is a piece of
 -- its own
 ends_attach : (b : Bool) (c d : ℕ) (p : List ℕ) (ps : List (List ℕ))
     → flat_map ends_of_piece (attach b c ((d ∷ p) ∷ ps)) ≡ b ∷ flat_map ends_of_piece ((d ∷ p) ∷ ps)

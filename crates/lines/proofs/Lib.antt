@@ -11,12 +11,17 @@ pub mod KeptLemmas
 pub mod LayoutLemmas
 mod LengthLemmas
 pub mod PageLemmas
+mod SegmentLemmas
+mod SelectionLemmas
 mod ShowLemmas
 pub mod SkippedLemmas
+mod SpanLemmas
+mod SplitLemmas
 mod StayLemmas
 pub mod VisualLemmas
 mod WholeLemmas
 mod WorkedBytes
 mod WorkedRows
+mod WorkedSpans
 pub mod WriteLemmas
 mod WrittenLemmas

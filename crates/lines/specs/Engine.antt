@@ -1,4 +1,4 @@
--- How calls of an engine change its rules and work counters.
+-- How calls to an engine change its rules and work counters.
 use Rattle.std.specs.Prelude.{◌≡◌, ℕ, ◌+◌, ◌-◌, ◌^◌, ◌≤◌, min, if◌then◌else◌}
 use Rattle.lines.specs.Layouts.{Rules}
 use Rattle.lines.specs.Printing.{skips_lines}

@@ -13,10 +13,12 @@ pub mod Extents
 pub mod Filling
 pub mod Kept
 pub mod Layouts
+pub mod LentExtents
 pub mod Pages
 pub mod Paragraphs
 pub mod Parts
 pub mod Printing
+pub mod Selections
 pub mod Showing
 pub mod Spans
 pub mod Sums

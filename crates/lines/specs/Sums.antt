@@ -11,7 +11,7 @@ sums_after sums p = record {
   shown = if p.is_trailing then sums.shown else sums.columns + p.columns;
 }
 
--- whether the sums are the columns of a part of a line and the columns of its shown part
+-- whether the sums are the columns of `piece` and of the shown part of `piece`
 pub record AreSumsOf (piece : List CharInfo) (sums : Sums) : Type 0 where
   pub columns_are : sums.columns ≡ columns piece
   pub shown_are : sums.shown ≡ columns (shown piece)

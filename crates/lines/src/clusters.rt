@@ -1,9 +1,10 @@
 //! Finds where the grapheme clusters and the words of a paragraph end (UAX #29), using the crate
 //! `unicode_segmentation`.
-ghost use Rattle.std.specs.Prelude.{◌≡◌, ◌<◌, ◌++◌, length, IfOk, OnErr, OnOk};
+ghost use Rattle.std.specs.Prelude.{◌≡◌, ℕ, ◌<◌, ◌≤◌, ◌++◌, false, length, IfOk, OnErr, OnOk};
 ghost use Rattle.std.specs.List.{list_all};
 ghost use Rattle.lines.specs.Bare.{with_ends};
-ghost use Rattle.lines.specs.Clusters.{cluster_ends, ends_of, is_alone};
+ghost use Rattle.lines.specs.Clusters.{cluster_begin, cluster_end, cluster_ends, ends_of};
+ghost use Rattle.lines.specs.Clusters.{is_alone, is_split_point, IsSplitPoint};
 ghost use Rattle.lines.specs.Words.{word_ends};
 
 use crate::char_info::CharInfo;
@@ -28,6 +29,106 @@ pub fn cluster_ends(alloc: Global, text: &[char]) -> Result<Vec<bool>, AllocErro
         push_ends(&mut ends, cluster)?;
     }
     Ok(ends)
+}
+
+/// Returns the start and the end of the grapheme cluster of character `k` of a paragraph. Finds the clusters of the
+/// text between the nearest two split points only.
+pub fn cluster_of(alloc: Global, text: &[char], k: usize) -> Result<(usize, usize), AllocError>
+    requires { k < length text.now }
+    ensures start { IfOk result (λ found. found.0 ≡ cluster_begin (cluster_ends text.now) k) }
+    ensures end { IfOk result (λ found. found.1 ≡ cluster_end (cluster_ends text.now) k) }
+    ensures around { IfOk result (λ found. (found.0 ≤ k) × (k < found.1)) }
+    ensures within { IfOk result (λ found. found.1 ≤ length text.now) }
+{
+    let start = window_start(text, k);
+    let end = window_end(text, k);
+    if end - start == 1 {
+        return Ok((k, k + 1));
+    }
+    let ends = cluster_ends(alloc, &text[start..end])?;
+    let first = cluster_begin(&ends, k - start);
+    let past = cluster_end(&ends, k - start);
+    Ok((start + first, start + past))
+}
+
+/// Returns the start of the segment of character `k`, such as its cluster or word. `ends[i]` says whether a
+/// segment ends after character `i`.
+pub fn cluster_begin(ends: &[bool], k: usize) -> usize
+    requires { k < length ends.now }
+    ensures value { result ≡ cluster_begin ends.now k }
+    ensures most { result ≤ k }
+{
+    let mut start = k;
+    while start > 0 {
+        if ends[start - 1] {
+            return start;
+        }
+        start -= 1;
+    }
+    0
+}
+
+/// Returns the end of the segment of character `k`, such as its cluster or word. `ends[i]` says whether a
+/// segment ends after character `i`.
+pub fn cluster_end(ends: &[bool], k: usize) -> usize
+    requires { k < length ends.now }
+    ensures value { result ≡ cluster_end ends.now k }
+    ensures most { result ≤ length ends.now }
+    ensures past { k < result }
+{
+    let mut last = k;
+    while last < ends.len() {
+        if ends[last] {
+            return last + 1;
+        }
+        last += 1;
+    }
+    ends.len()
+}
+
+// Returns the nearest split point at or before character `k`.
+fn window_start(text: &[char], k: usize) -> usize
+    requires { k < length text.now }
+    ensures split { IsSplitPoint text.now result }
+    ensures most { result ≤ k }
+    ensures nearest { (i : ℕ) → result < i → i ≤ k → is_split_point text.now i ≡ false }
+{
+    let mut start = k;
+    while start > 0 {
+        if is_split_point(text, start) {
+            return start;
+        }
+        start -= 1;
+    }
+    0
+}
+
+// Returns the nearest split point after character `k`.
+fn window_end(text: &[char], k: usize) -> usize
+    requires { k < length text.now }
+    ensures split { IsSplitPoint text.now result }
+    ensures most { result ≤ length text.now }
+    ensures past { k < result }
+    ensures nearest { (i : ℕ) → k < i → i < result → is_split_point text.now i ≡ false }
+{
+    let mut end = k + 1;
+    while end < text.len() {
+        if is_split_point(text, end) {
+            return end;
+        }
+        end += 1;
+    }
+    text.len()
+}
+
+// Returns whether a quick test shows that the text before character `k` and the text from it on have the same
+// clusters as the whole text.
+fn is_split_point(text: &[char], k: usize) -> bool
+    requires some { 0 < k }
+    requires within { k < length text.now }
+    ensures { result ≡ is_split_point text.now k }
+{
+    is_alone(text[k - 1]) && is_alone(text[k])
 }
 
 /// Returns, for each character of a paragraph, whether there is a word boundary after it.

@@ -17,7 +17,7 @@ use crate::buffers::{LineBuffers, VisualBuffers};
 use crate::bytes::WriteFault;
 use crate::counts::Count;
 use crate::extents::Extents;
-use crate::paragraph::{Spans, Text};
+use crate::paragraph::{LentExtents, Text};
 use crate::print::Print;
 use crate::showing::{end_of, show_each};
 use crate::visual_line::VisualLine;
@@ -132,7 +132,7 @@ impl Fill {
         std::mem::swap(&mut self.starts, &mut extents.starts);
         std::mem::swap(&mut self.shown, &mut extents.shown);
         self.levels.copy_from_slice(levels);
-        let spans = Spans {
+        let spans = LentExtents {
             starts: &self.starts,
             shown: &self.shown,
         };

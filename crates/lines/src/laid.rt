@@ -214,7 +214,7 @@ impl Laid {
 impl Laid {
     ghost use Rattle.std.specs.Prelude.{List};
     ghost use Rattle.lines.specs.Beginnings.{BeginInOrder};
-    ghost use Rattle.lines.specs.Clusters.{cluster_ends};
+    ghost use Rattle.lines.specs.Clusters.{cluster_begin, cluster_end, cluster_ends};
     ghost use Rattle.lines.specs.Layouts.{Rules, lines_of};
     ghost use Rattle.lines.specs.Words.{word_ends};
 
@@ -238,6 +238,26 @@ impl Laid {
         ensures memory { OnErr result (0 < length self.now.text) }
     {
         crate::clusters::cluster_ends(alloc, &self.text)
+    }
+
+    /// Returns the start and the end of the grapheme cluster of character `k` (UAX #29).
+    ///
+    /// Reads the characters from `k` back to the nearest place between two characters that no rule joins to
+    /// others, such as letters of Latin-1 or Hebrew, and from `k` on to the next such place. At worst, reads the
+    /// paragraph. Allocates a copy of these characters if there is more than one.
+    pub fn cluster(
+        &self,
+        alloc: std::alloc::Global,
+        k: usize,
+    ) -> Result<(usize, usize), std::alloc::AllocError>
+        requires { k < length self.now.text }
+        ensures start { IfOk result (λ found. found.0
+            ≡ cluster_begin (cluster_ends self.now.text) k) }
+        ensures end { IfOk result (λ found. found.1 ≡ cluster_end (cluster_ends self.now.text) k) }
+        ensures around { IfOk result (λ found. (found.0 ≤ k) × (k < found.1)) }
+        ensures within { IfOk result (λ found. found.1 ≤ length self.now.text) }
+    {
+        crate::clusters::cluster_of(alloc, &self.text, k)
     }
 
     /// Returns, for each character, whether there is a word boundary after it (UAX #29).

@@ -46,12 +46,14 @@ mod properties;
 mod reflow;
 mod reserve;
 mod showing;
+mod spans;
 mod visual_line;
 mod whole;
 mod workspace;
 mod writing;
 
 pub use bytes::{WriteFault, write_chars};
+pub use clusters::{cluster_begin, cluster_end};
 pub use engine::{Engine, PARAGRAPH_LIMIT};
 pub use extents::Extents;
 pub use fill::Fill;
@@ -60,4 +62,5 @@ pub use laws::{lines_are_few, lines_have_all_characters, paragraphs_print_their_
 pub use options::Options;
 pub use print::{Print, PrintFault};
 pub use reflow::ReflowScratch;
+pub use spans::{Span, Spans};
 pub use visual_line::VisualLine;

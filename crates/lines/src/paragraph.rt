@@ -31,7 +31,7 @@ pub(crate) struct Paragraph<'a> {
 
 /// Where each line of a paragraph starts, and how much of it is shown.
 #[derive(Clone, Copy)]
-pub(crate) struct Spans<'a> {
+pub(crate) struct LentExtents<'a> {
     pub(crate) starts: &'a [u32],
     pub(crate) shown: &'a [Shown],
 }

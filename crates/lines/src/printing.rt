@@ -5,7 +5,7 @@ ghost use Rattle.lines.specs.Engine.{counted, RisesBy};
 ghost use Rattle.lines.specs.Pages.{paragraph_bytes};
 ghost use Rattle.lines.specs.Paragraphs.{IsLookedUp, IsPrepared, IsResolved, rules_in};
 ghost use Rattle.lines.specs.Printing.{FailedAs};
-ghost use Rattle.lines.specs.Spans.{AreSpansOf};
+ghost use Rattle.lines.specs.LentExtents.{AreExtentsOf};
 ghost use Rattle.lines.specs.Whole.{IsWhole};
 ghost use Rattle.lines.specs.declared.engine.TheConstants.{PARAGRAPH_LIMIT};
 
@@ -13,7 +13,7 @@ use crate::buffers::LineBuffers;
 use crate::char_info::{CharInfo, fill_infos};
 use crate::counts::{Count, Counted, Counts};
 use crate::extents::fill_spans_by;
-use crate::paragraph::{LentRules, Paragraph, Spans, Text};
+use crate::paragraph::{LentExtents, LentRules, Paragraph, Text};
 use crate::print::PrintFault;
 use crate::whole::{is_whole, write_whole};
 use crate::workspace::{Workspace, fill_marks};
@@ -162,7 +162,7 @@ fn fill_spans(
 ) -> Result<(), AllocError>
     requires counted { filled ≡ length paragraph.now.text.characters.now }
     requires paragraph { IsPrepared paragraph.now }
-    ensures { OnOk result (AreSpansOf paragraph.now.text width lines.new) }
+    ensures { OnOk result (AreExtentsOf paragraph.now.text width lines.new) }
 {
     let text = &paragraph.text;
     fill_infos(text, paragraph.marks, infos)?;
@@ -180,7 +180,7 @@ fn write_lines<W: Sink>(
     written: &mut Count,
 ) -> Result<(), PrintFault>
     requires paragraph { IsPrepared paragraph.now }
-    requires spans { AreSpansOf paragraph.now.text form.now.width lines.old }
+    requires spans { AreExtentsOf paragraph.now.text form.now.width lines.old }
     ensures ok { OnOk result (Wrote (paragraph_bytes (rules_in paragraph.now.text.rules)
         form.now.width form.now.print.now paragraph.now.text.characters.now)
         (W.state writer.old) (W.state writer.new)) }
@@ -191,7 +191,7 @@ fn write_lines<W: Sink>(
     ensures counts { written.new ≡ counted written.old (length paragraph.now.text.characters.now) }
     ensures least { written.old ≤ written.new }
 {
-    let spans = Spans {
+    let spans = LentExtents {
         starts: &lines.starts,
         shown: &lines.shown,
     };

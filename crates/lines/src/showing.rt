@@ -25,7 +25,7 @@ use crate::buffers::LineBuffers;
 use crate::char_info::CharInfo;
 use crate::counts::Count;
 use crate::fill::Shown;
-use crate::paragraph::{Paragraph, Spans, Text};
+use crate::paragraph::{LentExtents, Paragraph, Text};
 use crate::reserve::reserve;
 use reorder::{
     identity, order_runs, reset_levels, visual_chars, visual_order, visual_places, visual_runs,
@@ -67,7 +67,7 @@ pub(crate) fn show_lines(
     make_numbers(&mut visual.ltov, len)?;
     make_numbers(&mut visual.vtol, len)?;
     make_characters(&mut visual.chars, len)?;
-    let spans = Spans {
+    let spans = LentExtents {
         starts: &lines.starts,
         shown: &lines.shown,
     };
@@ -135,7 +135,7 @@ pub(crate) fn fill_shown(
 /// line's shown part. Counts the characters.
 pub(crate) fn show_each(
     text: &Text<'_>,
-    spans: &Spans<'_>,
+    spans: &LentExtents<'_>,
     levels: &mut [u8],
     ltov: &mut [u32],
     vtol: &mut [u32],

@@ -5,6 +5,7 @@ ghost use Rattle.ucd.specs.Within.{AreWithin};
 ghost use Rattle.lines.specs.Bytes.{line_bytes, padding};
 ghost use Rattle.lines.specs.Columns.{columns_at, columns_left, covering, padding_of};
 ghost use Rattle.lines.specs.CharInfos.{columns_of};
+ghost use Rattle.lines.specs.Spans.{is_covered, spans_of, AreMaximal};
 ghost use Rattle.lines.specs.Writing.{PassedOn, StoppedIn};
 ghost use Rattle.lines.specs.declared.print.Print.{Print};
 
@@ -12,6 +13,7 @@ use crate::bytes::{
     WriteFault, write_direction, write_levels, write_ltov, write_shown, write_vtol,
 };
 use crate::print::Print;
+use crate::spans::{Selection, Spans};
 use device::Sink;
 use std::marker::Model;
 use unicode_width::UnicodeWidthChar;
@@ -150,6 +152,22 @@ impl<'a> VisualLine<'a> {
         None
     }
 
+    /// Returns the columns that the characters from position `start` up to `end` cover, as maximal intervals
+    /// from left to right: no span is empty, and no two spans touch. Positions past the last one are ignored.
+    /// All spans together cost the length of the line. Allocates nothing.
+    pub fn spans(&self, start: usize, end: usize) -> Spans<'a>
+        ensures spans { result ≡ spans_of self.now start end }
+        ensures maximal { AreMaximal (is_covered self.now start end)
+            (columns_left self.now (length self.now.vtol)) result }
+    {
+        Spans::new(Selection {
+            text: self.text,
+            vtol: self.vtol,
+            start,
+            end,
+        })
+    }
+
     /// Returns the number of columns of padding that the line has at a width, unless printing omits padding.
     /// Only lines of right-to-left paragraphs have padding.
     pub fn padding(&self, width: u16) -> u32
@@ -204,8 +222,8 @@ impl<'a> VisualLine<'a> {
     }
 }
 
-// Returns the width in columns of the character at a visual position.
-fn columns_at(text: &[char], vtol: &[u32], place: usize) -> usize
+/// Returns the width in columns of the character at a visual position.
+pub(crate) fn columns_at(text: &[char], vtol: &[u32], place: usize) -> usize
     requires within { AreWithin (length text.now) vtol.now }
     requires place { place < length vtol.now }
     ensures value { result ≡ columns_of (slice_index text.now (slice_index vtol.now place)) }

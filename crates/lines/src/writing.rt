@@ -18,7 +18,7 @@ ghost use Rattle.lines.specs.declared.engine.TheConstants.{PARAGRAPH_LIMIT};
 use crate::buffers::VisualBuffers;
 use crate::bytes::WriteFault;
 use crate::counts::Count;
-use crate::paragraph::{LogicalLine, Spans, Text};
+use crate::paragraph::{LentExtents, LogicalLine, Text};
 use crate::print::Print;
 use crate::showing::{end_of, is_plain, reset_line, show_chars, show_part};
 use crate::visual_line::VisualLine;
@@ -37,7 +37,7 @@ pub(crate) fn write_each<W: Sink>(
     writer: &mut W,
     form: &Form<'_>,
     text: &Text<'_>,
-    spans: &Spans<'_>,
+    spans: &LentExtents<'_>,
     levels: &[u8],
     visual: &mut VisualBuffers,
     count: &mut Count,

@@ -1,4 +1,4 @@
-//! The calls of a layout and of its lines, and exchanging its lines.
+//! Calls to a layout and to its lines, and exchanging its lines.
 ghost use Rattle.std.specs.Prelude.{IfOk, IfErr};
 ghost use Rattle.lines.specs.Engine.{rules_of};
 ghost use Rattle.lines.specs.Layouts.{AreLinesOf, IsLaidOut, Rules};
@@ -95,6 +95,9 @@ pub fn of_line(line: &VisualLine<'_>) -> u64 {
     sum = mixed(sum, line.columns_left(1) as u64);
     sum = mixed(sum, line.columns_at(1) as u64);
     sum = mixed_place(sum, line.covering(1));
+    for span in line.spans(1, 3) {
+        sum = mixed(mixed(sum, span.left as u64), span.right as u64);
+    }
     mixed(sum, written(line))
 }
 

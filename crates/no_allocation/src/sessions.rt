@@ -1,4 +1,4 @@
-//! The calls of a session, and edits that it refuses.
+//! Calls to a session, and edits that it refuses.
 use crate::layouts::{ALL, of_bytes, of_laid, of_line};
 use crate::texts::{mixed, mixed_place};
 use device::ToWrite;
@@ -99,7 +99,23 @@ fn of_position<S: ParagraphStore<Kept>>(session: &Session<S>, pos: usize) -> u64
         Some(text) => mixed(sum, text.len() as u64),
         None => mixed(sum, 0),
     };
-    mixed_place(sum, session.utf8_len(pos, 1))
+    sum = mixed_place(sum, session.utf8_len(pos, 1));
+    mixed(sum, of_offset(session, pos))
+}
+
+// Returns a digest of the conversions of a position to offsets, and of an offset to positions.
+fn of_offset<S: ParagraphStore<Kept>>(session: &Session<S>, offset: usize) -> u64 {
+    let mut sum = mixed_place(0, session.byte_of(offset));
+    sum = mixed_place(sum, session.utf16_of(offset));
+    sum = mixed(sum, of_found(session.position_of_byte(offset)));
+    mixed(sum, of_found(session.position_of_utf16(offset)))
+}
+
+fn of_found(found: Option<(usize, usize)>) -> u64 {
+    match found {
+        Some((pos, rest)) => mixed(pos as u64, rest as u64),
+        None => 0,
+    }
 }
 
 fn printed<S: ParagraphStore<Kept>>(session: &Session<S>) -> u64 {

@@ -1,4 +1,4 @@
-//! The calls of a store that read its items, and exchanging the parts of items.
+//! Calls to a store that read its items, and exchanging the parts of items.
 ghost use Rattle.std.specs.Prelude.{◌≡◌, ◌-◌, ◌^◌, ◌<◌, sum_by};
 
 use crate::texts::mixed;

@@ -1,4 +1,4 @@
-//! The calls of an engine on one paragraph.
+//! Calls to an engine on one paragraph.
 ghost use Rattle.std.specs.Prelude.{IfOk};
 ghost use Rattle.lines.specs.Engine.{rules_of};
 ghost use Rattle.lines.specs.Layouts.{IsLaidOut};

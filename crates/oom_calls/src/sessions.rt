@@ -1,4 +1,4 @@
-//! The calls of a session. Each is made in its own session, which is compared with an unchanged one.
+//! Calls to a session. Each is made in its own session, which is compared with an unchanged one.
 use crate::Wrong;
 use crate::page::{Printed, Writer};
 use crate::tables::{engine, let_go};

@@ -67,7 +67,7 @@ is_some_map f None = refl
 is_some_map f (Some a) = refl
 
 module _ (text : List ℕ) (n d : ℕ) (within : n < length text) where
-  -- if the next character or escape is valid, the text is valid exactly if the text after it is valid
+  -- if the next character or escape is valid, the text is valid if and only if the text after it is valid
   pub next_right : (c len : ℕ) → written (get_or text n d) (drop (n + 1) text) ≡ Some (c, len) → 0 < len → is_some (unescaped (drop n text)) ≡ is_some (unescaped (drop (n + len) text))
   next_right c len is some =
       sym (is_some_map (λ cs. [] ++ cs) (unescaped (drop n text))) ∙ ap is_some (next_written text n d within [] c len is some)

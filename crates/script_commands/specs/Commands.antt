@@ -9,7 +9,7 @@ use Rattle.script_commands.specs.declared.commands.Query.TheVariants as ask
 -- A command inserts a text before the character at a position, deletes characters from a position on, sets
 -- the width, prints all lines, or replies to a query.
 pub data Command : Type 0 where
-  Insert : (pos : ℕ) (piece : List ℕ) → Command
+  Insert : (pos : ℕ) (inserted : List ℕ) → Command
   Delete : (pos count : ℕ) → Command
   SetWidth : (width : ℕ) → Command
   Show : Command
@@ -76,9 +76,9 @@ stripped word text = if pointwise (◌==◌) (take (length word) text) word then
 
 -- `insert POS TEXT`, `delete POS COUNT`, `width N` and `show`
 abbrev pub insertion_of : Option ℕ → Option (List ℕ) → Option Command
-insertion_of (Some pos) (Some piece) = Some (Insert pos piece)
+insertion_of (Some pos) (Some inserted) = Some (Insert pos inserted)
 insertion_of (Some pos) None = None
-insertion_of None piece = None
+insertion_of None inserted = None
 
 abbrev pub insertion_in : Option (List ℕ × List ℕ) → Option Command
 insertion_in None = None
@@ -91,18 +91,18 @@ pub record LacksText (text kept : List ℕ) : Type 0 where
   pub short : length kept < length whole
 
 -- The text of an insert at a valid position represents more characters than were kept.
-pub record LacksPieceIn (text kept : List ℕ) : Type 0 where
+pub record LacksInsertedIn (text kept : List ℕ) : Type 0 where
   pub pos : List ℕ
-  pub piece : List ℕ
-  pub parts : parted text ≡ Some (pos, piece)
+  pub inserted : List ℕ
+  pub parts : parted text ≡ Some (pos, inserted)
   pub place : is_some (number_in pos) ≡ true
-  pub some : 0 < length piece
-  pub lacks : LacksText piece kept
+  pub some : 0 < length inserted
+  pub lacks : LacksText inserted kept
 
-pub record LacksPiece (line kept : List ℕ) : Type 0 where
+pub record LacksInserted (line kept : List ℕ) : Type 0 where
   pub rest : List ℕ
   pub word : stripped (codes "insert ") line ≡ Some rest
-  pub piece : LacksPieceIn rest kept
+  pub inserted : LacksInsertedIn rest kept
 
 abbrev pub deletion_of : Option ℕ → Option ℕ → Option Command
 deletion_of (Some pos) (Some count) = Some (Delete pos count)
@@ -124,7 +124,7 @@ abbrev pub edit_command_in : List ℕ → Option Command
 edit_command_in line =
     command_by (stripped (codes "show") line) (stripped (codes "insert ") line) (stripped (codes "delete ") line) (stripped (codes "width ") line)
 
--- `lines FIRST COUNT`, `caret POS`, `hit LINE COLUMN`, `cluster POS`, `size` and `text POS COUNT`
+-- `lines FIRST COUNT`, `caret POS`, `hit LINE COLUMN`, `cluster POS`, `word POS`, `size` and `text POS COUNT`
 abbrev pub both_of : Option ℕ → Option ℕ → Option (ℕ × ℕ)
 both_of (Some a) (Some b) = Some (a, b)
 both_of (Some a) None = None
@@ -134,19 +134,38 @@ abbrev pub both_in : Option (List ℕ × List ℕ) → Option (ℕ × ℕ)
 both_in None = None
 both_in (Some (a, b)) = both_of (number_in a) (number_in b)
 
-abbrev pub query_by : Option (List ℕ) → Option (List ℕ) → Option (List ℕ) → Option (List ℕ) → Option (List ℕ) → Option (List ℕ) → Option Query
-query_by (Some rest) caret hit cluster size text = option_map (λ n. ask.Lines n.0 n.1) (both_in (parted rest))
-query_by None (Some rest) hit cluster size text = option_map ask.Caret (number_in rest)
-query_by None None (Some rest) cluster size text = option_map (λ n. ask.Hit n.0 n.1) (both_in (parted rest))
-query_by None None None (Some rest) size text = option_map ask.Cluster (number_in rest)
-query_by None None None None (Some rest) text = if length rest == 0 then Some ask.Size else None
-query_by None None None None None (Some rest) = option_map (λ n. ask.Text n.0 n.1) (both_in (parted rest))
-query_by None None None None None None = None
+-- the query that two numbers, one number or nothing after its word make
+abbrev pub with_two : (ℕ → ℕ → Query) → List ℕ → Option Query
+with_two query rest = option_map (λ n. query n.0 n.1) (both_in (parted rest))
+
+abbrev pub with_one : (ℕ → Query) → List ℕ → Option Query
+with_one query rest = option_map query (number_in rest)
+
+abbrev pub with_none : Query → List ℕ → Option Query
+with_none query rest = if length rest == 0 then Some query else None
+
+-- the query of a line that starts with a word; `other` is that of any other line
+abbrev pub by_word : Option (List ℕ) → (List ℕ → Option Query) → Option Query → Option Query
+by_word (Some rest) query other = query rest
+by_word None query other = other
+
+-- `byte POS`, `utf16 POS`, `frombyte BYTE` and `fromutf16 UNIT`
+abbrev pub offset_query_in : List ℕ → Option Query
+offset_query_in line =
+    by_word (stripped (codes "byte ") line) (with_one ask.Byte)
+    (by_word (stripped (codes "utf16 ") line) (with_one ask.Utf16)
+    (by_word (stripped (codes "frombyte ") line) (with_one ask.FromByte)
+    (by_word (stripped (codes "fromutf16 ") line) (with_one ask.FromUtf16) None)))
 
 abbrev pub query_in : List ℕ → Option Query
 query_in line =
-    query_by (stripped (codes "lines ") line) (stripped (codes "caret ") line) (stripped (codes "hit ") line) (stripped (codes "cluster ") line)
-    (stripped (codes "size") line) (stripped (codes "text ") line)
+    by_word (stripped (codes "lines ") line) (with_two ask.Lines)
+    (by_word (stripped (codes "caret ") line) (with_one ask.Caret)
+    (by_word (stripped (codes "hit ") line) (with_two ask.Hit)
+    (by_word (stripped (codes "cluster ") line) (with_one ask.Cluster)
+    (by_word (stripped (codes "word ") line) (with_one ask.Word)
+    (by_word (stripped (codes "size") line) (with_none ask.Size)
+    (by_word (stripped (codes "text ") line) (with_two ask.Text) (offset_query_in line)))))))
 
 -- if queries are allowed, a line that is no other command may be a query
 abbrev pub or_query : Option Command → Option Query → Option Command

@@ -6,8 +6,8 @@ use Rattle.script_commands.specs.declared.commands.Command as declared
 use Rattle.script_commands.specs.declared.commands.Command.TheVariants as read
 
 abbrev pub command_of : List ℕ → declared.Command → Command
-command_of piece (read.Insert pos) = Insert pos (chars piece)
-command_of piece (read.Delete pos count) = Delete pos count
-command_of piece (read.SetWidth width) = SetWidth width
-command_of piece read.Show = Show
-command_of piece (read.Ask query) = Ask query
+command_of inserted (read.Insert pos) = Insert pos (chars inserted)
+command_of inserted (read.Delete pos count) = Delete pos count
+command_of inserted (read.SetWidth width) = SetWidth width
+command_of inserted read.Show = Show
+command_of inserted (read.Ask query) = Ask query

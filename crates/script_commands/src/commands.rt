@@ -6,10 +6,10 @@ ghost use Rattle.std.specs.List.{prefix_len};
 ghost use Rattle.std.specs.Char.{is_digit};
 ghost use Rattle.std.specs.Str.{chars};
 ghost use Rattle.script_commands.specs.Parsed.{command_of};
-ghost use Rattle.script_commands.specs.Commands.{LacksPiece, LacksPieceIn, LacksText};
+ghost use Rattle.script_commands.specs.Commands.{LacksInserted, LacksInsertedIn, LacksText};
 ghost use Rattle.script_commands.specs.Commands.{Ask, SetWidth, are_digits, both_in, braced, deletion_in};
 ghost use Rattle.script_commands.specs.Commands.{edit_command_in, escaped, insertion_in, number_by, number_in};
-ghost use Rattle.script_commands.specs.Commands.{parted, query_in, command_in, stripped, unescaped, written};
+ghost use Rattle.script_commands.specs.Commands.{offset_query_in, parted, query_in, command_in, stripped, unescaped, written};
 
 use std::alloc::AllocError;
 
@@ -24,11 +24,21 @@ pub enum Query {
     Hit(usize, usize),
     /// The grapheme cluster of the character at a position.
     Cluster(usize),
+    /// The word of the character at a position.
+    Word(usize),
     /// The numbers of characters, lines and paragraphs.
     Size,
     /// A range of characters. The fields are the position of the first character and the number of
     /// characters.
     Text(usize, usize),
+    /// The number of UTF-8 bytes before a position.
+    Byte(usize),
+    /// The number of UTF-16 code units before a position.
+    Utf16(usize),
+    /// The position of a UTF-8 byte.
+    FromByte(usize),
+    /// The position of a UTF-16 code unit.
+    FromUtf16(usize),
 }
 
 /// A command, which is one line of a script.
@@ -62,22 +72,32 @@ const HIT: [char; 4] = ['h', 'i', 't', ' '];
 
 const CLUSTER: [char; 8] = ['c', 'l', 'u', 's', 't', 'e', 'r', ' '];
 
+const WORD: [char; 5] = ['w', 'o', 'r', 'd', ' '];
+
 const SIZE: [char; 4] = ['s', 'i', 'z', 'e'];
 
 const TEXT: [char; 5] = ['t', 'e', 'x', 't', ' '];
 
+const BYTE: [char; 5] = ['b', 'y', 't', 'e', ' '];
+
+const UTF16: [char; 6] = ['u', 't', 'f', '1', '6', ' '];
+
+const FROM_BYTE: [char; 9] = ['f', 'r', 'o', 'm', 'b', 'y', 't', 'e', ' '];
+
+const FROM_UTF16: [char; 10] = ['f', 'r', 'o', 'm', 'u', 't', 'f', '1', '6', ' '];
+
 /// Parses a line, which may be a query only if `queries` is true. Returns `None` if the line is not valid.
-/// Stores the text of an insert in `piece`.
+/// Stores the text of an insert in `inserted`.
 pub fn read_command(
     queries: bool,
     line: &[char],
-    piece: &mut String,
+    inserted: &mut String,
 ) -> Result<Option<Command>, AllocError>
-    ensures ok { IfOk result (λ command. option_map (command_of (string_bytes piece.new)) command
+    ensures ok { IfOk result (λ command. option_map (command_of (string_bytes inserted.new)) command
         ≡ command_in queries line.now) }
-    ensures memory { OnErr result (LacksPiece line.now (chars (string_bytes piece.new))) }
+    ensures memory { OnErr result (LacksInserted line.now (chars (string_bytes inserted.new))) }
 {
-    match read_edit_command(line, piece) {
+    match read_edit_command(line, inserted) {
         Ok(None) if queries => Ok(read_query(line)),
         command => command,
     }
@@ -85,8 +105,8 @@ pub fn read_command(
 
 // Parses a line as a query. Returns `None` if the line is not a query.
 fn read_query(line: &[char]) -> Option<Command>
-    ensures { (piece : List ℕ)
-        → option_map (command_of piece) result ≡ option_map Ask (query_in line.now) }
+    ensures { (inserted : List ℕ)
+        → option_map (command_of inserted) result ≡ option_map Ask (query_in line.now) }
 {
     Some(Command::Ask(parse_query(line)?))
 }
@@ -108,6 +128,9 @@ fn parse_query(line: &[char]) -> Option<Query>
     if let Some(rest) = after(&CLUSTER, line) {
         return Some(Query::Cluster(number(rest)?));
     }
+    if let Some(rest) = after(&WORD, line) {
+        return Some(Query::Word(number(rest)?));
+    }
     if let Some(rest) = after(&SIZE, line) {
         return if rest.is_empty() {
             Some(Query::Size)
@@ -115,8 +138,26 @@ fn parse_query(line: &[char]) -> Option<Query>
             None
         };
     }
-    let (pos, count) = both(after(&TEXT, line)?)?;
-    Some(Query::Text(pos, count))
+    if let Some(rest) = after(&TEXT, line) {
+        let (pos, count) = both(rest)?;
+        return Some(Query::Text(pos, count));
+    }
+    parse_offset_query(line)
+}
+
+fn parse_offset_query(line: &[char]) -> Option<Query>
+    ensures { result ≡ offset_query_in line.now }
+{
+    if let Some(rest) = after(&BYTE, line) {
+        return Some(Query::Byte(number(rest)?));
+    }
+    if let Some(rest) = after(&UTF16, line) {
+        return Some(Query::Utf16(number(rest)?));
+    }
+    if let Some(rest) = after(&FROM_BYTE, line) {
+        return Some(Query::FromByte(number(rest)?));
+    }
+    Some(Query::FromUtf16(number(after(&FROM_UTF16, line)?)?))
 }
 
 // Parses two numbers with a space between them.
@@ -128,10 +169,10 @@ fn both(text: &[char]) -> Option<(usize, usize)>
 }
 
 // Parses a line that is not a query.
-fn read_edit_command(line: &[char], piece: &mut String) -> Result<Option<Command>, AllocError>
-    ensures ok { IfOk result (λ command. option_map (command_of (string_bytes piece.new)) command
+fn read_edit_command(line: &[char], inserted: &mut String) -> Result<Option<Command>, AllocError>
+    ensures ok { IfOk result (λ command. option_map (command_of (string_bytes inserted.new)) command
         ≡ edit_command_in line.now) }
-    ensures memory { OnErr result (LacksPiece line.now (chars (string_bytes piece.new))) }
+    ensures memory { OnErr result (LacksInserted line.now (chars (string_bytes inserted.new))) }
 {
     if let Some(rest) = after(&SHOW, line) {
         return Ok(if rest.is_empty() {
@@ -141,7 +182,7 @@ fn read_edit_command(line: &[char], piece: &mut String) -> Result<Option<Command
         });
     }
     if let Some(rest) = after(&INSERT, line) {
-        return insertion(rest, piece);
+        return insertion(rest, inserted);
     }
     if let Some(rest) = after(&DELETE, line) {
         return Ok(deletion(rest));
@@ -152,10 +193,10 @@ fn read_edit_command(line: &[char], piece: &mut String) -> Result<Option<Command
     }
 }
 
-fn insertion(text: &[char], piece: &mut String) -> Result<Option<Command>, AllocError>
-    ensures ok { IfOk result (λ command. option_map (command_of (string_bytes piece.new)) command
+fn insertion(text: &[char], inserted: &mut String) -> Result<Option<Command>, AllocError>
+    ensures ok { IfOk result (λ command. option_map (command_of (string_bytes inserted.new)) command
         ≡ insertion_in (parted text.now)) }
-    ensures memory { OnErr result (LacksPieceIn text.now (chars (string_bytes piece.new))) }
+    ensures memory { OnErr result (LacksInsertedIn text.now (chars (string_bytes inserted.new))) }
 {
     let Some((pos, text)) = words(text) else {
         return Ok(None);
@@ -163,7 +204,7 @@ fn insertion(text: &[char], piece: &mut String) -> Result<Option<Command>, Alloc
     let Some(pos) = number(pos) else {
         return Ok(None);
     };
-    match unescape(text, piece) {
+    match unescape(text, inserted) {
         Ok(true) => Ok(Some(Command::Insert(pos))),
         Ok(false) => Ok(None),
         Err(error) => Err(error),
@@ -171,15 +212,15 @@ fn insertion(text: &[char], piece: &mut String) -> Result<Option<Command>, Alloc
 }
 
 fn deletion(text: &[char]) -> Option<Command>
-    ensures { (piece : List ℕ) → option_map (command_of piece) result ≡ deletion_in (parted text.now) }
+    ensures { (inserted : List ℕ) → option_map (command_of inserted) result ≡ deletion_in (parted text.now) }
 {
     let (pos, count) = words(text)?;
     Some(Command::Delete(number(pos)?, number(count)?))
 }
 
 fn width(text: &[char]) -> Option<Command>
-    ensures { (piece : List ℕ)
-        → option_map (command_of piece) result ≡ option_map SetWidth (number_in text.now) }
+    ensures { (inserted : List ℕ)
+        → option_map (command_of inserted) result ≡ option_map SetWidth (number_in text.now) }
 {
     Some(Command::SetWidth(number(text)?))
 }
@@ -255,23 +296,23 @@ fn has_right_escapes(text: &[char]) -> bool
     true
 }
 
-// Replaces the escapes in a text, and stores the result in `piece`. Returns `false` if an escape is not
+// Replaces the escapes in a text, and stores the result in `inserted`. Returns `false` if an escape is not
 // valid. Checks the escapes before allocating.
-fn unescape(text: &[char], piece: &mut String) -> Result<bool, AllocError>
+fn unescape(text: &[char], inserted: &mut String) -> Result<bool, AllocError>
     ensures ok { IfOk result (λ right.
-        (if right then Some (chars (string_bytes piece.new)) else None) ≡ unescaped text.now) }
+        (if right then Some (chars (string_bytes inserted.new)) else None) ≡ unescaped text.now) }
     ensures memory { OnErr result (0 < length text.now) }
-    ensures lacks { OnErr result (LacksText text.now (chars (string_bytes piece.new))) }
+    ensures lacks { OnErr result (LacksText text.now (chars (string_bytes inserted.new))) }
 {
     if !has_right_escapes(text) {
         return Ok(false);
     }
-    piece.clear();
+    inserted.clear();
     let mut at = 0;
     while at < text.len() {
         match written(text[at], &text[at + 1..]) {
             Some((c, len)) => {
-                piece.push(c)?;
+                inserted.push(c)?;
                 at += len;
             }
             None => return Ok(false),

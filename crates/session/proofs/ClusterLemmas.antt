@@ -1,13 +1,11 @@
 -- The grapheme cluster of a character.
-use Rattle.std.proofs.Common.{◌≡◌, ℕ, ◌+◌, ◌-◌, ◌<◌, ◌≤◌, nat_le, Bool, List, [], length, get_or, sum_by, Option, Some, None, if◌then◌else◌, refl, sym, ap, ap₂, ◌∙◌, arith}
+use Rattle.std.proofs.Common.{◌≡◌, ℕ, ◌+◌, ◌-◌, ◌<◌, ◌≤◌, nat_le, List, [], length, get_or, sum_by, Option, Some, None, if◌then◌else◌, refl, sym, ap, ap₂, ◌∙◌, arith}
 use Rattle.std.specs.List.{All, slice_get}
 use Rattle.std.proofs.lemmas.Bool.{cond-true, cond-false, le-leb, lt-leb}
-use Rattle.bidi.specs.Brackets.{greatest}
-use Rattle.ucd.specs.Least.{least}
 use Rattle.lines.specs.Layouts.{Layout}
 use Rattle.store.specs.Finding.{Finds}
 use Rattle.store.specs.declared.found.Found.{Found}
-use Rattle.session.specs.Clusters.{cluster_at, cluster_in, ends_at}
+use Rattle.session.specs.Clusters.{cluster_at, cluster_in}
 use Rattle.session.specs.Kept.{pars_of, text_of}
 use Rattle.session.specs.Places.{IsLined, count_to, paragraph_starts}
 use Rattle.session.specs.Touched.{start_of}
@@ -15,14 +13,6 @@ use Rattle.session.specs.Words.{word_at, word_by}
 use Rattle.lines.specs.Words.{word_ends}
 use Rattle.session.proofs.EdgeLemmas.{chars_of, lines_of, front_is, start_of-is, sum_whole, item_read, text_read}
 use Rattle.session.proofs.PlaceLemmas.{count_paragraphs}
-
--- the states of two scans from character k: one back to the start of the cluster, and one forward to its end
-module _ (ends : List Bool) (k : ℕ) where
-  abbrev pub BeginsBy : ℕ → Type 0
-  BeginsBy start = greatest (ends_at ends) k ≡ greatest (ends_at ends) start
-
-  abbrev pub EndsBy : ℕ → Type 0
-  EndsBy last = least (ends_at ends) k (length ends - k) ≡ least (ends_at ends) last (length ends - last)
 
 pub no_cluster : (kept : List Layout) (pos : ℕ) → length (text_of kept) ≤ pos → None ≡ cluster_at kept pos
 no_cluster kept pos past = sym (cond-true (nat_le (length (text_of kept)) pos) None _ (le-leb (length (text_of kept)) pos past))

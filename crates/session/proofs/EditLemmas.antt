@@ -24,6 +24,7 @@ use Rattle.session.specs.declared.edge.Edge.{Edge}
 use Rattle.session.specs.declared.edits.Damage.{Damage}
 use Rattle.session.specs.declared.edits.EditFault.{EditFault}
 use Rattle.session.specs.declared.edits.EditFault.TheVariants.{OutOfRange, ParagraphTooLong, NoMemory}
+use Rattle.session.proofs.UnitLemmas.{few_in_all, AreFew}
 use Rattle.session.proofs.ReplacementLemmas.{IsSpliced, IsSpliced-from_touched, region_of, length-replaced_text}
 use Rattle.session.proofs.EdgeLemmas.{chars_of, lines_of as line_number, length-text, length-lines}
 use Rattle.session.proofs.RegionParts.{touched_by, front_of, back_of, AreTouched-edges, region_parts, edges_rise, take-both}
@@ -220,6 +221,10 @@ module _ (law : ParagraphsArePieces) (few : LinesAreFew) (engine : Engine) (widt
 
     pub chars_fit : sum_by chars_of after < 2 ^ 64
     chars_fit = omega (arith, chars-laid law few rules width (replaced (text_of kept) edit) after after_is, size-after)
+
+    pub units_fit : (size : ℕ → ℕ) → AreFew size → sum_by (λ l. sum_by size l.text) after < 2 ^ 64
+    units_fit size few_units =
+        omega (arith, few_in_all size few_units after, chars-laid law few rules width (replaced (text_of kept) edit) after after_is, size-after)
 
     pub lines_fit : sum_by line_number after < 2 ^ 64
     lines_fit = omega (arith, few-laid law few rules width (replaced (text_of kept) edit) after after_is, size-after)

@@ -73,7 +73,7 @@ pub layouts_none : (rules : Rules) (width : ℕ) (text rest : List ℕ) (kept : 
     ++ layouts_of rules width rest ≡ layouts_of rules width text → kept ≡ layouts_of rules width text
 layouts_none rules width text rest kept none so_far = sym (append-nil kept) ∙ ap (λ r. kept ++ layouts_of rules width r) (sym none) ∙ so_far
 
--- a list has items exactly if the test for an empty list fails
+-- a list has items if and only if the test for an empty list fails
 pub some_left : (xs : List ℕ) (b : Bool) → b ≡ (length xs == 0) → b ≡ false → 0 < length xs
 some_left [] b e t = absurd (both_ways b t e)
 some_left (x ∷ xs) b e t = omega arith
@@ -81,7 +81,7 @@ some_left (x ∷ xs) b e t = omega arith
 pub none_left : (xs : List ℕ) (b : Bool) → b ≡ (length xs == 0) → b ≡ true → xs ≡ []
 none_left xs b e t = nil_from_length xs (eqb-true (length xs) 0 (sym e ∙ t))
 
--- a UTF-8 text has characters exactly if it has bytes
+-- a UTF-8 text has characters if and only if it has bytes
 some_spelled : (bytes cs : List ℕ) → scalars cs ≡ true → encodes cs ≡ bytes → 0 < length bytes → 0 < length (chars bytes)
 some_spelled bytes [] s e some = absurd (omega (arith, some, ap length e))
 some_spelled bytes (c ∷ cs) s e some = omega (arith, ap length (ap chars (sym e) ∙ chars-encodes (c ∷ cs) s))

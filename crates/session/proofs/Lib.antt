@@ -4,6 +4,7 @@ mod EdgeLemmas
 mod EditLemmas
 mod JoinedLemmas
 mod LineLemmas
+mod OffsetLemmas
 mod OpenLemmas
 mod PartLemmas
 mod PlaceLemmas
@@ -15,6 +16,7 @@ mod RunLemmas
 mod ScanLemmas
 mod SpliceLemmas
 mod TouchedLemmas
+mod UnitLemmas
 mod WantLemmas
 mod WidthLemmas
 mod WorkedRows

@@ -13,6 +13,7 @@ use Rattle.session.specs.Kept.{text_of, layouts_of}
 use Rattle.session.specs.Sessions.{IsAnswerFor}
 use Rattle.session.specs.declared.edits.EditFault.{EditFault}
 use Rattle.session.specs.declared.edits.EditFault.TheVariants.{WidthOutOfRange, TextTooLong, ParagraphTooLong, NoMemory}
+use Rattle.session.proofs.UnitLemmas.{few_in_all, AreFew}
 use Rattle.session.proofs.EdgeLemmas.{chars_of, lines_of}
 use Rattle.session.proofs.EditLemmas.{LinesAreFew, chars-laid, few-laid, text-layouts, IsWholeLayout-same}
 use Rattle.session.proofs.RefusalLemmas.{text_refusal-long, text_refusal-short}
@@ -78,6 +79,11 @@ module _ (law : ParagraphsArePieces) (few : LinesAreFew) (engine : Engine) (whol
   where
     pub opening-chars : (before : List Layout) → before ≡ [] → sum_by chars_of (splice before 0 0 new) < 2 ^ 64
     opening-chars before none = rw (ap (λ ks. splice ks 0 0 new) none ∙ splice_all new) (omega (arith, chars-laid law few (rules_of engine) width whole new laid))
+
+    pub opening-units : (size : ℕ → ℕ) → AreFew size → (before : List Layout) → before ≡ [] → sum_by (λ l. sum_by size l.text) (splice before 0 0 new) < 2 ^ 64
+    opening-units size few_units before none =
+        rw (ap (λ ks. splice ks 0 0 new) none ∙ splice_all new)
+        (omega (arith, few_in_all size few_units new, chars-laid law few (rules_of engine) width whole new laid))
 
     pub opening-lines : (before : List Layout) → before ≡ [] → sum_by lines_of (splice before 0 0 new) < 2 ^ 64
     opening-lines before none = rw (ap (λ ks. splice ks 0 0 new) none ∙ splice_all new) (omega (arith, few-laid law few (rules_of engine) width whole new laid))

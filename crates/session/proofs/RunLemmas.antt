@@ -272,7 +272,7 @@ HasRun-next start old new edits n d edit within read run step works =
 pub HasRun-rules : (start old new : SessionState) (edits : List Edit) (n : ℕ) (reason : Option EditFault) → HasRun start edits n old → HasStayed reason old new → SameRules start.engine new.engine
 HasRun-rules start old new edits n reason run stayed = stayed.moved.rules ∙ run.rules
 
--- the test for `NoMemory` succeeds exactly if the result is `Err(NoMemory)`
+-- the test for `NoMemory` succeeds if and only if the result is `Err(NoMemory)`
 module _ (same_damage : Damage → Damage → Bool) (same_fault : EditFault → EditFault → Bool) where
   pub lacks_memory : same_fault OutOfRange NoMemory ≡ false → same_fault WidthOutOfRange NoMemory ≡ false → same_fault TextTooLong NoMemory ≡ false → same_fault ParagraphTooLong NoMemory ≡ false
       → (result : Result Damage EditFault) → result_eq same_damage same_fault result (Err NoMemory) ≡ true → result ≡ Err NoMemory

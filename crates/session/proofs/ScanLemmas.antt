@@ -118,7 +118,7 @@ and_assoc false b c = refl
 shorter_within : (p : List ℕ) (c : ℕ) → nat_le (length (p ++ c ∷ [])) PARAGRAPH_LIMIT ≡ true → nat_le (length p) PARAGRAPH_LIMIT ≡ true
 shorter_within p c h = le-leb (length p) PARAGRAPH_LIMIT (omega (arith, length_push p c, leb-true (length (p ++ c ∷ [])) PARAGRAPH_LIMIT h))
 
--- after one more character, no part is too long exactly if none was too long before and the last one is not
+-- after one more character, no part is too long if and only if none was too long before and the last one is not
 -- too long now
 are_within-push : (starts : Bool) (c : ℕ) (ps : List (List ℕ)) → are_within (push starts c ps) ≡ (are_within ps && nat_le (length (last_of (push starts c ps))) PARAGRAPH_LIMIT)
 unfolding last_of push

@@ -1,10 +1,12 @@
 -- Worked examples of touched paragraphs, of what a width change fills again, and of lists of edits.
-use Rattle.std.proofs.Common.{◌≡◌, ℕ, ◌==◌, Bool, List, [], ◌∷◌, refl}
+use Rattle.std.proofs.Common.{◌≡◌, ℕ, ◌==◌, Bool, List, [], ◌∷◌, Some, None, refl}
 use Rattle.lines.specs.Layouts.{Layout}
 use Rattle.lines.specs.Visual.{Line}
 use Rattle.session.specs.Edits.{after_all, deletion, insertion}
 use Rattle.session.specs.Kept.{changed}
+use Rattle.session.specs.Offsets.{offset_of, position_of}
 use Rattle.session.specs.Touched.{first_touched, touched_count, fresh}
+use Rattle.session.specs.declared.offsets.Encoding.TheVariants.{Utf8, Utf16}
 use Rattle.session.specs.declared.edits.TheConstants.{TEXT_LIMIT}
 use Rattle.session.specs.declared.edits.Edit.{Edit}
 use Rattle.session.specs.declared.edits.Edit.TheVariants.{Delete, SetWidth}
@@ -58,3 +60,21 @@ after-four = refl
 -- the greatest length of a text, in characters
 text_limit : TEXT_LIMIT ≡ 16777216
 text_limit = refl
+
+-- "a", U+05D0, U+1F600, "b": 1, 2, 4 and 1 bytes, 1, 1, 2 and 1 code units
+abbrev four_sizes : List ℕ
+four_sizes = 0x61 ∷ 0x5D0 ∷ 0x1F600 ∷ 0x62 ∷ []
+
+bytes-before : (offset_of Utf8 four_sizes 0 ≡ Some 0) × (offset_of Utf8 four_sizes 2 ≡ Some 3) × (offset_of Utf8 four_sizes 3 ≡ Some 7)
+    × (offset_of Utf8 four_sizes 4 ≡ Some 8) × (offset_of Utf8 four_sizes 5 ≡ None)
+bytes-before = (refl, refl, refl, refl, refl)
+
+units-before : (offset_of Utf16 four_sizes 2 ≡ Some 2) × (offset_of Utf16 four_sizes 3 ≡ Some 4) × (offset_of Utf16 four_sizes 4 ≡ Some 5)
+units-before = (refl, refl, refl)
+
+positions-of-bytes : (position_of Utf8 four_sizes 0 ≡ Some (0, 0)) × (position_of Utf8 four_sizes 2 ≡ Some (1, 1)) × (position_of Utf8 four_sizes 6 ≡ Some (2, 3))
+    × (position_of Utf8 four_sizes 7 ≡ Some (3, 0)) × (position_of Utf8 four_sizes 8 ≡ Some (4, 0)) × (position_of Utf8 four_sizes 9 ≡ None)
+positions-of-bytes = (refl, refl, refl, refl, refl, refl)
+
+positions-of-units : (position_of Utf16 four_sizes 3 ≡ Some (2, 1)) × (position_of Utf16 four_sizes 5 ≡ Some (4, 0)) × (position_of Utf16 [] 0 ≡ Some (0, 0))
+positions-of-units = (refl, refl, refl)

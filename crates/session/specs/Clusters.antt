@@ -1,29 +1,11 @@
 -- The grapheme cluster of a character.
-use Rattle.std.specs.Prelude.{ℕ, ◌+◌, ◌-◌, nat_le, Bool, false, List, [], length, slice_index_or, Option, Some, None, if◌then◌else◌}
-use Rattle.bidi.specs.Brackets.{greatest}
-use Rattle.ucd.specs.Least.{least}
-use Rattle.lines.specs.Clusters.{cluster_ends}
+use Rattle.std.specs.Prelude.{ℕ, ◌+◌, ◌-◌, nat_le, List, [], length, slice_index_or, Option, Some, None, if◌then◌else◌}
+use Rattle.lines.specs.Clusters.{cluster_begin, cluster_end, cluster_ends}
 use Rattle.lines.specs.Layouts.{Layout}
 use Rattle.session.specs.Kept.{pars_of, text_of}
 use Rattle.session.specs.Places.{count_to, paragraph_starts}
 use Rattle.session.specs.Touched.{start_of}
 use Rattle.session.specs.declared.clusters.Cluster.{Cluster}
-
-abbrev pub ends_at : List Bool → ℕ → Bool
-ends_at ends k = slice_index_or ends k false
-
--- the index after the given one, or `other` for `None`
-abbrev pub after : Option ℕ → ℕ → ℕ
-after (Some k) other = k + 1
-after None other = other
-
--- the cluster of character k starts after the last cluster end before k, and ends at the first cluster end at
--- or after k
-abbrev pub cluster_begin : List Bool → ℕ → ℕ
-cluster_begin ends k = after (greatest (ends_at ends) k) 0
-
-abbrev pub cluster_end : List Bool → ℕ → ℕ
-cluster_end ends k = after (least (ends_at ends) k (length ends - k)) (length ends)
 
 -- the cluster of the character at `pos`, in a paragraph that starts at `start`
 abbrev pub cluster_in : ℕ → List ℕ → ℕ → Cluster

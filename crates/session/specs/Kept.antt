@@ -57,9 +57,10 @@ abbrev pub written_for : Layout → Option LineExtents → ℕ
 written_for kept None = 0
 written_for kept (Some extents) = length kept.text
 
-pub chars_stay : (writer : Writer) (kept : Layout) (part : Option LineExtents) → length (put_into writer kept part).text ≡ length kept.text
-chars_stay writer kept None = refl
-chars_stay writer kept (Some extents) = refl
+-- the text stays the same, so its lengths do too
+pub text_stays : (writer : Writer) (kept : Layout) (part : Option LineExtents) → (put_into writer kept part).text ≡ kept.text
+text_stays writer kept None = refl
+text_stays writer kept (Some extents) = refl
 
 -- whether the extents are those of the laid-out text at some width, and the scratch space is large enough for
 -- that text

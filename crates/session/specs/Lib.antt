@@ -5,6 +5,7 @@ pub mod Damage
 pub mod Edges
 pub mod Hits
 pub mod Kept
+pub mod Offsets
 pub mod Places
 pub mod Printing
 pub mod Reading

@@ -3,9 +3,9 @@ use Rattle.std.specs.Prelude.{ℕ, ◌+◌, ◌-◌, nat_le, Bool, ◌||◌, Lis
 use Rattle.std.specs.Char.Unicode.Alphabetic.{is_alphabetic}
 use Rattle.std.specs.Char.Unicode.Numeric.{is_numeric}
 use Rattle.std.specs.List.{list_any}
+use Rattle.lines.specs.Clusters.{cluster_begin, cluster_end}
 use Rattle.lines.specs.Layouts.{Layout}
 use Rattle.lines.specs.Words.{word_ends}
-use Rattle.session.specs.Clusters.{cluster_begin, cluster_end}
 use Rattle.session.specs.Kept.{pars_of, text_of}
 use Rattle.session.specs.Places.{count_to, paragraph_starts}
 use Rattle.session.specs.Touched.{start_of}

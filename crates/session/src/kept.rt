@@ -1,20 +1,25 @@
 //! A paragraph as an item of a session's store.
-ghost use Rattle.std.specs.Prelude.{◌≡◌, ◌≤◌, ℕ, length, IfOk};
+ghost use Rattle.std.specs.Prelude.{◌≡◌, ◌≤◌, ℕ, length, refl, IfOk};
 ghost use Rattle.lines.specs.Engine.{counted, rules_of};
 ghost use Rattle.lines.specs.Extents.{extents_in, extents_of, reflowed};
 ghost use Rattle.lines.specs.Layouts.{IsLaidOut};
+ghost use Rattle.session.specs.Offsets.{length_in, units_of};
+ghost use Rattle.session.specs.declared.offsets.Encoding.TheVariants.{Utf8, Utf16};
 
+use crate::offsets::Encoding;
 use lines::{Engine, Extents, Fill, Laid, ReflowScratch};
 use std::alloc::{AllocError, Global};
 use std::marker::Model;
 use store::{Exchange, Exchanger, Measured};
 
-/// The layout of a paragraph, as an item of a store. The layout is in a box, and its counts of characters and
-/// lines are stored beside the box. So a search reads only the counts.
+/// The layout of a paragraph, as an item of a store. The layout is in a box, and its counts of characters,
+/// lines, UTF-8 bytes and UTF-16 code units are stored beside the box. So a search reads only the counts.
 #[derive(Debug)]
 pub struct Kept {
     chars: usize,
     lines: usize,
+    bytes: usize,
+    utf16: usize,
     laid: Box<Laid>,
 }
 
@@ -23,6 +28,8 @@ impl Drop for Kept {
         let Kept {
             chars: _,
             lines: _,
+            bytes: _,
+            utf16: _,
             laid: _,
         } = self;
     }
@@ -36,18 +43,25 @@ impl Model for Kept {
 
     ghost view = { λ k. k.laid.value };
 
+    ghost use Rattle.session.specs.Offsets.{length_in};
+    ghost use Rattle.session.specs.declared.offsets.Encoding.TheVariants.{Utf8, Utf16};
+
     ghost invariant = { λ k.
-        (k.chars ≡ length k.laid.value.text) × (k.lines ≡ length k.laid.value.lines) };
+        (k.chars ≡ length k.laid.value.text) × (k.lines ≡ length k.laid.value.lines)
+        × (k.bytes ≡ length_in Utf8 k.laid.value.text) × (k.utf16 ≡ length_in Utf16 k.laid.value.text) };
 }
 
 impl Kept {
-    /// Moves a layout into a box.
+    /// Moves a layout into a box, and counts the bytes and code units of its text.
     pub fn new(alloc: Global, laid: Laid) -> Result<Kept, AllocError>
         ensures { IfOk result (λ kept. kept ≡ laid) }
     {
+        let text = laid.text();
         Ok(Kept {
-            chars: laid.text().len(),
+            chars: text.len(),
             lines: laid.line_count(),
+            bytes: Encoding::Utf8.length(text),
+            utf16: Encoding::Utf16.length(text),
             laid: Box::new(alloc, laid)?,
         })
     }
@@ -82,12 +96,24 @@ impl Measured for Kept {
 
     ghost lines = { λ kept. length kept.lines };
 
+    ghost bytes = { units_of Utf8 };
+
+    ghost utf16 = { units_of Utf16 };
+
     fn chars(&self) -> usize {
         self.chars
     }
 
     fn lines(&self) -> usize {
         self.lines
+    }
+
+    fn bytes(&self) -> usize {
+        self.bytes
+    }
+
+    fn utf16(&self) -> usize {
+        self.utf16
     }
 }
 
@@ -112,6 +138,10 @@ impl Exchange for Kept {
     }
 
     ghost keeps_chars = { λ kept fill fits. refl };
+
+    ghost keeps_bytes = { λ kept fill fits. refl };
+
+    ghost keeps_utf16 = { λ kept fill fits. refl };
 }
 
 /// Overwrites the lines of paragraphs with those at another width, using an engine's tables and options. The
@@ -138,8 +168,9 @@ impl<'a> Model for Reflow<'a> {
 impl<'a> Exchanger<Kept> for Reflow<'a> {
     type Part = Option<Extents>;
 
-    ghost use Rattle.std.specs.Prelude.{IfSome};
-    ghost use Rattle.session.specs.Kept.{chars_stay, put_into, taken_from, written_for, CanBePut, Writer};
+    ghost use Rattle.std.specs.Prelude.{IfSome, length};
+    ghost use Rattle.std.proofs.Common.{ap};
+    ghost use Rattle.session.specs.Kept.{text_stays, put_into, taken_from, written_for, CanBePut, Writer};
 
     ghost Kind = { Writer };
 
@@ -157,7 +188,11 @@ impl<'a> Exchanger<Kept> for Reflow<'a> {
     // How many characters of a paragraph have their lines written.
     ghost cost = { written_for };
 
-    ghost keeps_chars = { λ by kept part _. chars_stay by kept part };
+    ghost keeps_chars = { λ by kept part _. ap length (text_stays by kept part) };
+
+    ghost keeps_bytes = { λ by kept part _. ap (length_in Utf8) (text_stays by kept part) };
+
+    ghost keeps_utf16 = { λ by kept part _. ap (length_in Utf16) (text_stays by kept part) };
 
     fn exchange(&mut self, item: &mut Kept, part: &mut Option<Extents>) {
         let Some(extents) = part else {

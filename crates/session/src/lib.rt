@@ -29,6 +29,7 @@ mod hits;
 mod joined;
 mod kept;
 mod laws;
+mod offsets;
 mod places;
 mod printing;
 mod reading;

@@ -6,6 +6,8 @@ ghost use Rattle.std.specs.Str.{chars};
 ghost use Rattle.session.specs.Sessions.{Edits, EditsNot, IsWholeLayout};
 ghost use Rattle.session.specs.Edits.{replacing};
 ghost use Rattle.session.specs.Kept.{text_of};
+ghost use Rattle.session.specs.Offsets.{length_in};
+ghost use Rattle.session.specs.declared.offsets.Encoding.TheVariants.{Utf8, Utf16};
 ghost use Rattle.session.specs.Edges.{damage_between, IsEdge};
 ghost use Rattle.session.specs.declared.edits.EditFault.TheVariants.{NoMemory};
 
@@ -31,6 +33,10 @@ fn put<S: ParagraphStore<Kept>>(
     requires chars_fit { sum_by (λ l. length l.text)
         (splice (S.items store.old) front.index back.index new.items) < 2 ^ 64 }
     requires lines_fit { sum_by (λ l. length l.lines)
+        (splice (S.items store.old) front.index back.index new.items) < 2 ^ 64 }
+    requires bytes_fit { sum_by (λ l. length_in Utf8 l.text)
+        (splice (S.items store.old) front.index back.index new.items) < 2 ^ 64 }
+    requires utf16_fit { sum_by (λ l. length_in Utf16 l.text)
         (splice (S.items store.old) front.index back.index new.items) < 2 ^ 64 }
     ensures ok { OnOk result
         (S.items store.new ≡ splice (S.items store.old) front.index back.index new.items) }

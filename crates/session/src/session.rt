@@ -14,6 +14,7 @@ ghost use Rattle.session.specs.Edits.{after_all, replacing, deletion, insertion}
 ghost use Rattle.session.specs.Clusters.{cluster_at};
 ghost use Rattle.session.specs.Hits.{hit_at};
 ghost use Rattle.session.specs.Kept.{lines_in};
+ghost use Rattle.session.specs.Offsets.{length_in, offset_of, position_of};
 ghost use Rattle.session.specs.Places.{line_starts, place_at};
 ghost use Rattle.session.specs.Printing.{lines_page, HasLines, PrintsNot, WritesNot};
 ghost use Rattle.session.specs.Reading.{text_part, utf8_len, utf8_part};
@@ -22,6 +23,7 @@ ghost use Rattle.session.specs.Sessions.{cuts_at, held_at, page_at, text_at, IsW
 ghost use Rattle.session.specs.Sessions.{Edits, EditsNot, Opens, OpensNot, SetsWidth, SetsWidthNot};
 ghost use Rattle.session.specs.Words.{word_at};
 ghost use Rattle.session.specs.declared.edits.EditFault.TheVariants.{NoMemory};
+ghost use Rattle.session.specs.declared.offsets.Encoding.TheVariants.{Utf8, Utf16};
 
 use crate::carets::{Caret, caret_in};
 use crate::clusters::{Cluster, cluster_of};
@@ -29,6 +31,7 @@ use crate::edits::{Damage, Edit, EditFault, TEXT_LIMIT};
 use crate::hits::{Hit, hit_in};
 use crate::joined::lay_out_joined;
 use crate::kept::Kept;
+use crate::offsets::{Encoding, offset_of, position_of};
 use crate::places::{Place, line_start, place_of};
 use crate::printing::{RangeFault, write_lines};
 use crate::reading::{text_part, utf8_len, write_text};
@@ -220,7 +223,11 @@ impl<S: ParagraphStore<Kept>> Session<S> {
     }
 
     /// Returns the grapheme cluster of the character at a position, within its paragraph, or `None` past the
-    /// last character. Allocates a copy of the paragraph, and needs time linear in its length.
+    /// last character.
+    ///
+    /// Reads the characters back to the nearest place between two characters that no rule joins to others, such
+    /// as letters of Latin-1 or Hebrew, and on to the next such place. At worst, as in a paragraph of emoji
+    /// alone, reads the paragraph. Allocates a copy of these characters if there is more than one.
     pub fn cluster(&self, pos: usize) -> Result<Option<Cluster>, AllocError>
         ensures ok { IfOk result (λ cluster. cluster ≡ cluster_at self.now.kept pos) }
         ensures memory { OnErr result (pos < length (text_at self.now)) }
@@ -267,6 +274,45 @@ impl<S: ParagraphStore<Kept>> Session<S> {
         paragraphs_are_pieces();
         Laid::lines_begin_in_order();
         utf8_len(&self.store, pos, count)
+    }
+
+    /// Returns the number of UTF-8 bytes before a position, or `None` past the end. The time is logarithmic in
+    /// the number of paragraphs, and linear in the length of one unless it is ASCII. Allocates nothing.
+    pub fn byte_of(&self, pos: usize) -> Option<usize>
+        ensures byte { result ≡ offset_of Utf8 (text_at self.now) pos }
+        ensures none { is_none result ≡ nat_lt (length (text_at self.now)) pos }
+    {
+        offset_of(&self.store, pos, Encoding::Utf8)
+    }
+
+    /// Returns the position of the character that a UTF-8 byte is in, and how many bytes of the character
+    /// precede it. At the end of the text that is `char_count` and 0. Returns `None` past the end. The time is
+    /// that of `byte_of`.
+    pub fn position_of_byte(&self, byte: usize) -> Option<(usize, usize)>
+        ensures position { result ≡ position_of Utf8 (text_at self.now) byte }
+        ensures none { is_none result ≡ nat_lt (length_in Utf8 (text_at self.now)) byte }
+    {
+        position_of(&self.store, byte, Encoding::Utf8)
+    }
+
+    /// Returns the number of UTF-16 code units before a position, or `None` past the end. The time is
+    /// logarithmic in the number of paragraphs, and linear in the length of one unless each of its characters
+    /// is one code unit. Allocates nothing.
+    pub fn utf16_of(&self, pos: usize) -> Option<usize>
+        ensures unit { result ≡ offset_of Utf16 (text_at self.now) pos }
+        ensures none { is_none result ≡ nat_lt (length (text_at self.now)) pos }
+    {
+        offset_of(&self.store, pos, Encoding::Utf16)
+    }
+
+    /// Returns the position of the character that a UTF-16 code unit is in, and how many code units of the
+    /// character precede it. At the end of the text that is `char_count` and 0. Returns `None` past the end.
+    /// The time is that of `utf16_of`.
+    pub fn position_of_utf16(&self, unit: usize) -> Option<(usize, usize)>
+        ensures position { result ≡ position_of Utf16 (text_at self.now) unit }
+        ensures none { is_none result ≡ nat_lt (length_in Utf16 (text_at self.now)) unit }
+    {
+        position_of(&self.store, unit, Encoding::Utf16)
     }
 
     /// Writes `count` characters, starting at `pos`, as UTF-8. If the range reaches past the end, writes

@@ -4,8 +4,8 @@ ghost use Rattle.session.specs.Kept.{text_of};
 ghost use Rattle.session.specs.Places.{IsLined};
 ghost use Rattle.session.specs.Words.{has_letter, word_at, word_by};
 
-use crate::clusters::{begin, end_of};
 use crate::kept::Kept;
+use lines::{cluster_begin, cluster_end};
 use std::alloc::{AllocError, Global};
 use store::ParagraphStore;
 
@@ -35,8 +35,8 @@ fn word_by(start: usize, text: &[char], ends: &[bool], k: usize) -> Word
     requires fits { start + length text.now < 2 ^ 64 }
     ensures { result ≡ word_by start text.now ends.now k }
 {
-    let first = begin(ends, k);
-    let end = end_of(ends, k);
+    let first = cluster_begin(ends, k);
+    let end = cluster_end(ends, k);
     Word {
         start: start + first,
         end: start + end,

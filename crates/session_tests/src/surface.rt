@@ -408,7 +408,7 @@ fn write_fault_is_the_number_of_bytes_written(rt: HostRuntime) {
 
 // session
 
-// The tested calls of a session.
+// The session methods that are tested.
 #[derive(Clone, Copy)]
 enum Call {
     Insert,

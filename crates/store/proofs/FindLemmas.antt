@@ -1,52 +1,81 @@
 -- A search in a subtree finds the same item as a search in the whole list.
-use Rattle.std.proofs.Common.{◌≡◌, ℕ, ◌+◌, ◌<◌, List, ◌∷◌, ◌++◌, length, sum_by, arith, length-append, append_assoc, sym, ap, ◌∙◌}
+use Rattle.std.proofs.Common.{◌≡◌, ℕ, ◌+◌, ◌<◌, List, ◌∷◌, ◌++◌, length, take, sum_by, arith, length-append, append_assoc, sym, ap, ◌∙◌}
+use Rattle.std.proofs.Math.Seq.{take-append_seam}
 use Rattle.std.proofs.lemmas.List.Sums.{sum_by-append, sum_by-cons}
-use Rattle.store.specs.Finding.{Finds}
-use Rattle.store.specs.declared.found.Found.{Found}
+use Rattle.store.specs.Finding.{Finds, IsPlace, CountsBefore, found_at}
+use Rattle.store.specs.Sums.{measure, part, AreSums, SumsFit}
+use Rattle.store.specs.declared.found.Place.{Place}
+use Rattle.store.specs.declared.measured.Measured.{Ghosts}
+use Rattle.store.specs.declared.sums.Unit.{Unit as Counted}
+use Rattle.store.specs.declared.sums.Unit.TheVariants.{Char, Line, Byte, Utf16}
+use Rattle.store.proofs.FitsLemmas.{sums_less}
 
-module _ {P : Type 0} (size chars lines : P → ℕ) (l : List P) (x : P) (r : List P) where
-  -- if a search finds an item before x, a search in the whole list finds the same item
-  pub found_before : (n : ℕ) (f g : Found) → g.index ≡ f.index → g.rest ≡ f.rest → g.chars_before ≡ f.chars_before → g.lines_before ≡ f.lines_before
-      → Finds size chars lines l n f → Finds size chars lines (l ++ x ∷ r) n g
-  found_before n f g index_is rest_is chars_is lines_is found = record {
-    before = found.before;
-    item = found.item;
-    after = found.after ++ x ∷ r;
-    place = ap (λ ys. ys ++ x ∷ r) found.place ∙ append_assoc found.before (found.item ∷ found.after) (x ∷ r);
-    index = index_is ∙ found.index;
-    rest = omega (arith, found.rest);
-    within = omega (arith, found.within);
-    chars_before = chars_is ∙ found.chars_before;
-    lines_before = lines_is ∙ found.lines_before;
+module _ {P : Type 0} (G : Ghosts P) (unit : Counted) where
+  -- the counts of a place are the sums of the items before it
+  pub counts_at : (items : List P) (n : ℕ) (f : Place) → IsPlace G unit items n f → CountsBefore G.bytes G.utf16 items (found_at f)
+  counts_at items n f is =
+      let front : take f.index items ≡ is.finds.before =
+      ap (λ (k : ℕ). take k items) is.finds.index ∙ ap (λ (xs : List P). take (length is.finds.before) xs) is.finds.place
+      ∙ take-append_seam is.finds.before (is.finds.item ∷ is.finds.after) in record {
+        bytes_before = is.sums.each Byte ∙ ap (sum_by G.bytes) (sym front);
+        utf16_before = is.sums.each Utf16 ∙ ap (sum_by G.utf16) (sym front);
+      }
+
+  -- the place of an item, from the items before it
+  pub place_of : (before : List P) (item : P) (after items : List P) (n : ℕ) (g : Place) → items ≡ before ++ item ∷ after → g.index ≡ length before
+      → sum_by (measure G unit) before + g.rest ≡ n → g.rest < measure G unit item → AreSums G before g.before → IsPlace G unit items n g
+  place_of before item after items n g place_is index_is rest_is within_is sums_are = record {
+    finds = record {
+      before = before;
+      item = item;
+      after = after;
+      place = place_is;
+      index = index_is;
+      rest = rest_is;
+      within = within_is;
+      chars_before = sums_are.each Char;
+      lines_before = sums_are.each Line;
+    };
+    sums = sums_are;
   }
 
-  -- if the searched number falls inside x, a search in the whole list finds x
-  pub at_item : (n : ℕ) (g : Found) → g.index ≡ length l → sum_by size l + g.rest ≡ n → g.rest < size x → g.chars_before ≡ sum_by chars l → g.lines_before ≡ sum_by lines l
-      → Finds size chars lines (l ++ x ∷ r) n g
-  at_item n g index_is rest_is within_is chars_is lines_is = record {
-    before = l;
-    item = x;
-    after = r;
-    place = λ i. l ++ x ∷ r;
-    index = index_is;
-    rest = rest_is;
-    within = within_is;
-    chars_before = chars_is;
-    lines_before = lines_is;
-  }
+  module _ (l : List P) (x : P) (r : List P) where
+    -- if a search finds an item before x, a search in the whole list finds the same item
+    pub found_before : (n : ℕ) (f g : Place) → g.index ≡ f.index → g.rest ≡ f.rest → g.before ≡ f.before → IsPlace G unit l n f
+        → IsPlace G unit (l ++ x ∷ r) n g
+    found_before n f g index_is rest_is sums_are found =
+        let at = found.finds in
+        place_of at.before at.item (at.after ++ x ∷ r) (l ++ x ∷ r) n g
+        (ap (λ ys. ys ++ x ∷ r) at.place ∙ append_assoc at.before (at.item ∷ at.after) (x ∷ r))
+        (index_is ∙ at.index)
+        (omega (arith, at.rest))
+        (omega (arith, at.within))
+        record { each = λ u. ap (λ sums. part sums u) sums_are ∙ found.sums.each u }
 
-  -- if a search for the remaining number finds an item after x, a search in the whole list finds the same
-  -- item
-  pub found_after : (n k : ℕ) (f g : Found) → g.index ≡ length l + 1 + f.index → g.rest ≡ f.rest → sum_by size l + size x + k ≡ n
-      → g.chars_before ≡ sum_by chars l + chars x + f.chars_before → g.lines_before ≡ sum_by lines l + lines x + f.lines_before → Finds size chars lines r k f → Finds size chars lines (l ++ x ∷ r) n g
-  found_after n k f g index_is rest_is sum_is chars_is lines_is found = record {
-    before = l ++ x ∷ found.before;
-    item = found.item;
-    after = found.after;
-    place = ap (λ ys. l ++ x ∷ ys) found.place ∙ sym (append_assoc l (x ∷ found.before) (found.item ∷ found.after));
-    index = omega (arith, found.index, length-append l (x ∷ found.before));
-    rest = omega (arith, found.rest, sum_by-append size l (x ∷ found.before), sum_by-cons size x found.before);
-    within = omega (arith, found.within);
-    chars_before = omega (arith, found.chars_before, sum_by-append chars l (x ∷ found.before), sum_by-cons chars x found.before);
-    lines_before = omega (arith, found.lines_before, sum_by-append lines l (x ∷ found.before), sum_by-cons lines x found.before);
-  }
+    -- if the searched number falls inside x, a search in the whole list finds x
+    pub at_item : (n : ℕ) (g : Place) → g.index ≡ length l → sum_by (measure G unit) l + g.rest ≡ n → g.rest < measure G unit x → AreSums G l g.before
+        → IsPlace G unit (l ++ x ∷ r) n g
+    at_item n g index_is rest_is within_is sums_are =
+        place_of l x r (l ++ x ∷ r) n g (λ i. l ++ x ∷ r) index_is rest_is within_is sums_are
+
+    -- the sums of the items before a place after x fit
+    pub before_fit : (k : ℕ) (f : Place) (found : IsPlace G unit r k f) → SumsFit G (l ++ x ∷ r) → SumsFit G (l ++ x ∷ found.finds.before)
+    before_fit k f found fit =
+        let at = found.finds in
+        let whole = ap (λ ys. l ++ x ∷ ys) at.place ∙ sym (append_assoc l (x ∷ at.before) (at.item ∷ at.after)) in
+        sums_less G (l ++ x ∷ r) (l ++ x ∷ at.before)
+        (λ (size : P → ℕ). omega (arith, ap (sum_by size) whole, sum_by-append size (l ++ x ∷ at.before) (at.item ∷ at.after)))
+        fit
+
+    -- if a search for the remaining number finds an item after x, a search in the whole list finds the same
+    -- item
+    pub found_after : (n k : ℕ) (f g : Place) → g.index ≡ length l + 1 + f.index → g.rest ≡ f.rest → sum_by (measure G unit) l + measure G unit x + k ≡ n
+        → (found : IsPlace G unit r k f) → AreSums G (l ++ x ∷ found.finds.before) g.before → IsPlace G unit (l ++ x ∷ r) n g
+    found_after n k f g index_is rest_is sum_is found sums_are =
+        let at = found.finds in
+        place_of (l ++ x ∷ at.before) at.item at.after (l ++ x ∷ r) n g
+        (ap (λ ys. l ++ x ∷ ys) at.place ∙ sym (append_assoc l (x ∷ at.before) (at.item ∷ at.after)))
+        (omega (arith, at.index, length-append l (x ∷ at.before)))
+        (omega (arith, at.rest, sum_by-append (measure G unit) l (x ∷ at.before), sum_by-cons (measure G unit) x at.before))
+        (omega (arith, at.within))
+        sums_are

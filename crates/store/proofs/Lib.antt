@@ -4,4 +4,5 @@ mod FitsLemmas
 mod JoinLemmas
 pub mod ListLemmas
 mod SubtreeLemmas
+mod SumsLemmas
 mod TreeLemmas

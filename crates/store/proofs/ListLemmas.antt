@@ -141,35 +141,19 @@ sum_around_splice f xs i j ys h =
 pub sum_of_splice : {A : Type 0} (f : A → ℕ) (xs : List A) (i j : ℕ) (ys : List A) → i ≤ j → sum_by f (splice xs i j ys) ≤ sum_by f xs + sum_by f ys
 sum_of_splice f xs i j ys h = omega (arith, sum_around_splice f xs i j ys h)
 
-module _ {A : Type 0} (f : A → ℕ) where
-  -- the sum over a range is at most the sum over the list
-  pub range_within : (xs old : List A) (i j kept : ℕ) → i ≤ j → kept ≡ sum_by f xs → old ≡ slice_range xs i j → sum_by f old ≤ kept
-  range_within xs old i j kept h kept_is old_is =
-      omega (
-        arith,
-        kept_is,
-        ap (sum_by f) old_is,
-        ap (sum_by f) (at_range xs i j h),
-        sum_by-append f (take i xs) (slice_range xs i j ++ drop j xs),
-        sum_by-append f (slice_range xs i j) (drop j xs),
-      )
+-- the sum over the new items is at most the sum over the list with them
+pub splice_within : {A : Type 0} (f : A → ℕ) (xs : List A) (i j : ℕ) (ys : List A) → sum_by f ys ≤ sum_by f (splice xs i j ys)
+splice_within f xs i j ys = omega (arith, sum_by-append f (take i xs) (ys ++ drop j xs), sum_by-append f ys (drop j xs))
 
-  -- the sum over a list after a replacement is the old sum, minus that of the replaced items, plus that of
-  -- the new items
-  pub sum_after : (xs ys zs old new : List A) (i j kept o n : ℕ) → i ≤ j → kept ≡ sum_by f xs → old ≡ slice_range xs i j → o ≡ sum_by f old
-      → zs ≡ ys → n ≡ sum_by f zs → new ≡ splice xs i j ys → kept - o + n ≡ sum_by f new
-  sum_after xs ys zs old new i j kept o n h kept_is old_is o_is zs_is n_is new_is =
-      omega (
-        arith,
-        kept_is,
-        o_is,
-        n_is,
-        ap (sum_by f) zs_is,
-        ap (sum_by f) old_is,
-        ap (sum_by f) new_is,
-        range_within xs old i j kept h kept_is old_is,
-        sum_around_splice f xs i j ys h,
-      )
+-- the sum over a range is at most the sum over the list
+pub range_within : {A : Type 0} (f : A → ℕ) (xs : List A) (i j : ℕ) → i ≤ j → sum_by f (slice_range xs i j) ≤ sum_by f xs
+range_within f xs i j h =
+    omega (
+      arith,
+      ap (sum_by f) (at_range xs i j h),
+      sum_by-append f (take i xs) (slice_range xs i j ++ drop j xs),
+      sum_by-append f (slice_range xs i j) (drop j xs),
+    )
 
 -- moving the last item of a list to a reversed list keeps all items
 pub one_over : {A : Type 0} (items front nodes more all : List A) (x y : A) → items ≡ front ++ x ∷ [] → y ≡ x → more ≡ nodes ++ y ∷ []

@@ -1,16 +1,16 @@
 -- The properties of a node that do not change when its items exchange parts.
-use Rattle.std.proofs.Common.{◌≡◌, ℕ, ◌+◌, ◌≤◌, ◌∷◌, ◌++◌, length, sum_by, arith, length-append}
-use Rattle.std.proofs.lemmas.List.Sums.{sum_by-append, sum_by-cons}
+use Rattle.std.proofs.Common.{◌≡◌, ℕ, ◌+◌, ◌≤◌, ◌∷◌, ◌++◌, length, arith, length-append}
 use Rattle.store.specs.Subtrees.{IsSummed}
+use Rattle.store.specs.Sums.{AreSums}
 use Rattle.store.specs.Trees.{Tree, Fork, in_order, height, IsBalanced}
+use Rattle.store.specs.declared.measured.Measured.{Ghosts}
 use Rattle.store.specs.declared.subtree.Node.{Node}
 
--- whether a tree is balanced, and has the same height, item count and character count as another
-pub record IsLike {P : Type 0} (chars : P → ℕ) (old new : Tree P) : Type 0 where
+-- whether a tree is balanced, and has the same height and item count as another
+pub record IsLike {P : Type 0} (old new : Tree P) : Type 0 where
   pub balanced : IsBalanced new
   pub height_is : height new ≡ height old
   pub count_is : length (in_order new) ≡ length (in_order old)
-  pub chars_is : sum_by chars (in_order new) ≡ sum_by chars (in_order old)
 
 -- if the subtrees of a balanced tree are replaced by balanced ones of the same heights, the tree is still
 -- balanced
@@ -19,23 +19,11 @@ pub balanced_again : {A : Type 0} (l r left right : Tree A) (x : A) → IsBalanc
     → IsBalanced left × IsBalanced right × (height left ≤ height right + 1) × (height right ≤ height left + 1)
 balanced_again l r left right x old b d h k = (b, d, omega (arith, old.2, h, k), omega (arith, old.3, h, k))
 
-pub summed_again : {P : Type 0} (chars lines : P → ℕ) (n m : Node P) → IsSummed chars lines n
-    → IsLike chars n.left m.left → IsLike chars n.right m.right → chars m.item ≡ chars n.item
-    → m.height ≡ n.height → m.count ≡ n.count → m.chars ≡ n.chars
-    → m.lines ≡ sum_by lines (in_order m.left ++ m.item ∷ in_order m.right) → IsSummed chars lines m
-summed_again chars lines n m s l r item_is h k c lines_is = record {
+pub summed_again : {P : Type 0} (G : Ghosts P) (n m : Node P) → IsSummed G n → IsLike n.left m.left → IsLike n.right m.right
+    → m.height ≡ n.height → m.count ≡ n.count → AreSums G (in_order m.left ++ m.item ∷ in_order m.right) m.sums → IsSummed G m
+summed_again G n m s l r h k sums_are = record {
   height_is = omega (arith, s.height_is, l.height_is, r.height_is);
   count_is = omega (arith, s.count_is, l.count_is, r.count_is, length-append (in_order n.left) (n.item ∷ in_order n.right), length-append (in_order m.left) (m.item ∷ in_order m.right));
-  chars_is = omega (
-    arith,
-    s.chars_is,
-    l.chars_is,
-    r.chars_is,
-    sum_by-append chars (in_order n.left) (n.item ∷ in_order n.right),
-    sum_by-cons chars n.item (in_order n.right),
-    sum_by-append chars (in_order m.left) (m.item ∷ in_order m.right),
-    sum_by-cons chars m.item (in_order m.right),
-  );
-  lines_is = lines_is;
+  sums_are = sums_are;
   balanced = balanced_again n.left n.right m.left m.right n.item s.balanced l.balanced r.balanced l.height_is r.height_is;
 }

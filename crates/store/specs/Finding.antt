@@ -1,16 +1,13 @@
--- The result of a search in a list of items: the item that has a character or a line.
-use Rattle.std.specs.Prelude.{◌≡◌, ℕ, ◌+◌, ◌<◌, List, ◌∷◌, ◌++◌, length, sum_by}
+-- The result of a search in a list of items: the item that has a character, line, byte or UTF-16 code unit.
+use Rattle.std.specs.Prelude.{◌≡◌, ℕ, ◌+◌, ◌<◌, List, ◌∷◌, ◌++◌, length, take, sum_by}
+use Rattle.store.specs.Sums.{measure, AreSums}
 use Rattle.store.specs.declared.found.Found.{Found}
-use Rattle.store.specs.declared.found.Unit.{Unit as Counted}
-use Rattle.store.specs.declared.found.Unit.TheVariants.{Char, Line}
+use Rattle.store.specs.declared.found.Place.{Place}
+use Rattle.store.specs.declared.measured.Measured.{Ghosts}
+use Rattle.store.specs.declared.sums.Unit.{Unit as Counted}
 
--- the number of characters or of lines of an item
-abbrev pub measure : {P : Type 0} → (P → ℕ) → (P → ℕ) → Counted → P → ℕ
-measure chars lines Char = chars
-measure chars lines Line = lines
-
--- The character or line with number n, counted from 0 through all items, is number `rest` within the item at
--- `index`.
+-- The character, line, byte or code unit with number n, counted from 0 through all items, is number `rest`
+-- within the item at `index`.
 pub record Finds {P : Type 0} (size chars lines : P → ℕ) (items : List P) (n : ℕ) (found : Found) : Type 0 where
   pub before : List P
   pub item : P
@@ -21,3 +18,25 @@ pub record Finds {P : Type 0} (size chars lines : P → ℕ) (items : List P) (n
   pub within : found.rest < size item
   pub chars_before : found.chars_before ≡ sum_by chars before
   pub lines_before : found.lines_before ≡ sum_by lines before
+
+-- the bytes and UTF-16 code units of the items before the found one
+pub record CountsBefore {P : Type 0} (bytes utf16 : P → ℕ) (items : List P) (found : Found) : Type 0 where
+  pub bytes_before : found.bytes_before ≡ sum_by bytes (take found.index items)
+  pub utf16_before : found.utf16_before ≡ sum_by utf16 (take found.index items)
+
+-- a place as the result of a search
+abbrev pub found_at : Place → Found
+found_at place = record {
+  index = place.index;
+  rest = place.rest;
+  chars_before = place.before.chars;
+  lines_before = place.before.lines;
+  bytes_before = place.before.bytes;
+  utf16_before = place.before.utf16;
+  visits = place.visits;
+}
+
+-- whether a search by a unit finds the place, with all sums of the items before it
+pub record IsPlace {P : Type 0} (G : Ghosts P) (unit : Counted) (items : List P) (n : ℕ) (place : Place) : Type 0 where
+  pub finds : Finds (measure G unit) G.chars G.lines items n (found_at place)
+  pub sums : AreSums G finds.before place.before

@@ -2,4 +2,5 @@ pub mod Exchanging
 pub mod Finding
 pub mod Subtrees
 pub mod SubtreesFall
+pub mod Sums
 pub mod Trees

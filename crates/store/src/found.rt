@@ -1,39 +1,50 @@
 //! The result of a search in a store.
 ghost use Rattle.std.specs.Prelude.{◌≡◌};
-ghost use Rattle.store.specs.Finding.{measure};
+ghost use Rattle.store.specs.Finding.{found_at};
 
-use crate::measured::Measured;
+use crate::sums::Sums;
 
-/// The item that contains a character or a line.
+/// The item that contains a character, a line, a byte or a UTF-16 code unit.
 #[derive(Clone, Copy, Debug, PartialEq, Eq)]
 pub struct Found {
     /// The index of the item, from 0.
     pub index: usize,
-    /// The index of the character or line within the item, from 0.
+    /// The index of the character, line, byte or code unit within the item, from 0.
     pub rest: usize,
     /// The number of characters in the items before this one.
     pub chars_before: usize,
     /// The number of lines in the items before this one.
     pub lines_before: usize,
+    /// The number of UTF-8 bytes of the items before it.
+    pub bytes_before: usize,
+    /// The number of UTF-16 code units of the items before it.
+    pub utf16_before: usize,
     /// The number of items that the search visited.
     pub visits: usize,
 }
 
-// Whether a search counts characters or lines.
+/// The result of a search so far, with the sums of the items before it in one value.
 #[derive(Clone, Copy)]
-pub(crate) enum Unit {
-    Char,
-    Line,
+pub(crate) struct Place {
+    pub(crate) index: usize,
+    pub(crate) rest: usize,
+    pub(crate) before: Sums,
+    pub(crate) visits: usize,
 }
 
-impl Unit {
-    /// Returns the number of characters or the number of lines of an item.
-    pub(crate) fn size_of<P: Measured>(self, item: &P) -> usize
-        ensures { result ≡ measure P.chars P.lines self item.now }
+impl Place {
+    /// Returns the place as the result of a search.
+    pub(crate) fn found(self) -> Found
+        ensures { result ≡ found_at self }
     {
-        match self {
-            Unit::Char => item.chars(),
-            Unit::Line => item.lines(),
+        Found {
+            index: self.index,
+            rest: self.rest,
+            chars_before: self.before.chars,
+            lines_before: self.before.lines,
+            bytes_before: self.before.bytes,
+            utf16_before: self.before.utf16,
+            visits: self.visits,
         }
     }
 }

@@ -1,6 +1,6 @@
 //! Joins and splits balanced trees without allocating. The work is proportional to the heights of the trees.
 ghost use Rattle.std.specs.Prelude.{◌≡◌, ◌+◌, ◌^◌, ◌<◌, ◌≤◌, ◌∷◌, ◌++◌};
-ghost use Rattle.std.specs.Prelude.{ℕ, length, sum_by, [], take, drop, max};
+ghost use Rattle.std.specs.Prelude.{ℕ, length, [], take, drop, max};
 ghost use Rattle.std.specs.Prelude.{map, reverse, slice_range, MatchOption, vec_capacity, ◌-◌};
 ghost use Rattle.std.specs.List.{splice};
 ghost use Rattle.store.specs.Subtrees.{Fits};
@@ -16,7 +16,7 @@ pub(crate) fn join<P: Measured>(
     node: DetachedNode<P>,
     right: Subtree<P>,
 ) -> Subtree<P>
-    requires { Fits P.chars P.lines (in_order left ++ node ∷ in_order right) }
+    requires { Fits P.Measured (in_order left ++ node ∷ in_order right) }
     ensures items { in_order result ≡ in_order left ++ node ∷ in_order right }
     ensures not_lower { max (height left) (height right) ≤ height result }
     ensures at_most_one_higher { height result ≤ max (height left) (height right) + 1 }
@@ -40,7 +40,7 @@ pub(crate) fn join<P: Measured>(
 
 // Joins two trees, whose heights differ by at most 2, with a node between them.
 fn balance<P: Measured>(left: Subtree<P>, node: DetachedNode<P>, right: Subtree<P>) -> Subtree<P>
-    requires fits { Fits P.chars P.lines (in_order left ++ node ∷ in_order right) }
+    requires fits { Fits P.Measured (in_order left ++ node ∷ in_order right) }
     requires near { (height left ≤ height right + 2) × (height right ≤ height left + 2) }
     ensures items { in_order result ≡ in_order left ++ node ∷ in_order right }
     ensures not_lower { max (height left) (height right) ≤ height result }
@@ -62,7 +62,7 @@ fn balance<P: Measured>(left: Subtree<P>, node: DetachedNode<P>, right: Subtree<
 // Joins two trees if the left one is higher by 2. Makes one rotation, or two if the inner side of the left
 // tree is higher than its outer side.
 fn lean_left<P: Measured>(left: Subtree<P>, node: DetachedNode<P>, right: Subtree<P>) -> Subtree<P>
-    requires fits { Fits P.chars P.lines (in_order left ++ node ∷ in_order right) }
+    requires fits { Fits P.Measured (in_order left ++ node ∷ in_order right) }
     requires two_higher { height left ≡ height right + 2 }
     ensures items { in_order result ≡ in_order left ++ node ∷ in_order right }
     ensures not_lower { height left ≤ height result }
@@ -79,7 +79,7 @@ fn lean_left<P: Measured>(left: Subtree<P>, node: DetachedNode<P>, right: Subtre
 
 // Joins two trees if the right one is higher by 2.
 fn lean_right<P: Measured>(left: Subtree<P>, node: DetachedNode<P>, right: Subtree<P>) -> Subtree<P>
-    requires fits { Fits P.chars P.lines (in_order left ++ node ∷ in_order right) }
+    requires fits { Fits P.Measured (in_order left ++ node ∷ in_order right) }
     requires two_higher { height right ≡ height left + 2 }
     ensures items { in_order result ≡ in_order left ++ node ∷ in_order right }
     ensures not_lower { height right ≤ height result }
@@ -103,7 +103,7 @@ fn lift<P: Measured>(
     after: DetachedNode<P>,
     right: Subtree<P>,
 ) -> Subtree<P>
-    requires fits { Fits P.chars P.lines
+    requires fits { Fits P.Measured
         (in_order left ++ before ∷ in_order inner ++ after ∷ in_order right) }
     requires higher { (height inner ≡ height left + 1) × (height inner ≡ height right + 1) }
     ensures items { in_order result ≡ in_order left ++ before ∷ in_order inner ++ after ∷ in_order right }
@@ -146,7 +146,7 @@ fn take_first<P: Measured>(tree: Subtree<P>) -> Option<(DetachedNode<P>, Subtree
 
 // Joins two trees.
 fn append<P: Measured>(left: Subtree<P>, right: Subtree<P>) -> Subtree<P>
-    requires { Fits P.chars P.lines (in_order left ++ in_order right) }
+    requires { Fits P.Measured (in_order left ++ in_order right) }
     ensures { in_order result ≡ in_order left ++ in_order right }
 {
     let Some((first, rest)) = take_first(right) else {
@@ -157,7 +157,7 @@ fn append<P: Measured>(left: Subtree<P>, right: Subtree<P>) -> Subtree<P>
 
 // Builds a tree from the nodes of a list in reverse order.
 fn build_all<P: Measured>(nodes: Vec<DetachedNode<P>>) -> Subtree<P>
-    requires { Fits P.chars P.lines (reverse nodes.items) }
+    requires { Fits P.Measured (reverse nodes.items) }
     ensures { in_order result ≡ reverse nodes.items }
 {
     let mut nodes = nodes;
@@ -170,7 +170,7 @@ fn build_all<P: Measured>(nodes: Vec<DetachedNode<P>>) -> Subtree<P>
 // Removes the last `count` nodes of a list, and builds a tree from them in reverse order.
 fn build<P: Measured>(nodes: &mut Vec<DetachedNode<P>>, count: usize) -> Subtree<P>
     requires enough { count ≤ length nodes.old.items }
-    requires fits { Fits P.chars P.lines (reverse nodes.old.items) }
+    requires fits { Fits P.Measured (reverse nodes.old.items) }
     ensures left { nodes.new.items ≡ take (length nodes.old.items - count) nodes.old.items }
     ensures items { in_order result ≡ reverse (drop (length nodes.old.items - count) nodes.old.items) }
 {
@@ -193,7 +193,7 @@ pub(crate) fn put_in<P: Measured>(
     nodes: Vec<DetachedNode<P>>,
 ) -> Subtree<P>
     requires order { (first ≤ second) × (second ≤ length (in_order tree.old)) }
-    requires fits { Fits P.chars P.lines
+    requires fits { Fits P.Measured
         (splice (in_order tree.old) first second (reverse nodes.items)) }
     ensures items { in_order tree.new ≡ splice (in_order tree.old) first second (reverse nodes.items) }
     ensures gone { in_order result ≡ slice_range (in_order tree.old) first second }

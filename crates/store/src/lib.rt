@@ -1,8 +1,9 @@
-//! Stores of paragraphs: lists of items with the sums of their characters and lines.
+//! Stores of paragraphs: lists of items with the sums of their characters, lines, UTF-8 bytes and UTF-16 code
+//! units.
 //!
-//! A `ParagraphStore` holds items that are `Measured`. `replace` replaces a range of items. `find_char` and
-//! `find_line` find the item that contains a character or a line. A `VecStore` is a list. A `TreeStore` is a
-//! balanced tree, in which a search visits only a few items.
+//! A `ParagraphStore` holds items that are `Measured`. `replace` replaces a range of items. `find_char`,
+//! `find_line`, `find_byte` and `find_utf16` find the item that contains a character, a line, a byte or a code
+//! unit. A `VecStore` is a list. A `TreeStore` is a balanced tree, in which a search visits only a few items.
 //!
 //! ```rust
 //! let paragraphs = vec![in alloc; Paragraph(5, 1), Paragraph(90, 2)]?;
@@ -26,6 +27,7 @@ mod measured;
 mod paragraph_store;
 mod search;
 mod subtree;
+mod sums;
 mod tree_store;
 mod vec_store;
 

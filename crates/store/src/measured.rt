@@ -2,17 +2,29 @@
 ghost use Rattle.std.specs.Prelude.{◌≡◌, ℕ, refl};
 ghost use Rattle.store.specs.Exchanging.{raised};
 
-/// An item with a number of characters and a number of lines.
+/// An item with numbers of characters, lines, UTF-8 bytes and UTF-16 code units.
 pub trait Measured {
     ghost chars: { Self → ℕ };
 
     ghost lines: { Self → ℕ };
+
+    ghost bytes: { Self → ℕ };
+
+    ghost utf16: { Self → ℕ };
 
     fn chars(&self) -> usize
         ensures { result ≡ chars self.now };
 
     fn lines(&self) -> usize
         ensures { result ≡ lines self.now };
+
+    /// Returns the length in UTF-8 bytes.
+    fn bytes(&self) -> usize
+        ensures { result ≡ bytes self.now };
+
+    /// Returns the length in UTF-16 code units.
+    fn utf16(&self) -> usize
+        ensures { result ≡ utf16 self.now };
 }
 
 /// An item that can exchange a part of itself for another part.
@@ -34,9 +46,15 @@ pub trait Exchange: Measured {
         ensures item { self.new ≡ exchanged self.old part.old }
         ensures part { part.new ≡ handed_out self.old part.old };
 
-    // An exchange does not change the number of characters.
+    // An exchange does not change the numbers of characters, bytes and code units.
     ghost keeps_chars: { (item : Self) (part : Self.Part) → fits item part
         → Self.chars (exchanged item part) ≡ Self.chars item };
+
+    ghost keeps_bytes: { (item : Self) (part : Self.Part) → fits item part
+        → Self.bytes (exchanged item part) ≡ Self.bytes item };
+
+    ghost keeps_utf16: { (item : Self) (part : Self.Part) → fits item part
+        → Self.utf16 (exchanged item part) ≡ Self.utf16 item };
 }
 
 /// Exchanges parts of items, and may count its work.
@@ -71,9 +89,15 @@ pub trait Exchanger<P: Measured> {
         ensures same { kind self.new ≡ kind self.old }
         ensures worked { worked self.new ≡ raised (worked self.old) (cost item.old part.old) };
 
-    // An exchange does not change the number of characters.
+    // An exchange does not change the numbers of characters, bytes and code units.
     ghost keeps_chars: { (by : Kind) (item : P) (part : Self.Part) → fits by item part
         → P.chars (exchanged by item part) ≡ P.chars item };
+
+    ghost keeps_bytes: { (by : Kind) (item : P) (part : Self.Part) → fits by item part
+        → P.bytes (exchanged by item part) ≡ P.bytes item };
+
+    ghost keeps_utf16: { (by : Kind) (item : P) (part : Self.Part) → fits by item part
+        → P.utf16 (exchanged by item part) ≡ P.utf16 item };
 }
 
 /// An exchanger that calls the item's own `exchange`.
@@ -102,4 +126,8 @@ impl<P: Exchange> Exchanger<P> for ByItem {
     }
 
     ghost keeps_chars = { λ kind. P.keeps_chars };
+
+    ghost keeps_bytes = { λ kind. P.keeps_bytes };
+
+    ghost keeps_utf16 = { λ kind. P.keeps_utf16 };
 }

@@ -4,15 +4,15 @@ ghost use Rattle.std.specs.Prelude.{ℕ, List, [], length, map, slice_get, slice
 ghost use Rattle.std.specs.Prelude.{IfOk, IfErr, OnOk, OnErr};
 ghost use Rattle.std.specs.List.{splice, AllZip};
 ghost use Rattle.store.specs.Exchanging.{pairwise, raised, total_cost};
-ghost use Rattle.store.specs.Finding.{Finds};
+ghost use Rattle.store.specs.Finding.{CountsBefore, Finds};
 
 use crate::found::Found;
 use crate::measured::{ByItem, Exchange, Exchanger, Measured};
 use std::alloc::{AllocError, Global};
 use std::ops::Range;
 
-/// A list of items, with the sums of their characters and lines. Only `replace` and `list` allocate, and only
-/// if there are items to list or to replace. No method drops or copies an item.
+/// A list of items, with the sums of their characters, lines, bytes and code units. Only `replace` and `list`
+/// allocate, and only if there are items to list or to replace. No method drops or copies an item.
 pub trait ParagraphStore<P: Measured> {
     // The items in order.
     ghost items: { Self → List P };
@@ -33,6 +33,14 @@ pub trait ParagraphStore<P: Measured> {
     fn total_lines(&self) -> usize
         ensures { result ≡ sum_by P.lines (items self.now) };
 
+    /// Returns the total number of UTF-8 bytes of all items.
+    fn total_bytes(&self) -> usize
+        ensures { result ≡ sum_by P.bytes (items self.now) };
+
+    /// Returns the total number of UTF-16 code units of all items.
+    fn total_utf16(&self) -> usize
+        ensures { result ≡ sum_by P.utf16 (items self.now) };
+
     /// Returns the item at an index, or `None` past the last item.
     fn get(&self, index: usize) -> Option<&P>
         ensures { option_map (λ item. item.now) result ≡ slice_get (items self.now) index };
@@ -45,12 +53,26 @@ pub trait ParagraphStore<P: Measured> {
     /// Finds the item that contains character `pos`. Characters are numbered from 0 across all items.
     fn find_char(&self, pos: usize) -> Found
         requires { pos < sum_by P.chars (items self.now) }
-        ensures { Finds P.chars P.chars P.lines (items self.now) pos result };
+        ensures found { Finds P.chars P.chars P.lines (items self.now) pos result }
+        ensures counts { CountsBefore P.bytes P.utf16 (items self.now) result };
 
     /// Finds the item that contains line `n`. Lines are numbered from 0 across all items.
     fn find_line(&self, n: usize) -> Found
         requires { n < sum_by P.lines (items self.now) }
-        ensures { Finds P.lines P.chars P.lines (items self.now) n result };
+        ensures found { Finds P.lines P.chars P.lines (items self.now) n result }
+        ensures counts { CountsBefore P.bytes P.utf16 (items self.now) result };
+
+    /// Finds the item that contains UTF-8 byte `byte`. Bytes are numbered from 0 across all items.
+    fn find_byte(&self, byte: usize) -> Found
+        requires { byte < sum_by P.bytes (items self.now) }
+        ensures found { Finds P.bytes P.chars P.lines (items self.now) byte result }
+        ensures counts { CountsBefore P.bytes P.utf16 (items self.now) result };
+
+    /// Finds the item that contains UTF-16 code unit `unit`. Code units are numbered from 0 across all items.
+    fn find_utf16(&self, unit: usize) -> Found
+        requires { unit < sum_by P.utf16 (items self.now) }
+        ensures found { Finds P.utf16 P.chars P.lines (items self.now) unit result }
+        ensures counts { CountsBefore P.bytes P.utf16 (items self.now) result };
 
     /// Replaces the items of a range with new ones, and returns the old items. The new sums must fit in a
     /// `usize`. If an allocation fails, changes nothing, and returns the new items with the error.
@@ -64,6 +86,10 @@ pub trait ParagraphStore<P: Measured> {
         requires chars_fit { sum_by P.chars
             (splice (items self.old) range.start range.end new_items.items) < 2 ^ 64 }
         requires lines_fit { sum_by P.lines
+            (splice (items self.old) range.start range.end new_items.items) < 2 ^ 64 }
+        requires bytes_fit { sum_by P.bytes
+            (splice (items self.old) range.start range.end new_items.items) < 2 ^ 64 }
+        requires utf16_fit { sum_by P.utf16
             (splice (items self.old) range.start range.end new_items.items) < 2 ^ 64 }
         ensures ok { OnOk result
             (items self.new ≡ splice (items self.old) range.start range.end new_items.items) }
@@ -85,7 +111,9 @@ pub trait ParagraphStore<P: Measured> {
         ensures same { E.kind by.new ≡ E.kind by.old }
         ensures worked { E.worked by.new
             ≡ raised (E.worked by.old) (total_cost E.cost (items self.old) parts.old.items) }
-        ensures chars { sum_by P.chars (items self.new) ≡ sum_by P.chars (items self.old) };
+        ensures chars { sum_by P.chars (items self.new) ≡ sum_by P.chars (items self.old) }
+        ensures bytes { sum_by P.bytes (items self.new) ≡ sum_by P.bytes (items self.old) }
+        ensures utf16 { sum_by P.utf16 (items self.new) ≡ sum_by P.utf16 (items self.old) };
 
     /// Exchanges a part of each item, in order: the part of item `i` for `parts[i]`. There must be as many
     /// parts as items. Each part must fit its item, and the new sum of lines must fit in a `usize`. Does not
@@ -99,6 +127,8 @@ pub trait ParagraphStore<P: Measured> {
         ensures items { items self.new ≡ pairwise P.exchanged (items self.old) parts.old.items }
         ensures parts { parts.new.items ≡ pairwise P.handed_out (items self.old) parts.old.items }
         ensures chars { sum_by P.chars (items self.new) ≡ sum_by P.chars (items self.old) }
+        ensures bytes { sum_by P.bytes (items self.new) ≡ sum_by P.bytes (items self.old) }
+        ensures utf16 { sum_by P.utf16 (items self.new) ≡ sum_by P.utf16 (items self.old) }
     {
         self.exchange_all_by(&mut ByItem, parts);
     }

@@ -3,12 +3,14 @@ ghost use Rattle.std.specs.Prelude.{◌≡◌, ℕ, ◌+◌, ◌^◌, ◌<◌, �
 ghost use Rattle.std.specs.Prelude.{length, map, sum_by, option_map, slice_get, vec_capacity};
 ghost use Rattle.std.specs.List.{AllZip};
 ghost use Rattle.store.specs.Exchanging.{pairwise, raised, total_cost};
-ghost use Rattle.store.specs.Finding.{Finds, measure};
+ghost use Rattle.store.specs.Finding.{IsPlace};
+ghost use Rattle.store.specs.Sums.{measure};
 ghost use Rattle.store.specs.Trees.{height, in_order, IsBalanced, nodes_to};
 
-use crate::found::{Found, Unit};
+use crate::found::Place;
 use crate::measured::{Exchanger, Measured};
 use crate::subtree::{Node, Subtree};
+use crate::sums::{Sums, Unit};
 
 impl<P: Measured> Subtree<P> {
     /// Returns the item at an index, or `None` past the last item.
@@ -42,10 +44,10 @@ impl<P: Measured> Subtree<P> {
         node.right.list_into(list);
     }
 
-    /// Finds the item that contains the character or line with number `n`.
-    pub(crate) fn find(&self, unit: Unit, n: usize) -> Found
-        requires { n < sum_by (measure P.chars P.lines unit) (in_order self.now) }
-        ensures found { Finds (measure P.chars P.lines unit) P.chars P.lines (in_order self.now) n result }
+    /// Finds the item that contains the character, line, byte or code unit with number `n`.
+    pub(crate) fn find(&self, unit: Unit, n: usize) -> Place
+        requires { n < sum_by (measure P.Measured unit) (in_order self.now) }
+        ensures found { IsPlace P.Measured unit (in_order self.now) n result }
         ensures visits { result.visits ≡ nodes_to self.now result.index }
     {
         let Some(node) = &self.root else {
@@ -53,36 +55,32 @@ impl<P: Measured> Subtree<P> {
         };
         let node: &Node<P> = node;
         // The invariants of the trees bound the sums.
-        let (_height, _count) = (self.height(), self.count());
-        let (_chars, _lines) = (self.chars(), self.lines());
-        let before = node.left.total(unit);
-        if n < before {
-            let found = node.left.find(unit, n);
-            return Found {
-                visits: found.visits + 1,
-                ..found
+        let (_height, _count, _sums) = (self.height(), self.count(), self.sums());
+        let left = node.left.total(unit);
+        if n < left {
+            let place = node.left.find(unit, n);
+            return Place {
+                visits: place.visits + 1,
+                ..place
             };
         }
-        let index = node.left.count();
-        let (chars_before, lines_before) = (node.left.chars(), node.left.lines());
-        let rest = n - before;
+        let (index, before) = (node.left.count(), node.left.sums());
+        let rest = n - left;
         let size = unit.size_of(&node.item);
         if rest < size {
-            return Found {
+            return Place {
                 index,
                 rest,
-                chars_before,
-                lines_before,
+                before,
                 visits: 1,
             };
         }
-        let found = node.right.find(unit, rest - size);
-        Found {
-            index: index + 1 + found.index,
-            rest: found.rest,
-            chars_before: chars_before + node.item.chars() + found.chars_before,
-            lines_before: lines_before + node.item.lines() + found.lines_before,
-            visits: found.visits + 1,
+        let place = node.right.find(unit, rest - size);
+        Place {
+            index: index + 1 + place.index,
+            rest: place.rest,
+            before: before.plus(Sums::of(&node.item)).plus(place.before),
+            visits: place.visits + 1,
         }
     }
 
@@ -99,7 +97,6 @@ impl<P: Measured> Subtree<P> {
         ensures worked { E.worked by.new
             ≡ raised (E.worked by.old) (total_cost E.cost (in_order self.old) parts.old) }
         ensures count { length (in_order self.new) ≡ length (in_order self.old) }
-        ensures chars { sum_by P.chars (in_order self.new) ≡ sum_by P.chars (in_order self.old) }
         ensures height { height self.new ≡ height self.old }
         ensures balanced { IsBalanced self.new }
     {
@@ -107,13 +104,14 @@ impl<P: Measured> Subtree<P> {
             return;
         };
         let node: &mut Node<P> = node;
+        node.sums.fits();
         let before = node.left.count();
         let (first, rest) = parts.split_at_mut(before);
         let (part, last) = rest.split_at_mut(1);
         node.left.exchange_all(by, first);
         by.exchange(&mut node.item, &mut part[0]);
         node.right.exchange_all(by, last);
-        let lines = node.left.lines_with(&node.item, &node.right);
-        node.lines = lines;
+        let sums = node.left.sums_with(&node.item, &node.right);
+        node.sums = sums;
     }
 }

@@ -1,12 +1,12 @@
 //! Balanced trees. Each node stores the sums of all items in its subtree.
-ghost use Rattle.std.specs.Prelude.{◌≡◌, ℕ, ◌+◌, ◌^◌, ◌<◌, ◌≤◌, length, sum_by, ◌∷◌, ◌++◌, max, Option};
+ghost use Rattle.std.specs.Prelude.{◌≡◌, ◌+◌, ◌≤◌, length, sum_by, ◌∷◌, ◌++◌, max};
 ghost use Rattle.std.specs.Prelude.{IfOk, IfErr, MatchOption};
-ghost use Rattle.store.specs.Finding.{measure};
 ghost use Rattle.store.specs.Subtrees.{Fits, IsSummed};
+ghost use Rattle.store.specs.Sums.{measure, AreSums, SumsFit};
 ghost use Rattle.store.specs.Trees.{Empty, Fork, height, in_order, IsBalanced};
 
-use crate::found::Unit;
 use crate::measured::Measured;
+use crate::sums::{Sums, Unit};
 use std::alloc::{AllocFailed, Global};
 use std::marker::Model;
 use std::mem;
@@ -27,8 +27,7 @@ pub(crate) struct Node<P: Measured> {
     pub(crate) right: Subtree<P>,
     pub(crate) height: usize,
     pub(crate) count: usize,
-    pub(crate) chars: usize,
-    pub(crate) lines: usize,
+    pub(crate) sums: Sums,
 }
 
 impl<P: Measured> Model for Subtree<P> {
@@ -43,7 +42,7 @@ impl<P: Measured> Model for Subtree<P> {
 
     ghost view = { λ s. tree_of s.root };
 
-    ghost invariant = { λ s. IsSound P.chars P.lines s.root };
+    ghost invariant = { λ s. IsSound P.Measured s.root };
 
     ghost size = { λ t. length (in_order t) };
 
@@ -99,42 +98,33 @@ impl<P: Measured> Subtree<P> {
         }
     }
 
-    /// Returns the total number of characters of all items.
-    pub(crate) fn chars(&self) -> usize
-        ensures { result ≡ sum_by P.chars (in_order self.now) }
+    /// Returns the sums of all items.
+    pub(crate) fn sums(&self) -> Sums
+        ensures sums { AreSums P.Measured (in_order self.now) result }
+        ensures fit { SumsFit P.Measured (in_order self.now) }
     {
         match &self.root {
-            None => 0,
-            Some(node) => node.chars,
+            None => Sums::none(),
+            Some(node) => {
+                node.sums.fits();
+                node.sums
+            }
         }
     }
 
-    /// Returns the total number of lines of all items.
-    pub(crate) fn lines(&self) -> usize
-        ensures { result ≡ sum_by P.lines (in_order self.now) }
-    {
-        match &self.root {
-            None => 0,
-            Some(node) => node.lines,
-        }
-    }
-
-    /// Returns the total number of lines of all items, of one more item, and of all items of another tree.
-    pub(crate) fn lines_with(&self, item: &P, right: &Subtree<P>) -> usize
-        requires { sum_by P.lines (in_order self.now ++ item.now ∷ in_order right.now) < 2 ^ 64 }
-        ensures { result ≡ sum_by P.lines (in_order self.now ++ item.now ∷ in_order right.now) }
-    {
-        self.lines() + item.lines() + right.lines()
-    }
-
-    /// Returns the total number of characters or of lines of all items.
+    /// Returns the total size of all items, in one unit.
     pub(crate) fn total(&self, unit: Unit) -> usize
-        ensures { result ≡ sum_by (measure P.chars P.lines unit) (in_order self.now) }
+        ensures { result ≡ sum_by (measure P.Measured unit) (in_order self.now) }
     {
-        match unit {
-            Unit::Char => self.chars(),
-            Unit::Line => self.lines(),
-        }
+        self.sums().total(unit)
+    }
+
+    /// Returns the sums of all items, of one more item, and of all items of another tree.
+    pub(crate) fn sums_with(&self, item: &P, right: &Subtree<P>) -> Sums
+        requires { SumsFit P.Measured (in_order self.now ++ item.now ∷ in_order right.now) }
+        ensures { AreSums P.Measured (in_order self.now ++ item.now ∷ in_order right.now) result }
+    {
+        self.sums().plus(Sums::of(item)).plus(right.sums())
     }
 
     /// Frees a tree without items.
@@ -152,11 +142,11 @@ impl<P: Measured> Subtree<P> {
     /// empty.
     pub(crate) fn open(self) -> Option<(Subtree<P>, DetachedNode<P>, Subtree<P>)>
         ensures parts { MatchOption result (self ≡ Empty) (λ p. self ≡ Fork p.0 p.1 p.2) }
-        ensures fits { Fits P.chars P.lines (in_order self) }
+        ensures fits { Fits P.Measured (in_order self) }
         ensures balanced { IsBalanced self }
     {
         // The invariants of the trees bound the sums.
-        let (_count, _chars, _lines) = (self.count(), self.chars(), self.lines());
+        let (_count, _sums) = (self.count(), self.sums());
         match self.root {
             None => None,
             Some(mut node) => {
@@ -180,8 +170,7 @@ impl<P: Measured> DetachedNode<P> {
             right: Subtree::empty(),
             height: 0,
             count: 0,
-            chars: 0,
-            lines: 0,
+            sums: Sums::none(),
         };
         match Box::new(alloc, node) {
             Ok(node) => Ok(DetachedNode { node }),
@@ -200,7 +189,7 @@ impl<P: Measured> DetachedNode<P> {
 
     /// Makes the node the root of two trees whose heights differ by at most 1.
     pub(crate) fn over(self, left: Subtree<P>, right: Subtree<P>) -> Subtree<P>
-        requires fits { Fits P.chars P.lines (in_order left ++ self ∷ in_order right) }
+        requires fits { Fits P.Measured (in_order left ++ self ∷ in_order right) }
         requires near { (height left ≤ height right + 1) × (height right ≤ height left + 1) }
         ensures { result ≡ Fork left self right }
     {
@@ -215,17 +204,16 @@ impl<P: Measured> Node<P> {
     // node's sums.
     fn hang(&mut self, left: Subtree<P>, right: Subtree<P>)
         requires empty { (self.old.left ≡ Empty) × (self.old.right ≡ Empty) }
-        requires fits { Fits P.chars P.lines (in_order left ++ self.old.item ∷ in_order right) }
+        requires fits { Fits P.Measured (in_order left ++ self.old.item ∷ in_order right) }
         requires near { (height left ≤ height right + 1) × (height right ≤ height left + 1) }
         ensures left { self.new.left ≡ left }
         ensures item { self.new.item ≡ self.old.item }
         ensures right { self.new.right ≡ right }
-        ensures summed { IsSummed P.chars P.lines self.new }
+        ensures summed { IsSummed P.Measured self.new }
     {
         self.height = left.height().max(right.height()) + 1;
         self.count = left.count() + 1 + right.count();
-        self.chars = left.chars() + self.item.chars() + right.chars();
-        self.lines = left.lines_with(&self.item, &right);
+        self.sums = left.sums_with(&self.item, &right);
         mem::replace(&mut self.left, left).discard();
         mem::replace(&mut self.right, right).discard();
     }
@@ -242,8 +230,7 @@ impl<P: Measured> Node<P> {
             right,
             height: _,
             count: _,
-            chars: _,
-            lines: _,
+            sums: _,
         } = self;
         left.discard();
         right.discard();

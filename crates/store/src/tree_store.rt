@@ -5,14 +5,16 @@ ghost use Rattle.std.specs.Prelude.{slice_range, sum_by, vec_capacity};
 ghost use Rattle.std.specs.Prelude.{IfOk, IfErr, OnOk, OnErr};
 ghost use Rattle.std.specs.List.{splice, AllZip};
 ghost use Rattle.store.specs.Exchanging.{pairwise};
-ghost use Rattle.store.specs.Finding.{Finds};
+ghost use Rattle.store.specs.Finding.{CountsBefore, Finds};
+ghost use Rattle.store.specs.Sums.{measure};
 ghost use Rattle.store.specs.Trees.{fewest_nodes, height, in_order, IsBalanced, nodes_to, Tree};
 
-use crate::found::{Found, Unit};
+use crate::found::Found;
 use crate::joining::{move_items, put_in};
 use crate::measured::{Exchanger, Measured};
 use crate::paragraph_store::ParagraphStore;
 use crate::subtree::{DetachedNode, Subtree};
+use crate::sums::Unit;
 use std::alloc::{AllocError, Global};
 use std::marker::Model;
 use std::mem;
@@ -55,6 +57,18 @@ impl<P: Measured> TreeStore<P> {
             × (length (in_order t) ≡ fewest_nodes h) }
     {
         let _height = self.root.height();
+    }
+
+    // Looks at the nodes from the root to the item found.
+    fn find(&self, unit: Unit, n: usize) -> Found
+        requires { n < sum_by (measure P.Measured unit) (in_order self.now) }
+        ensures found { Finds (measure P.Measured unit) P.chars P.lines (in_order self.now) n result }
+        ensures counts { CountsBefore P.bytes P.utf16 (in_order self.now) result }
+        ensures visits { result.visits ≡ nodes_to self.now result.index }
+        ensures few { 2 ^ (result.visits / 2) ≤ length (in_order self.now) + 1 }
+    {
+        self.stays_balanced();
+        self.root.find(unit, n).found()
     }
 }
 
@@ -135,11 +149,19 @@ impl<P: Measured> ParagraphStore<P> for TreeStore<P> {
     }
 
     fn total_chars(&self) -> usize {
-        self.root.chars()
+        self.root.total(Unit::Char)
     }
 
     fn total_lines(&self) -> usize {
-        self.root.lines()
+        self.root.total(Unit::Line)
+    }
+
+    fn total_bytes(&self) -> usize {
+        self.root.total(Unit::Byte)
+    }
+
+    fn total_utf16(&self) -> usize {
+        self.root.total(Unit::Utf16)
     }
 
     fn get(&self, index: usize) -> Option<&P> {
@@ -156,22 +178,44 @@ impl<P: Measured> ParagraphStore<P> for TreeStore<P> {
     fn find_char(&self, pos: usize) -> Found
         requires { pos < sum_by P.chars (in_order self.now) }
         ensures found { Finds P.chars P.chars P.lines (in_order self.now) pos result }
+        ensures counts { CountsBefore P.bytes P.utf16 (in_order self.now) result }
         ensures visits { result.visits ≡ nodes_to self.now result.index }
         ensures few { 2 ^ (result.visits / 2) ≤ length (in_order self.now) + 1 }
     {
-        self.stays_balanced();
-        self.root.find(Unit::Char, pos)
+        self.find(Unit::Char, pos)
     }
 
     /// Visits the nodes from the root to the item found.
     fn find_line(&self, n: usize) -> Found
         requires { n < sum_by P.lines (in_order self.now) }
         ensures found { Finds P.lines P.chars P.lines (in_order self.now) n result }
+        ensures counts { CountsBefore P.bytes P.utf16 (in_order self.now) result }
         ensures visits { result.visits ≡ nodes_to self.now result.index }
         ensures few { 2 ^ (result.visits / 2) ≤ length (in_order self.now) + 1 }
     {
-        self.stays_balanced();
-        self.root.find(Unit::Line, n)
+        self.find(Unit::Line, n)
+    }
+
+    /// Looks at the nodes from the root to the item found.
+    fn find_byte(&self, byte: usize) -> Found
+        requires { byte < sum_by P.bytes (in_order self.now) }
+        ensures found { Finds P.bytes P.chars P.lines (in_order self.now) byte result }
+        ensures counts { CountsBefore P.bytes P.utf16 (in_order self.now) result }
+        ensures visits { result.visits ≡ nodes_to self.now result.index }
+        ensures few { 2 ^ (result.visits / 2) ≤ length (in_order self.now) + 1 }
+    {
+        self.find(Unit::Byte, byte)
+    }
+
+    /// Looks at the nodes from the root to the item found.
+    fn find_utf16(&self, unit: usize) -> Found
+        requires { unit < sum_by P.utf16 (in_order self.now) }
+        ensures found { Finds P.utf16 P.chars P.lines (in_order self.now) unit result }
+        ensures counts { CountsBefore P.bytes P.utf16 (in_order self.now) result }
+        ensures visits { result.visits ≡ nodes_to self.now result.index }
+        ensures few { 2 ^ (result.visits / 2) ≤ length (in_order self.now) + 1 }
+    {
+        self.find(Unit::Utf16, unit)
     }
 
     fn replace(
@@ -184,6 +228,10 @@ impl<P: Measured> ParagraphStore<P> for TreeStore<P> {
         requires chars_fit { sum_by P.chars
             (splice (in_order self.old) range.start range.end new_items.items) < 2 ^ 64 }
         requires lines_fit { sum_by P.lines
+            (splice (in_order self.old) range.start range.end new_items.items) < 2 ^ 64 }
+        requires bytes_fit { sum_by P.bytes
+            (splice (in_order self.old) range.start range.end new_items.items) < 2 ^ 64 }
+        requires utf16_fit { sum_by P.utf16
             (splice (in_order self.old) range.start range.end new_items.items) < 2 ^ 64 }
         ensures ok { OnOk result
             (in_order self.new ≡ splice (in_order self.old) range.start range.end new_items.items) }

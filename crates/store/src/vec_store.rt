@@ -5,11 +5,13 @@ ghost use Rattle.std.specs.Prelude.{slice_get, slice_range, option_map, sum_by, 
 ghost use Rattle.std.specs.Prelude.{IfOk, IfErr, OnOk, OnErr};
 ghost use Rattle.std.specs.List.{splice, AllZip};
 ghost use Rattle.store.specs.Exchanging.{pairwise, raised, total_cost};
-ghost use Rattle.store.specs.Finding.{Finds, measure};
+ghost use Rattle.store.specs.Finding.{CountsBefore, Finds, IsPlace};
+ghost use Rattle.store.specs.Sums.{measure, AreSums, SumsFit};
 
-use crate::found::{Found, Unit};
+use crate::found::{Found, Place};
 use crate::measured::{Exchanger, Measured};
 use crate::paragraph_store::ParagraphStore;
+use crate::sums::{Sums, Unit};
 use std::alloc::{AllocError, Global};
 use std::marker::Model;
 use std::ops::Range;
@@ -18,8 +20,7 @@ use std::ops::Range;
 #[derive(Debug)]
 pub struct VecStore<P: Measured> {
     items: Vec<P>,
-    chars: usize,
-    lines: usize,
+    sums: Sums,
     alloc: Global,
 }
 
@@ -27,64 +28,57 @@ impl<P: Measured + Drop> Drop for VecStore<P> {
     fn drop(self) {
         let VecStore {
             items: _,
-            chars: _,
-            lines: _,
+            sums: _,
             alloc: _,
         } = self;
     }
 }
 
 impl<P: Measured> Model for VecStore<P> {
-    ghost use Rattle.std.specs.Prelude.{◌≡◌, List, sum_by};
+    ghost use Rattle.std.specs.Prelude.{List};
+    ghost use Rattle.store.specs.Sums.{AreSums};
 
     ghost Value = { List P };
 
     ghost view = { λ s. s.items.items };
 
-    ghost invariant = { λ s.
-        (s.chars ≡ sum_by P.chars s.items.items) × (s.lines ≡ sum_by P.lines s.items.items) };
+    ghost invariant = { λ s. AreSums P.Measured s.items.items s.sums };
 }
 
-// Returns the sums of characters and of lines.
-fn sums<P: Measured>(items: &[P]) -> (usize, usize)
-    requires chars_fit { sum_by P.chars items.now < 2 ^ 64 }
-    requires lines_fit { sum_by P.lines items.now < 2 ^ 64 }
-    ensures chars { result.0 ≡ sum_by P.chars items.now }
-    ensures lines { result.1 ≡ sum_by P.lines items.now }
+// Returns the sums of the items.
+fn sums<P: Measured>(items: &[P]) -> Sums
+    requires { SumsFit P.Measured items.now }
+    ensures { AreSums P.Measured items.now result }
 {
-    let mut chars = 0;
-    let mut lines = 0;
+    let mut sums = Sums::none();
     for item in items {
-        chars += item.chars();
-        lines += item.lines();
+        sums = sums.plus(Sums::of(item));
     }
-    (chars, lines)
+    sums
 }
 
-// Finds the item that contains the character or line with number `n` by walking over the items.
-fn find<P: Measured>(items: &[P], unit: Unit, n: usize) -> Found
-    requires within { n < sum_by (measure P.chars P.lines unit) items.now }
-    requires chars_fit { sum_by P.chars items.now < 2 ^ 64 }
-    requires lines_fit { sum_by P.lines items.now < 2 ^ 64 }
-    ensures found { Finds (measure P.chars P.lines unit) P.chars P.lines items.now n result }
+// Finds the item that contains the character, line, byte or code unit with number `n`, by walking over the
+// items.
+fn find<P: Measured>(items: &[P], unit: Unit, n: usize) -> Place
+    requires within { n < sum_by (measure P.Measured unit) items.now }
+    requires fit { SumsFit P.Measured items.now }
+    ensures found { IsPlace P.Measured unit items.now n result }
     ensures visits { result.visits ≡ result.index + 1 }
 {
     let mut rest = n;
-    let (mut chars_before, mut lines_before) = (0, 0);
+    let mut before = Sums::none();
     for (index, item) in items.iter().enumerate() {
         let size = unit.size_of(item);
         if rest < size {
-            return Found {
+            return Place {
                 index,
                 rest,
-                chars_before,
-                lines_before,
+                before,
                 visits: index + 1,
             };
         }
         rest -= size;
-        chars_before += item.chars();
-        lines_before += item.lines();
+        before = before.plus(Sums::of(item));
     }
     unreachable!()
 }
@@ -147,10 +141,29 @@ fn exchange_each<P: Measured, E: Exchanger<P>>(by: &mut E, items: &mut [P], part
     ensures parts { parts.new ≡ pairwise (E.handed_out (E.kind by.old)) items.old parts.old }
     ensures same { E.kind by.new ≡ E.kind by.old }
     ensures worked { E.worked by.new ≡ raised (E.worked by.old) (total_cost E.cost items.old parts.old) }
-    ensures chars { sum_by P.chars items.new ≡ sum_by P.chars items.old }
 {
     for index in 0..items.len() {
         by.exchange(&mut items[index], &mut parts[index]);
+    }
+}
+
+impl<P: Measured> VecStore<P> {
+    // Returns the total size of all items, in one unit.
+    fn total(&self, unit: Unit) -> usize
+        ensures { result ≡ sum_by (measure P.Measured unit) self.now }
+    {
+        self.sums.total(unit)
+    }
+
+    // Looks at each item up to the one found.
+    fn find(&self, unit: Unit, n: usize) -> Found
+        requires { n < sum_by (measure P.Measured unit) self.now }
+        ensures found { Finds (measure P.Measured unit) P.chars P.lines self.now n result }
+        ensures counts { CountsBefore P.bytes P.utf16 self.now result }
+        ensures visits { result.visits ≡ result.index + 1 }
+    {
+        self.sums.fits();
+        find(&self.items, unit, n).found()
     }
 }
 
@@ -160,8 +173,7 @@ impl<P: Measured> ParagraphStore<P> for VecStore<P> {
     fn new(alloc: Global) -> Self {
         VecStore {
             items: Vec::new(alloc),
-            chars: 0,
-            lines: 0,
+            sums: Sums::none(),
             alloc,
         }
     }
@@ -171,11 +183,19 @@ impl<P: Measured> ParagraphStore<P> for VecStore<P> {
     }
 
     fn total_chars(&self) -> usize {
-        self.chars
+        self.total(Unit::Char)
     }
 
     fn total_lines(&self) -> usize {
-        self.lines
+        self.total(Unit::Line)
+    }
+
+    fn total_bytes(&self) -> usize {
+        self.total(Unit::Byte)
+    }
+
+    fn total_utf16(&self) -> usize {
+        self.total(Unit::Utf16)
     }
 
     fn get(&self, index: usize) -> Option<&P> {
@@ -193,22 +213,40 @@ impl<P: Measured> ParagraphStore<P> for VecStore<P> {
     fn find_char(&self, pos: usize) -> Found
         requires { pos < sum_by P.chars self.now }
         ensures found { Finds P.chars P.chars P.lines self.now pos result }
+        ensures counts { CountsBefore P.bytes P.utf16 self.now result }
         ensures visits { result.visits ≡ result.index + 1 }
     {
-        // The store's invariants bound the sums.
-        let (_chars, _lines) = (self.chars, self.lines);
-        find(&self.items, Unit::Char, pos)
+        self.find(Unit::Char, pos)
     }
 
     /// Visits each item up to the one found.
     fn find_line(&self, n: usize) -> Found
         requires { n < sum_by P.lines self.now }
         ensures found { Finds P.lines P.chars P.lines self.now n result }
+        ensures counts { CountsBefore P.bytes P.utf16 self.now result }
         ensures visits { result.visits ≡ result.index + 1 }
     {
-        // The store's invariants bound the sums.
-        let (_chars, _lines) = (self.chars, self.lines);
-        find(&self.items, Unit::Line, n)
+        self.find(Unit::Line, n)
+    }
+
+    /// Looks at each item up to the one found.
+    fn find_byte(&self, byte: usize) -> Found
+        requires { byte < sum_by P.bytes self.now }
+        ensures found { Finds P.bytes P.chars P.lines self.now byte result }
+        ensures counts { CountsBefore P.bytes P.utf16 self.now result }
+        ensures visits { result.visits ≡ result.index + 1 }
+    {
+        self.find(Unit::Byte, byte)
+    }
+
+    /// Looks at each item up to the one found.
+    fn find_utf16(&self, unit: usize) -> Found
+        requires { unit < sum_by P.utf16 self.now }
+        ensures found { Finds P.utf16 P.chars P.lines self.now unit result }
+        ensures counts { CountsBefore P.bytes P.utf16 self.now result }
+        ensures visits { result.visits ≡ result.index + 1 }
+    {
+        self.find(Unit::Utf16, unit)
     }
 
     fn replace(
@@ -221,6 +259,10 @@ impl<P: Measured> ParagraphStore<P> for VecStore<P> {
         requires chars_fit { sum_by P.chars
             (splice self.old range.start range.end new_items.items) < 2 ^ 64 }
         requires lines_fit { sum_by P.lines
+            (splice self.old range.start range.end new_items.items) < 2 ^ 64 }
+        requires bytes_fit { sum_by P.bytes
+            (splice self.old range.start range.end new_items.items) < 2 ^ 64 }
+        requires utf16_fit { sum_by P.utf16
             (splice self.old range.start range.end new_items.items) < 2 ^ 64 }
         ensures ok { OnOk result (self.new ≡ splice self.old range.start range.end new_items.items) }
         ensures old { IfOk result (λ old. old.items ≡ slice_range self.old range.start range.end) }
@@ -237,7 +279,7 @@ impl<P: Measured> ParagraphStore<P> for VecStore<P> {
             old.destroy_empty();
             return Err((new_items, AllocError));
         }
-        let (new_chars, new_lines) = sums(&new_items);
+        let new_sums = sums(&new_items);
         put_in(
             &mut self.items,
             range.start,
@@ -246,15 +288,14 @@ impl<P: Measured> ParagraphStore<P> for VecStore<P> {
             &mut old,
         );
         new_items.destroy_empty();
-        let (old_chars, old_lines) = sums(&old);
-        self.chars = self.chars - old_chars + new_chars;
-        self.lines = self.lines - old_lines + new_lines;
+        self.sums.fits();
+        self.sums = self.sums.minus(sums(&old)).plus(new_sums);
         Ok(old)
     }
 
     fn exchange_all_by<E: Exchanger<P>>(&mut self, by: &mut E, parts: &mut Vec<E::Part>) {
+        self.sums.fits();
         exchange_each(by, &mut self.items, parts);
-        let (_, lines) = sums(&self.items);
-        self.lines = lines;
+        self.sums = sums(&self.items);
     }
 }

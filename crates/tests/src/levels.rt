@@ -384,7 +384,8 @@ fn a_resolver_serves_again(rt: HostRuntime) -> Result<(), Fail> {
     Ok(())
 }
 
-// A paragraph with its separator. No line shows the separator's level.
+// Paragraphs that end with a separator. No line shows the separator's level, since separators are in the
+// tail.
 static SEPARATED: [(&[char], Base, &str); 3] = [
     (&['\u{5D0}', '\n'], Base::WeakLtr, "11"),
     (&['\u{202E}', 'a', '\n'], Base::WeakLtr, "010"),

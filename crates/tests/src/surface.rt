@@ -444,7 +444,7 @@ fn exchange_swaps_the_part(rt: HostRuntime) {
     assert!(rt; item.lines == 7 && part == 2);
 }
 
-// The tested calls of a store.
+// The store methods that are tested.
 #[derive(Clone, Copy)]
 enum Call {
     New,

@@ -100,7 +100,7 @@ IsTextRun rules width print reader_old reader_new writer_old writer_new engine_o
     HasPrinted (fault_of result) (length (concat written)) print engine_old engine_new
     × EndsWith (page rules width print) written (ending_of pars wrong) writer_old writer_new (fault_of result))
 
--- A failed read is always reported: if the result is not `Read`, no call of the source failed.
+-- A failed read is always reported: if the result is not `Read`, no read from the source failed.
 abbrev pub TellsReads : {A : Type 0} → Result A RunFault → Device → Device → Type 0
 TellsReads result old new = result ≢ Err fault.Read → new.failures ≡ old.failures
 

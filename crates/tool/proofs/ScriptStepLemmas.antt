@@ -35,10 +35,10 @@ with_ends_more (m ∷ ls) l = omega (arith, with_ends_more ls l, length-append (
 
 -- a line that ends within a chunk is the unfinished line, followed by the bytes of the chunk before the line
 -- end
-pub ended_first : (line piece front after more : List ℕ) → NoEnd line → EndsIn piece front after
-    → slice_split is_line_end (line ++ (piece ++ more)) ≡ (line ++ front) ∷ slice_split is_line_end (after ++ more)
-ended_first line piece front after more none ends =
-    let place : line ++ (piece ++ more) ≡ (line ++ front) ++ 10 ∷ (after ++ more) =
+pub ended_first : (line chunk front after more : List ℕ) → NoEnd line → EndsIn chunk front after
+    → slice_split is_line_end (line ++ (chunk ++ more)) ≡ (line ++ front) ∷ slice_split is_line_end (after ++ more)
+ended_first line chunk front after more none ends =
+    let place : line ++ (chunk ++ more) ≡ (line ++ front) ++ 10 ∷ (after ++ more) =
     ap (λ t. line ++ (t ++ more)) ends.whole ∙ ap (λ t. line ++ t) (append_assoc front (10 ∷ after) more) ∙ sym (append_assoc line front (10 ∷ (after ++ more))) in
     ap (slice_split is_line_end) place ∙ slice_split_at is_line_end (line ++ front) 10 (after ++ more) (All-append (λ b. is_line_end b ≡ false) line front none ends.none) refl
 
@@ -67,18 +67,18 @@ module _ (rules : Rules) (options : ScriptOptions) (start : SessionState) (reade
         → Gives reader reader_new n buffer → n ≤ length buffer → n ≤ CHUNK
         → IsAt rules options start reader_old reader_new writer_old writer now reading (take n buffer)
     at_read reader_new n buffer at gives within small =
-        let piece = take n buffer in
-        let len : length piece ≡ n = length-take-le n buffer within in
+        let chunk = take n buffer in
+        let len : length chunk ≡ n = length-take-le n buffer within in
         record {
-          bytes = at.bytes ++ piece;
+          bytes = at.bytes ++ chunk;
           done = at.done;
-          read = Consumes-append reader_old.bytes reader.bytes reader_new.bytes at.bytes piece at.read gives.bytes;
-          passed = omega (arith, at.passed, gives.passes.passed, length-append at.bytes piece, len);
+          read = Consumes-append reader_old.bytes reader.bytes reader_new.bytes at.bytes chunk at.read gives.bytes;
+          passed = omega (arith, at.passed, gives.passes.passed, length-append at.bytes chunk, len);
           failures = gives.passes.failures ∙ at.failures;
-          parts = λ more. ap (slice_split is_line_end) (append_assoc at.bytes piece more) ∙ at.parts (piece ++ more);
+          parts = λ more. ap (slice_split is_line_end) (append_assoc at.bytes chunk more) ∙ at.parts (chunk ++ more);
           good = at.good;
           none = at.none;
-          size = omega (arith, at.size, length-append at.bytes piece);
+          size = omega (arith, at.size, length-append at.bytes chunk);
           wrote = at.wrote;
           held_is = at.held_is;
           works = at.works;
@@ -384,17 +384,17 @@ ends_finish rules options start reader_old reader writer_old writer now state re
 -- ---- a part of a chunk, by the rules at the start of the run
 module _ (rules held_rules : Rules) (options : ScriptOptions) (start : SessionState)
     (reader_old reader writer_old writer writer_new : Device) (now state : SessionState) (reading new : Reading)
-    (piece part : List ℕ) (n at : ℕ)
-    (same : held_rules ≡ rules) (part_is : part ≡ drop at piece) (stands : IsAt rules options start reader_old reader writer_old writer now reading (drop at piece)) where
-  pub took_part : Takes held_rules options part n now state reading new writer writer_new → IsAt rules options start reader_old reader writer_old writer_new state new (drop (at + n) piece)
+    (chunk part : List ℕ) (n at : ℕ)
+    (same : held_rules ≡ rules) (part_is : part ≡ drop at chunk) (stands : IsAt rules options start reader_old reader writer_old writer now reading (drop at chunk)) where
+  pub took_part : Takes held_rules options part n now state reading new writer writer_new → IsAt rules options start reader_old reader writer_old writer_new state new (drop (at + n) chunk)
   took_part takes =
-      let taken : Takes rules options (drop at piece) n now state reading new writer writer_new =
+      let taken : Takes rules options (drop at chunk) n now state reading new writer writer_new =
       subst (λ (p : List ℕ). Takes rules options p n now state reading new writer writer_new) part_is
       (subst (λ (r : Rules). Takes r options part n now state reading new writer writer_new) same takes) in
-      subst (IsAt rules options start reader_old reader writer_old writer_new state new) (drop-drop n at piece)
-      (at_taken rules options start reader_old reader writer_old writer now reading (drop at piece) stands n state new writer_new taken)
+      subst (IsAt rules options start reader_old reader writer_old writer_new state new) (drop-drop n at chunk)
+      (at_taken rules options start reader_old reader writer_old writer now reading (drop at chunk) stands n state new writer_new taken)
 
-  failed_here : (fault : RunFault) → FailsIn held_rules options part now state reading new writer writer_new fault → FailsIn rules options (drop at piece) now state reading new writer writer_new fault
+  failed_here : (fault : RunFault) → FailsIn held_rules options part now state reading new writer writer_new fault → FailsIn rules options (drop at chunk) now state reading new writer writer_new fault
   failed_here fault fails =
       subst (λ (p : List ℕ). FailsIn rules options p now state reading new writer writer_new fault) part_is
       (subst (λ (r : Rules). FailsIn r options part now state reading new writer writer_new fault) same fails)
@@ -402,9 +402,9 @@ module _ (rules held_rules : Rules) (options : ScriptOptions) (start : SessionSt
   pub failed_part : (fault : RunFault) → FailsIn held_rules options part now state reading new writer writer_new fault
       → IsScriptRun rules options start state reader_old reader writer_old writer_new (Err fault)
   failed_part fault fails =
-      ends_in rules options start reader_old reader writer_old writer now reading (drop at piece) stands state new writer_new fault (failed_here fault fails)
+      ends_in rules options start reader_old reader writer_old writer now reading (drop at chunk) stands state new writer_new fault (failed_here fault fails)
 
-  fails_lines : FailsIn rules options (drop at piece) now state reading new writer writer_new f.Memory → new.lines ≡ reading.lines
+  fails_lines : FailsIn rules options (drop at chunk) now state reading new writer writer_new f.Memory → new.lines ≡ reading.lines
   fails_lines (inl failed) = failed.lines
   fails_lines (inr not) = not.grows.3
 
@@ -416,7 +416,7 @@ module _ (rules held_rules : Rules) (options : ScriptOptions) (start : SessionSt
         state_before = now;
         before = reading;
         writer_before = writer;
-        waiting = drop at piece;
+        waiting = drop at chunk;
         at = stands;
         lines = fails_lines failed;
         fails = failed;
@@ -434,11 +434,11 @@ pub wants_memory : {T : Type 0} (P : RunFault → Type 0) (fault : RunFault) →
 wants_memory P fault is p = subst P (ap fault_in is) p
 
 -- at least one byte of a non-empty chunk is read
-pub takes_some : (rules : Rules) (options : ScriptOptions) (piece : List ℕ) (n : ℕ) (now state : SessionState)
-    (reading new : Reading) (writer writer_new : Device) → 0 < length piece
-    → Takes rules options piece n now state reading new writer writer_new → (0 < n) × (n ≤ length piece)
-takes_some rules options piece n now state reading new writer writer_new some (inl more) = (omega (arith, some, more.all), omega (arith, more.all))
-takes_some rules options piece n now state reading new writer writer_new some (inr ended) =
+pub takes_some : (rules : Rules) (options : ScriptOptions) (chunk : List ℕ) (n : ℕ) (now state : SessionState)
+    (reading new : Reading) (writer writer_new : Device) → 0 < length chunk
+    → Takes rules options chunk n now state reading new writer writer_new → (0 < n) × (n ≤ length chunk)
+takes_some rules options chunk n now state reading new writer writer_new some (inl more) = (omega (arith, some, more.all), omega (arith, more.all))
+takes_some rules options chunk n now state reading new writer writer_new some (inr ended) =
     (omega (arith, ended.taken), omega (arith, ended.taken, ap length ended.ends.whole, length-append ended.front (10 ∷ ended.after)))
 
 -- a read of no bytes does not change the state of the run

@@ -14,9 +14,13 @@ use Rattle.session.specs.Carets.{caret_at}
 use Rattle.session.specs.Clusters.{cluster_at}
 use Rattle.session.specs.Hits.{hit_at}
 use Rattle.session.specs.Kept.{lines_in, text_of}
+use Rattle.session.specs.Offsets.{offset_of, position_of}
 use Rattle.session.specs.Reading.{utf8_part}
+use Rattle.session.specs.Words.{word_at}
 use Rattle.session.specs.declared.carets.Caret.{Caret}
 use Rattle.session.specs.declared.hits.Hit.{Hit}
+use Rattle.session.specs.declared.offsets.Encoding.{Encoding}
+use Rattle.session.specs.declared.offsets.Encoding.TheVariants.{Utf16, Utf8}
 use Rattle.text_run.specs.declared.faults.RunFault.{RunFault}
 use Rattle.text_run.specs.declared.faults.RunFault.TheVariants as f
 use Rattle.script_commands.specs.declared.commands.Query.{Query}
@@ -87,8 +91,18 @@ module _ (kept : List Layout) where
   abbrev pub cluster_text : ℕ → List ℕ
   cluster_text pos = told_of (option_map (λ cluster. cluster.start ∷ cluster.end ∷ []) (cluster_at kept pos))
 
+  abbrev pub word_text : ℕ → List ℕ
+  word_text pos = told_of (option_map (λ word. word.start ∷ word.end ∷ (if word.has_letter then 1 else 0) ∷ []) (word_at kept pos))
+
   abbrev pub size_text : List ℕ
   size_text = told (length (text_of kept) ∷ length (lines_in kept) ∷ length kept ∷ [])
+
+  -- the replies to `byte` and `utf16`, and to `frombyte` and `fromutf16`
+  abbrev pub offset_text : Encoding → ℕ → List ℕ
+  offset_text encoding pos = told_of (option_map (λ offset. offset ∷ []) (offset_of encoding (text_of kept) pos))
+
+  abbrev pub position_text : Encoding → ℕ → List ℕ
+  position_text encoding offset = told_of (option_map (λ place. place.0 ∷ place.1 ∷ []) (position_of encoding (text_of kept) offset))
 
   -- the reply to `text`: the number of bytes that follow, the characters, and a newline
   abbrev pub part_text : ℕ → ℕ → List ℕ
@@ -101,12 +115,18 @@ query_text rules print width kept (ask.Lines first count) = lines_text print wid
 query_text rules print width kept (ask.Caret pos) = caret_text print width kept rules pos
 query_text rules print width kept (ask.Hit n column) = hit_text print width kept n column
 query_text rules print width kept (ask.Cluster pos) = cluster_text kept pos
+query_text rules print width kept (ask.Word pos) = word_text kept pos
 query_text rules print width kept ask.Size = size_text kept
 query_text rules print width kept (ask.Text pos count) = part_text kept pos count
+query_text rules print width kept (ask.Byte pos) = offset_text kept Utf8 pos
+query_text rules print width kept (ask.Utf16 pos) = offset_text kept Utf16 pos
+query_text rules print width kept (ask.FromByte byte) = position_text kept Utf8 byte
+query_text rules print width kept (ask.FromUtf16 unit) = position_text kept Utf16 unit
 
--- whether a query allocates: only `cluster` does, for a character that exists
+-- whether a query allocates: only `cluster` and `word` do, for a character that exists
 abbrev pub AsksMemory : List ℕ → Query → Type 0
 AsksMemory text (ask.Cluster pos) = pos < length text
+AsksMemory text (ask.Word pos) = pos < length text
 AsksMemory text query = ⊥
 
 -- a reply was not written completely: a write failed, or an allocation failed and nothing was written

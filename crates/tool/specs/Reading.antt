@@ -15,7 +15,7 @@ use Rattle.session.specs.declared.edits.EditFault.{EditFault}
 use Rattle.session.specs.declared.edits.EditFault.TheVariants.{NoMemory}
 use Rattle.tool.specs.Queries.{AsksMemory}
 use Rattle.tool.specs.Scripts.{is_line_end, command_of_line}
-use Rattle.script_commands.specs.Commands.{LacksPiece, Command, Insert, Delete, SetWidth, Show, Ask}
+use Rattle.script_commands.specs.Commands.{LacksInserted, Command, Insert, Delete, SetWidth, Show, Ask}
 use Rattle.tool.specs.ScriptEnds.{IsScriptRun}
 use Rattle.tool.specs.ScriptRun.{after_line, after_lines, answer_line, answer_to, after_command, answers, damage_text, is_good, executed, executed_text, command_refusal, refusal_text, with_ends}
 use Rattle.tool.specs.Work.{LineWorks, LinesWork}
@@ -29,7 +29,7 @@ use Rattle.tool.specs.declared.script.ScriptOptions.{ScriptOptions}
 -- Whether a command may allocate. An edit may allocate if the text or the inserted text is not empty. A query
 -- may allocate if `AsksMemory` holds.
 abbrev pub TakesMemory : Held → Command → Type 0
-TakesMemory held (Insert pos piece) = 0 < length held.text + length piece
+TakesMemory held (Insert pos inserted) = 0 < length held.text + length inserted
 TakesMemory held (Delete pos count) = 0 < length held.text
 TakesMemory held (SetWidth width) = 0 < length held.text
 TakesMemory held Show = ⊥
@@ -87,7 +87,7 @@ pub record ExecutesLine (rules : Rules) (options : ScriptOptions) (line : List �
 abbrev pub WantsMemory : Rules → Bool → List ℕ → Reading → Held → Type 0
 WantsMemory rules queries line reading held =
     (length reading.text.items < length (chars line))
-    ⊎ (LacksPiece (chars line) (chars (string_bytes reading.piece))
+    ⊎ (LacksInserted (chars line) (chars (string_bytes reading.inserted))
     ⊎ ((command : Command) × (command_of_line queries line ≡ Some command) × (command_refusal rules held command ≡ None) × TakesMemory held command))
 
 -- a line failed: it is not valid, a write failed within its reply, or an allocation failed
@@ -106,8 +106,8 @@ abbrev pub NoEnd : List ℕ → Type 0
 NoEnd bytes = All (λ b. is_line_end b ≡ false) bytes
 
 -- a line ends within a chunk, after the bytes of `front`
-pub record EndsIn (piece front after : List ℕ) : Type 0 where
-  pub whole : piece ≡ front ++ 10 ∷ after
+pub record EndsIn (chunk front after : List ℕ) : Type 0 where
+  pub whole : chunk ≡ front ++ 10 ∷ after
   pub none : NoEnd front
 
 -- bytes were appended to the unfinished line
@@ -127,39 +127,39 @@ GrowsNot bytes old new fault = ⊥
 
 -- The first n bytes of a chunk were read. In the case `GoesOn`, the whole chunk continues the unfinished
 -- line. In the case `EndsLine`, a line ended and was executed.
-pub record GoesOn (piece : List ℕ) (n : ℕ) (state_old state_new : SessionState) (old new : Reading) (writer_old writer_new : Device) : Type 0 where
-  pub all : n ≡ length piece
-  pub none : NoEnd piece
-  pub grows : Grows piece old new
+pub record GoesOn (chunk : List ℕ) (n : ℕ) (state_old state_new : SessionState) (old new : Reading) (writer_old writer_new : Device) : Type 0 where
+  pub all : n ≡ length chunk
+  pub none : NoEnd chunk
+  pub grows : Grows chunk old new
   pub state : state_new ≡ state_old
   pub writer : writer_new ≡ writer_old
 
-pub record EndsLine (rules : Rules) (options : ScriptOptions) (piece : List ℕ) (n : ℕ) (state_old state_new : SessionState) (old new : Reading) (writer_old writer_new : Device) : Type 0 where
+pub record EndsLine (rules : Rules) (options : ScriptOptions) (chunk : List ℕ) (n : ℕ) (state_old state_new : SessionState) (old new : Reading) (writer_old writer_new : Device) : Type 0 where
   pub front : List ℕ
   pub after : List ℕ
-  pub ends : EndsIn piece front after
+  pub ends : EndsIn chunk front after
   pub taken : n ≡ length front + 1
   pub executes : ExecutesLine rules options (old.line.items ++ front) (held_at state_old) (held_at state_new) old new writer_old writer_new
   pub works : LineWorks rules options.queries (held_at state_old) (old.line.items ++ front) state_old.engine state_new.engine
 
 abbrev pub Takes : Rules → ScriptOptions → List ℕ → ℕ → SessionState → SessionState → Reading → Reading → Device → Device → Type 0
-Takes rules options piece n state_old state_new old new writer_old writer_new =
-    GoesOn piece n state_old state_new old new writer_old writer_new ⊎ EndsLine rules options piece n state_old state_new old new writer_old writer_new
+Takes rules options chunk n state_old state_new old new writer_old writer_new =
+    GoesOn chunk n state_old state_new old new writer_old writer_new ⊎ EndsLine rules options chunk n state_old state_new old new writer_old writer_new
 
 -- a line that ends within a chunk failed
-pub record FailsLine (rules : Rules) (options : ScriptOptions) (piece : List ℕ) (state_old state_new : SessionState) (old new : Reading) (writer_old writer_new : Device) (fault : RunFault) : Type 0 where
+pub record FailsLine (rules : Rules) (options : ScriptOptions) (chunk : List ℕ) (state_old state_new : SessionState) (old new : Reading) (writer_old writer_new : Device) (fault : RunFault) : Type 0 where
   pub front : List ℕ
   pub after : List ℕ
-  pub ends : EndsIn piece front after
+  pub ends : EndsIn chunk front after
   pub fails : FailsAt rules options (old.line.items ++ front) new old.lines old.written (held_at state_old) (held_at state_new) writer_old writer_new fault
   pub works : LineWorks rules options.queries (held_at state_old) (old.line.items ++ front) state_old.engine state_new.engine
   pub lines : new.lines ≡ old.lines
 
 -- the part of a line that a chunk contains was not appended to the unfinished line
-pub record IsNotKept (piece : List ℕ) (state_old state_new : SessionState) (old new : Reading) (writer_old writer_new : Device) (fault : RunFault) : Type 0 where
+pub record IsNotKept (chunk : List ℕ) (state_old state_new : SessionState) (old new : Reading) (writer_old writer_new : Device) (fault : RunFault) : Type 0 where
   pub front : List ℕ
   pub after : List ℕ
-  pub whole : piece ≡ front ++ after
+  pub whole : chunk ≡ front ++ after
   pub none : NoEnd front
   pub ends : (after ≡ []) ⊎ ((rest : List ℕ) × (after ≡ 10 ∷ rest))
   pub grows : GrowsNot front old new fault
@@ -167,9 +167,9 @@ pub record IsNotKept (piece : List ℕ) (state_old state_new : SessionState) (ol
   pub writer : writer_new ≡ writer_old
 
 abbrev pub FailsIn : Rules → ScriptOptions → List ℕ → SessionState → SessionState → Reading → Reading → Device → Device → RunFault → Type 0
-FailsIn rules options piece state_old state_new old new writer_old writer_new fault =
-    FailsLine rules options piece state_old state_new old new writer_old writer_new fault
-    ⊎ IsNotKept piece state_old state_new old new writer_old writer_new fault
+FailsIn rules options chunk state_old state_new old new writer_old writer_new fault =
+    FailsLine rules options chunk state_old state_new old new writer_old writer_new fault
+    ⊎ IsNotKept chunk state_old state_new old new writer_old writer_new fault
 
 -- What a run did between two states of its source, sink and session: it read some bytes and executed the
 -- lines `done`. The run holds the unfinished line after these lines, and the waiting bytes.

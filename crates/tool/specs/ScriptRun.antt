@@ -25,7 +25,7 @@ use Rattle.tool.specs.declared.script.TheConstants.{LINE_LIMIT}
 
 -- the reason for refusing a command, or `None`
 abbrev pub command_refusal : Rules → Held → Command → Option EditFault
-command_refusal rules held (Insert pos piece) = refusal (cut_by rules) held.text (insertion pos piece)
+command_refusal rules held (Insert pos inserted) = refusal (cut_by rules) held.text (insertion pos inserted)
 command_refusal rules held (Delete pos count) = refusal (cut_by rules) held.text (deletion pos count)
 command_refusal rules held (SetWidth width) = if nat_lt 65535 width then Some refused.WidthOutOfRange else width_refusal width
 command_refusal rules held Show = None
@@ -33,7 +33,7 @@ command_refusal rules held (Ask query) = None
 
 -- the text and the width after a command
 abbrev pub executed : Held → Command → Held
-executed held (Insert pos piece) = record { text = replaced held.text (insertion pos piece); width = held.width }
+executed held (Insert pos inserted) = record { text = replaced held.text (insertion pos inserted); width = held.width }
 executed held (Delete pos count) = record { text = replaced held.text (deletion pos count); width = held.width }
 executed held (SetWidth width) = record { text = held.text; width = width }
 executed held Show = held
@@ -59,7 +59,7 @@ edit_text old new edit =
 
 -- the reply to a command that is not refused
 abbrev pub executed_text : Rules → Print → Held → Command → List ℕ
-executed_text rules print held (Insert pos piece) = edit_text (layouts_at rules held) (layouts_at rules (executed held (Insert pos piece))) (insertion pos piece)
+executed_text rules print held (Insert pos inserted) = edit_text (layouts_at rules held) (layouts_at rules (executed held (Insert pos inserted))) (insertion pos inserted)
 executed_text rules print held (Delete pos count) = edit_text (layouts_at rules held) (layouts_at rules (executed held (Delete pos count))) (deletion pos count)
 executed_text rules print held (SetWidth width) = damage_text 0 (length (lines_in (layouts_at rules held))) (length (lines_in (layouts_at rules (executed held (SetWidth width)))))
 executed_text rules print held Show = page rules held.width print (paragraphs (cut_by rules) held.text)

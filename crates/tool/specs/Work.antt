@@ -16,14 +16,14 @@ module _ (rules : Rules) where
   -- upper bounds for a command that is not refused: how many characters it analyses, and how many it fills
   -- into lines and writes
   abbrev pub analysed_by : Held → Command → ℕ
-  analysed_by held (Insert pos piece) = fresh (paragraphs (cut_by rules) held.text) (insertion pos piece)
+  analysed_by held (Insert pos inserted) = fresh (paragraphs (cut_by rules) held.text) (insertion pos inserted)
   analysed_by held (Delete pos count) = fresh (paragraphs (cut_by rules) held.text) (deletion pos count)
   analysed_by held (SetWidth width) = 0
   analysed_by held Show = 0
   analysed_by held (Ask query) = 0
 
   abbrev pub filled_by : Held → Command → ℕ
-  filled_by held (Insert pos piece) = fresh (paragraphs (cut_by rules) held.text) (insertion pos piece)
+  filled_by held (Insert pos inserted) = fresh (paragraphs (cut_by rules) held.text) (insertion pos inserted)
   filled_by held (Delete pos count) = fresh (paragraphs (cut_by rules) held.text) (deletion pos count)
   filled_by held (SetWidth width) = changed width (layouts_at rules held)
   filled_by held Show = 0

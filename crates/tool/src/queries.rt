@@ -5,7 +5,7 @@ ghost use Rattle.reorder.specs.Order.{is_odd};
 ghost use Rattle.lines.specs.Writing.{PassedOn};
 ghost use Rattle.session.specs.Kept.{text_of};
 ghost use Rattle.tool.specs.Queries.{caret_text, cluster_text, hit_text, lines_text, part_text};
-ghost use Rattle.tool.specs.Queries.{query_text, size_text};
+ghost use Rattle.tool.specs.Queries.{query_text, size_text, told_of, word_text};
 ghost use Rattle.tool.specs.Queries.{empty_left, is_odd_at, screen_hit, screen_left, AnswersNot};
 ghost use Rattle.tool.specs.Reading.{Stops};
 
@@ -126,6 +126,37 @@ fn cluster_answer<S: ParagraphStore<Kept>>(
     }
 }
 
+fn word_answer<S: ParagraphStore<Kept>>(
+    session: &Session<S>,
+    pos: usize,
+) -> Result<Answer, AllocError>
+    ensures ok { IfOk result (λ answer. answer.items ≡ word_text session.now.kept pos) }
+    ensures memory { OnErr result (pos < length (text_of session.now.kept)) }
+{
+    match session.word(pos)? {
+        Some(word) => Ok(told(&[word.start, word.end, usize::from(word.has_letter)])),
+        None => Ok(out_of_range()),
+    }
+}
+
+fn offset_answer(offset: Option<usize>) -> Answer
+    ensures { result.items ≡ told_of (option_map (λ offset. offset ∷ []) offset) }
+{
+    match offset {
+        Some(offset) => told(&[offset]),
+        None => out_of_range(),
+    }
+}
+
+fn position_answer(found: Option<(usize, usize)>) -> Answer
+    ensures { result.items ≡ told_of (option_map (λ place. place.0 ∷ place.1 ∷ []) found) }
+{
+    match found {
+        Some((pos, rest)) => told(&[pos, rest]),
+        None => out_of_range(),
+    }
+}
+
 fn size_answer<S: ParagraphStore<Kept>>(session: &Session<S>) -> Answer
     ensures { result.items ≡ size_text session.now.kept }
 {
@@ -192,7 +223,7 @@ fn write_part<W: Sink, S: ParagraphStore<Kept>>(
 }
 
 /// Writes the reply to a query. `written` is the number of bytes already written, and the returned total
-/// includes it. Allocates only if the query is for a grapheme cluster.
+/// includes it. Allocates only if the query is for a grapheme cluster or a word.
 pub fn write_query<W: Sink, S: ParagraphStore<Kept>>(
     session: &Session<S>,
     writer: &mut W,
@@ -217,7 +248,15 @@ pub fn write_query<W: Sink, S: ParagraphStore<Kept>>(
         Query::Caret(pos) => caret_answer(session, print, pos),
         Query::Hit(n, column) => hit_answer(session, print, n, column),
         Query::Size => size_answer(session),
+        Query::Byte(pos) => offset_answer(session.byte_of(pos)),
+        Query::Utf16(pos) => offset_answer(session.utf16_of(pos)),
+        Query::FromByte(byte) => position_answer(session.position_of_byte(byte)),
+        Query::FromUtf16(unit) => position_answer(session.position_of_utf16(unit)),
         Query::Cluster(pos) => match cluster_answer(session, pos) {
+            Ok(answer) => answer,
+            Err(_) => return Err(RunFault::Memory),
+        },
+        Query::Word(pos) => match word_answer(session, pos) {
             Ok(answer) => answer,
             Err(_) => return Err(RunFault::Memory),
         },

@@ -20,7 +20,7 @@ ghost use Rattle.tool.specs.Reading.{IsAt, NoEnd, Executes, ExecutesLine, Execut
 ghost use Rattle.tool.specs.Reading.{Takes, WantsIn, answer_text, lacks_memory};
 ghost use Rattle.tool.specs.ScriptEnds.{IsScriptRun};
 ghost use Rattle.tool.specs.Scripts.{command_of_line};
-ghost use Rattle.script_commands.specs.Commands.{Ask, Delete, LacksPiece, SetWidth, Insert};
+ghost use Rattle.script_commands.specs.Commands.{Ask, Delete, LacksInserted, SetWidth, Insert};
 ghost use Rattle.tool.specs.Work.{LineWorks, CommandWorks};
 
 use crate::answers::{answer_of, write_bytes};
@@ -56,7 +56,7 @@ struct Reading {
     written: u64,
     // The characters of a line, and the text of an insert.
     text: Vec<char>,
-    piece: String,
+    inserted: String,
 }
 
 impl Drop for Reading {
@@ -66,7 +66,7 @@ impl Drop for Reading {
             lines: _,
             written: _,
             text: _,
-            piece: _,
+            inserted: _,
         } = self;
     }
 }
@@ -93,17 +93,17 @@ fn set_width<S: ParagraphStore<Kept>>(
 fn insert<S: ParagraphStore<Kept>>(
     session: &mut Session<S>,
     pos: usize,
-    piece: &str,
+    inserted: &str,
 ) -> Result<Damage, EditFault>
-    ensures edited { Edited (rules_of session.old.engine) (Insert pos (chars piece.now))
+    ensures edited { Edited (rules_of session.old.engine) (Insert pos (chars inserted.now))
         (held_at session.old) (held_at session.new) result }
     ensures works { CommandWorks (rules_of session.old.engine) (held_at session.old)
-        (Insert pos (chars piece.now)) session.old.engine session.new.engine }
+        (Insert pos (chars inserted.now)) session.old.engine session.new.engine }
     ensures rules { SameRules session.old.engine session.new.engine }
 {
     // The contract of `width` shows that the session is laid out.
     let _width = session.width();
-    session.insert(pos, piece)
+    session.insert(pos, inserted)
 }
 
 fn delete<S: ParagraphStore<Kept>>(
@@ -194,22 +194,22 @@ fn execute<W: Sink, S: ParagraphStore<Kept>>(
     written: u64,
     print: &Print,
     command: &Command,
-    piece: &str,
+    inserted: &str,
 ) -> Result<u64, RunFault>
     requires { written ≤ (W.state writer.old).passed }
     ensures ok { IfOk result (Executes (rules_of session.old.engine) print.now
-        (command_of piece.now command.now) written (held_at session.old) (held_at session.new)
+        (command_of inserted.now command.now) written (held_at session.old) (held_at session.new)
         (W.state writer.old) (W.state writer.new)) }
     ensures err { IfErr result (ExecutesNot (rules_of session.old.engine) print.now
-        (command_of piece.now command.now) written (held_at session.old) (held_at session.new)
+        (command_of inserted.now command.now) written (held_at session.old) (held_at session.new)
         (W.state writer.old) (W.state writer.new)) }
     ensures works { CommandWorks (rules_of session.old.engine) (held_at session.old)
-        (command_of piece.now command.now) session.old.engine session.new.engine }
+        (command_of inserted.now command.now) session.old.engine session.new.engine }
     ensures counted { IfOk result (λ n. n ≤ (W.state writer.new).passed) }
     ensures rules { SameRules session.old.engine session.new.engine }
 {
     let edit = match command {
-        Command::Insert(pos) => insert(session, *pos, piece),
+        Command::Insert(pos) => insert(session, *pos, inserted),
         Command::Delete(pos, count) => delete(session, *pos, *count),
         Command::SetWidth(width) => set_width(session, *width),
         Command::Show => return show(session, writer, written, print),
@@ -223,21 +223,21 @@ fn execute<W: Sink, S: ParagraphStore<Kept>>(
 
 // Parses the bytes of a line. Returns `None` if they are not a valid line of a script.
 //
-// Stores the line's characters in `text`, and the text of an insert in `piece`. Checks that the bytes are
+// Stores the line's characters in `text`, and the text of an insert in `inserted`. Checks that the bytes are
 // UTF-8 before allocating.
 fn read_line(
     queries: bool,
     line: &[u8],
     text: &mut Vec<char>,
-    piece: &mut String,
+    inserted: &mut String,
 ) -> Result<Option<Command>, AllocError>
     requires { length line.now ≤ LINE_LIMIT }
-    ensures ok { IfOk result (λ command. option_map (command_of (string_bytes piece.new)) command
+    ensures ok { IfOk result (λ command. option_map (command_of (string_bytes inserted.new)) command
         ≡ command_of_line queries line.now) }
     ensures err { OnErr result (utf8_valid_len line.now ≡ length line.now) }
     ensures memory { OnErr result (0 < length line.now) }
     ensures part { OnErr result ((length text.new.items < length (chars line.now))
-        ⊎ LacksPiece (chars line.now) (chars (string_bytes piece.new))) }
+        ⊎ LacksInserted (chars line.now) (chars (string_bytes inserted.new))) }
 {
     let (characters, _) = front(line);
     if characters.len() < line.len() {
@@ -245,7 +245,7 @@ fn read_line(
     }
     text.clear();
     push_characters(characters, text)?;
-    read_command(queries, text, piece)
+    read_command(queries, text, inserted)
 }
 
 // Executes the line in `reading`, and writes its reply.
@@ -269,8 +269,8 @@ fn execute_line<W: Sink, S: ParagraphStore<Kept>>(
     ensures lines { OnErr result (reading.new.lines ≡ reading.old.lines) }
     ensures rules { SameRules session.old.engine session.new.engine }
 {
-    let (text, piece) = (&mut reading.text, &mut reading.piece);
-    let command = match read_line(options.queries, &reading.line, text, piece) {
+    let (text, inserted) = (&mut reading.text, &mut reading.inserted);
+    let command = match read_line(options.queries, &reading.line, text, inserted) {
         Ok(Some(command)) => command,
         Ok(None) => return Err(RunFault::BadLine(reading.lines + 1)),
         Err(_) => return Err(RunFault::Memory),
@@ -282,7 +282,7 @@ fn execute_line<W: Sink, S: ParagraphStore<Kept>>(
         written,
         &options.print,
         &command,
-        &reading.piece,
+        &reading.inserted,
     ) {
         Ok(written) => {
             reading.written = written;
@@ -319,11 +319,11 @@ fn is_too_long(line: &[u8], more: &[u8]) -> bool
 }
 
 // Returns the index of the first line end.
-fn line_end(piece: &[u8]) -> Option<usize>
-    ensures { MatchOption result (NoEnd piece.now) (λ n. (n < length piece.now)
-        × EndsIn piece.now (take n piece.now) (drop (n + 1) piece.now)) }
+fn line_end(chunk: &[u8]) -> Option<usize>
+    ensures { MatchOption result (NoEnd chunk.now) (λ n. (n < length chunk.now)
+        × EndsIn chunk.now (take n chunk.now) (drop (n + 1) chunk.now)) }
 {
-    piece.iter().position(|&b| b == b'\n')
+    chunk.iter().position(|&b| b == b'\n')
 }
 
 // Consumes the bytes of a chunk up to the first line end, and executes the line. If the chunk has no line
@@ -333,19 +333,19 @@ fn take_part<W: Sink, S: ParagraphStore<Kept>>(
     writer: &mut W,
     options: &ScriptOptions,
     reading: &mut Reading,
-    piece: &[u8],
+    chunk: &[u8],
 ) -> Result<usize, RunFault>
     requires written { reading.old.written ≤ (W.state writer.old).passed }
     requires lines { reading.old.lines < 2 ^ 64 - 1 }
-    ensures ok { IfOk result (λ n. Takes (rules_of session.old.engine) options.now piece.now n
+    ensures ok { IfOk result (λ n. Takes (rules_of session.old.engine) options.now chunk.now n
         session.old session.new reading.old reading.new (W.state writer.old) (W.state writer.new)) }
-    ensures err { IfErr result (FailsIn (rules_of session.old.engine) options.now piece.now
+    ensures err { IfErr result (FailsIn (rules_of session.old.engine) options.now chunk.now
         session.old session.new reading.old reading.new (W.state writer.old) (W.state writer.new)) }
     ensures rules { SameRules session.old.engine session.new.engine }
 {
-    match line_end(piece) {
+    match line_end(chunk) {
         Some(end) => {
-            match grow(reading, &piece[..end]) {
+            match grow(reading, &chunk[..end]) {
                 Ok(()) => (),
                 Err(fault) => return Err(fault),
             }
@@ -354,8 +354,8 @@ fn take_part<W: Sink, S: ParagraphStore<Kept>>(
                 Err(fault) => Err(fault),
             }
         }
-        None => match grow(reading, piece) {
-            Ok(()) => Ok(piece.len()),
+        None => match grow(reading, chunk) {
+            Ok(()) => Ok(chunk.len()),
             Err(fault) => Err(fault),
         },
     }
@@ -367,28 +367,28 @@ fn feed<W: Sink, S: ParagraphStore<Kept>>(
     writer: &mut W,
     options: &ScriptOptions,
     reading: &mut Reading,
-    piece: &[u8],
+    chunk: &[u8],
 ) -> Result<(), RunFault>
     requires { CanFeed (rules_of session.old.engine) options.now session.old reading.old
-        (W.state writer.old) piece.now }
+        (W.state writer.old) chunk.now }
     ensures feeds { (start : SessionState) (reader_start writer_start reader_now : Device)
         → IsAt (rules_of session.old.engine) options.now start reader_start reader_now
-        writer_start (W.state writer.old) session.old reading.old piece.now
+        writer_start (W.state writer.old) session.old reading.old chunk.now
         → Feeds (rules_of session.old.engine) options.now start reader_start writer_start reader_now
         (W.state writer.new) session.new reading.new result }
 
     // If an allocation fails, it fails for one line, and all lines before it have been executed.
     ensures wants { (start : SessionState) (reader_start writer_start reader_now : Device)
         → IsAt (rules_of session.old.engine) options.now start reader_start reader_now
-        writer_start (W.state writer.old) session.old reading.old piece.now
+        writer_start (W.state writer.old) session.old reading.old chunk.now
         → IsErrOf result RunFault.Memory
         → WantsIn (rules_of session.old.engine) options.now start reader_start reader_now writer_start
         (W.state writer.new) session.new reading.new }
     ensures rules { SameRules session.old.engine session.new.engine }
 {
     let mut at = 0;
-    while at < piece.len() {
-        match take_part(session, writer, options, reading, &piece[at..]) {
+    while at < chunk.len() {
+        match take_part(session, writer, options, reading, &chunk[at..]) {
             Ok(taken) => at += taken,
             Err(fault) => return Err(fault),
         }
@@ -432,10 +432,10 @@ fn step<R: Source, W: Sink, S: ParagraphStore<Kept>>(
     writer: &mut W,
     session: &mut Session<S>,
     options: &ScriptOptions,
-    piece: &mut [u8],
+    chunk: &mut [u8],
     reading: &mut Reading,
 ) -> Result<bool, RunFault>
-    requires room { length piece.old ≡ CHUNK }
+    requires room { length chunk.old ≡ CHUNK }
     requires stands { (start : SessionState) × (reader_start : Device) × (writer_start : Device)
         × IsAt (rules_of session.old.engine) options.now start reader_start (R.state reader.old)
         writer_start (W.state writer.old) session.old reading.old [] }
@@ -462,10 +462,10 @@ fn step<R: Source, W: Sink, S: ParagraphStore<Kept>>(
         (held_at session.new) (W.state writer.old) (W.state writer.new) RunFault.Memory }
     ensures rises { result ≡ Ok true → (R.state reader.old).passed < (R.state reader.new).passed }
     ensures counted { result ≡ Ok true → (R.state reader.new).passed ≤ 2 ^ 64 - 1 }
-    ensures room { length piece.new ≡ length piece.old }
+    ensures room { length chunk.new ≡ length chunk.old }
     ensures rules { SameRules session.old.engine session.new.engine }
 {
-    let len = match reader.read(piece) {
+    let len = match reader.read(chunk) {
         Ok(len) => len,
         Err(_) => return Err(RunFault::Read),
     };
@@ -475,7 +475,7 @@ fn step<R: Source, W: Sink, S: ParagraphStore<Kept>>(
             Err(fault) => Err(fault),
         };
     }
-    match feed(session, writer, options, reading, &piece[..len]) {
+    match feed(session, writer, options, reading, &chunk[..len]) {
         Ok(()) => Ok(true),
         Err(fault) => Err(fault),
     }
@@ -543,7 +543,7 @@ fn run_over<R: Source, W: Sink, S: ParagraphStore<Kept>>(
     ensures reads { TellsReads result (R.state reader.old) (R.state reader.new) }
     ensures rules { SameRules session.old.engine session.new.engine }
 {
-    let Ok(mut piece) = zeroed(alloc, CHUNK) else {
+    let Ok(mut chunk) = zeroed(alloc, CHUNK) else {
         return Err(RunFault::Memory);
     };
     let mut reading = Reading {
@@ -551,10 +551,10 @@ fn run_over<R: Source, W: Sink, S: ParagraphStore<Kept>>(
         lines: 0,
         written: 0,
         text: Vec::new(alloc),
-        piece: String::new(alloc),
+        inserted: String::new(alloc),
     };
     loop {
-        match step(reader, writer, session, options, &mut piece, &mut reading) {
+        match step(reader, writer, session, options, &mut chunk, &mut reading) {
             Ok(true) => (),
             Ok(false) => return Ok(()),
             Err(fault) => return Err(fault),

@@ -82,8 +82,7 @@ module _ {V : Type 0} (form : Form V) where
     pub names : NamesSome entry
     pub good : (j : ℕ) (why : Cause) → j ≤ k → ¬ (HasFault lines j why)
 
-  -- the line with the given number, which counts from 1, is the first faulty line, or memory ran out at that
-  -- line
+  -- the line with number `line`, counted from 1, is the first faulty line, or the one at which memory ran out
   abbrev pub IsFaultFor : List (List ℕ) → ℕ → Cause → Type 0
   IsFaultFor lines line cause.Memory = (0 < line) × WantsMemoryAt lines (line - 1)
   IsFaultFor lines line why = (0 < line) × IsFirstFault lines (line - 1) why

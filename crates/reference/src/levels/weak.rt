@@ -83,7 +83,7 @@ fn w3_type(class: BidiClass) -> BidiClass {
     }
 }
 
-// W4: a single separator between two numbers of the same type becomes a number of that type.
+// W4: a single ES or CS between two EN becomes EN, and a single CS between two AN becomes AN.
 fn w4(types: &mut [BidiClass]) {
     let mut before = BidiClass::ON;
     for at in 0..types.len() {

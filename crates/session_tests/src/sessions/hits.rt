@@ -1,6 +1,6 @@
-//! Tests of the characters at columns, of carets, of the columns of lines, and of grapheme clusters.
+//! Tests of the characters at columns, of carets, of the columns of lines, of grapheme clusters and of words.
 use super::{Check, Pair, check_in_tree, renew};
-use session::{Caret, Cluster, EditFault, Hit, Kept, Session};
+use session::{Caret, Cluster, EditFault, Hit, Kept, Session, Word};
 use std::alloc::AllocError;
 use std::process::Abort;
 use std::test::Fail;
@@ -167,6 +167,46 @@ fn is_cluster<S: ParagraphStore<Kept>>(
     }
 }
 
+// A text and a position; the start and the end of the word there, and whether it has a letter or a digit.
+type WordRow<'a> = (&'a str, usize, Option<(usize, usize, bool)>);
+
+static WORDS: [WordRow<'_>; 8] = [
+    ("don't go", 0, Some((0, 5, true))),
+    ("don't go", 4, Some((0, 5, true))),
+    ("don't go", 5, Some((5, 6, false))),
+    ("don't go", 7, Some((6, 8, true))),
+    ("don't go", 8, None),
+    ("a\n12.5", 1, Some((1, 2, false))),
+    ("a\n12.5", 3, Some((2, 6, true))),
+    ("\u{5e9}\u{5dc}!", 2, Some((2, 3, false))),
+];
+
+// Returns a word, and tries again after an allocation failure.
+fn word<S: ParagraphStore<Kept>>(
+    session: &Session<S>,
+    pos: usize,
+) -> Result<Option<Word>, AllocError> {
+    match session.word(pos) {
+        Ok(word) => Ok(word),
+        Err(_) => session.word(pos),
+    }
+}
+
+fn is_word<S: ParagraphStore<Kept>>(
+    session: &mut Session<S>,
+    row: &WordRow<'_>,
+) -> Result<bool, EditFault> {
+    let (text, pos, wanted) = *row;
+    renew(session, text, 80)?;
+    match (word(session, pos), wanted) {
+        (Ok(Some(word)), Some((start, end, has_letter))) => Ok(
+            (word.start == start) & (word.end == end) & (word.has_letter == has_letter),
+        ),
+        (Ok(None), None) => Ok(true),
+        _ => Ok(false),
+    }
+}
+
 // Checks each example over both stores.
 pub(super) fn check_hits<S: ParagraphStore<Kept> + Drop, T: ParagraphStore<Kept> + Drop>(
     rt: &impl Abort,
@@ -184,10 +224,14 @@ pub(super) fn check_hits<S: ParagraphStore<Kept> + Drop, T: ParagraphStore<Kept>
         let is_right = is_cluster(&mut pair.edited, row)? & is_cluster(&mut pair.anew, row)?;
         assert!(rt; is_right, "{:?}", row.0);
     }
+    for row in &WORDS {
+        let is_right = is_word(&mut pair.edited, row)? & is_word(&mut pair.anew, row)?;
+        assert!(rt; is_right, "{:?}", row.0);
+    }
     check_carets(rt, pair)
 }
 
 #[test]
-fn hits_columns_clusters_and_carets_are_as_listed(rt: HostRuntime) -> Result<(), Fail> {
+fn hits_columns_clusters_words_and_carets_are_as_listed(rt: HostRuntime) -> Result<(), Fail> {
     check_in_tree(&rt, rt.alloc(), Check::Hits)
 }

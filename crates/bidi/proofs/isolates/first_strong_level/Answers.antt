@@ -13,7 +13,7 @@ use Rattle.bidi.proofs.isolates.first_strong_level.Goals as goal
 match_there : (classes : List BidiClass) (matches : List ℕ) (k : ℕ) → matches ≡ matches_of classes → k < length classes → get_or matches k 0 ≡ match_at classes k
 match_there classes matches k e within = ap (λ found. get_or found k 0) e ∙ get_or-matches_of classes k 0 within
 
--- a class with a strong level is strong
+-- if the search finds a level for a class, the class is strong
 strong : (class : BidiClass) (level : Option ℕ) → level ≡ (if is_strong class then Some (strong_level class) else None) → is_some level ≡ true → is_strong class ≡ true
 strong class level e some =
     elim (cases_Bool (is_strong class)) [

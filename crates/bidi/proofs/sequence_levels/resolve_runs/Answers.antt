@@ -28,7 +28,7 @@ next_run-requires-clause-above c =
     c.requires.paragraph.stayed.classes (omega arith) within)
     (match_at-above c.args.paragraph.now.stayed.now.classes.items (c.run_end-end.result - 1) (omega (arith, c.requires.paragraph.stayed.classes)))
 
--- the start of a run in which another run continues is below the length of the list
+-- if a run continues in a later run, the start of the later run is an index of the list
 in_list : (levels : List ℕ) (m : ℕ) (next : Option ℕ) → next ≡ next_start levels m → IfSome next (λ place. place < length levels)
 in_list levels m None e = tt
 in_list levels m (Some place) e = (next_start-within levels m place (sym e)).1

@@ -27,16 +27,16 @@ loop-at-preserved c =
     let text = c.args.text.now in
     let n = c.loop-at.at in
     let d = c.index-text-at.result in
-    let front = chars (string_bytes c.loop-at.piece) in
+    let front = chars (string_bytes c.loop-at.inserted) in
     let is : written (get_or text n d) (drop (n + 1) text) ≡ Some (c.in-Some.c, c.in-Some.len) =
     ap (λ (x : ℕ). written x (drop (n + 1) text)) (sym c.index-text-at.is) ∙ ap (written d) (sym (take_rest text (n + 1))) ∙ sym c.in-Some.ensures.value in
     let scalar_is : IsScalar c.in-Some.c = search rules in
-    let piece : chars (string_bytes c.push.new.self) ≡ front ++ c.in-Some.c ∷ [] =
-    ap chars c.in_ok-push-in-Some.ensures.bytes ∙ chars-push (string_bytes c.loop-at.piece) c.in-Some.c (IsUtf8-string_bytes c.loop-at.piece) scalar_is in
+    let inserted : chars (string_bytes c.push.new.self) ≡ front ++ c.in-Some.c ∷ [] =
+    ap chars c.in_ok-push-in-Some.ensures.bytes ∙ chars-push (string_bytes c.loop-at.inserted) c.in-Some.c (IsUtf8-string_bytes c.loop-at.inserted) scalar_is in
     record {
       within = search arith;
       whole =
-          ap (λ (t : List ℕ). option_map (λ cs. t ++ cs) (unescaped (drop (n + c.in-Some.len) text))) piece
+          ap (λ (t : List ℕ). option_map (λ cs. t ++ cs) (unescaped (drop (n + c.in-Some.len) text))) inserted
           ∙ sym (next_written text n d c.loop-at-test.true front c.in-Some.c c.in-Some.len is c.in-Some.ensures.within.0) ∙ c.loop-at.invariant.whole;
     }
 
@@ -47,10 +47,10 @@ returns-in-None-clause-ok c =
     let d = c.index-text-at.result in
     let is : written (get_or text n d) (drop (n + 1) text) ≡ None =
     ap (λ (x : ℕ). written x (drop (n + 1) text)) (sym c.index-text-at.is) ∙ ap (written d) (sym (take_rest text (n + 1))) ∙ sym c.in-None.ensures.value in
-    sym (none_written text n d c.loop-at-test.true (chars (string_bytes c.loop-at.piece)) is) ∙ c.loop-at.invariant.whole
+    sym (none_written text n d c.loop-at-test.true (chars (string_bytes c.loop-at.inserted)) is) ∙ c.loop-at.invariant.whole
 
 pub returns-clause-ok : goal.returns-clause-ok
-returns-clause-ok c = sym (all_written c.args.text.now (chars (string_bytes c.loop-at.piece)) c.loop-at.at (omega (arith, c.loop-at-test.false))) ∙ c.loop-at.invariant.whole
+returns-clause-ok c = sym (all_written c.args.text.now (chars (string_bytes c.loop-at.inserted)) c.loop-at.at (omega (arith, c.loop-at-test.false))) ∙ c.loop-at.invariant.whole
 
 -- if an escape is not valid, `unescaped` gives `None`
 none_is : (o : Option (List ℕ)) → is_some o ≡ false → None ≡ o
@@ -69,7 +69,7 @@ returns-in_err-push-in-Some-clause-lacks c =
     let text = c.args.text.now in
     let n = c.loop-at.at in
     let d = c.index-text-at.result in
-    let front = chars (string_bytes c.loop-at.piece) in
+    let front = chars (string_bytes c.loop-at.inserted) in
     let is : written (get_or text n d) (drop (n + 1) text) ≡ Some (c.in-Some.c, c.in-Some.len) =
     ap (λ (x : ℕ). written x (drop (n + 1) text)) (sym c.index-text-at.is) ∙ ap (written d) (sym (take_rest text (n + 1))) ∙ sym c.in-Some.ensures.value in
     let whole = sym c.loop-at.invariant.whole ∙ next_written text n d c.loop-at-test.true front c.in-Some.c c.in-Some.len is c.in-Some.ensures.within.0 in

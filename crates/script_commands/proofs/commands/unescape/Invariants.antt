@@ -8,7 +8,7 @@ use Rattle.script_commands.proofs.commands.unescape.Given as goal
 abbrev pub invariant-loop-at : goal.invariant-loop-at
 invariant-loop-at l = record {
   within : l.at ≤ length l.text;
-  whole : option_map (λ cs. chars (string_bytes l.piece) ++ cs) (unescaped (drop l.at l.text)) ≡ unescaped l.text;
+  whole : option_map (λ cs. chars (string_bytes l.inserted) ++ cs) (unescaped (drop l.at l.text)) ≡ unescaped l.text;
 }
 
 abbrev pub decreases-loop-at : goal.decreases-loop-at

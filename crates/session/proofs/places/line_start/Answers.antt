@@ -14,25 +14,25 @@ returns-then-n-total_lines-clause-start g c =
 
 pub start_of_nth-start-requires : goal.start_of_nth-start-requires
 start_of_nth-start-requires g c =
-    let within = rest_within (g.S.ParagraphStore.items c.args.store.now) c.args.n c.find_line-found.result c.find_line-found.ensures c.in-Some.kept.now c.in-Some.ensures in
+    let within = rest_within (g.S.ParagraphStore.items c.args.store.now) c.args.n c.find_line-found.result c.find_line-found.ensures.found c.in-Some.kept.now c.in-Some.ensures in
     omega (arith, within, ap length (c.line_starts.ensures ∙ ap (λ (l : Layout). map begins l.lines) c.laid.ensures))
 
 pub overflow_add-result : goal.overflow_add-result
 overflow_add-result g c =
     let kept = g.S.ParagraphStore.items c.args.store.now in
-    omega (arith, c.requires, before_within kept c.args.n c.find_line-found.result c.find_line-found.ensures, c.start_of_nth-start.ensures.fits)
+    omega (arith, c.requires, before_within kept c.args.n c.find_line-found.result c.find_line-found.ensures.found, c.start_of_nth-start.ensures.fits)
 
 pub unreachable-requires : goal.unreachable-requires
-unreachable-requires g c = found_some lines_of (g.S.ParagraphStore.items c.args.store.now) c.args.n c.find_line-found.result c.find_line-found.ensures c.in-None.ensures
+unreachable-requires g c = found_some lines_of (g.S.ParagraphStore.items c.args.store.now) c.args.n c.find_line-found.result c.find_line-found.ensures.found c.in-None.ensures
 
 pub returns-clause-start : goal.returns-clause-start
 returns-clause-start g c =
     let kept = g.S.ParagraphStore.items c.args.store.now in
-    let read = start_read kept c.args.n c.find_line-found.result c.find_line-found.ensures c.in-Some.kept.now c.in-Some.ensures in
+    let read = start_read kept c.args.n c.find_line-found.result c.find_line-found.ensures.found c.in-Some.kept.now c.in-Some.ensures in
     let starts = c.line_starts.ensures ∙ ap (λ (l : Layout). map begins l.lines) c.laid.ensures in
     ap (λ m. Some (c.find_line-found.result.chars_before + m)) (c.start_of_nth-start.ensures.start ∙ ap (λ ss. get_or ss c.find_line-found.result.rest 0) starts) ∙ sym read
 
 pub returns-clause-fits : goal.returns-clause-fits
 returns-clause-fits g c =
     let kept = g.S.ParagraphStore.items c.args.store.now in
-    omega (arith, c.requires, before_within kept c.args.n c.find_line-found.result c.find_line-found.ensures, c.start_of_nth-start.ensures.fits)
+    omega (arith, c.requires, before_within kept c.args.n c.find_line-found.result c.find_line-found.ensures.found, c.start_of_nth-start.ensures.fits)

@@ -22,7 +22,7 @@ pub overflow_sub-line : goal.overflow_sub-line
 overflow_sub-line g c =
     let kept = g.S.ParagraphStore.items c.args.store.now in
     let starts = c.line_starts-starts.ensures ∙ ap (λ (l : Layout). map begins l.lines) c.laid.ensures in
-    place-some kept c.args.pos c.find_char-found.result c.find_char-found.ensures c.in-Some.kept.now c.in-Some.ensures
+    place-some kept c.args.pos c.find_char-found.result c.find_char-found.ensures.found c.in-Some.kept.now c.in-Some.ensures
     c.requires.lined c.lines_to-line.result (c.lines_to-line.ensures.count
     ∙ ap (count_to c.find_char-found.result.rest) starts)
 
@@ -30,7 +30,7 @@ pub overflow_add-result : goal.overflow_add-result
 overflow_add-result g c =
     let kept = g.S.ParagraphStore.items c.args.store.now in
     let starts = c.line_starts-starts.ensures ∙ ap (λ (l : Layout). map begins l.lines) c.laid.ensures in
-    let fits = place-fits kept c.args.pos c.find_char-found.result c.find_char-found.ensures c.in-Some.kept.now
+    let fits = place-fits kept c.args.pos c.find_char-found.result c.find_char-found.ensures.found c.in-Some.kept.now
     c.in-Some.ensures c.requires.lined c.lines_to-line.result (c.lines_to-line.ensures.count
     ∙ ap (count_to c.find_char-found.result.rest) starts) c.total_lines-lines.result c.total_lines-lines.ensures in
     omega (arith, fits, c.total_lines-lines.type_inv)
@@ -40,8 +40,8 @@ bounds-starts-line g c =
     let kept = g.S.ParagraphStore.items c.args.store.now in
     let starts = c.line_starts-starts.ensures ∙ ap (λ (l : Layout). map begins l.lines) c.laid.ensures in
     let is = c.lines_to-line.ensures.count ∙ ap (count_to c.find_char-found.result.rest) starts in
-    let few = place-few kept c.args.pos c.find_char-found.result c.find_char-found.ensures c.in-Some.kept.now c.in-Some.ensures c.requires.lined c.lines_to-line.result is in
-    let some = place-some kept c.args.pos c.find_char-found.result c.find_char-found.ensures c.in-Some.kept.now c.in-Some.ensures c.requires.lined c.lines_to-line.result is in
+    let few = place-few kept c.args.pos c.find_char-found.result c.find_char-found.ensures.found c.in-Some.kept.now c.in-Some.ensures c.requires.lined c.lines_to-line.result is in
+    let some = place-some kept c.args.pos c.find_char-found.result c.find_char-found.ensures.found c.in-Some.kept.now c.in-Some.ensures c.requires.lined c.lines_to-line.result is in
     omega (arith, few, some, ap length starts)
 
 pub overflow_sub-result : goal.overflow_sub-result
@@ -49,18 +49,18 @@ overflow_sub-result g c =
     let kept = g.S.ParagraphStore.items c.args.store.now in
     let starts = c.line_starts-starts.ensures ∙ ap (λ (l : Layout). map begins l.lines) c.laid.ensures in
     let is = c.lines_to-line.ensures.count ∙ ap (count_to c.find_char-found.result.rest) starts in
-    let some = place-some kept c.args.pos c.find_char-found.result c.find_char-found.ensures c.in-Some.kept.now c.in-Some.ensures c.requires.lined c.lines_to-line.result is in
+    let some = place-some kept c.args.pos c.find_char-found.result c.find_char-found.ensures.found c.in-Some.kept.now c.in-Some.ensures c.requires.lined c.lines_to-line.result is in
     c.lines_to-line.ensures.before (c.lines_to-line.result - 1) (omega (arith, some))
 
 pub unreachable-requires : goal.unreachable-requires
-unreachable-requires g c = found_some chars_of (g.S.ParagraphStore.items c.args.store.now) c.args.pos c.find_char-found.result c.find_char-found.ensures c.in-None.ensures
+unreachable-requires g c = found_some chars_of (g.S.ParagraphStore.items c.args.store.now) c.args.pos c.find_char-found.result c.find_char-found.ensures.found c.in-None.ensures
 
 pub returns : goal.returns
 returns g c =
     let kept = g.S.ParagraphStore.items c.args.store.now in
     let starts : c.line_starts-starts.result.now ≡ map begins c.in-Some.kept.now.lines = c.line_starts-starts.ensures ∙ ap (λ (l : Layout). map begins l.lines) c.laid.ensures in
     let is = c.lines_to-line.ensures.count ∙ ap (count_to c.find_char-found.result.rest) starts in
-    let place = place-is kept c.args.pos c.find_char-found.result c.find_char-found.ensures c.in-Some.kept.now c.in-Some.ensures c.requires.lined c.lines_to-line.result is in
+    let place = place-is kept c.args.pos c.find_char-found.result c.find_char-found.ensures.found c.in-Some.kept.now c.in-Some.ensures c.requires.lined c.lines_to-line.result is in
     subst (λ (ss : List ℕ). let here : Place =
     record {
       paragraph = c.find_char-found.result.index;

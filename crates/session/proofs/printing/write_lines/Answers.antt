@@ -19,12 +19,12 @@ loop-index-init g c =
     let kept = g.S.ParagraphStore.items c.args.store.now in
     record {
       front = [];
-      parts = ap (take c.args.count) (lines_begin kept c.args.first c.find_line-found.result c.find_line-found.ensures);
+      parts = ap (take c.args.count) (lines_begin kept c.args.first c.find_line-found.result c.find_line-found.ensures.found);
       here = λ item read. omega (
         arith,
-        c.find_line-found.ensures.within,
+        c.find_line-found.ensures.found.within,
         ap (λ (x : Layout). length x.lines)
-            (item_read lines_of kept c.args.first c.find_line-found.result c.find_line-found.ensures item read),
+            (item_read lines_of kept c.args.first c.find_line-found.result c.find_line-found.ensures.found item read),
       );
       passed = search rules;
       counted = c.requires.before;

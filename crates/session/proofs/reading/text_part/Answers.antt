@@ -28,13 +28,13 @@ returns-then-count-eq0-clause-part g c =
     c.if-count-eq0.true)
 
 pub unreachable-requires : goal.unreachable-requires
-unreachable-requires g c = found_some chars_of (g.S.ParagraphStore.items c.args.store.now) c.args.pos c.find_char-found.result c.find_char-found.ensures c.in-None.ensures
+unreachable-requires g c = found_some chars_of (g.S.ParagraphStore.items c.args.store.now) c.args.pos c.find_char-found.result c.find_char-found.ensures.found c.in-None.ensures
 
 pub returns-clause-part : goal.returns-clause-part
 returns-clause-part g c =
     let kept = g.S.ParagraphStore.items c.args.store.now in
     let size : c.total_chars-len.result ≡ length (text_of kept) = c.total_chars-len.ensures ∙ sym (length-text kept) in
-    let read = part_read kept c.args.pos c.find_char-found.result c.find_char-found.ensures c.in-Some.kept.now c.in-Some.ensures c.requires in
+    let read = part_read kept c.args.pos c.find_char-found.result c.find_char-found.ensures.found c.in-Some.kept.now c.in-Some.ensures c.requires in
     let text = c.text.ensures ∙ ap (λ (l : Layout). l.text) c.laid.ensures in
     ap Some (c.front.ensures ∙ ap (take c.args.count) (c.back.ensures ∙ ap (drop c.find_char-found.result.rest) text ∙ read))
     ∙ sym (part_within kept c.args.pos c.args.count (omega (arith, size, c.if-pos-len.false, c.if-count-len.false)))
@@ -42,7 +42,7 @@ returns-clause-part g c =
 pub returns-clause-some : goal.returns-clause-some
 returns-clause-some g c = λ some.
     let kept = g.S.ParagraphStore.items c.args.store.now in
-    let read = char_read kept c.args.pos c.find_char-found.result c.find_char-found.ensures c.in-Some.kept.now c.in-Some.ensures in
+    let read = char_read kept c.args.pos c.find_char-found.result c.find_char-found.ensures.found c.in-Some.kept.now c.in-Some.ensures in
     let text : c.text.result.now ≡ c.in-Some.kept.now.text = c.text.ensures ∙ ap (λ (l : Layout). l.text) c.laid.ensures in
     let rest : c.front.result.now ≡ take c.args.count (drop c.find_char-found.result.rest c.in-Some.kept.now.text) =
     c.front.ensures ∙ ap (take c.args.count) (c.back.ensures ∙ ap (drop c.find_char-found.result.rest) text) in

@@ -1,4 +1,5 @@
 use Rattle.std.proofs.Common.{◌≡◌, ◌+◌, ◌-◌, ◌<◌, ◌≤◌, ◌++◌, true, Some, None, length, refl, sym, ap, ap₂, subst, ◌∙◌, arith}
+use Rattle.std.specs.Char.{len_utf8}
 use Rattle.std.specs.Str.{chars}
 use Rattle.std.proofs.lemmas.Bool.{cond-true}
 use Rattle.std.proofs.lemmas.Iterator.{YieldsList-from_chars}
@@ -8,10 +9,12 @@ use Rattle.lines.specs.Layouts.{cut_by}
 use Rattle.session.specs.Sessions.{SessionState, Edits, EditsNot, IsCountedFor}
 use Rattle.session.specs.Edits.{replacing, is_within_limit, paragraphs_refusal}
 use Rattle.session.specs.Kept.{text_of, layouts_of}
+use Rattle.session.specs.Offsets.{len_utf16}
 use Rattle.session.specs.Sessions.{IsAnswerFor}
 use Rattle.session.specs.declared.edits.EditFault.TheVariants.{OutOfRange, TextTooLong, ParagraphTooLong, NoMemory}
 use Rattle.session.proofs.EdgeLemmas.{length-text}
-use Rattle.session.proofs.EditLemmas.{rise, chars_fit, lines_fit, refusal-past, EditsNot-unchanged, EditsNot-by_region, Edits-after, ends_ok, ends_err}
+use Rattle.session.proofs.EditLemmas.{rise, chars_fit, lines_fit, units_fit, refusal-past, EditsNot-unchanged, EditsNot-by_region, Edits-after, ends_ok, ends_err}
+use Rattle.session.proofs.UnitLemmas.{utf8_few, utf16_few}
 use Rattle.session.proofs.RefusalLemmas.{allowed-length, refusal-too_long}
 use Rattle.session.specs.declared.edits.TheConstants.{TEXT_LIMIT}
 use Rattle.session.proofs.WantLemmas.{of_err, some_put}
@@ -110,6 +113,38 @@ put-requires-clause-chars_fit g c =
     let few = c.lines_are_few.ensures in
     let laid = c.in-Ok.ensures.ok ∙ ap (layouts_of (rules_of c.args.engine.now) c.args.width) parts in
     chars_fit law few c.args.engine.now c.args.width kept c.requires c.args.pos c.args.count piece within c.front_edge-front.result c.back_edge-back.result f b c.in-Ok.new.items laid short
+
+pub put-requires-clause-bytes_fit : goal.put-requires-clause-bytes_fit
+put-requires-clause-bytes_fit g c =
+    let kept = g.S.ParagraphStore.items c.args.store.now in
+    let piece = chars c.args.piece.now in
+    let size : c.total_chars-len.result ≡ length (text_of kept) = c.total_chars-len.ensures ∙ sym (length-text kept) in
+    let within : c.args.pos + c.args.count ≤ length (text_of kept) = omega (arith, size) in
+    let n : c.count.result ≡ length piece = count_from_yields_List c.chars.result c.count.result c.count.ensures.ran (YieldsList-from_chars c.args.piece.now c.utf8.piece cc) in
+    let short : length (text_of kept) - c.args.count + length piece ≤ TEXT_LIMIT = omega (arith, size, n) in
+    let parts = ap₂ (λ xs ys. xs ++ (piece ++ ys)) c.front_text.ensures (c.back_text.ensures _ refl) in
+    let f = c.front_edge-front.ensures in
+    let b = c.back_edge-back.ensures in
+    let law = c.paragraphs_are_pieces.ensures in
+    let few = c.lines_are_few.ensures in
+    let laid = c.in-Ok.ensures.ok ∙ ap (layouts_of (rules_of c.args.engine.now) c.args.width) parts in
+    units_fit law few c.args.engine.now c.args.width kept c.requires c.args.pos c.args.count piece within c.front_edge-front.result c.back_edge-back.result f b c.in-Ok.new.items laid short len_utf8 utf8_few
+
+pub put-requires-clause-utf16_fit : goal.put-requires-clause-utf16_fit
+put-requires-clause-utf16_fit g c =
+    let kept = g.S.ParagraphStore.items c.args.store.now in
+    let piece = chars c.args.piece.now in
+    let size : c.total_chars-len.result ≡ length (text_of kept) = c.total_chars-len.ensures ∙ sym (length-text kept) in
+    let within : c.args.pos + c.args.count ≤ length (text_of kept) = omega (arith, size) in
+    let n : c.count.result ≡ length piece = count_from_yields_List c.chars.result c.count.result c.count.ensures.ran (YieldsList-from_chars c.args.piece.now c.utf8.piece cc) in
+    let short : length (text_of kept) - c.args.count + length piece ≤ TEXT_LIMIT = omega (arith, size, n) in
+    let parts = ap₂ (λ xs ys. xs ++ (piece ++ ys)) c.front_text.ensures (c.back_text.ensures _ refl) in
+    let f = c.front_edge-front.ensures in
+    let b = c.back_edge-back.ensures in
+    let law = c.paragraphs_are_pieces.ensures in
+    let few = c.lines_are_few.ensures in
+    let laid = c.in-Ok.ensures.ok ∙ ap (layouts_of (rules_of c.args.engine.now) c.args.width) parts in
+    units_fit law few c.args.engine.now c.args.width kept c.requires c.args.pos c.args.count piece within c.front_edge-front.result c.back_edge-back.result f b c.in-Ok.new.items laid short len_utf16 utf16_few
 
 pub put-requires-clause-lines_fit : goal.put-requires-clause-lines_fit
 put-requires-clause-lines_fit g c =

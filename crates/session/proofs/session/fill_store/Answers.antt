@@ -1,4 +1,5 @@
 use Rattle.std.proofs.Common.{◌≡◌, ◌≤◌, [], ◌++◌, true, length, sym, ap, subst, ◌∙◌, arith}
+use Rattle.std.specs.Char.{len_utf8}
 use Rattle.std.specs.Str.{chars}
 use Rattle.std.proofs.lemmas.Iterator.{YieldsList-from_chars}
 use Rattle.std.proofs.lemmas.Iterator.Consumers.{count_from_yields_List}
@@ -8,9 +9,11 @@ use Rattle.lines.specs.Layouts.{cut_by}
 use Rattle.session.specs.Sessions.{IsCountedFor}
 use Rattle.session.specs.Edits.{is_within_limit, paragraphs_refusal}
 use Rattle.session.specs.Kept.{layouts_of}
+use Rattle.session.specs.Offsets.{len_utf16}
 use Rattle.session.specs.Sessions.{IsAnswerFor}
 use Rattle.session.proofs.EditLemmas.{at_ok}
-use Rattle.session.proofs.OpenLemmas.{OpensNot-too_long, OpensNot-refused, OpensNot-no_memory, Opens-laid, opening-chars, opening-lines}
+use Rattle.session.proofs.UnitLemmas.{utf8_few, utf16_few}
+use Rattle.session.proofs.OpenLemmas.{OpensNot-too_long, OpensNot-refused, OpensNot-no_memory, Opens-laid, opening-chars, opening-lines, opening-units}
 use Rattle.session.specs.declared.edits.TheConstants.{TEXT_LIMIT}
 use Rattle.session.proofs.session.fill_store.Goals as goal
 
@@ -44,6 +47,34 @@ replace-requires-clause-chars_fit g c =
     let counts = subst (λ t. LaysOutAtMost (length t) engine c.lay_out_joined.new.engine) part c.lay_out_joined.ensures.counts in
     opening-chars c.paragraphs_are_pieces.ensures c.lines_are_few.ensures engine whole c.args.width
     c.in-Ok.paragraphs.items laid short (g.S.ParagraphStore.items c.new-store.result) c.new-store.ensures
+
+pub replace-requires-clause-bytes_fit : goal.replace-requires-clause-bytes_fit
+replace-requires-clause-bytes_fit g c =
+    let whole = chars c.args.text.now in
+    let n : c.count.result ≡ length whole = count_from_yields_List c.chars.result c.count.result c.count.ensures.ran (YieldsList-from_chars c.args.text.now c.utf8.text cc) in
+    let short : length whole ≤ TEXT_LIMIT = omega (arith, n) in
+    let engine = c.args.engine.now in
+    let part : whole ++ [] ≡ whole = append-nil whole in
+    let by = rules_of engine in
+    let laid = c.in-Ok.ensures.ok ∙ ap (layouts_of by c.args.width) part in
+    let allowed = subst (λ t. is_within_limit (cut_by by) t ≡ true) part c.in-Ok.ensures.allowed in
+    let counts = subst (λ t. LaysOutAtMost (length t) engine c.lay_out_joined.new.engine) part c.lay_out_joined.ensures.counts in
+    opening-units c.paragraphs_are_pieces.ensures c.lines_are_few.ensures engine whole c.args.width
+    c.in-Ok.paragraphs.items laid short len_utf8 utf8_few (g.S.ParagraphStore.items c.new-store.result) c.new-store.ensures
+
+pub replace-requires-clause-utf16_fit : goal.replace-requires-clause-utf16_fit
+replace-requires-clause-utf16_fit g c =
+    let whole = chars c.args.text.now in
+    let n : c.count.result ≡ length whole = count_from_yields_List c.chars.result c.count.result c.count.ensures.ran (YieldsList-from_chars c.args.text.now c.utf8.text cc) in
+    let short : length whole ≤ TEXT_LIMIT = omega (arith, n) in
+    let engine = c.args.engine.now in
+    let part : whole ++ [] ≡ whole = append-nil whole in
+    let by = rules_of engine in
+    let laid = c.in-Ok.ensures.ok ∙ ap (layouts_of by c.args.width) part in
+    let allowed = subst (λ t. is_within_limit (cut_by by) t ≡ true) part c.in-Ok.ensures.allowed in
+    let counts = subst (λ t. LaysOutAtMost (length t) engine c.lay_out_joined.new.engine) part c.lay_out_joined.ensures.counts in
+    opening-units c.paragraphs_are_pieces.ensures c.lines_are_few.ensures engine whole c.args.width
+    c.in-Ok.paragraphs.items laid short len_utf16 utf16_few (g.S.ParagraphStore.items c.new-store.result) c.new-store.ensures
 
 pub replace-requires-clause-lines_fit : goal.replace-requires-clause-lines_fit
 replace-requires-clause-lines_fit g c =

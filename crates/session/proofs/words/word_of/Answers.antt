@@ -19,19 +19,19 @@ returns-in_err-ends-in-Some-clause-memory g c =
 
 pub word_by-requires-clause-within : goal.word_by-requires-clause-within
 word_by-requires-clause-within g c =
-    let read = char_read (g.S.ParagraphStore.items c.args.store.now) c.args.pos c.find_char-found.result c.find_char-found.ensures c.in-Some.kept.now c.in-Some.ensures in
+    let read = char_read (g.S.ParagraphStore.items c.args.store.now) c.args.pos c.find_char-found.result c.find_char-found.ensures.found c.in-Some.kept.now c.in-Some.ensures in
     omega (arith, read.0, ap length c.deref.ensures.value, c.in_ok-ends-in-Some.ensures.len, ap (λ (l : Layout). length l.text) c.laid-laid.ensures)
 
 pub word_by-requires-clause-fits : goal.word_by-requires-clause-fits
 word_by-requires-clause-fits g c =
     let same : length c.text.result.now ≡ length c.in-Some.kept.now.text = ap length c.text.ensures ∙ ap (λ (l : Layout). length l.text) c.laid-laid.ensures in
     let fits = cluster-fits (g.S.ParagraphStore.items c.args.store.now) c.args.pos c.find_char-found.result
-    c.find_char-found.ensures c.in-Some.kept.now c.in-Some.ensures c.requires c.total_chars-len.result
+    c.find_char-found.ensures.found c.in-Some.kept.now c.in-Some.ensures c.requires c.total_chars-len.result
     (length c.in-Some.kept.now.text) c.total_chars-len.ensures (omega arith) in
     omega (arith, fits, same, c.total_chars-len.type_inv)
 
 pub unreachable-requires : goal.unreachable-requires
-unreachable-requires g c = found_some chars_of (g.S.ParagraphStore.items c.args.store.now) c.args.pos c.find_char-found.result c.find_char-found.ensures c.in-None.ensures
+unreachable-requires g c = found_some chars_of (g.S.ParagraphStore.items c.args.store.now) c.args.pos c.find_char-found.result c.find_char-found.ensures.found c.in-None.ensures
 
 pub returns-clause-ok : goal.returns-clause-ok
 returns-clause-ok g c =
@@ -43,5 +43,5 @@ returns-clause-ok g c =
     let within : c.args.pos < length (text_of kept) = omega (arith, c.if-pos-len.false, c.total_chars-len.ensures, length-text kept) in
     ap Some c.word_by.ensures
     ∙ ap₂ (λ (cs : List ℕ) (es : List Bool). Some (word_by (c.args.pos - rest) cs es rest)) text ends
-    ∙ ap (λ (r : ℕ). Some (word_by (c.args.pos - rest) l.text (word_ends l.text) r)) (sym (cluster-rest kept c.args.pos c.find_char-found.result c.find_char-found.ensures l c.in-Some.ensures c.requires))
-    ∙ word-read kept c.args.pos c.find_char-found.result c.find_char-found.ensures l c.in-Some.ensures c.requires within
+    ∙ ap (λ (r : ℕ). Some (word_by (c.args.pos - rest) l.text (word_ends l.text) r)) (sym (cluster-rest kept c.args.pos c.find_char-found.result c.find_char-found.ensures.found l c.in-Some.ensures c.requires))
+    ∙ word-read kept c.args.pos c.find_char-found.result c.find_char-found.ensures.found l c.in-Some.ensures c.requires within

@@ -12,8 +12,8 @@ build-right-requires g t c =
     let r = c.args.count - c.args.count / 2 - 1 in
     let facts = taken xs c.build-left.new.nodes.items rest c.take_last-top.result c.args.count (c.args.count / 2) r
     (omega arith) c.requires.enough (sym c.build-left.ensures.left) c.take_last-top.ensures.items in
-    let turned = subst (Fits g.P.Measured.chars g.P.Measured.lines) facts.3 c.requires.fits in
-    let fits = fits_back g.P.Measured.chars g.P.Measured.lines (reverse (drop (length xs - c.args.count / 2) xs) ++ c.take_last-top.result ∷ []) (reverse rest) turned in
+    let turned = subst (Fits g.P.Measured) facts.3 c.requires.fits in
+    let fits = fits_back g.P.Measured (reverse (drop (length xs - c.args.count / 2) xs) ++ c.take_last-top.result ∷ []) (reverse rest) turned in
     λ κs h. (omega arith, (h, (omega (arith, facts.0, c.requires.enough), fits)))
 
 pub join-requires : goal.join-requires
@@ -24,9 +24,9 @@ join-requires g t c =
     let facts = taken xs c.build-left.new.nodes.items rest c.take_last-top.result c.args.count (c.args.count / 2) (c.args.count - c.args.count / 2 - 1)
     (omega arith) c.requires.enough (sym c.build-left.ensures.left) c.take_last-top.ensures.items in
     let parts : reverse xs ≡ reverse (drop k xs) ++ reverse (take k xs) = ap reverse (sym (take-append-drop k xs)) ∙ reverse-append (take k xs) (drop k xs) in
-    let fits = fits_front g.P.Measured.chars g.P.Measured.lines (reverse (drop k xs)) (reverse (take k xs))
-    (subst (Fits g.P.Measured.chars g.P.Measured.lines) parts c.requires.fits) in
-    rw (c.build-left.ensures.items, c.build-right.ensures.items) (subst (Fits g.P.Measured.chars g.P.Measured.lines) facts.2 fits)
+    let fits = fits_front g.P.Measured (reverse (drop k xs)) (reverse (take k xs))
+    (subst (Fits g.P.Measured) parts c.requires.fits) in
+    rw (c.build-left.ensures.items, c.build-right.ensures.items) (subst (Fits g.P.Measured) facts.2 fits)
 
 pub returns-clause-left : goal.returns-clause-left
 returns-clause-left g t c =

@@ -8,18 +8,18 @@ use Rattle.store.proofs.joining.+split.Goals as goal
 
 pub join-requires : goal.join-requires
 join-requires g t c =
-    let whole = subst (λ tree. Fits g.P.Measured.chars g.P.Measured.lines (in_order tree)) c.in-Some.ensures.parts c.in-Some.ensures.fits in
-    rw c.split-front.ensures.after (fits_after g.P.Measured.chars g.P.Measured.lines (in_order c.in-Some.left) (c.in-Some.top ∷ in_order c.in-Some.right) c.args.at whole)
+    let whole = subst (λ tree. Fits g.P.Measured (in_order tree)) c.in-Some.ensures.parts c.in-Some.ensures.fits in
+    rw c.split-front.ensures.after (fits_after g.P.Measured (in_order c.in-Some.left) (c.in-Some.top ∷ in_order c.in-Some.right) c.args.at whole)
 
 pub join-requires-2 : goal.join-requires-2
 join-requires-2 g t c =
     let l = in_order c.in-Some.left in
     let r = in_order c.in-Some.right in
     let n = c.args.at - c.count-before.result - 1 in
-    let whole = subst (λ tree. Fits g.P.Measured.chars g.P.Measured.lines (in_order tree)) c.in-Some.ensures.parts c.in-Some.ensures.fits in
-    let parted = subst (Fits g.P.Measured.chars g.P.Measured.lines) (sym (append_assoc l (c.in-Some.top ∷ []) r)) whole in
-    rw c.split-middle.ensures.front (subst (Fits g.P.Measured.chars g.P.Measured.lines) (append_assoc l (c.in-Some.top ∷ []) (take n r))
-    (fits_before g.P.Measured.chars g.P.Measured.lines (l ++ c.in-Some.top ∷ []) r n parted))
+    let whole = subst (λ tree. Fits g.P.Measured (in_order tree)) c.in-Some.ensures.parts c.in-Some.ensures.fits in
+    let parted = subst (Fits g.P.Measured) (sym (append_assoc l (c.in-Some.top ∷ []) r)) whole in
+    rw c.split-middle.ensures.front (subst (Fits g.P.Measured) (append_assoc l (c.in-Some.top ∷ []) (take n r))
+    (fits_before g.P.Measured (l ++ c.in-Some.top ∷ []) r n parted))
 
 pub returns-clause-front : goal.returns-clause-front
 returns-clause-front g t c =

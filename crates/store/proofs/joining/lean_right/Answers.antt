@@ -6,17 +6,17 @@ use Rattle.store.proofs.joining.lean_right.Goals as goal
 
 pub over-requires-clause-fits : goal.over-requires-clause-fits
 over-requires-clause-fits g c =
-    (fit_after g.P.Measured.chars g.P.Measured.lines (in_order c.args.left) c.args.node c.in-Some.top
+    (fit_after g.P.Measured (in_order c.args.left) c.args.node c.in-Some.top
     c.args.right c.in-Some.inner c.in-Some.outer c.in-Some.ensures.parts c.requires.fits).front_fits
 
 pub over-requires-then-height-clause-fits : goal.over-requires-then-height-clause-fits
 over-requires-then-height-clause-fits g c =
-    rw c.over.ensures (fit_after g.P.Measured.chars g.P.Measured.lines (in_order c.args.left) c.args.node c.in-Some.top
+    rw c.over.ensures (fit_after g.P.Measured (in_order c.args.left) c.args.node c.in-Some.top
     c.args.right c.in-Some.inner c.in-Some.outer c.in-Some.ensures.parts c.requires.fits).all_fit
 
 pub lift-requires-clause-fits : goal.lift-requires-clause-fits
 lift-requires-clause-fits g c =
-    (fit_after g.P.Measured.chars g.P.Measured.lines (in_order c.args.left) c.args.node c.in-Some.top
+    (fit_after g.P.Measured (in_order c.args.left) c.args.node c.in-Some.top
     c.args.right c.in-Some.inner c.in-Some.outer c.in-Some.ensures.parts c.requires.fits).all_fit
 
 pub returns-then-height-clause-items : goal.returns-then-height-clause-items

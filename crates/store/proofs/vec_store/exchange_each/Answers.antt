@@ -1,6 +1,6 @@
-use Rattle.std.proofs.Common.{◌≡◌, ◌<◌, length, get_or, sum_by, refl, ap, sym, subst, arith, ◌∙◌}
+use Rattle.std.proofs.Common.{◌≡◌, ◌<◌, length, get_or, refl, ap, sym, subst, arith, ◌∙◌}
 use Rattle.store.specs.Exchanging.{pairwise, raised}
-use Rattle.store.proofs.ExchangeLemmas.{as_many, cost_all, cost_more, fit_at, raised_twice, same_sum, length-pairwise, pairwise_at}
+use Rattle.store.proofs.ExchangeLemmas.{as_many, cost_all, cost_more, fit_at, raised_twice, length-pairwise, pairwise_at}
 use Rattle.store.proofs.ListLemmas.{get_next, set_next, made_all}
 use Rattle.store.proofs.vec_store.exchange_each.Goals as goal
 
@@ -71,12 +71,6 @@ returns-clause-parts g c =
     let m = length-pairwise (g.E.Exchanger.fits by) (g.E.Exchanger.handed_out by) xs ps c.requires in
     let n = as_many (g.E.Exchanger.fits by) xs ps c.requires in
     c.loop-index.invariant.parts ∙ made_all _ ps c.loop-index.index (m ∙ sym n) (omega arith)
-
-pub returns-clause-chars : goal.returns-clause-chars
-returns-clause-chars g c =
-    let by = g.E.Exchanger.kind c.args.by.now in
-    ap (sum_by g.P.Measured.chars) (returns-clause-items g c)
-    ∙ same_sum (g.E.Exchanger.fits by) g.P.Measured.chars (g.E.Exchanger.exchanged by) (g.met.E.Exchanger.keeps_chars by) c.args.items.now c.args.parts.now c.requires
 
 pub returns-clause-worked : goal.returns-clause-worked
 returns-clause-worked g c =

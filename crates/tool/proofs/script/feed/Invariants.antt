@@ -11,13 +11,13 @@ invariant-loop-at g l =
     let state = g.W.Sink.state in
     let rules = rules_of l.fn.session.engine in
     record {
-      within : l.at ≤ length l.piece;
+      within : l.at ≤ length l.chunk;
       stands : (start : SessionState) (reader_start writer_start reader_now : Device)
           → IsAt rules l.options start reader_start reader_now writer_start (state l.fn.writer) l.fn.session
-          l.fn.reading l.piece
-          → IsAt rules l.options start reader_start reader_now writer_start (state l.writer) l.session l.reading (drop l.at l.piece);
+          l.fn.reading l.chunk
+          → IsAt rules l.options start reader_start reader_now writer_start (state l.writer) l.session l.reading (drop l.at l.chunk);
       rules : SameRules l.fn.session.engine l.session.engine;
     }
 
 abbrev pub decreases-loop-at : goal.decreases-loop-at
-decreases-loop-at g l = length l.piece - l.at
+decreases-loop-at g l = length l.chunk - l.at

@@ -9,7 +9,7 @@ use Rattle.bidi.proofs.TextCutLemmas.{some_chars}
 use Rattle.stream.proofs.Utf8Lemmas.{utf8_front}
 use Rattle.script_commands.specs.Parsed.{command_of}
 use Rattle.tool.specs.Scripts.{command_of_line}
-use Rattle.script_commands.specs.Commands.{LacksPiece, Command, command_in}
+use Rattle.script_commands.specs.Commands.{LacksInserted, Command, command_in}
 use Rattle.tool.proofs.script.read_line.Goals as goal
 use Rattle.tool.specs.declared.script.TheConstants.{LINE_LIMIT}
 
@@ -57,10 +57,10 @@ returns-clause-ok c =
     ap (command_in queries) text ∙ sym
     (ap (λ (b : Bool). if b && (utf8_valid_len line == length line) then command_in queries (chars line) else None)
     short ∙ ap (λ (b : Bool). if b then command_in queries (chars line) else None) valid) in
-    subst (λ (o : Option Command). IfOk c.read_command.result (λ command. option_map (command_of (string_bytes c.read_command.new.piece)) command ≡ o)) is c.read_command.ensures.ok
+    subst (λ (o : Option Command). IfOk c.read_command.result (λ command. option_map (command_of (string_bytes c.read_command.new.inserted)) command ≡ o)) is c.read_command.ensures.ok
 
 -- a line that contains an inserted text is not empty
-piece_some : (text kept : List ℕ) → LacksPiece text kept → 0 < length text
+piece_some : (text kept : List ℕ) → LacksInserted text kept → 0 < length text
 piece_some [] kept has = let none = has.word in cc none
 piece_some (c ∷ text) kept has = omega arith
 
@@ -80,5 +80,5 @@ returns-clause-memory c =
     let text : c.deref.result.now ≡ chars line =
     c.deref.ensures.value ∙ c.in_ok-push_characters.ensures.ok ∙ ap (λ t. t ++ chars c.front.result.0.now) c.clear.ensures.items
     ∙ ap chars (c.front.ensures.text ∙ take_all (utf8_valid_len line) line (omega (arith, is_text))) in
-    let kept = chars (string_bytes c.read_command.new.piece) in
-    err_weaker _ _ (λ has. line_some line (piece_some (chars line) kept (subst (λ (t : List ℕ). LacksPiece t kept) text has))) c.read_command.result c.read_command.ensures.memory
+    let kept = chars (string_bytes c.read_command.new.inserted) in
+    err_weaker _ _ (λ has. line_some line (piece_some (chars line) kept (subst (λ (t : List ℕ). LacksInserted t kept) text has))) c.read_command.result c.read_command.ensures.memory

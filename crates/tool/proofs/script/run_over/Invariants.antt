@@ -12,7 +12,7 @@ invariant-loop-reading g l =
     let writer = g.W.Sink.state in
     record {
       kept : rules_of l.session.engine ≡ rules_of l.fn.session.engine;
-      room : vec_len l.piece ≡ CHUNK;
+      room : vec_len l.chunk ≡ CHUNK;
       stands : IsAt (rules_of l.fn.session.engine) l.options l.fn.session (reader l.fn.reader) (reader l.reader) (writer l.fn.writer) (writer l.writer) l.session l.reading [];
     }
 

@@ -13,8 +13,8 @@ returns-then-n-total_lines g c =
 pub returns-in-Some : goal.returns-in-Some
 returns-in-Some g c =
     let kept = g.S.ParagraphStore.items c.self.inside.store in
-    let read = line_read kept c.args.n c.find_line-found.result c.find_line-found.ensures c.in-Some.kept.now c.in-Some.ensures in
+    let read = line_read kept c.args.n c.find_line-found.result c.find_line-found.ensures.found c.in-Some.kept.now c.in-Some.ensures in
     rw (← c.self.view_is) (c.line.ensures.nth ∙ ap (λ (l : Layout). slice_get (visuals l) c.find_line-found.result.rest) c.laid.ensures ∙ sym read)
 
 pub returns-in-None : goal.returns-in-None
-returns-in-None g c = absurd (found_some lines_of (g.S.ParagraphStore.items c.self.inside.store) c.args.n c.find_line-found.result c.find_line-found.ensures c.in-None.ensures)
+returns-in-None g c = absurd (found_some lines_of (g.S.ParagraphStore.items c.self.inside.store) c.args.n c.find_line-found.result c.find_line-found.ensures.found c.in-None.ensures)

@@ -2,10 +2,12 @@ use Rattle.std.proofs.Common.{◌≡◌, ℕ, ◌+◌, ◌<◌, ◌++◌, ◌∷
 use Rattle.std.specs.List.{AllZip}
 use Rattle.store.specs.Exchanging.{pairwise, total_cost}
 use Rattle.store.specs.Subtrees.{tree_of, tree_of_node, IsSummed, IsSound}
+use Rattle.store.specs.Sums.{SumsFit}
 use Rattle.store.specs.Trees.{in_order, height}
 use Rattle.std.proofs.lemmas.List.Sums.{sum_by-append}
-use Rattle.store.proofs.ExchangeLemmas.{as_many, length-pairwise, fit_front, fit_item, fit_right, pairwise-append, pairwise_parts, raised_twice, sum_parts, same_sum, set_one, AreParted}
+use Rattle.store.proofs.ExchangeLemmas.{as_many, length-pairwise, fit_front, fit_item, fit_right, pairwise-append, pairwise_parts, raised_twice, sum_parts, set_one, AreParted}
 use Rattle.store.proofs.SubtreeLemmas.{balanced_again, summed_again, IsLike}
+use Rattle.store.proofs.SumsLemmas.{fit_by, fit_again}
 use Rattle.store.proofs.subtree.Subtree.+exchange_all.Goals as goal
 
 pub split_at_mut-first-requires : goal.split_at_mut-first-requires
@@ -165,14 +167,8 @@ returns-clause-parts g t c =
       c.exchange_all.ensures.same,
     ) refl
 
-pub returns-clause-chars : goal.returns-clause-chars
-returns-clause-chars g t c =
-    let by = g.E.Exchanger.kind c.args.by.now in
-    ap (sum_by g.P.Measured.chars) (returns-clause-items g t c)
-    ∙ same_sum (g.E.Exchanger.fits by) g.P.Measured.chars (g.E.Exchanger.exchanged by) (g.met.E.Exchanger.keeps_chars by) (in_order c.args.self.now) c.args.parts.now c.requires.fit
-
-pub lines_with-lines-requires : goal.lines_with-lines-requires
-lines_with-lines-requires g t c =
+pub sums_with-sums-requires : goal.sums_with-sums-requires
+sums_with-sums-requires g t c =
     let by = g.E.Exchanger.kind c.args.by.now in
     let n = c.deref_mut-node.result.now in
     let xs = in_order n.left in
@@ -194,45 +190,29 @@ lines_with-lines-requires g t c =
     let items : in_order c.exchange_all.new.self ++ c.exchange.new.item ∷ in_order c.exchange_all-2.new.self
     ≡ pairwise (g.E.Exchanger.exchanged by) (in_order c.args.self.now) c.args.parts.now =
     rw (made, c.exchange_all.ensures.items, c.exchange.ensures.item, c.exchange_all-2.ensures.items, c.exchange.ensures.same, c.exchange_all.ensures.same) refl in
-    subst (λ zs. sum_by g.P.Measured.lines zs < 2 ^ 64) (sym items) c.requires.lines_fit
+    let summed : IsSummed g.P.Measured n =
+    subst (IsSummed g.P.Measured) (sym c.deref_mut-node.ensures.value) (subst (IsSound g.P.Measured) c.in-Some.is c.self.invariant) in
+    let fit : SumsFit g.P.Measured (in_order c.args.self.now) = rw (ap in_order tree_is) (fit_by g.P.Measured _ n.sums summed.sums_are c.fits.ensures) in
+    subst (SumsFit g.P.Measured) (sym items) (fit_again g.P.Measured (g.E.Exchanger.fits by) (g.E.Exchanger.exchanged by)
+    (g.met.E.Exchanger.keeps_chars by) (g.met.E.Exchanger.keeps_bytes by) (g.met.E.Exchanger.keeps_utf16 by) (in_order c.args.self.now)
+    c.args.parts.now c.requires.fit c.requires.lines_fit fit)
 
 pub invariant_of-self-2 : goal.invariant_of-self-2
 invariant_of-self-2 g t c =
-    let by = g.E.Exchanger.kind c.args.by.now in
     let n = c.deref_mut-node.result.now in
-    let xs = in_order n.left in
-    let ys = in_order n.right in
-    let ps = c.split_at_mut-first.result.0.now in
-    let rest = c.split_at_mut-first.result.1.now in
-    let one = c.split_at_mut-part.result.0.now in
-    let qs = c.split_at_mut-part.result.1.now in
-    let d = c.index-part-0.result in
-    let tree_is = sym c.self.view_is ∙ ap tree_of c.in-Some.is ∙ ap tree_of_node (sym c.deref_mut-node.ensures.value) in
-    let parted : AreParted (g.E.Exchanger.fits by) xs n.item ys ps rest one qs c.args.parts.now = record {
-      all_is = c.split_at_mut-first.ensures.value;
-      rest_is = c.split_at_mut-part.ensures.value;
-      front_len = c.split_at_mut-first.ensures.front_len ∙ c.count-before.ensures;
-      one_len = c.split_at_mut-part.ensures.front_len;
-    } in
-    let whole = subst (λ zs. AllZip (g.E.Exchanger.fits by) zs c.args.parts.now) (ap in_order tree_is) c.requires.fit in
-    let summed : IsSummed g.P.Measured.chars g.P.Measured.lines n =
-    subst (IsSummed g.P.Measured.chars g.P.Measured.lines) (sym c.deref_mut-node.ensures.value) (subst (IsSound g.P.Measured.chars g.P.Measured.lines) c.in-Some.is c.self.invariant) in
-    let l : IsLike g.P.Measured.chars n.left c.exchange_all.new.self = record {
+    let summed : IsSummed g.P.Measured n =
+    subst (IsSummed g.P.Measured) (sym c.deref_mut-node.ensures.value) (subst (IsSound g.P.Measured) c.in-Some.is c.self.invariant) in
+    let l : IsLike n.left c.exchange_all.new.self = record {
       balanced = c.exchange_all.ensures.balanced;
       height_is = c.exchange_all.ensures.height;
       count_is = c.exchange_all.ensures.count;
-      chars_is = c.exchange_all.ensures.chars;
     } in
-    let r : IsLike g.P.Measured.chars n.right c.exchange_all-2.new.self = record {
+    let r : IsLike n.right c.exchange_all-2.new.self = record {
       balanced = c.exchange_all-2.ensures.balanced;
       height_is = c.exchange_all-2.ensures.height;
       count_is = c.exchange_all-2.ensures.count;
-      chars_is = c.exchange_all-2.ensures.chars;
     } in
-    let item_is = ap g.P.Measured.chars c.exchange.ensures.item
-    ∙ ap (λ other. g.P.Measured.chars (g.E.Exchanger.exchanged other n.item (get_or one 0 d))) c.exchange_all.ensures.same
-    ∙ g.met.E.Exchanger.keeps_chars by n.item _ (fit_item (g.E.Exchanger.fits by) xs n.item ys ps rest one qs d parted whole) in
-    summed_again g.P.Measured.chars g.P.Measured.lines n _ summed l r item_is refl refl refl c.lines_with-lines.ensures
+    summed_again g.P.Measured n _ summed l r refl refl c.sums_with-sums.ensures
 
 pub returns-clause-count : goal.returns-clause-count
 returns-clause-count g t c =
@@ -248,8 +228,8 @@ returns-clause-height g t c =
 pub returns-clause-balanced : goal.returns-clause-balanced
 returns-clause-balanced g t c =
     let n = c.deref_mut-node.result.now in
-    let summed : IsSummed g.P.Measured.chars g.P.Measured.lines n =
-    subst (IsSummed g.P.Measured.chars g.P.Measured.lines) (sym c.deref_mut-node.ensures.value) (subst (IsSound g.P.Measured.chars g.P.Measured.lines) c.in-Some.is c.self.invariant) in
+    let summed : IsSummed g.P.Measured n =
+    subst (IsSummed g.P.Measured) (sym c.deref_mut-node.ensures.value) (subst (IsSound g.P.Measured) c.in-Some.is c.self.invariant) in
     balanced_again n.left n.right c.exchange_all.new.self c.exchange_all-2.new.self n.item summed.balanced
     c.exchange_all.ensures.balanced c.exchange_all-2.ensures.balanced c.exchange_all.ensures.height c.exchange_all-2.ensures.height
 

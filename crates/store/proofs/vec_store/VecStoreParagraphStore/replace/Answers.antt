@@ -1,88 +1,66 @@
-use Rattle.std.proofs.lemmas.Grind.{common_steps}
-use Rattle.std.proofs.Common.{◌≡◌, ◌+◌, ◌-◌, ◌^◌, ◌<◌, ◌≤◌, sum_by, ap, sym, ◌∙◌, arith}
+use Rattle.std.proofs.Common.{◌≡◌, slice_range, ap, sym, subst, ◌∙◌}
 use Rattle.std.specs.List.{splice}
-use Rattle.store.proofs.ListLemmas.{range_within, sum_after}
+use Rattle.store.specs.Sums.{AreSums, SumsFit}
+use Rattle.store.proofs.FitsLemmas.{sums_less}
+use Rattle.store.proofs.ListLemmas.{range_within, splice_within}
+use Rattle.store.proofs.SumsLemmas.{fit_by, fit_each, old_within, new_fit, new_are}
 use Rattle.store.proofs.vec_store.VecStoreParagraphStore.replace.Goals as goal
 
-pub sums-old_chars-requires-clause-chars_fit : goal.sums-old_chars-requires-clause-chars_fit
-sums-old_chars-requires-clause-chars_fit g c =
-    let within : sum_by g.P.Measured.chars c.deref-2.result.now ≤ c.self.inside.chars =
-    range_within g.P.Measured.chars c.reserve.new.self.items c.deref-2.result.now c.args.range.start c.args.range.end
-    c.self.inside.chars c.requires.ordered (c.self.invariant.0
-    ∙ ap (sum_by g.P.Measured.chars) (sym c.reserve.ensures.items)) (c.deref-2.ensures.value
-    ∙ c.put_in.ensures.moved) in
-    omega arith
+pub sums-new_sums-requires : goal.sums-new_sums-requires
+sums-new_sums-requires g c =
+    let i = c.args.range.start in
+    let j = c.args.range.end in
+    let xs = c.args.self.now in
+    let ys = c.args.new_items.items in
+    let fit = fit_each g.P.Measured (splice xs i j ys) c.requires.chars_fit c.requires.lines_fit c.requires.bytes_fit c.requires.utf16_fit in
+    rw c.deref.ensures.value (sums_less g.P.Measured (splice xs i j ys) ys (λ size. splice_within size xs i j ys) fit)
 
-pub overflow_sub-self : goal.overflow_sub-self
-overflow_sub-self g c =
-    let within : sum_by g.P.Measured.chars c.deref-2.result.now ≤ c.self.inside.chars =
-    range_within g.P.Measured.chars c.reserve.new.self.items c.deref-2.result.now c.args.range.start c.args.range.end
-    c.self.inside.chars c.requires.ordered (c.self.invariant.0
-    ∙ ap (sum_by g.P.Measured.chars) (sym c.reserve.ensures.items)) (c.deref-2.ensures.value
-    ∙ c.put_in.ensures.moved) in
-    omega (arith, c.sums-old_chars.ensures.chars)
+pub sums-requires : goal.sums-requires
+sums-requires g c =
+    let i = c.args.range.start in
+    let j = c.args.range.end in
+    let xs = c.self.inside.items.items in
+    let old_is : c.deref-2.result.now ≡ slice_range xs i j =
+    c.deref-2.ensures.value ∙ c.put_in.ensures.moved ∙ ap (λ zs. slice_range zs i j) c.reserve.ensures.items in
+    rw old_is (sums_less g.P.Measured xs (slice_range xs i j) (λ size. range_within size xs i j c.requires.ordered)
+    (fit_by g.P.Measured xs c.self.inside.sums c.self.invariant c.fits.ensures))
 
-pub sums-old_chars-requires-clause-lines_fit : goal.sums-old_chars-requires-clause-lines_fit
-sums-old_chars-requires-clause-lines_fit g c =
-    let within : sum_by g.P.Measured.lines c.deref-2.result.now ≤ c.self.inside.lines =
-    range_within g.P.Measured.lines c.reserve.new.self.items c.deref-2.result.now c.args.range.start c.args.range.end
-    c.self.inside.lines c.requires.ordered (c.self.invariant.1
-    ∙ ap (sum_by g.P.Measured.lines) (sym c.reserve.ensures.items)) (c.deref-2.ensures.value
-    ∙ c.put_in.ensures.moved) in
-    omega arith
+pub minus-requires : goal.minus-requires
+minus-requires g c =
+    let i = c.args.range.start in
+    let j = c.args.range.end in
+    let xs = c.self.inside.items.items in
+    let old_is : c.deref-2.result.now ≡ slice_range xs i j =
+    c.deref-2.ensures.value ∙ c.put_in.ensures.moved ∙ ap (λ zs. slice_range zs i j) c.reserve.ensures.items in
+    let old : AreSums g.P.Measured (slice_range xs i j) c.sums.result = subst (λ zs. AreSums g.P.Measured zs c.sums.result) old_is c.sums.ensures in
+    old_within g.P.Measured xs c.args.new_items.items i j c.requires.ordered c.self.inside.sums c.sums.result
+    c.sums.result c.sums.result c.sums.result c.self.invariant old
 
-pub overflow_sub-self-2 : goal.overflow_sub-self-2
-overflow_sub-self-2 g c =
-    let within : sum_by g.P.Measured.lines c.deref-2.result.now ≤ c.self.inside.lines =
-    range_within g.P.Measured.lines c.reserve.new.self.items c.deref-2.result.now c.args.range.start c.args.range.end
-    c.self.inside.lines c.requires.ordered (c.self.invariant.1
-    ∙ ap (sum_by g.P.Measured.lines) (sym c.reserve.ensures.items)) (c.deref-2.ensures.value
-    ∙ c.put_in.ensures.moved) in
-    omega (arith, c.sums-old_chars.ensures.lines)
+pub plus-self-inside-requires : goal.plus-self-inside-requires
+plus-self-inside-requires g c =
+    let i = c.args.range.start in
+    let j = c.args.range.end in
+    let xs = c.self.inside.items.items in
+    let ys = c.args.new_items.items in
+    let old_is : c.deref-2.result.now ≡ slice_range xs i j =
+    c.deref-2.ensures.value ∙ c.put_in.ensures.moved ∙ ap (λ zs. slice_range zs i j) c.reserve.ensures.items in
+    let old : AreSums g.P.Measured (slice_range xs i j) c.sums.result = subst (λ zs. AreSums g.P.Measured zs c.sums.result) old_is c.sums.ensures in
+    let new : AreSums g.P.Measured ys c.sums-new_sums.result = subst (λ zs. AreSums g.P.Measured zs c.sums-new_sums.result) c.deref.ensures.value c.sums-new_sums.ensures in
+    let fit = fit_each g.P.Measured (splice c.args.self.now i j ys) c.requires.chars_fit c.requires.lines_fit c.requires.bytes_fit c.requires.utf16_fit in
+    new_fit g.P.Measured xs ys i j c.requires.ordered c.self.inside.sums c.sums.result c.sums-new_sums.result c.minus.result c.minus.result
+    c.self.invariant old new c.minus.ensures (subst (λ zs. SumsFit g.P.Measured (splice zs i j ys)) (sym c.self.view_is) fit)
 
 pub invariant_of-self-2 : goal.invariant_of-self-2
 invariant_of-self-2 g c =
-    let old_is = c.deref-2.ensures.value ∙ c.put_in.ensures.moved in (
-      sum_after g.P.Measured.chars c.reserve.new.self.items c.args.new_items.items c.deref.result.now
-          c.deref-2.result.now c.put_in.new.items.items c.args.range.start c.args.range.end c.self.inside.chars
-          c.sums-old_chars.result.0 c.sums-new_chars.result.0 c.requires.ordered (c.self.invariant.0
-          ∙ ap (sum_by g.P.Measured.chars) (sym c.reserve.ensures.items)) old_is c.sums-old_chars.ensures.chars
-          c.deref.ensures.value c.sums-new_chars.ensures.chars c.put_in.ensures.items,
-      sum_after g.P.Measured.lines c.reserve.new.self.items c.args.new_items.items c.deref.result.now
-          c.deref-2.result.now c.put_in.new.items.items c.args.range.start c.args.range.end c.self.inside.lines
-          c.sums-old_chars.result.1 c.sums-new_chars.result.1 c.requires.ordered (c.self.invariant.1
-          ∙ ap (sum_by g.P.Measured.lines) (sym c.reserve.ensures.items)) old_is c.sums-old_chars.ensures.lines
-          c.deref.ensures.value c.sums-new_chars.ensures.lines c.put_in.ensures.items,
-    )
-
-pub overflow_add-self : goal.overflow_add-self
-overflow_add-self g c =
-    let old_is = c.deref-2.ensures.value ∙ c.put_in.ensures.moved in
-    let new_is : c.put_in.new.items.items ≡ splice c.args.self.now c.args.range.start c.args.range.end c.args.new_items.items =
-    c.put_in.ensures.items ∙ ap (λ xs. splice xs c.args.range.start c.args.range.end c.args.new_items.items) (c.reserve.ensures.items ∙ c.self.view_is) in
-    let sum_is = sum_after g.P.Measured.chars c.reserve.new.self.items c.args.new_items.items c.deref.result.now
-    c.deref-2.result.now c.put_in.new.items.items c.args.range.start c.args.range.end c.self.inside.chars
-    c.sums-old_chars.result.0 c.sums-new_chars.result.0
-    c.requires.ordered (c.self.invariant.0 ∙ ap (sum_by g.P.Measured.chars) (sym c.reserve.ensures.items)) old_is
-    c.sums-old_chars.ensures.chars c.deref.ensures.value c.sums-new_chars.ensures.chars c.put_in.ensures.items in
-    let fits : c.self.inside.chars - c.sums-old_chars.result.0 + c.sums-new_chars.result.0 < 2 ^ 64 = rw (sum_is, new_is) c.requires.chars_fit in
-    omega arith
-
-pub overflow_add-self-2 : goal.overflow_add-self-2
-overflow_add-self-2 g c =
-    let old_is = c.deref-2.ensures.value ∙ c.put_in.ensures.moved in
-    let new_is : c.put_in.new.items.items ≡ splice c.args.self.now c.args.range.start c.args.range.end c.args.new_items.items =
-    c.put_in.ensures.items ∙ ap (λ xs. splice xs c.args.range.start c.args.range.end c.args.new_items.items) (c.reserve.ensures.items ∙ c.self.view_is) in
-    let sum_is = sum_after g.P.Measured.lines c.reserve.new.self.items c.args.new_items.items c.deref.result.now
-    c.deref-2.result.now c.put_in.new.items.items c.args.range.start c.args.range.end c.self.inside.lines
-    c.sums-old_chars.result.1 c.sums-new_chars.result.1
-    c.requires.ordered (c.self.invariant.1 ∙ ap (sum_by g.P.Measured.lines) (sym c.reserve.ensures.items)) old_is
-    c.sums-old_chars.ensures.lines c.deref.ensures.value c.sums-new_chars.ensures.lines c.put_in.ensures.items in
-    let fits : c.self.inside.lines - c.sums-old_chars.result.1 + c.sums-new_chars.result.1 < 2 ^ 64 = rw (sum_is, new_is) c.requires.lines_fit in
-    omega arith
-
-pub sums-new_chars-requires-clause-chars_fit : goal.sums-new_chars-requires-clause-chars_fit
-sums-new_chars-requires-clause-chars_fit g c = grind (arith, common_steps)
-
-pub sums-new_chars-requires-clause-lines_fit : goal.sums-new_chars-requires-clause-lines_fit
-sums-new_chars-requires-clause-lines_fit g c = grind (arith, common_steps)
+    let i = c.args.range.start in
+    let j = c.args.range.end in
+    let xs = c.self.inside.items.items in
+    let ys = c.args.new_items.items in
+    let old_is : c.deref-2.result.now ≡ slice_range xs i j =
+    c.deref-2.ensures.value ∙ c.put_in.ensures.moved ∙ ap (λ zs. slice_range zs i j) c.reserve.ensures.items in
+    let new_is : c.put_in.new.items.items ≡ splice xs i j ys =
+    c.put_in.ensures.items ∙ ap (λ zs. splice zs i j ys) c.reserve.ensures.items in
+    let old : AreSums g.P.Measured (slice_range xs i j) c.sums.result = subst (λ zs. AreSums g.P.Measured zs c.sums.result) old_is c.sums.ensures in
+    let new : AreSums g.P.Measured ys c.sums-new_sums.result = subst (λ zs. AreSums g.P.Measured zs c.sums-new_sums.result) c.deref.ensures.value c.sums-new_sums.ensures in
+    rw new_is (new_are g.P.Measured xs ys i j c.requires.ordered c.self.inside.sums c.sums.result c.sums-new_sums.result c.minus.result c.plus-self-inside.result
+    c.self.invariant old new c.minus.ensures c.plus-self-inside.ensures)

@@ -1,0 +1,18 @@
+-- The line starts and shown parts of a paragraph at a width, in buffers that have enough capacity for each
+-- line. No contract of an exported function uses this definition.
+use Rattle.std.specs.Prelude.{◌≡◌, ℕ, length}
+use Rattle.lines.specs.Buffers.{CanHold}
+use Rattle.lines.specs.CharInfos.{infos_of}
+use Rattle.lines.specs.Extents.{shown_from}
+use Rattle.lines.specs.Filling.{line_starts_of}
+use Rattle.lines.specs.Kept.{AreStarts}
+use Rattle.lines.specs.declared.buffers.LineBuffers.{LineBuffers}
+use Rattle.lines.specs.declared.paragraph.Text.{Text}
+
+pub record AreExtentsOf (text : Text) (width : ℕ) (lines : LineBuffers) : Type 0 where
+  pub starts : lines.starts.items
+      ≡ line_starts_of text.rules.options.nobreak width (infos_of text.rules.tables.now text.rules.options.whole_numbers text.characters.now)
+  pub shown : lines.shown.items
+      ≡ shown_from (length text.characters.now) (infos_of text.rules.tables.now text.rules.options.whole_numbers text.characters.now) lines.starts.items
+  pub ordered : AreStarts (length text.characters.now) lines.starts.items
+  pub visual : CanHold (length text.characters.now) lines.visual

@@ -1,0 +1,45 @@
+-- How the spans of a range are found, one after the other. No contract of an exported function uses these
+-- definitions.
+use Rattle.std.specs.Prelude.{◌≡◌, ℕ, ◌*◌, ◌<◌, ◌≤◌, Bool, false, not, [], length, slice_index}
+use Rattle.lines.specs.CharInfos.{columns_of}
+use Rattle.lines.specs.Columns.{columns_left}
+use Rattle.lines.specs.Spans.{is_covered, is_left_edge, is_selected}
+use Rattle.lines.specs.Visual.{Visual}
+use Rattle.lines.specs.declared.spans.Reached.{Reached}
+use Rattle.lines.specs.declared.spans.Selection.{Selection}
+
+-- the line of a selection, as far as spans depend on it
+abbrev pub selected_in : Selection → Visual
+selected_in s = record {
+  is_first = false;
+  base = 0;
+  len = 0;
+  text = s.text.now;
+  columns = 0;
+  levels = [];
+  ltov = [];
+  vtol = s.vtol.now;
+  chars = [];
+}
+
+-- the columns of the character at a visual position
+abbrev pub columns_on : Visual → ℕ → ℕ
+columns_on line place = columns_of (slice_index line.text (slice_index line.vtol place))
+
+-- whether a visual position is in the line, and the columns to its left have been counted
+pub record IsReached (line : Visual) (at : Reached) : Type 0 where
+  pub within : at.place ≤ length line.vtol
+  pub column : at.column ≡ columns_left line at.place
+  pub few : at.column ≤ 3 * at.place
+
+-- whether the characters from one visual position to the next, if they take columns, are selected or not as
+-- told, and the character there takes columns and is the other way
+pub record Passes (s : Selection) (inside : Bool) (old new : ℕ) : Type 0 where
+  pub forward : old ≤ new
+  pub passed : (place : ℕ) → old ≤ place → place < new → 0 < columns_on (selected_in s) place → is_selected (selected_in s) s.start s.end place ≡ inside
+  pub takes : new < length s.vtol.now → 0 < columns_on (selected_in s) new
+  pub stops : new < length s.vtol.now → is_selected (selected_in s) s.start s.end new ≡ not inside
+
+-- whether no span that has been found touches a column
+abbrev pub IsFresh : Selection → ℕ → Type 0
+IsFresh s column = is_left_edge (is_covered (selected_in s) s.start s.end) column ≡ is_covered (selected_in s) s.start s.end column

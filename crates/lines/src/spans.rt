@@ -1,0 +1,128 @@
+//! The columns that a range of a line's characters covers, as maximal intervals.
+ghost use Rattle.std.specs.Prelude.{◌≡◌, ◌<◌, length};
+ghost use Rattle.ucd.specs.Within.{AreWithin};
+ghost use Rattle.lines.specs.Selections.{selected_in, IsReached, Passes};
+ghost use Rattle.lines.specs.Spans.{is_selected};
+
+use crate::visual_line::columns_at;
+use std::marker::Model;
+
+/// An interval of columns, counted from the left edge of a line's shown part: `left`, and the columns to its
+/// right up to but not including `right`.
+#[derive(Clone, Copy, Debug, PartialEq, Eq)]
+pub struct Span {
+    pub left: usize,
+    pub right: usize,
+}
+
+/// An iterator over the columns that a range of a line's characters covers (`VisualLine::spans`).
+#[derive(Debug, Drop)]
+pub struct Spans<'a> {
+    selection: Selection<'a>,
+    at: Reached,
+}
+
+/// The characters of a line, and a range of their positions.
+#[derive(Clone, Copy, Debug)]
+pub(crate) struct Selection<'a> {
+    pub(crate) text: &'a [char],
+    pub(crate) vtol: &'a [u32],
+    pub(crate) start: usize,
+    pub(crate) end: usize,
+}
+
+/// A visual position, and the number of columns to its left.
+#[derive(Clone, Copy, Debug)]
+pub(crate) struct Reached {
+    pub(crate) place: usize,
+    pub(crate) column: usize,
+}
+
+impl<'a> Model for Spans<'a> {
+    ghost use Rattle.std.specs.Prelude.{List, length};
+    ghost use Rattle.ucd.specs.Within.{AreWithin};
+    ghost use Rattle.lines.specs.Selections.{selected_in, IsFresh, IsReached};
+    ghost use Rattle.lines.specs.Spans.{spans_from};
+    ghost use Rattle.lines.specs.declared.spans.Span.{Span};
+
+    ghost Value = { List Span };
+
+    ghost view = { λ s. spans_from (selected_in s.selection) s.selection.start s.selection.end s.at.column };
+
+    ghost invariant = { λ s. AreWithin (length s.selection.text.now) s.selection.vtol.now
+        × IsReached (selected_in s.selection) s.at × IsFresh s.selection s.at.column };
+}
+
+impl<'a> Spans<'a> {
+    ghost use Rattle.lines.specs.Spans.{spans_from};
+
+    /// Returns the spans of a selection.
+    pub(crate) fn new(selection: Selection<'a>) -> Spans<'a>
+        requires { AreWithin (length selection.text.now) selection.vtol.now }
+        ensures { result ≡ spans_from (selected_in selection.entry) selection.entry.start selection.entry.end 0 }
+    {
+        Spans {
+            selection,
+            at: Reached {
+                place: 0,
+                column: 0,
+            },
+        }
+    }
+}
+
+impl<'a> Iterator for Spans<'a> {
+    ghost use Rattle.std.specs.Iterator.{item_count, YieldsFirst};
+
+    type Item = Span;
+
+    ghost next_gives = { YieldsFirst (λ spans. spans) };
+
+    ghost remaining = { item_count (λ spans. spans) };
+
+    fn next(&mut self) -> Option<Span> {
+        let selection = self.selection;
+        let left = pass(&selection, self.at, false);
+        let right = pass(&selection, left, true);
+        self.at = right;
+        if left.place == selection.vtol.len() {
+            return None;
+        }
+        Some(Span {
+            left: left.column,
+            right: right.column,
+        })
+    }
+}
+
+// Returns the first visual position, from `at` on, of a character that takes columns and is selected, or is
+// not selected if `inside` is true.
+fn pass(selection: &Selection<'_>, at: Reached, inside: bool) -> Reached
+    requires within { AreWithin (length selection.now.text.now) selection.now.vtol.now }
+    requires at { IsReached (selected_in selection.now) at }
+    ensures at { IsReached (selected_in selection.now) result }
+    ensures passes { Passes selection.now inside at.place result.place }
+{
+    let text = selection.text;
+    let vtol = selection.vtol;
+    let mut place = at.place;
+    let mut column = at.column;
+    while place < vtol.len() {
+        let columns = columns_at(text, vtol, place);
+        if columns > 0 && is_selected(selection, place) != inside {
+            return Reached { place, column };
+        }
+        column += columns;
+        place += 1;
+    }
+    Reached { place, column }
+}
+
+// Whether the character at a visual position is selected.
+fn is_selected(selection: &Selection<'_>, place: usize) -> bool
+    requires { place < length selection.now.vtol.now }
+    ensures { result ≡ is_selected (selected_in selection.now) selection.now.start selection.now.end place }
+{
+    let position = selection.vtol[place] as usize;
+    selection.start <= position && position < selection.end
+}

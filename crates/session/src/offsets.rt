@@ -1,0 +1,171 @@
+//! Converts positions to offsets in UTF-8 bytes or UTF-16 code units, and back. The sums in the store find the
+//! paragraph. A paragraph with as many units as characters is not scanned.
+ghost use Rattle.std.specs.Prelude.{◌≡◌, ◌<◌, ◌≤◌, List, ℕ, length, sum_by, take};
+ghost use Rattle.session.specs.Kept.{text_of};
+ghost use Rattle.session.specs.Offsets.{before_in, length_in, offset_of, position_of, size_in};
+ghost use Rattle.session.specs.Offsets.{units_of, IsUnitAt};
+ghost use Rattle.store.specs.Finding.{Finds};
+
+use crate::edge::front;
+use crate::kept::Kept;
+use store::{Found, Measured, ParagraphStore};
+
+/// An encoding, whose units are counted.
+#[derive(Clone, Copy)]
+pub enum Encoding {
+    Utf8,
+    Utf16,
+}
+
+impl Encoding {
+    // Returns the number of units of a character.
+    fn size_of(self, c: char) -> usize
+        ensures size { result ≡ size_in self c }
+        ensures few { result ≤ 4 }
+    {
+        match self {
+            Encoding::Utf8 => c.len_utf8(),
+            Encoding::Utf16 => c.len_utf16(),
+        }
+    }
+
+    /// Returns the number of units of characters.
+    pub fn length(self, text: &[char]) -> usize
+        ensures { result ≡ length_in self text.now }
+    {
+        let mut length = 0;
+        for c in text {
+            length += self.size_of(*c);
+        }
+        length
+    }
+
+    // Returns the number of units of a paragraph.
+    fn units(self, kept: &Kept) -> usize
+        ensures { result ≡ units_of self kept.now }
+    {
+        match self {
+            Encoding::Utf8 => kept.bytes(),
+            Encoding::Utf16 => kept.utf16(),
+        }
+    }
+
+    // Returns the number of units of the text.
+    fn total<S: ParagraphStore<Kept>>(self, store: &S) -> usize
+        ensures { result ≡ sum_by (units_of self) (S.items store.now) }
+    {
+        match self {
+            Encoding::Utf8 => store.total_bytes(),
+            Encoding::Utf16 => store.total_utf16(),
+        }
+    }
+
+    // Finds the paragraph that contains a unit.
+    fn find<S: ParagraphStore<Kept>>(self, store: &S, offset: usize) -> Found
+        requires { offset < sum_by (units_of self) (S.items store.now) }
+        ensures { Finds (units_of self) (λ kept. length kept.text) (λ kept. length kept.lines)
+            (S.items store.now) offset result }
+    {
+        match self {
+            Encoding::Utf8 => store.find_byte(offset),
+            Encoding::Utf16 => store.find_utf16(offset),
+        }
+    }
+
+    // Returns the number of units before a found paragraph.
+    fn before(self, found: Found) -> usize
+        ensures { result ≡ before_in self found }
+    {
+        match self {
+            Encoding::Utf8 => found.bytes_before,
+            Encoding::Utf16 => found.utf16_before,
+        }
+    }
+}
+
+// Returns the number of units of the first characters of a paragraph.
+fn length_to(kept: &Kept, count: usize, encoding: Encoding) -> usize
+    requires { count ≤ length kept.now.text }
+    ensures { result ≡ length_in encoding (take count kept.now.text) }
+{
+    if encoding.units(kept) == kept.chars() {
+        return count;
+    }
+    encoding.length(front(kept.laid().text(), count))
+}
+
+// Returns the position of a unit in a text, and its number within the character there.
+fn unit_at(text: &[char], offset: usize, encoding: Encoding) -> (usize, usize)
+    requires { offset < length_in encoding text.now }
+    ensures { IsUnitAt encoding text.now offset result.0 result.1 }
+{
+    let mut rest = offset;
+    for (pos, c) in text.iter().enumerate() {
+        let size = encoding.size_of(*c);
+        if rest < size {
+            return (pos, rest);
+        }
+        rest -= size;
+    }
+    unreachable!()
+}
+
+// Returns the position of a unit in a paragraph, and its number within the character there.
+fn unit_in(kept: &Kept, offset: usize, encoding: Encoding) -> (usize, usize)
+    requires { offset < units_of encoding kept.now }
+    ensures { IsUnitAt encoding kept.now.text offset result.0 result.1 }
+{
+    if encoding.units(kept) == kept.chars() {
+        return (offset, 0);
+    }
+    unit_at(kept.laid().text(), offset, encoding)
+}
+
+/// Returns the number of units before a position, or `None` past the end.
+pub fn offset_of<S: ParagraphStore<Kept>>(
+    store: &S,
+    pos: usize,
+    encoding: Encoding,
+) -> Option<usize>
+    ensures { result ≡ offset_of encoding (text_of (S.items store.now)) pos }
+{
+    // The contract of `total` bounds the number of units.
+    let total = encoding.total(store);
+    let len = store.total_chars();
+    if pos > len {
+        return None;
+    }
+    if pos == len {
+        return Some(total);
+    }
+    let found = store.find_char(pos);
+    match store.get(found.index) {
+        Some(kept) => Some(encoding.before(found) + length_to(kept, found.rest, encoding)),
+        None => unreachable!(),
+    }
+}
+
+/// Returns the position of a unit, and its number within the character there, or `None` past the end.
+pub fn position_of<S: ParagraphStore<Kept>>(
+    store: &S,
+    offset: usize,
+    encoding: Encoding,
+) -> Option<(usize, usize)>
+    ensures { result ≡ position_of encoding (text_of (S.items store.now)) offset }
+{
+    let (total, len) = (encoding.total(store), store.total_chars());
+    if offset > total {
+        return None;
+    }
+    if offset == total {
+        return Some((len, 0));
+    }
+    let found = encoding.find(store, offset);
+    match store.get(found.index) {
+        Some(kept) => {
+            let (pos, rest) = unit_in(kept, found.rest, encoding);
+            Some((found.chars_before + pos, rest))
+        }
+        None => unreachable!(),
+    }
+}
