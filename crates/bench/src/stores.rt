@@ -10,7 +10,7 @@ use std::ops::Range;
 use std::time::Instant;
 use store::{Measured, ParagraphStore, TreeStore, VecStore};
 
-// A paragraph of at most one character and one line, padded with some more bytes.
+// A paragraph of at most one ASCII character and one line, with some more bytes.
 #[derive(Clone, Copy)]
 struct Small {
     has_text: bool,
@@ -22,11 +22,23 @@ impl Measured for Small {
 
     ghost lines = { λ item. (if item.has_text then 1 else 0) };
 
+    ghost bytes = { λ item. (if item.has_text then 1 else 0) };
+
+    ghost utf16 = { λ item. (if item.has_text then 1 else 0) };
+
     fn chars(&self) -> usize {
         if self.has_text { 1 } else { 0 }
     }
 
     fn lines(&self) -> usize {
+        if self.has_text { 1 } else { 0 }
+    }
+
+    fn bytes(&self) -> usize {
+        if self.has_text { 1 } else { 0 }
+    }
+
+    fn utf16(&self) -> usize {
         if self.has_text { 1 } else { 0 }
     }
 }

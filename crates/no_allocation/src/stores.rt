@@ -6,7 +6,7 @@ use oom_calls::Wrong;
 use std::alloc::Global;
 use store::{Exchange, Measured, ParagraphStore};
 
-/// An item of three characters and some lines. The number of lines is its part.
+/// An item of three ASCII characters and some lines, which are its part.
 #[derive(Drop)]
 pub struct Item {
     lines: usize,
@@ -17,12 +17,24 @@ impl Measured for Item {
 
     ghost lines = { λ item. item.lines };
 
+    ghost bytes = { λ item. 3 };
+
+    ghost utf16 = { λ item. 3 };
+
     fn chars(&self) -> usize {
         3
     }
 
     fn lines(&self) -> usize {
         self.lines
+    }
+
+    fn bytes(&self) -> usize {
+        3
+    }
+
+    fn utf16(&self) -> usize {
+        3
     }
 }
 
@@ -42,6 +54,10 @@ impl Exchange for Item {
     }
 
     ghost keeps_chars = { λ item part fits. refl };
+
+    ghost keeps_bytes = { λ item part fits. refl };
+
+    ghost keeps_utf16 = { λ item part fits. refl };
 }
 
 /// Returns a digest of what the calls return, which is the same in each round.

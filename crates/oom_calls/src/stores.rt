@@ -6,7 +6,7 @@ use std::alloc::{AllocError, Global};
 use std::ops::Range;
 use store::{Measured, ParagraphStore};
 
-// An item of one character and one line, identified by its name.
+// An item of one ASCII character and one line, identified by its name.
 #[derive(Clone, Copy, Debug, PartialEq, Eq)]
 pub struct Item {
     name: u8,
@@ -17,11 +17,23 @@ impl Measured for Item {
 
     ghost lines = { λ _. 1 };
 
+    ghost bytes = { λ _. 1 };
+
+    ghost utf16 = { λ _. 1 };
+
     fn chars(&self) -> usize {
         1
     }
 
     fn lines(&self) -> usize {
+        1
+    }
+
+    fn bytes(&self) -> usize {
+        1
+    }
+
+    fn utf16(&self) -> usize {
         1
     }
 }

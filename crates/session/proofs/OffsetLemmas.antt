@@ -1,12 +1,13 @@
 -- Positions of a text, and numbers of UTF-8 bytes or UTF-16 code units before them.
-use Rattle.std.proofs.Common.{◌≡◌, ℕ, ◌+◌, ◌-◌, ◌<◌, ◌≤◌, nat_le, nat_lt, Bool, true, false, if◌then◌else◌, List, [], ◌∷◌, ◌++◌, length, take, drop, get_or, sum_by, Option, Some, None, is_none, inl, inr, zero, suc, add-one, refl, sym, ap, ap₂, ◌∙◌, arith, append_assoc, length-append}
-use Rattle.std.specs.List.{slice_get}
+use Rattle.std.proofs.Common.{◌≡◌, ℕ, ◌+◌, ◌-◌, ◌*◌, ◌<◌, ◌≤◌, nat_le, nat_lt, Bool, true, false, if◌then◌else◌, List, [], ◌∷◌, ◌++◌, length, take, drop, get_or, sum_by, encode_utf8, encode_utf8_all, Option, Some, None, is_none, unwrap_or, inl, inr, zero, suc, add-one, refl, sym, ap, ap₂, ◌∙◌, arith, append_assoc, length-append}
+use Rattle.std.specs.Char.{len_utf8}
+use Rattle.std.specs.List.{slice_get, slice_range}
 use Rattle.std.specs.Option.{option_map}
 use Rattle.std.proofs.lemmas.Bool.{cases_Bool, cond-true, cond-false, le-ltb, lt-ltb, le-leb, lt-leb}
 use Rattle.std.proofs.lemmas.List.{get_or_default, length-drop, length-take, length-take-le, take-append-le}
 use Rattle.std.proofs.lemmas.List.Sums.{sum_by-append, sum_by-cons, sum_by-take-drop, sum_by-take-le}
-use Rattle.std.proofs.Math.Seq.{take-append_seam, take-append-add, take-length}
-use Rattle.std.proofs.lemmas.Str.{len_utf8_bounds}
+use Rattle.std.proofs.Math.Seq.{take-add, take-append_seam, take-append-add, take-length}
+use Rattle.std.proofs.lemmas.Str.{length-encode, len_utf8_bounds}
 use Rattle.bidi.specs.Brackets.{greatest}
 use Rattle.bidi.proofs.PairLemmas.{greatest_here}
 use Rattle.lines.proofs.FillingLemmas.{greatest_skips}
@@ -15,6 +16,7 @@ use Rattle.session.specs.Kept.{text_of}
 use Rattle.session.specs.Offsets.{length_in, offset_of, position_of, before_in, size_in, units_of, IsUnitAt}
 use Rattle.session.specs.declared.offsets.Encoding.{Encoding}
 use Rattle.session.specs.declared.offsets.Encoding.TheVariants.{Utf8, Utf16}
+use Rattle.session.specs.Reading.{utf8_part}
 use Rattle.store.specs.Finding.{CountsBefore, Finds}
 use Rattle.store.specs.declared.found.Found.{Found}
 use Rattle.store.proofs.ListLemmas.{at_place, take_far}
@@ -211,3 +213,30 @@ module _ (encoding : Encoding) (kept : List Layout) (offset : ℕ) (found : Foun
           rest_is = omega (arith, u.rest_is, f.rest, length-units encoding f.before, sum_by-append (size_in encoding) front u.before);
           within = u.within;
         }
+
+-- an offset inside the text is not `None`
+pub offset_there : (encoding : Encoding) (text : List ℕ) (pos : ℕ) → pos ≤ length text → None ≡ offset_of encoding text pos → ⊥
+offset_there encoding text pos within none = let wrong = none ∙ offset_within encoding text pos within in cc wrong
+
+pub offset_is : (encoding : Encoding) (text : List ℕ) (pos n : ℕ) → pos ≤ length text → Some n ≡ offset_of encoding text pos → n ≡ length_in encoding (take pos text)
+offset_is encoding text pos n within some = ap (λ o. unwrap_or o n) (some ∙ offset_within encoding text pos within)
+
+-- the bytes of a range are those before its end without those before its start
+encoded_length : (text : List ℕ) → length (encode_utf8_all text) ≡ length_in Utf8 text
+encoded_length [] = refl
+encoded_length (c ∷ cs) =
+    length-append (encode_utf8 c) (encode_utf8_all cs) ∙ ap₂ (λ (m : ℕ) (n : ℕ). m + n) (length-encode c) (encoded_length cs) ∙ sym (sum_by-cons len_utf8 c cs)
+
+pub length-part : (kept : List Layout) (pos count : ℕ)
+    → length_in Utf8 (take (pos + count) (text_of kept)) ≡ length_in Utf8 (take pos (text_of kept)) + length (utf8_part kept pos count)
+length-part kept pos count =
+    let text = text_of kept in
+    let number : pos + count - pos ≡ count = omega arith in
+    let part : slice_range text pos (pos + count) ≡ take count (drop pos text) = ap (λ (n : ℕ). take n (drop pos text)) number in
+    omega (
+      arith,
+      ap (length_in Utf8) (take-add pos count text),
+      sum_by-append len_utf8 (take pos text) (take count (drop pos text)),
+      encoded_length (slice_range text pos (pos + count)),
+      ap (length_in Utf8) part,
+    )

@@ -1,14 +1,14 @@
-//! Reads the characters of a text, one paragraph at a time or as UTF-8.
-ghost use Rattle.std.specs.Prelude.{◌≡◌, ◌+◌, ◌*◌, ◌<◌, ◌≤◌, All, length, option_map};
-ghost use Rattle.std.specs.Prelude.{encode_utf8_all, IfOk, IfErr, IfSome};
+//! Reads the characters of a text: those of one paragraph at a time, or as UTF-8.
+ghost use Rattle.std.specs.Prelude.{◌≡◌, ◌+◌, ◌<◌, ◌≤◌, All, length, option_map};
+ghost use Rattle.std.specs.Prelude.{IfOk, IfErr, IfSome};
 ghost use Rattle.lines.specs.Writing.{PassedOn, StoppedIn};
 ghost use Rattle.session.specs.Kept.{text_of};
 ghost use Rattle.session.specs.Places.{IsLined};
 ghost use Rattle.session.specs.Reading.{text_part, utf8_len, utf8_part};
-ghost use Rattle.session.specs.declared.edits.TheConstants.{TEXT_LIMIT};
 
 use crate::edge::{back, front};
 use crate::kept::Kept;
+use crate::offsets::{Encoding, offset_of};
 use device::Sink;
 use lines::{WriteFault, write_chars};
 use store::ParagraphStore;
@@ -34,40 +34,21 @@ pub fn text_part<S: ParagraphStore<Kept>>(store: &S, pos: usize, count: usize) -
     }
 }
 
-// Returns the length in bytes of the characters in UTF-8.
-fn bytes_of(chars: &[char]) -> usize
-    requires { length chars.now ≤ TEXT_LIMIT }
-    ensures count { result ≡ length (encode_utf8_all chars.now) }
-    ensures few { result ≤ 4 * length chars.now }
-{
-    let mut bytes = 0;
-    for c in chars {
-        bytes += c.len_utf8();
-    }
-    bytes
-}
-
-/// Returns the length in bytes of `count` characters, starting at `pos`, in UTF-8. Returns `None` if the
-/// range reaches past the end.
+/// Returns the length of `count` characters from `pos` on in UTF-8, or `None` if the range is past the end.
 pub fn utf8_len<S: ParagraphStore<Kept>>(store: &S, pos: usize, count: usize) -> Option<usize>
-    requires lined { All IsLined (S.items store.now) }
-    requires few { length (text_of (S.items store.now)) ≤ TEXT_LIMIT }
     ensures { result ≡ utf8_len (S.items store.now) pos count }
 {
     let len = store.total_chars();
     if pos > len || count > len - pos {
         return None;
     }
-    let end = pos + count;
-    let (mut at, mut bytes) = (pos, 0);
-    while at < end {
-        let Some(part) = text_part(store, at, end - at) else {
-            unreachable!()
-        };
-        bytes += bytes_of(part);
-        at += part.len();
-    }
-    Some(bytes)
+    let Some(start) = offset_of(store, pos, Encoding::Utf8) else {
+        unreachable!()
+    };
+    let Some(end) = offset_of(store, pos + count, Encoding::Utf8) else {
+        unreachable!()
+    };
+    Some(end - start)
 }
 
 /// Writes `count` characters, starting at `pos`, as UTF-8. `before` is the number of bytes already written,

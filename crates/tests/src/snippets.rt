@@ -78,7 +78,7 @@ fn break_is_allowed_after_a_space_and_required_at_the_end(rt: HostRuntime) -> Re
     Ok(result?)
 }
 
-// An item with a number of characters and lines.
+// An item with a number of characters, all of them ASCII, and of lines.
 #[derive(Drop)]
 struct Paragraph(usize, usize);
 
@@ -87,12 +87,24 @@ impl Measured for Paragraph {
 
     ghost lines = { λ item. item.1 };
 
+    ghost bytes = { λ item. item.0 };
+
+    ghost utf16 = { λ item. item.0 };
+
     fn chars(&self) -> usize {
         self.0
     }
 
     fn lines(&self) -> usize {
         self.1
+    }
+
+    fn bytes(&self) -> usize {
+        self.0
+    }
+
+    fn utf16(&self) -> usize {
+        self.0
     }
 }
 

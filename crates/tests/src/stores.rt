@@ -14,6 +14,8 @@ struct Item {
     name: u32,
     chars: usize,
     lines: usize,
+    bytes: usize,
+    utf16: usize,
 }
 
 impl Measured for Item {
@@ -21,12 +23,24 @@ impl Measured for Item {
 
     ghost lines = { λ item. item.lines };
 
+    ghost bytes = { λ item. item.bytes };
+
+    ghost utf16 = { λ item. item.utf16 };
+
     fn chars(&self) -> usize {
         self.chars
     }
 
     fn lines(&self) -> usize {
         self.lines
+    }
+
+    fn bytes(&self) -> usize {
+        self.bytes
+    }
+
+    fn utf16(&self) -> usize {
+        self.utf16
     }
 }
 
@@ -47,6 +61,10 @@ impl Exchange for Item {
     }
 
     ghost keeps_chars = { λ item lines fits. refl };
+
+    ghost keeps_bytes = { λ item lines fits. refl };
+
+    ghost keeps_utf16 = { λ item lines fits. refl };
 }
 
 // Adds a number to the lines that are exchanged.
@@ -77,6 +95,10 @@ impl Exchanger<Item> for Adder {
 
     ghost keeps_chars = { λ _ _ _ _. refl };
 
+    ghost keeps_bytes = { λ _ _ _ _. refl };
+
+    ghost keeps_utf16 = { λ _ _ _ _. refl };
+
     fn exchange(&mut self, item: &mut Item, part: &mut usize) {
         *part += self.more;
         std::mem::swap(&mut item.lines, part);
@@ -100,6 +122,20 @@ fn sums(items: &[Item]) -> (usize, usize)
     (chars, lines)
 }
 
+// The sums of bytes and of code units, up to 2^64−1.
+fn encoded_sums(items: &[Item]) -> (usize, usize)
+    ensures bytes { result.0 < 2 ^ 64 - 1 → result.0 ≡ sum_by (λ item. item.bytes) items.now }
+    ensures utf16 { result.1 < 2 ^ 64 - 1 → result.1 ≡ sum_by (λ item. item.utf16) items.now }
+{
+    let mut bytes: usize = 0;
+    let mut utf16: usize = 0;
+    for item in items {
+        bytes = bytes.saturating_add(item.bytes);
+        utf16 = utf16.saturating_add(item.utf16);
+    }
+    (bytes, utf16)
+}
+
 #[tactic(auto, using(store::proofs::ListLemmas::sum_of_splice))]
 // Replaces items. Asserts that the range is within the store and that all sums are below `LIMIT`.
 fn replace<S: ParagraphStore<Item>>(
@@ -111,6 +147,9 @@ fn replace<S: ParagraphStore<Item>>(
     let (chars, lines) = sums(&new_items);
     assert!(rt; chars < LIMIT && lines < LIMIT);
     assert!(rt; store.total_chars() < LIMIT && store.total_lines() < LIMIT);
+    let (bytes, utf16) = encoded_sums(&new_items);
+    assert!(rt; bytes < LIMIT && utf16 < LIMIT);
+    assert!(rt; store.total_bytes() < LIMIT && store.total_utf16() < LIMIT);
     assert!(rt; range.start <= range.end && range.end <= store.count());
     store.replace(range, new_items)
 }
@@ -161,6 +200,8 @@ fn items(alloc: Global, first: u32, count: usize) -> Result<Vec<Item>, AllocErro
             name,
             chars: name as usize % 5,
             lines: name as usize % 3,
+            bytes: name as usize % 7,
+            utf16: name as usize % 4,
         })?;
         name = name.wrapping_add(1);
     }
@@ -176,6 +217,8 @@ fn small_items(alloc: Global, count: usize) -> Result<Vec<Item>, AllocError> {
             name,
             chars: 1,
             lines: 1,
+            bytes: 1,
+            utf16: 1,
         })?;
         name = name.wrapping_add(1);
     }
@@ -187,7 +230,7 @@ fn is_same(found: Found, other: Found) -> bool {
     Found { visits: 0, ..found } == Found { visits: 0, ..other }
 }
 
-// Whether both stores find the same for each character and each line.
+// Whether both stores find the same for each character, line, byte and code unit.
 fn finds_same<S: ParagraphStore<Item>, T: ParagraphStore<Item>>(left: &S, right: &T) -> bool {
     let (chars, lines) = (left.total_chars(), left.total_lines());
     if right.total_chars() != chars || right.total_lines() != lines {
@@ -199,6 +242,22 @@ fn finds_same<S: ParagraphStore<Item>, T: ParagraphStore<Item>>(left: &S, right:
     }
     for n in 0..lines {
         all_right &= is_same(left.find_line(n), right.find_line(n));
+    }
+    all_right & finds_same_units(left, right)
+}
+
+// Whether both stores find the same for each byte and each code unit.
+fn finds_same_units<S: ParagraphStore<Item>, T: ParagraphStore<Item>>(left: &S, right: &T) -> bool {
+    let (bytes, utf16) = (left.total_bytes(), left.total_utf16());
+    if right.total_bytes() != bytes || right.total_utf16() != utf16 {
+        return false;
+    }
+    let mut all_right = true;
+    for byte in 0..bytes {
+        all_right &= is_same(left.find_byte(byte), right.find_byte(byte));
+    }
+    for unit in 0..utf16 {
+        all_right &= is_same(left.find_utf16(unit), right.find_utf16(unit));
     }
     all_right
 }
@@ -246,12 +305,14 @@ fn are_named(items: &[Item], first: u32, count: usize) -> bool {
     all_right
 }
 
-fn size_of<S: ParagraphStore<Item>>(store: &S) -> [usize; 3] {
-    [store.count(), store.total_chars(), store.total_lines()]
+fn size_of<S: ParagraphStore<Item>>(store: &S) -> [usize; 5] {
+    let (chars, lines) = (store.total_chars(), store.total_lines());
+    let (bytes, utf16) = (store.total_bytes(), store.total_utf16());
+    [store.count(), chars, lines, bytes, utf16]
 }
 
-// Replaces items, and tries again after an allocation failure. In that case, the new items must have been
-// returned in order, and the store must have as many items, characters and lines as before.
+// Replaces items, and tries again after an allocation failure. The new items were then returned in order, and
+// the store has the same sums as before.
 fn replace_again<S: ParagraphStore<Item>>(
     rt: &impl Abort,
     store: &mut S,

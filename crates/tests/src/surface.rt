@@ -382,11 +382,13 @@ fn marks_into_writes_over_a_list(rt: HostRuntime) {
 
 // store
 
-// An item with a number of characters and lines.
+// An item with a number of characters, lines, bytes and code units.
 #[derive(Clone, Copy, Debug, PartialEq, Eq)]
 struct Item {
     chars: usize,
     lines: usize,
+    bytes: usize,
+    utf16: usize,
 }
 
 impl store::Measured for Item {
@@ -394,12 +396,24 @@ impl store::Measured for Item {
 
     ghost lines = { λ item. item.lines };
 
+    ghost bytes = { λ item. item.bytes };
+
+    ghost utf16 = { λ item. item.utf16 };
+
     fn chars(&self) -> usize {
         self.chars
     }
 
     fn lines(&self) -> usize {
         self.lines
+    }
+
+    fn bytes(&self) -> usize {
+        self.bytes
+    }
+
+    fn utf16(&self) -> usize {
+        self.utf16
     }
 }
 
@@ -420,20 +434,33 @@ impl store::Exchange for Item {
     }
 
     ghost keeps_chars = { λ item lines fits. refl };
+
+    ghost keeps_bytes = { λ item lines fits. refl };
+
+    ghost keeps_utf16 = { λ item lines fits. refl };
 }
 
-const FIRST: Item = Item { chars: 5, lines: 1 };
+const FIRST: Item = Item {
+    chars: 5,
+    lines: 1,
+    bytes: 7,
+    utf16: 6,
+};
 
 const SECOND: Item = Item {
     chars: 90,
     lines: 2,
+    bytes: 180,
+    utf16: 91,
 };
 
 #[test]
-fn measured_items_have_characters_and_lines(rt: HostRuntime) {
+fn measured_items_have_characters_lines_bytes_and_code_units(rt: HostRuntime) {
     let chars: usize = store::Measured::chars(&SECOND);
     let lines: usize = store::Measured::lines(&SECOND);
-    assert!(rt; chars == 90 && lines == 2);
+    let bytes: usize = store::Measured::bytes(&SECOND);
+    let utf16: usize = store::Measured::utf16(&SECOND);
+    assert!(rt; chars == 90 && lines == 2 && bytes == 180 && utf16 == 91);
 }
 
 #[test]
@@ -451,9 +478,13 @@ enum Call {
     Count,
     TotalChars,
     TotalLines,
+    TotalBytes,
+    TotalUtf16,
     Get,
     FindChar,
     FindLine,
+    FindByte,
+    FindUtf16,
     Found,
     Replace,
     ExchangeAll,
@@ -494,9 +525,13 @@ fn reads<S: store::ParagraphStore<Item> + Drop>(alloc: Global, call: Call) -> bo
         Call::Count => counts(&store),
         Call::TotalChars => sums_chars(&store),
         Call::TotalLines => sums_lines(&store),
+        Call::TotalBytes => sums_bytes(&store),
+        Call::TotalUtf16 => sums_utf16(&store),
         Call::Get => gets(&store),
         Call::FindChar => finds_char(&store),
         Call::FindLine => finds_line(&store),
+        Call::FindByte => finds_byte(&store),
+        Call::FindUtf16 => finds_utf16(&store),
         Call::Found => tells_what_is_found(&store),
         _ => false,
     };
@@ -544,6 +579,26 @@ fn total_lines_of_1_and_2_is_3(rt: HostRuntime) {
     assert!(rt; holds(rt.alloc(), Call::TotalLines));
 }
 
+fn sums_bytes<S: store::ParagraphStore<Item>>(store: &S) -> bool {
+    let bytes: usize = store.total_bytes();
+    bytes == 187
+}
+
+#[test]
+fn total_bytes_of_7_and_180_is_187(rt: HostRuntime) {
+    assert!(rt; holds(rt.alloc(), Call::TotalBytes));
+}
+
+fn sums_utf16<S: store::ParagraphStore<Item>>(store: &S) -> bool {
+    let utf16: usize = store.total_utf16();
+    utf16 == 97
+}
+
+#[test]
+fn total_utf16_of_6_and_91_is_97(rt: HostRuntime) {
+    assert!(rt; holds(rt.alloc(), Call::TotalUtf16));
+}
+
 fn gets<S: store::ParagraphStore<Item>>(store: &S) -> bool {
     let item: Option<&Item> = store.get(1);
     item == Some(&SECOND) && store.get(2).is_none()
@@ -578,6 +633,32 @@ fn finds_line<S: store::ParagraphStore<Item>>(store: &S) -> bool {
 #[test]
 fn find_line_2_is_line_1_of_the_second_item(rt: HostRuntime) {
     assert!(rt; holds(rt.alloc(), Call::FindLine));
+}
+
+fn finds_byte<S: store::ParagraphStore<Item>>(store: &S) -> bool {
+    if store.total_bytes() < 10 {
+        return false;
+    }
+    let found: store::Found = store.find_byte(9);
+    found.index == 1 && found.rest == 2 && found.bytes_before == 7
+}
+
+#[test]
+fn find_byte_9_is_byte_2_of_the_second_item(rt: HostRuntime) {
+    assert!(rt; holds(rt.alloc(), Call::FindByte));
+}
+
+fn finds_utf16<S: store::ParagraphStore<Item>>(store: &S) -> bool {
+    if store.total_utf16() < 10 {
+        return false;
+    }
+    let found: store::Found = store.find_utf16(9);
+    found.index == 1 && found.rest == 3 && found.utf16_before == 6
+}
+
+#[test]
+fn find_utf16_9_is_code_unit_3_of_the_second_item(rt: HostRuntime) {
+    assert!(rt; holds(rt.alloc(), Call::FindUtf16));
 }
 
 fn tells_what_is_found<S: store::ParagraphStore<Item>>(store: &S) -> bool {

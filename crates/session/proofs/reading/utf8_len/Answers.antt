@@ -1,10 +1,10 @@
-use Rattle.std.proofs.Common.{◌≡◌, ◌+◌, ◌-◌, ◌≤◌, length, encode_utf8_all, Some, sym, ap, ◌∙◌, arith}
-use Rattle.std.specs.List.{slice_range}
-use Rattle.std.proofs.lemmas.List.{length-append}
-use Rattle.lines.proofs.WriteLemmas.{encoded-append}
+use Rattle.std.proofs.Common.{◌≡◌, ◌+◌, ◌-◌, length, Some, sym, ap, ◌∙◌, arith}
 use Rattle.session.specs.Kept.{text_of}
+use Rattle.session.specs.Reading.{utf8_part}
+use Rattle.session.specs.declared.offsets.Encoding.TheVariants.{Utf8}
 use Rattle.session.proofs.EdgeLemmas.{length-text}
-use Rattle.session.proofs.ReadingLemmas.{len_past, len_within, part_few, part_more, part_there}
+use Rattle.session.proofs.OffsetLemmas.{length-part, offset_is, offset_there}
+use Rattle.session.proofs.ReadingLemmas.{len_past, len_within}
 use Rattle.session.proofs.reading.utf8_len.Goals as goal
 use Rattle.session.proofs.reading.utf8_len.Goals.{then-pos-len-via-then-pos-len, then-pos-len-via-else-pos-len+then-count-len}
 
@@ -21,40 +21,28 @@ pub unreachable-requires : goal.unreachable-requires
 unreachable-requires g c =
     let kept = g.S.ParagraphStore.items c.args.store.now in
     let size : c.total_chars-len.result ≡ length (text_of kept) = c.total_chars-len.ensures ∙ sym (length-text kept) in
-    part_there kept c.loop-at.at (c.args.pos + c.args.count - c.loop-at.at) (omega (arith, size, c.if-pos-len.false, c.if-count-len.false, c.loop-at.invariant.within)) c.in_default.ensures.part
+    offset_there Utf8 (text_of kept) c.args.pos (omega (arith, size)) c.in_default.ensures
 
--- adding the bytes of one more part does not overflow, and preserves the loop invariant
-pub overflow_add-bytes : goal.overflow_add-bytes
-overflow_add-bytes g c =
+pub unreachable-requires-in_default-offset_of : goal.unreachable-requires-in_default-offset_of
+unreachable-requires-in_default-offset_of g c =
     let kept = g.S.ParagraphStore.items c.args.store.now in
     let size : c.total_chars-len.result ≡ length (text_of kept) = c.total_chars-len.ensures ∙ sym (length-text kept) in
-    let part = c.in-Some.part.now in
-    let few = part_few kept c.args.pos c.loop-at.at (c.args.pos + c.args.count) c.loop-at.invariant.begun c.loop-at.invariant.within
-    (omega (arith, size, c.if-pos-len.false, c.if-count-len.false)) part c.in-Some.ensures.part in
-    omega (arith, c.loop-at.invariant.few, few, c.bytes_of-bytes.ensures.few, size, c.if-pos-len.false, c.if-count-len.false, c.requires.few)
+    offset_there Utf8 (text_of kept) (c.args.pos + c.args.count) (omega (arith, size)) c.in_default-offset_of.ensures
 
-pub loop-at-preserved : goal.loop-at-preserved
-loop-at-preserved g c =
+pub overflow_sub-result : goal.overflow_sub-result
+overflow_sub-result g c =
     let kept = g.S.ParagraphStore.items c.args.store.now in
     let size : c.total_chars-len.result ≡ length (text_of kept) = c.total_chars-len.ensures ∙ sym (length-text kept) in
-    let part = c.in-Some.part.now in
-    let inside : c.args.pos + c.args.count ≤ length (text_of kept) = omega (arith, size, c.if-pos-len.false, c.if-count-len.false) in
-    let now = c.loop-at.invariant in
-    let few = part_few kept c.args.pos c.loop-at.at (c.args.pos + c.args.count) now.begun now.within inside part c.in-Some.ensures.part in
-    let more = part_more kept c.args.pos c.loop-at.at (c.args.pos + c.args.count) now.begun now.within inside part c.in-Some.ensures.part in
-    let front = slice_range (text_of kept) c.args.pos c.loop-at.at in
-    let bytes = ap (λ cs. length (encode_utf8_all cs)) more ∙ ap length (encoded-append front part) ∙ length-append (encode_utf8_all front) (encode_utf8_all part) in
-    record {
-      begun = omega (arith, now.begun);
-      within = omega (arith, few, now.within);
-      bytes_are = omega (arith, now.bytes_are, c.bytes_of-bytes.ensures.count, bytes);
-      few = omega (arith, now.few, now.begun, c.bytes_of-bytes.ensures.few);
-    }
+    let start = offset_is Utf8 (text_of kept) c.args.pos c.in-Some.start (omega (arith, size)) c.in-Some.ensures in
+    let end = offset_is Utf8 (text_of kept) (c.args.pos + c.args.count) c.in-Some-offset_of.end (omega (arith, size)) c.in-Some-offset_of.ensures in
+    omega (arith, start, end, length-part kept c.args.pos c.args.count)
 
 pub returns : goal.returns
 returns g c =
     let kept = g.S.ParagraphStore.items c.args.store.now in
     let size : c.total_chars-len.result ≡ length (text_of kept) = c.total_chars-len.ensures ∙ sym (length-text kept) in
-    let end : c.loop-at.at ≡ c.args.pos + c.args.count = omega (arith, c.loop-at.invariant.within, c.loop-at-test.false) in
-    ap Some (c.loop-at.invariant.bytes_are ∙ ap (λ n. length (encode_utf8_all (slice_range (text_of kept) c.args.pos n))) end)
-    ∙ sym (len_within kept c.args.pos c.args.count (omega (arith, size, c.if-pos-len.false, c.if-count-len.false)))
+    let start = offset_is Utf8 (text_of kept) c.args.pos c.in-Some.start (omega (arith, size)) c.in-Some.ensures in
+    let end = offset_is Utf8 (text_of kept) (c.args.pos + c.args.count) c.in-Some-offset_of.end (omega (arith, size)) c.in-Some-offset_of.ensures in
+    let number : c.in-Some-offset_of.end - c.in-Some.start ≡ length (utf8_part kept c.args.pos c.args.count) =
+    omega (arith, start, end, length-part kept c.args.pos c.args.count) in
+    ap Some number ∙ sym (len_within kept c.args.pos c.args.count (omega (arith, size)))
