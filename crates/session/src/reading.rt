@@ -1,4 +1,4 @@
-//! Reads the characters of a text: those of one paragraph at a time, or as UTF-8.
+//! Reads the characters of a text, one paragraph at a time or as UTF-8.
 ghost use Rattle.std.specs.Prelude.{◌≡◌, ◌+◌, ◌<◌, ◌≤◌, All, length, option_map};
 ghost use Rattle.std.specs.Prelude.{IfOk, IfErr, IfSome};
 ghost use Rattle.lines.specs.Writing.{PassedOn, StoppedIn};
@@ -34,7 +34,8 @@ pub fn text_part<S: ParagraphStore<Kept>>(store: &S, pos: usize, count: usize) -
     }
 }
 
-/// Returns the length of `count` characters from `pos` on in UTF-8, or `None` if the range is past the end.
+/// Returns the length in bytes of `count` characters, starting at `pos`, in UTF-8. Returns `None` if the
+/// range reaches past the end.
 pub fn utf8_len<S: ParagraphStore<Kept>>(store: &S, pos: usize, count: usize) -> Option<usize>
     ensures { result ≡ utf8_len (S.items store.now) pos count }
 {

@@ -265,16 +265,17 @@ impl<S: ParagraphStore<Kept>> Session<S> {
         text_part(&self.store, pos, count)
     }
 
-    /// Returns the length of `count` characters from `pos` on in UTF-8, or `None` if the range is past the
-    /// end. The time is that of two calls of `byte_of`. Allocates nothing.
+    /// Returns the length in bytes of `count` characters, starting at `pos`, in UTF-8. Returns `None` if the
+    /// range reaches past the end. Costs two calls to `byte_of`. Allocates nothing.
     pub fn utf8_len(&self, pos: usize, count: usize) -> Option<usize>
         ensures { result ≡ utf8_len self.now.kept pos count }
     {
         utf8_len(&self.store, pos, count)
     }
 
-    /// Returns the number of UTF-8 bytes before a position, or `None` past the end. The time is logarithmic
-    /// in the number of paragraphs, and linear in the length of one unless it is ASCII. Allocates nothing.
+    /// Returns the number of UTF-8 bytes before a position, or `None` past the end. Needs time
+    /// logarithmic in the number of paragraphs, and linear in the length of one unless that is ASCII. Allocates
+    /// nothing.
     pub fn byte_of(&self, pos: usize) -> Option<usize>
         ensures byte { result ≡ offset_of Utf8 (text_at self.now) pos }
         ensures none { is_none result ≡ nat_lt (length (text_at self.now)) pos }
@@ -284,7 +285,7 @@ impl<S: ParagraphStore<Kept>> Session<S> {
 
     /// Returns the position of the character that contains a UTF-8 byte, and how many bytes of the character
     /// precede that byte. At the end of the text, these are `char_count` and 0. Returns `None` past the end.
-    /// The time is that of `byte_of`.
+    /// Costs as much as `byte_of`.
     pub fn position_of_byte(&self, byte: usize) -> Option<(usize, usize)>
         ensures position { result ≡ position_of Utf8 (text_at self.now) byte }
         ensures none { is_none result ≡ nat_lt (length_in Utf8 (text_at self.now)) byte }
@@ -304,7 +305,7 @@ impl<S: ParagraphStore<Kept>> Session<S> {
 
     /// Returns the position of the character that contains a UTF-16 code unit, and how many code units of the
     /// character precede that unit. At the end of the text, these are `char_count` and 0. Returns `None` past
-    /// the end. The time is that of `utf16_of`.
+    /// the end. Costs as much as `utf16_of`.
     pub fn position_of_utf16(&self, unit: usize) -> Option<(usize, usize)>
         ensures position { result ≡ position_of Utf16 (text_at self.now) unit }
         ensures none { is_none result ≡ nat_lt (length_in Utf16 (text_at self.now)) unit }
