@@ -1,6 +1,6 @@
--- Between two characters that no grapheme cluster rule joins to others, a text can be split: the clusters of both parts are
--- those of the whole text.
-use Rattle.std.proofs.Common.{◌≡◌, ℕ, zero, suc, ◌+◌, ◌-◌, ◌<◌, ◌≤◌, Bool, true, false, not, ◌&&◌, ◌||◌, List, [], ◌∷◌, ◌++◌, append-nil, append_assoc, drop-cons, length, length-drop, map, take, drop, get_or, unwrap_or, ◌⊎◌, inl, inr, refl, sym, ap, ap₂, ◌∙◌, arith}
+-- At a split point, a text can be split into two texts with the same clusters. So the clusters between two split points are those
+-- of the text between them.
+use Rattle.std.proofs.Common.{◌≡◌, ℕ, zero, suc, ◌+◌, ◌-◌, ◌<◌, ◌≤◌, Bool, true, false, not, ◌&&◌, ◌||◌, List, [], ◌∷◌, ◌++◌, append-nil, append_assoc, drop-cons, length, length-drop, map, take, drop, get_or, unwrap_or, Option, Some, None, ◌⊎◌, inl, inr, refl, sym, ap, ap₂, ◌∙◌, arith}
 use Rattle.std.proofs.Math.ListN.{drop_of_length-le}
 use Rattle.std.proofs.Math.Seq.{take-length, take-suc}
 use Rattle.std.proofs.lemmas.Bool.{and_parts, cases_eq}
@@ -8,28 +8,86 @@ use Rattle.std.proofs.lemmas.List.{get_or-drop, length-take-le, take-append-drop
 use Rattle.std.specs.List.{slice_range}
 use Rattle.ucd_breaks.specs.GraphemeClusterBreak.{grapheme_cluster_break}
 use Rattle.ucd_breaks.specs.declared.GraphemeClusterBreak.{GraphemeClusterBreak}
-use Rattle.ucd_breaks.specs.declared.GraphemeClusterBreak.TheVariants.{Control, Lf, Other}
+use Rattle.ucd_breaks.specs.declared.GraphemeClusterBreak.TheVariants.{Control, Extend, Lf, Other, RegionalIndicator, SpacingMark, Zwj}
 use Rattle.ucd_derived.specs.IndicConjunctBreak.{indic_conjunct_break}
 use Rattle.ucd_derived.specs.declared.IndicConjunctBreak.{IndicConjunctBreak}
 use Rattle.ucd_derived.specs.declared.IndicConjunctBreak.TheVariants as InCb
-use Rattle.unicode_segmentation.specs.Grapheme.{break_by_pair, ends_in_half_flag, ends_in_linker, ends_in_pictograph, is_consonant, is_extend, is_grapheme_break, joins_conjunct, joins_emoji, joins_flag, is_regional}
-use Rattle.lines.proofs.AloneLemmas.{alone_is_apart, breaks_between, is_apart, is_unjoined, no_flag, no_joiner, stands_apart}
+use Rattle.unicode_segmentation.specs.Grapheme.{break_by_pair, ends_in_half_flag, ends_in_linker, ends_in_pictograph, is_consonant, is_extend, is_grapheme_break, is_regional, is_zwj, joins_conjunct, joins_emoji, joins_flag}
 use Rattle.lines.proofs.ClusterLemmas.{length-cluster_ends}
 use Rattle.lines.proofs.SegmentLemmas.{begin_within, end_within, only_end}
-use Rattle.lines.specs.Clusters.{cluster_begin, cluster_end, cluster_ends, ends_after, ends_at, is_alone, is_split_point, IsSplitPoint}
+use Rattle.lines.specs.Clusters.{can_split, cluster_begin, cluster_end, cluster_ends, ends_after, ends_at, is_split_point, may_end, may_start, no_conjunct, IsSplitPoint}
 
-no_extend : (g : GraphemeClusterBreak) → stands_apart g ≡ true → is_extend g ≡ false
-no_extend Control one = refl
-no_extend Lf one = refl
-no_extend Other one = refl
-no_extend g one = cc
+-- the three tests of two characters that a text can be split between
+split_parts : (w x : ℕ) → can_split w x ≡ true
+    → (may_end (grapheme_cluster_break w) ≡ true) × (may_start (grapheme_cluster_break x) ≡ true) × (no_conjunct (indic_conjunct_break w) (indic_conjunct_break x) ≡ true)
+unfolding can_split
+split_parts w x split =
+    let outer = and_parts (may_end (grapheme_cluster_break w) && may_start (grapheme_cluster_break x)) _ split in
+    let inner = and_parts (may_end (grapheme_cluster_break w)) (may_start (grapheme_cluster_break x)) outer.0 in
+    (inner.0, inner.1, outer.1)
 
-no_linker : (v : IndicConjunctBreak) (before : List IndicConjunctBreak) → is_unjoined v ≡ true → ends_in_linker (v ∷ before) ≡ false
+by_pair : (g h : GraphemeClusterBreak) → may_end g ≡ true → may_start h ≡ true → unwrap_or (break_by_pair true g h) true ≡ true
+by_pair g Extend one other = cc
+by_pair g SpacingMark one other = cc
+by_pair g Zwj one other = cc
+by_pair Control h one other = refl
+by_pair Extend h one other = refl
+by_pair Lf h one other = refl
+by_pair Other h one other = refl
+by_pair SpacingMark h one other = refl
+by_pair g h one other = cc
+
+no_joiner : (g : GraphemeClusterBreak) → may_end g ≡ true → is_zwj g ≡ false
+no_joiner Zwj one = cc
+no_joiner g one = refl
+
+no_flag : (g : GraphemeClusterBreak) → may_end g ≡ true → is_regional g ≡ false
+no_flag RegionalIndicator one = cc
+no_flag g one = refl
+
+starts_no_joiner : (g : GraphemeClusterBreak) → may_start g ≡ true → is_zwj g ≡ false
+starts_no_joiner Zwj one = cc
+starts_no_joiner g one = refl
+
+starts_no_extend : (g : GraphemeClusterBreak) → may_start g ≡ true → is_extend g ≡ false
+starts_no_extend Extend one = cc
+starts_no_extend g one = refl
+
+none_joined : (a b : Bool) → b ≡ false → (a && b) ≡ false
+none_joined true b none = none
+none_joined false b none = refl
+
+none_linked : (v u : IndicConjunctBreak) (before : List IndicConjunctBreak) → no_conjunct v u ≡ true → (ends_in_linker (v ∷ before) && is_consonant u) ≡ false
 unfolding ends_in_linker
-no_linker InCb.Consonant before one = cc
-no_linker InCb.Extend before one = cc
-no_linker InCb.Linker before one = cc
-no_linker InCb.None before one = refl
+none_linked v InCb.Extend before one = none_joined _ _ refl
+none_linked v InCb.Linker before one = none_joined _ _ refl
+none_linked v InCb.None before one = none_joined _ _ refl
+none_linked InCb.Consonant InCb.Consonant before one = refl
+none_linked InCb.None InCb.Consonant before one = refl
+none_linked InCb.Extend InCb.Consonant before one = cc
+none_linked InCb.Linker InCb.Consonant before one = cc
+
+linker_only : (v u : IndicConjunctBreak) (far : List IndicConjunctBreak) → no_conjunct v u ≡ true → ends_in_linker (u ∷ far) ≡ ends_in_linker (u ∷ [])
+unfolding ends_in_linker
+linker_only v InCb.Consonant far one = refl
+linker_only InCb.Consonant InCb.Extend far one = cc
+linker_only InCb.Extend InCb.Extend far one = cc
+linker_only InCb.Linker InCb.Extend far one = cc
+linker_only InCb.None InCb.Extend far one = cc
+linker_only v InCb.Linker far one = refl
+linker_only v InCb.None far one = refl
+
+parts_of : (pair : Option Bool) → unwrap_or pair true ≡ true → unwrap_or pair (not ((true && false) || (false || false))) ≡ true
+parts_of (Some b) is = is
+parts_of None is = refl
+
+-- a cluster ends between two such characters
+pub breaks_at : (w x : ℕ) (before after : List ℕ) → can_split w x ≡ true → is_grapheme_break true (w ∷ before) (x ∷ after) ≡ true
+unfolding is_grapheme_break ends_in_half_flag
+breaks_at w x before after split =
+    let tests = split_parts w x split in
+    let conjunct = none_linked (indic_conjunct_break w) (indic_conjunct_break x) (map indic_conjunct_break before) tests.2 in
+    rw (conjunct, no_joiner _ tests.0, no_flag _ tests.0) (parts_of (break_by_pair true (grapheme_cluster_break w) (grapheme_cluster_break x)) (by_pair _ _ tests.0 tests.1))
 
 -- a look back that goes on gives the same for the same rest
 goes_on : (a b c d : Bool) → c ≡ d → (a || (b && c)) ≡ (a || (b && d))
@@ -38,10 +96,10 @@ goes_on a b c d same = ap (λ e. a || (b && e)) same
 between : (a b c d : Bool) → c ≡ d → (a && c && b) ≡ (a && d && b)
 between a b c d same = ap (λ e. a && e && b) same
 
--- no rule looks back past such a character
-module _ (x : ℕ) (apart : is_apart x ≡ true) (far near : List ℕ) where
-  apart_parts : (stands_apart (grapheme_cluster_break x) ≡ true) × (is_unjoined (indic_conjunct_break x) ≡ true)
-  apart_parts = and_parts (stands_apart (grapheme_cluster_break x)) _ apart
+-- no rule looks back past the second one
+module _ (w x : ℕ) (split : can_split w x ≡ true) (far : List ℕ) where
+  tests : (may_end (grapheme_cluster_break w) ≡ true) × (may_start (grapheme_cluster_break x) ≡ true) × (no_conjunct (indic_conjunct_break w) (indic_conjunct_break x) ≡ true)
+  tests = split_parts w x split
 
   same_linker : (v : IndicConjunctBreak) (one other : List IndicConjunctBreak) → ends_in_linker one ≡ ends_in_linker other → ends_in_linker (v ∷ one) ≡ ends_in_linker (v ∷ other)
   unfolding ends_in_linker
@@ -50,31 +108,31 @@ module _ (x : ℕ) (apart : is_apart x ≡ true) (far near : List ℕ) where
   same_linker InCb.Linker one other same = refl
   same_linker InCb.None one other same = refl
 
-  linker_by : (ys : List ℕ) → ends_in_linker (map indic_conjunct_break (ys ++ x ∷ far)) ≡ ends_in_linker (map indic_conjunct_break (ys ++ x ∷ near))
-  linker_by [] = no_linker (indic_conjunct_break x) _ apart_parts.1 ∙ sym (no_linker (indic_conjunct_break x) _ apart_parts.1)
+  linker_by : (ys : List ℕ) → ends_in_linker (map indic_conjunct_break (ys ++ x ∷ w ∷ far)) ≡ ends_in_linker (map indic_conjunct_break (ys ++ x ∷ []))
+  linker_by [] = linker_only (indic_conjunct_break w) (indic_conjunct_break x) _ tests.2
   linker_by (y ∷ ys) = same_linker (indic_conjunct_break y) _ _ (linker_by ys)
 
-  pictograph_by : (ys : List ℕ) → ends_in_pictograph (ys ++ x ∷ far) ≡ ends_in_pictograph (ys ++ x ∷ near)
+  pictograph_by : (ys : List ℕ) → ends_in_pictograph (ys ++ x ∷ w ∷ far) ≡ ends_in_pictograph (ys ++ x ∷ [])
   unfolding ends_in_pictograph
-  pictograph_by [] = rw (no_extend _ apart_parts.0) refl
+  pictograph_by [] = rw (starts_no_extend _ tests.1) refl
   pictograph_by (y ∷ ys) = goes_on _ _ _ _ (pictograph_by ys)
 
-  flag_by : (ys : List ℕ) → ends_in_half_flag (ys ++ x ∷ far) ≡ ends_in_half_flag (ys ++ x ∷ near)
+  flag_by : (ys : List ℕ) → ends_in_half_flag (ys ++ x ∷ w ∷ far) ≡ ends_in_half_flag (ys ++ x ∷ [])
   unfolding ends_in_half_flag
-  flag_by [] = rw (no_flag _ apart_parts.0) refl
+  flag_by [] = ap (λ b. is_regional (grapheme_cluster_break x) && not (b && not (ends_in_half_flag far))) (no_flag (grapheme_cluster_break w) tests.0)
   flag_by (y ∷ ys) = ap (λ b. is_regional (grapheme_cluster_break y) && not b) (flag_by ys)
 
-  emoji_by : (ys : List ℕ) (next : ℕ) → joins_emoji (ys ++ x ∷ far) next ≡ joins_emoji (ys ++ x ∷ near) next
-  emoji_by [] next = rw (no_joiner _ apart_parts.0) refl
+  emoji_by : (ys : List ℕ) (next : ℕ) → joins_emoji (ys ++ x ∷ w ∷ far) next ≡ joins_emoji (ys ++ x ∷ []) next
+  emoji_by [] next = rw (starts_no_joiner _ tests.1) refl
   emoji_by (y ∷ ys) next = between _ _ _ _ (pictograph_by ys)
 
-  conjunct_by : (ys : List ℕ) (next : ℕ) → joins_conjunct (ys ++ x ∷ far) next ≡ joins_conjunct (ys ++ x ∷ near) next
+  conjunct_by : (ys : List ℕ) (next : ℕ) → joins_conjunct (ys ++ x ∷ w ∷ far) next ≡ joins_conjunct (ys ++ x ∷ []) next
   conjunct_by ys next = ap (λ b. b && is_consonant (indic_conjunct_break next)) (linker_by ys)
 
-  joins_flag_by : (ys : List ℕ) (next : ℕ) → joins_flag (ys ++ x ∷ far) next ≡ joins_flag (ys ++ x ∷ near) next
+  joins_flag_by : (ys : List ℕ) (next : ℕ) → joins_flag (ys ++ x ∷ w ∷ far) next ≡ joins_flag (ys ++ x ∷ []) next
   joins_flag_by ys next = ap (λ b. b && is_regional (grapheme_cluster_break next)) (flag_by ys)
 
-  break_by : (ys after : List ℕ) → is_grapheme_break true (ys ++ x ∷ far) after ≡ is_grapheme_break true (ys ++ x ∷ near) after
+  break_by : (ys after : List ℕ) → is_grapheme_break true (ys ++ x ∷ w ∷ far) after ≡ is_grapheme_break true (ys ++ x ∷ []) after
   unfolding is_grapheme_break
   break_by [] [] = refl
   break_by (y ∷ ys) [] = refl
@@ -85,7 +143,7 @@ module _ (x : ℕ) (apart : is_apart x ≡ true) (far near : List ℕ) where
       ap (λ b. unwrap_or (break_by_pair true (grapheme_cluster_break y) (grapheme_cluster_break next)) (not b))
       (ap₂ ◌||◌ (ap₂ ◌||◌ (conjunct_by (y ∷ ys) next) (emoji_by (y ∷ ys) next)) (joins_flag_by (y ∷ ys) next))
 
-  ends_by : (ys text : List ℕ) → ends_after (is_grapheme_break true) (ys ++ x ∷ far) text ≡ ends_after (is_grapheme_break true) (ys ++ x ∷ near) text
+  ends_by : (ys text : List ℕ) → ends_after (is_grapheme_break true) (ys ++ x ∷ w ∷ far) text ≡ ends_after (is_grapheme_break true) (ys ++ x ∷ []) text
   ends_by ys [] = refl
   ends_by ys (c ∷ text) = ap₂ ◌∷◌ (break_by (c ∷ ys) text) (ends_by (c ∷ ys) text)
 
@@ -95,12 +153,12 @@ unfolding is_grapheme_break
 next_only [] next far near = refl
 next_only (c ∷ before) next far near = refl
 
-module _ (w x : ℕ) (rest : List ℕ) (w_apart : is_apart w ≡ true) (x_apart : is_apart x ≡ true) where
+module _ (w x : ℕ) (rest : List ℕ) (split : can_split w x ≡ true) where
   split_at : (before front : List ℕ) → ends_after (is_grapheme_break true) before (front ++ w ∷ x ∷ rest)
       ≡ ends_after (is_grapheme_break true) before (front ++ w ∷ []) ++ ends_after (is_grapheme_break true) [] (x ∷ rest)
   split_at before [] =
-      ap₂ ◌∷◌ (breaks_between w x before rest w_apart x_apart ∙ unfold is_grapheme_break in refl)
-      (ap₂ ◌∷◌ (break_by x x_apart (w ∷ before) [] [] rest) (ends_by x x_apart (w ∷ before) [] [] rest))
+      ap₂ ◌∷◌ (breaks_at w x before rest split ∙ unfold is_grapheme_break in refl)
+      (ap₂ ◌∷◌ (break_by w x split before [] rest) (ends_by w x split before [] rest))
   split_at before (c ∷ []) = ap₂ ◌∷◌ (next_only (c ∷ before) w (x ∷ rest) []) (split_at (c ∷ before) [])
   split_at before (c ∷ d ∷ front) = ap₂ ◌∷◌ (next_only (c ∷ before) d (front ++ w ∷ x ∷ rest) (front ++ w ∷ [])) (split_at (c ∷ before) (d ∷ front))
 
@@ -116,13 +174,12 @@ module _ (text : List ℕ) where
       let w = get_or text n 0 in
       let x = get_or text (suc n) 0 in
       let rest = drop (suc (suc n)) text in
-      let parts = and_parts (is_alone (get_or text (suc n - 1) 0)) (is_alone x) alone in
-      let w_alone : is_alone w ≡ true = ap (λ i. is_alone (get_or text i 0)) (omega arith) ∙ parts.0 in
+      let split : can_split w x ≡ true = ap (λ i. can_split (get_or text i 0) x) (omega arith) ∙ alone in
       let front : take (suc n) text ≡ take n text ++ w ∷ [] = take-suc text n 0 (omega (arith, within)) in
       let back : drop (suc n) text ≡ x ∷ rest = drop-cons text (suc n) 0 within in
       let whole : text ≡ take n text ++ w ∷ x ∷ rest =
       sym (take-append-drop (suc n) text) ∙ ap₂ ◌++◌ front back ∙ append_assoc (take n text) (w ∷ []) (x ∷ rest) in
-      ap cluster_ends whole ∙ ends_split w x rest (alone_is_apart w w_alone) (alone_is_apart x parts.1) (take n text)
+      ap cluster_ends whole ∙ ends_split w x rest split (take n text)
       ∙ sym (ap₂ (λ (a b : List ℕ). cluster_ends a ++ cluster_ends b) front back)
 
   pub split_ends : (n : ℕ) → n ≤ length text → IsSplitPoint text n → cluster_ends text ≡ cluster_ends (take n text) ++ cluster_ends (drop n text)
@@ -167,7 +224,7 @@ module _ (text : List ℕ) (from to k : ℕ) (opens : IsSplitPoint text from) (c
         | inr split ↦ elim split [
           | inl end ↦ inr (inl (omega (arith, end, length-drop from text)))
           | inr alone ↦ inr (inr (
-              ap₂ (λ (c d : ℕ). is_alone c && is_alone d)
+              ap₂ can_split
               (get_or-drop from text (to - from - 1) 0 ∙ ap (λ i. get_or text i 0) (omega (arith, start, past)))
               (get_or-drop from text (to - from) 0 ∙ ap (λ i. get_or text i 0) (omega (arith, start, past))) ∙ alone))
         ]

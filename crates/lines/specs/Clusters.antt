@@ -4,6 +4,12 @@ use Rattle.std.specs.Prelude.{◌≡◌, ℕ, ◌+◌, ◌-◌, nat_le, Bool, tr
 use Rattle.std.specs.Str.{chars}
 use Rattle.bidi.specs.Brackets.{greatest}
 use Rattle.ucd.specs.Least.{least}
+use Rattle.ucd_breaks.specs.GraphemeClusterBreak.{grapheme_cluster_break}
+use Rattle.ucd_breaks.specs.declared.GraphemeClusterBreak.{GraphemeClusterBreak}
+use Rattle.ucd_breaks.specs.declared.GraphemeClusterBreak.TheVariants.{Control, Extend, Lf, Other, SpacingMark, Zwj}
+use Rattle.ucd_derived.specs.IndicConjunctBreak.{indic_conjunct_break}
+use Rattle.ucd_derived.specs.declared.IndicConjunctBreak.{IndicConjunctBreak}
+use Rattle.ucd_derived.specs.declared.IndicConjunctBreak.TheVariants as InCb
 use Rattle.unicode_segmentation.specs.Grapheme.{is_grapheme_break}
 use Rattle.unicode_segmentation.specs.Segments.{Rule}
 
@@ -36,21 +42,62 @@ cluster_end ends k = after (least (ends_at ends) k (length ends - k)) (length en
 abbrev pub ends_of : List ℕ → List Bool
 ends_of cluster = replicate (length (chars cluster) - 1) false ++ true ∷ []
 
--- Some characters that no rule joins to one another, namely Latin-1 (of the controls below U+0020, only tab
--- and line feed), Hebrew and Arabic letters, separators, embeddings and isolates. No contract of an exported
--- function uses the definitions below.
+-- Some characters that no rule joins to one another, namely Latin, Greek, Cyrillic, Armenian and kana without combining marks,
+-- Hebrew and Arabic letters, ideographs, punctuation and some controls. No contract of an exported function uses the definitions
+-- below.
 abbrev pub lies_in : ℕ → ℕ → ℕ → Bool
 lies_in first last c = nat_le first c && nat_le c last
 
 abbrev pub is_alone : ℕ → Bool
 is_alone c =
-    lies_in 32 255 c
-    || (lies_in 9 10 c || (lies_in 1488 1514 c || (lies_in 1569 1610 c || (lies_in 8232 8238 c || lies_in 8294 8297 c))))
+    lies_in 0x20 0x2FF c
+    || (lies_in 0x9 0xA c
+    || (lies_in 0x370 0x482 c
+    || (lies_in 0x48A 0x590 c
+    || (lies_in 0x5D0 0x5EA c
+    || (lies_in 0x621 0x64A c
+    || (lies_in 0x1E00 0x200B c
+    || (lies_in 0x200E 0x20CF c
+    || (lies_in 0x3000 0x3029 c
+    || (lies_in 0x3030 0x3098 c
+    || (lies_in 0x309B 0xA66E c
+    || (lies_in 0xFF00 0xFF9D c
+    || lies_in 0x20000 0x2FFFF c)))))))))))
 
--- The split points of a text: its start, its end, and each place between two of these characters. There the text can be split
--- into two texts with the same clusters.
+-- Split points: the text before and the text after have the same clusters as the whole text. A split point is the start of the
+-- text, its end, or a place between two characters at which a cluster ends, whatever comes before and after them.
+
+-- no rule joins such a character to the next one if that one starts a cluster, with the exception of GB9c
+abbrev pub may_end : GraphemeClusterBreak → Bool
+may_end Control = true
+may_end Extend = true
+may_end Lf = true
+may_end Other = true
+may_end SpacingMark = true
+may_end _ = false
+
+-- no rule joins such a character to the one before it if that one ends a cluster, with the exception of GB9c; and no rule looks
+-- further back
+abbrev pub may_start : GraphemeClusterBreak → Bool
+may_start Extend = false
+may_start SpacingMark = false
+may_start Zwj = false
+may_start _ = true
+
+-- GB9c does not join the two characters, and does not look back past the second one
+abbrev pub no_conjunct : IndicConjunctBreak → IndicConjunctBreak → Bool
+no_conjunct _ InCb.Extend = false
+no_conjunct InCb.Extend InCb.Consonant = false
+no_conjunct InCb.Linker InCb.Consonant = false
+no_conjunct _ _ = true
+
+unfoldable pub can_split : ℕ → ℕ → Bool
+can_split last next =
+    may_end (grapheme_cluster_break last) && may_start (grapheme_cluster_break next)
+    && no_conjunct (indic_conjunct_break last) (indic_conjunct_break next)
+
 abbrev pub is_split_point : List ℕ → ℕ → Bool
-is_split_point text k = is_alone (slice_index_or text (k - 1) 0) && is_alone (slice_index_or text k 0)
+is_split_point text k = can_split (slice_index_or text (k - 1) 0) (slice_index_or text k 0)
 
 abbrev pub IsSplitPoint : List ℕ → ℕ → Type 0
 IsSplitPoint text k = (k ≡ 0) ⊎ ((k ≡ length text) ⊎ (is_split_point text k ≡ true))

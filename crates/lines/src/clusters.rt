@@ -4,11 +4,14 @@ ghost use Rattle.std.specs.Prelude.{◌≡◌, ℕ, ◌<◌, ◌≤◌, ◌++◌
 ghost use Rattle.std.specs.List.{list_all};
 ghost use Rattle.lines.specs.Bare.{with_ends};
 ghost use Rattle.lines.specs.Clusters.{cluster_begin, cluster_end, cluster_ends, ends_of};
-ghost use Rattle.lines.specs.Clusters.{is_alone, is_split_point, IsSplitPoint};
+ghost use Rattle.lines.specs.Clusters.{can_split, is_alone, is_split_point, may_end, may_start, no_conjunct};
+ghost use Rattle.lines.specs.Clusters.{IsSplitPoint};
 ghost use Rattle.lines.specs.Words.{word_ends};
 
 use crate::char_info::CharInfo;
 use std::alloc::{AllocError, Global};
+use ucd_breaks::GraphemeClusterBreak;
+use ucd_derived::IndicConjunctBreak;
 use unicode_segmentation::UnicodeSegmentation;
 
 /// Returns, for each character of a paragraph, whether a grapheme cluster ends after it.
@@ -31,8 +34,8 @@ pub fn cluster_ends(alloc: Global, text: &[char]) -> Result<Vec<bool>, AllocErro
     Ok(ends)
 }
 
-/// Returns the start and the end of the grapheme cluster of character `k` of a paragraph. Finds the clusters of the
-/// text between the nearest two split points only.
+/// Returns the start and the end of the grapheme cluster of character `k` of a paragraph. Finds only the
+/// clusters between the nearest two split points.
 pub fn cluster_of(alloc: Global, text: &[char], k: usize) -> Result<(usize, usize), AllocError>
     requires { k < length text.now }
     ensures start { IfOk result (λ found. found.0 ≡ cluster_begin (cluster_ends text.now) k) }
@@ -121,14 +124,65 @@ fn window_end(text: &[char], k: usize) -> usize
     text.len()
 }
 
-// Returns whether a quick test shows that the text before character `k` and the text from it on have the same
-// clusters as the whole text.
+// Returns whether the text before character `k` and the text from it on have the same clusters as the whole text,
+// by a test of the two characters there.
 fn is_split_point(text: &[char], k: usize) -> bool
     requires some { 0 < k }
     requires within { k < length text.now }
     ensures { result ≡ is_split_point text.now k }
 {
-    is_alone(text[k - 1]) && is_alone(text[k])
+    can_split(text[k - 1], text[k])
+}
+
+// Returns whether a cluster ends between two characters, whatever comes before and after them.
+#[tactic(auto, unfolding(crate::specs::Clusters::can_split))]
+fn can_split(last: char, next: char) -> bool
+    ensures { result ≡ can_split last next }
+{
+    may_end(GraphemeClusterBreak::for_char(last))
+        && may_start(GraphemeClusterBreak::for_char(next))
+        && no_conjunct(
+            IndicConjunctBreak::for_char(last),
+            IndicConjunctBreak::for_char(next),
+        )
+}
+
+fn may_end(last: GraphemeClusterBreak) -> bool
+    ensures { result ≡ may_end last }
+{
+    matches!(
+        last,
+        GraphemeClusterBreak::Control
+            | GraphemeClusterBreak::Extend
+            | GraphemeClusterBreak::Lf
+            | GraphemeClusterBreak::Other
+            | GraphemeClusterBreak::SpacingMark
+    )
+}
+
+fn may_start(next: GraphemeClusterBreak) -> bool
+    ensures { result ≡ may_start next }
+{
+    !matches!(
+        next,
+        GraphemeClusterBreak::Extend | GraphemeClusterBreak::SpacingMark | GraphemeClusterBreak::Zwj
+    )
+}
+
+// Returns whether rule GB9c does not join two characters, and does not look back past the second one.
+fn no_conjunct(last: IndicConjunctBreak, next: IndicConjunctBreak) -> bool
+    ensures { result ≡ no_conjunct last next }
+{
+    match next {
+        IndicConjunctBreak::Extend => false,
+        IndicConjunctBreak::Consonant => {
+            !matches!(
+                last,
+                IndicConjunctBreak::Extend | IndicConjunctBreak::Linker
+            )
+        }
+        _ => true,
+    }
 }
 
 /// Returns, for each character of a paragraph, whether there is a word boundary after it.
@@ -170,12 +224,19 @@ fn is_alone(c: char) -> bool
 {
     matches!(
         c,
-        ' '..='\u{FF}'
+        ' '..='\u{2FF}'
             | '\t'..='\n'
+            | '\u{370}'..='\u{482}'
+            | '\u{48A}'..='\u{590}'
             | '\u{5D0}'..='\u{5EA}'
             | '\u{621}'..='\u{64A}'
-            | '\u{2028}'..='\u{202E}'
-            | '\u{2066}'..='\u{2069}'
+            | '\u{1E00}'..='\u{200B}'
+            | '\u{200E}'..='\u{20CF}'
+            | '\u{3000}'..='\u{3029}'
+            | '\u{3030}'..='\u{3098}'
+            | '\u{309B}'..='\u{A66E}'
+            | '\u{FF00}'..='\u{FF9D}'
+            | '\u{20000}'..='\u{2FFFF}'
     )
 }
 
