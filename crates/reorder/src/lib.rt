@@ -12,12 +12,14 @@
 //! assert!(rt; chars == ['(', 'ב', ')', ' ']);
 //! ```
 //!
-//! No call allocates. Arrays of positions have at most `u32::MAX` items; `reorder_in_place` has no limit.
+//! `level_runs` returns the runs of a line from left to right, for a caller that shapes text. No call
+//! allocates. Arrays of positions have at most `u32::MAX` items; `reorder_in_place` has no limit.
 #![tactic(auto)]
 
 mod in_place;
 mod mirror;
 mod order;
+mod runs;
 mod spaces;
 
 pub use in_place::{highest_and_lowest_odd, reorder_in_place};
@@ -26,4 +28,5 @@ pub use order::{
     groups_stand_together, identity, level_run_len, maps_are_inverse, order_runs, others_stay,
     visual_order, visual_places,
 };
+pub use runs::{Run, Runs, level_runs};
 pub use spaces::reset_levels;
