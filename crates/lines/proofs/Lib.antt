@@ -11,6 +11,7 @@ pub mod KeptLemmas
 pub mod LayoutLemmas
 mod LengthLemmas
 pub mod PageLemmas
+mod RunColumnLemmas
 mod SegmentLemmas
 mod SelectionLemmas
 mod ShowLemmas

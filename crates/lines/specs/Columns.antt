@@ -1,7 +1,8 @@
 -- The columns of a line at each visual position: those of the text's characters, not of their mirrors.
-use Rattle.std.specs.Prelude.{ℕ, ◌+◌, ◌-◌, nat_lt, List, length, map, take, sum_by, slice_index, Option, if◌then◌else◌}
+use Rattle.std.specs.Prelude.{ℕ, ◌+◌, ◌-◌, nat_lt, List, length, map, take, sum_by, slice_index, slice_range, Option, if◌then◌else◌}
 use Rattle.ucd.specs.Least.{least}
 use Rattle.reorder.specs.Order.{is_odd}
+use Rattle.reorder.specs.declared.runs.Run.{Run}
 use Rattle.lines.specs.CharInfos.{columns_of}
 use Rattle.lines.specs.Visual.{Visual}
 
@@ -21,6 +22,10 @@ columns_left line place = sum_by columns_of (take place (unmirrored line))
 -- that column
 abbrev pub covering : Visual → ℕ → Option ℕ
 covering line column = least (λ place. nat_lt column (columns_left line (place + 1))) 0 (length line.vtol)
+
+-- the columns of a run's characters
+abbrev pub run_columns : Visual → Run → ℕ
+run_columns line run = sum_by columns_of (slice_range line.text run.start (run.start + run.len))
 
 -- the columns of padding before a line, unless printing omits padding
 abbrev pub padding_of : ℕ → Visual → ℕ

@@ -62,5 +62,6 @@ pub use laws::{lines_are_few, lines_have_all_characters, paragraphs_print_their_
 pub use options::Options;
 pub use print::{Print, PrintFault};
 pub use reflow::ReflowScratch;
+pub use reorder::{Run, Runs};
 pub use spans::{Span, Spans};
 pub use visual_line::VisualLine;

@@ -59,7 +59,8 @@ impl<'a> Spans<'a> {
     /// Returns the spans of a selection.
     pub(crate) fn new(selection: Selection<'a>) -> Spans<'a>
         requires { AreWithin (length selection.text.now) selection.vtol.now }
-        ensures { result ≡ spans_from (selected_in selection.entry) selection.entry.start selection.entry.end 0 }
+        ensures { result
+            ≡ spans_from (selected_in selection.entry) selection.entry.start selection.entry.end 0 }
     {
         Spans {
             selection,

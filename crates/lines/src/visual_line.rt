@@ -1,9 +1,11 @@
 //! Visual lines, which borrow from their paragraph.
-ghost use Rattle.std.specs.Prelude.{◌≡◌, false, ◌^◌, ◌<◌, ◌≤◌, true, length, slice_index, OnOk, IfOk, IfErr};
+ghost use Rattle.std.specs.Prelude.{◌≡◌, false, ◌^◌, ◌<◌, ◌≤◌, true, length, slice_index, sum_by};
+ghost use Rattle.std.specs.Prelude.{OnOk, IfOk, IfErr};
 ghost use Rattle.device.specs.Device.{Wrote, StoppedAt};
 ghost use Rattle.ucd.specs.Within.{AreWithin};
+ghost use Rattle.reorder.specs.Runs.{runs_of, AreRuns};
 ghost use Rattle.lines.specs.Bytes.{line_bytes, padding};
-ghost use Rattle.lines.specs.Columns.{columns_at, columns_left, covering, padding_of};
+ghost use Rattle.lines.specs.Columns.{columns_at, columns_left, covering, padding_of, run_columns};
 ghost use Rattle.lines.specs.CharInfos.{columns_of};
 ghost use Rattle.lines.specs.Spans.{is_covered, spans_of, AreMaximal};
 ghost use Rattle.lines.specs.Writing.{PassedOn, StoppedIn};
@@ -15,6 +17,7 @@ use crate::bytes::{
 use crate::print::Print;
 use crate::spans::{Selection, Spans};
 use device::Sink;
+use reorder::{Runs, level_runs};
 use std::marker::Model;
 use unicode_width::UnicodeWidthChar;
 
@@ -166,6 +169,18 @@ impl<'a> VisualLine<'a> {
             start,
             end,
         })
+    }
+
+    /// Returns the level runs of the shown part, from left to right: the longest ranges of characters at one
+    /// level after L1, in L2's order. They do not depend on the option `reordernsm`, since L3 moves marks only
+    /// inside runs. Costs as `reorder::level_runs`. Allocates nothing.
+    pub fn runs(&self) -> Runs<'a>
+        ensures runs { result ≡ runs_of self.now.levels }
+        ensures are { AreRuns self.now.levels result }
+        ensures columns { length self.now.levels ≡ length self.now.text
+            → sum_by (run_columns self.now) result ≡ sum_by columns_of self.now.text }
+    {
+        level_runs(self.levels)
     }
 
     /// Returns the number of columns of padding that the line has at a width, unless printing omits padding.

@@ -10,3 +10,9 @@ pub mod PlainLemmas
 pub mod WorkedOrder
 pub mod ChunkLemmas
 pub mod InPlaceLemmas
+pub mod LowestLemmas
+pub mod LeftmostLemmas
+pub mod SortedLemmas
+pub mod StartLemmas
+pub mod WholeRunLemmas
+pub mod WorkedRuns

@@ -26,7 +26,7 @@ use Rattle.reorder.proofs.OrderLemmas.{reversed_permute}
 
 -- ---- lists whose items all give a test the same result
 
-abbrev Each : (ℕ → Bool) → Bool → List ℕ → Type 0
+abbrev pub Each : (ℕ → Bool) → Bool → List ℕ → Type 0
 Each test b [] = Unit {0}
 Each test b (x ∷ xs) = (test x ≡ b) × Each test b xs
 
@@ -34,7 +34,7 @@ Each-append : (test : ℕ → Bool) (b : Bool) (xs ys : List ℕ) → Each test 
 Each-append test b [] ys one other = other
 Each-append test b (x ∷ xs) ys one other = (one.0, Each-append test b xs ys one.1 other)
 
-Each-reverse : (test : ℕ → Bool) (b : Bool) (xs : List ℕ) → Each test b xs → Each test b (reverse xs)
+pub Each-reverse : (test : ℕ → Bool) (b : Bool) (xs : List ℕ) → Each test b xs → Each test b (reverse xs)
 Each-reverse test b [] each = tt
 Each-reverse test b (x ∷ xs) each =
     subst (λ (ys : List ℕ). Each test b ys) (sym (reverse-append (x ∷ []) xs))
@@ -42,7 +42,7 @@ Each-reverse test b (x ∷ xs) each =
 
 -- ---- blocks of items that all pass a test, or all fail it
 
-all_pass : (test : ℕ → Bool) (run xs ys : List ℕ) → Each test true xs → reverse_runs test run (xs ++ ys) ≡ reverse_runs test (reverse xs ++ run) ys
+pub all_pass : (test : ℕ → Bool) (run xs ys : List ℕ) → Each test true xs → reverse_runs test run (xs ++ ys) ≡ reverse_runs test (reverse xs ++ run) ys
 all_pass test run [] ys each = refl
 all_pass test run (x ∷ xs) ys each =
     cond-true (test x) (reverse_runs test (x ∷ run) (xs ++ ys)) (run ++ x ∷ reverse_runs test [] (xs ++ ys)) each.0
@@ -88,18 +88,18 @@ blocks_reversed test old new run (s ∷ items) w =
           ∙ ap (flat_map new) (sym (cond-false (test s) (reverse_runs test (s ∷ run) items) (run ++ s ∷ reverse_runs test [] items) off))
     ]
 
-flat_map-ext : (f g : ℕ → List ℕ) (items : List ℕ) → ((s : ℕ) → f s ≡ g s) → flat_map f items ≡ flat_map g items
+pub flat_map-ext : (f g : ℕ → List ℕ) (items : List ℕ) → ((s : ℕ) → f s ≡ g s) → flat_map f items ≡ flat_map g items
 flat_map-ext f g [] same = refl
 flat_map-ext f g (s ∷ items) same = ap (λ (front : List ℕ). front ++ flat_map f items) (same s) ∙ ap (λ (rest : List ℕ). g s ++ rest) (flat_map-ext f g items same)
 
 -- ---- a level run is such a block
 
-odd_next : (d : ℕ) → is_odd d ≡ true → is_odd (d + 1) ≡ false
+pub odd_next : (d : ℕ) → is_odd d ≡ true → is_odd (d + 1) ≡ false
 odd_next d odd =
     let e : d % 2 ≡ 1 = eqb-true (d % 2) 1 odd in
     ne_eqb ((d + 1) % 2) 1 (λ (f : (d + 1) % 2 ≡ 1). omega arith)
 
-even_next : (d : ℕ) → is_odd d ≡ false → is_odd (d + 1) ≡ true
+pub even_next : (d : ℕ) → is_odd d ≡ false → is_odd (d + 1) ≡ true
 even_next d even =
     elim (cases_eq (d % 2) 1) [
       | inl e ↦ absurd (both_ways (is_odd d) even (eq-eqb (d % 2) 1 e))
@@ -207,11 +207,11 @@ module _ (levels : List ℕ) where
       let one : max acc level ≤ fold max (max acc level) others = after.0 in
       (omega arith, after.1)
 
-  level_within : (s : ℕ) → get_or levels s 0 < suc (highest levels)
+  pub level_within : (s : ℕ) → get_or levels s 0 < suc (highest levels)
   level_within s = omega (arith, (most_of 0 s levels).1)
 
 -- the result of `least` is in the range and passes the test, and no smaller number of the range passes
-least_is : (p : ℕ → Bool) (low count k : ℕ) → least p low count ≡ Some k → (p k ≡ true) × (k < low + count) × ((m : ℕ) → low ≤ m → m < k → p m ≡ false)
+pub least_is : (p : ℕ → Bool) (low count k : ℕ) → least p low count ≡ Some k → (p k ≡ true) × (k < low + count) × ((m : ℕ) → low ≤ m → m < k → p m ≡ false)
 least_is p low zero k is = absurd (cc)
 least_is p low (suc count) k is =
     elim (cases_Bool (p low)) [
@@ -262,7 +262,7 @@ module _ (levels : List ℕ) where
         | inr more ↦ more
       ]
 
-  no_odd : (s : ℕ) → lowest_odd levels ≡ None → is_odd (get_or levels s 0) ≡ false
+  pub no_odd : (s : ℕ) → lowest_odd levels ≡ None → is_odd (get_or levels s 0) ≡ false
   no_odd s none =
       let level : ℕ = get_or levels s 0 in
       elim (cases_Bool (is_odd level)) [
@@ -276,7 +276,7 @@ module _ (levels : List ℕ) where
 
   -- from the highest level down to the lowest odd level, a run is reversed an odd number of times if and only
   -- if its level is odd
-  odd_turned : (low s : ℕ) → lowest_odd levels ≡ Some low → is_odd (suc (get_or levels s 0) - low) ≡ is_odd (get_or levels s 0)
+  pub odd_turned : (low s : ℕ) → lowest_odd levels ≡ Some low → is_odd (suc (get_or levels s 0) - low) ≡ is_odd (get_or levels s 0)
   odd_turned low s is =
       let level : ℕ = get_or levels s 0 in
       let found = least_is (has_odd levels) 0 (suc (highest levels)) low is in
@@ -330,7 +330,7 @@ module _ (levels : List ℕ) where
 
 -- ---- the scan that finds the runs
 
-range_append : (a n m : ℕ) → range_with_len a n ++ range_with_len (a + n) m ≡ range_with_len a (n + m)
+pub range_append : (a n m : ℕ) → range_with_len a n ++ range_with_len (a + n) m ≡ range_with_len a (n + m)
 range_append a zero m = ap₂ range_with_len (omega arith) (omega arith)
 range_append a (suc n) m =
     let e : a + suc n ≡ a + 1 + n = omega arith in
@@ -697,7 +697,7 @@ RunsWritten-end t levels line runs chars k at w past =
 -- ---- the highest level and the lowest odd level, found run by run
 
 -- all positions of a run have its level
-same_at : (levels : List ℕ) (level s count j : ℕ) → j < same_len levels level s count → get_or levels (s + j) 0 ≡ level
+pub same_at : (levels : List ℕ) (level s count j : ℕ) → j < same_len levels level s count → get_or levels (s + j) 0 ≡ level
 same_at levels level s zero j inside = absurd (omega arith)
 same_at levels level s (suc count) j inside =
     let here : Bool = get_or levels s 0 == level in

@@ -1,4 +1,4 @@
--- The level runs of a line, each represented by its start. Only the code uses these definitions.
+-- The level runs of a line, each represented by its start.
 use Rattle.std.specs.Prelude.{ℕ, zero, suc, ◌+◌, ◌-◌, ◌==◌, List, length, reverse, slice_index, Option, Some, None, if◌then◌else◌}
 use Rattle.std.specs.List.{range_with_len}
 use Rattle.reorder.specs.Order.{highest, is_odd, lowest_odd, reversed_from}

@@ -5,3 +5,5 @@ pub mod LevelRuns
 pub mod Groups
 pub mod NoEnds
 pub mod InPlace
+pub mod Lowest
+pub mod Runs

@@ -13,6 +13,8 @@
 //! assert!(rt; chars == ['(', 'ב', ')', ' ']);
 //! ```
 //!
+//! `level_runs` returns the level runs of a line from left to right, for a caller that shapes text.
+//!
 //! No function of this crate allocates. Arrays of positions have at most `u32::MAX` items. `reorder_in_place`
 //! has no such limit.
 #![tactic(auto)]
@@ -20,6 +22,7 @@
 mod in_place;
 mod mirror;
 mod order;
+mod runs;
 mod spaces;
 
 pub use in_place::{highest_and_lowest_odd, reorder_in_place};
@@ -28,4 +31,5 @@ pub use order::{
     groups_stand_together, identity, level_run_len, maps_are_inverse, order_runs, others_stay,
     visual_order, visual_places,
 };
+pub use runs::{Run, Runs, level_runs};
 pub use spaces::reset_levels;

@@ -6,6 +6,7 @@ ghost use Rattle.lines.specs.Layouts.{AreLinesOf, IsLaidOut};
 
 mod orders;
 mod printed;
+mod spans;
 mod written;
 
 use crate::files;
