@@ -124,8 +124,8 @@ fn window_end(text: &[char], k: usize) -> usize
     text.len()
 }
 
-// Returns whether the text before character `k` and the text from it on have the same clusters as the whole text,
-// by a test of the two characters there.
+// Returns whether the text before character `k` and the text from it on have the same clusters as the whole
+// text, by a test of the two characters there.
 fn is_split_point(text: &[char], k: usize) -> bool
     requires some { 0 < k }
     requires within { k < length text.now }

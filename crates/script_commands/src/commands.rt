@@ -8,8 +8,9 @@ ghost use Rattle.std.specs.Str.{chars};
 ghost use Rattle.script_commands.specs.Parsed.{command_of};
 ghost use Rattle.script_commands.specs.Commands.{LacksInserted, LacksInsertedIn, LacksText};
 ghost use Rattle.script_commands.specs.Commands.{Ask, SetWidth, are_digits, both_in, braced, deletion_in};
-ghost use Rattle.script_commands.specs.Commands.{edit_command_in, escaped, insertion_in, number_by, number_in};
-ghost use Rattle.script_commands.specs.Commands.{offset_query_in, parted, query_in, command_in, stripped, unescaped, written};
+ghost use Rattle.script_commands.specs.Commands.{command_in, edit_command_in, escaped, insertion_in};
+ghost use Rattle.script_commands.specs.Commands.{number_by, number_in, offset_query_in, parted, query_in};
+ghost use Rattle.script_commands.specs.Commands.{stripped, unescaped, written};
 
 use std::alloc::AllocError;
 

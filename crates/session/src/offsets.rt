@@ -1,5 +1,5 @@
-//! Converts positions to offsets in UTF-8 bytes or UTF-16 code units, and back. The sums in the store find the
-//! paragraph. A paragraph with as many units as characters is not scanned.
+//! Converts positions to offsets in UTF-8 bytes or UTF-16 code units, and back. The sums in the store find
+//! the paragraph. A paragraph with as many units as characters is not scanned.
 ghost use Rattle.std.specs.Prelude.{◌≡◌, ◌<◌, ◌≤◌, List, ℕ, length, sum_by, take};
 ghost use Rattle.session.specs.Kept.{text_of};
 ghost use Rattle.session.specs.Offsets.{before_in, length_in, offset_of, position_of, size_in};

@@ -225,10 +225,10 @@ impl<S: ParagraphStore<Kept>> Session<S> {
     /// Returns the grapheme cluster of the character at a position, within its paragraph, or `None` past the
     /// last character.
     ///
-    /// Reads the characters back to the nearest place where a cluster ends whatever comes before and after the
-    /// two characters there, such as before most letters and emoji, and on to the next such place. At worst, as
-    /// in a paragraph of flags, reads the paragraph. Allocates a copy of these characters if there is more than
-    /// one.
+    /// Reads the characters back to the nearest place where a cluster ends whatever comes before and after
+    /// the two characters there, such as before most letters and emoji, and on to the next such place. At
+    /// worst, as in a paragraph of flags, reads the paragraph. Allocates a copy of these characters if there
+    /// is more than one.
     pub fn cluster(&self, pos: usize) -> Result<Option<Cluster>, AllocError>
         ensures ok { IfOk result (λ cluster. cluster ≡ cluster_at self.now.kept pos) }
         ensures memory { OnErr result (pos < length (text_at self.now)) }
@@ -274,9 +274,8 @@ impl<S: ParagraphStore<Kept>> Session<S> {
         utf8_len(&self.store, pos, count)
     }
 
-    /// Returns the number of UTF-8 bytes before a position, or `None` past the end. Needs time
-    /// logarithmic in the number of paragraphs, and linear in the length of one unless that is ASCII. Allocates
-    /// nothing.
+    /// Returns the number of UTF-8 bytes before a position, or `None` past the end. Needs time logarithmic in
+    /// the number of paragraphs, and linear in the length of one unless that is ASCII. Allocates nothing.
     pub fn byte_of(&self, pos: usize) -> Option<usize>
         ensures byte { result ≡ offset_of Utf8 (text_at self.now) pos }
         ensures none { is_none result ≡ nat_lt (length (text_at self.now)) pos }

@@ -34,8 +34,8 @@ pub fn open_text<S: ParagraphStore<Kept> + Drop>(
     }
 }
 
-// Converts an error from `Session::open` to a `RunFault`. A session refuses a text only because the text or one of its
-// paragraphs is too long. Any other fault means that memory ran out.
+// Converts an error from `Session::open` to a `RunFault`. A session refuses a text only because the text or
+// one of its paragraphs is too long. Any other fault means that memory ran out.
 fn start_fault(fault: EditFault) -> RunFault
     ensures { result ≡ start_fault fault }
 {
