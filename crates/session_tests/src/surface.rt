@@ -423,6 +423,8 @@ enum Call {
     Analysed,
     Filled,
     Print,
+    Bytes,
+    CodeUnits,
     OutOfRange,
     WidthOutOfRange,
 }
@@ -474,6 +476,8 @@ fn holds_in<S: store::ParagraphStore<session::Kept> + Drop>(
         Call::OutOfRange => refuses_range(&mut session),
         Call::WidthOutOfRange => refuses_width(&mut session),
         Call::Print => prints(&session),
+        Call::Bytes => converts_bytes(&mut session),
+        Call::CodeUnits => converts_code_units(&mut session),
         _ => reads(&session, call),
     };
     drop(session);
@@ -612,6 +616,41 @@ fn shows_line<S: store::ParagraphStore<session::Kept>>(session: &session::Sessio
 #[test]
 fn line_1_is_the_second_paragraph(rt: HostRuntime) {
     assert!(rt; holds(rt.alloc(), Call::Line));
+}
+
+// Inserts U+05D0 and U+1F600 before the first newline.
+fn insert_wide<S: store::ParagraphStore<session::Kept>>(session: &mut session::Session<S>) -> bool {
+    session.insert(2, "א😀").is_ok()
+}
+
+fn converts_bytes<S: store::ParagraphStore<session::Kept>>(
+    session: &mut session::Session<S>,
+) -> bool {
+    let is_put: bool = insert_wide(session);
+    let byte: Option<usize> = session.byte_of(4);
+    let place: Option<(usize, usize)> = session.position_of_byte(5);
+    let len: Option<usize> = session.utf8_len(2, 2);
+    is_put & (byte == Some(8)) & (place == Some((3, 1))) & (len == Some(6))
+}
+
+#[test]
+fn byte_of_4_is_8_and_byte_5_is_in_character_3(rt: HostRuntime) {
+    assert!(rt; holds(rt.alloc(), Call::Bytes));
+}
+
+fn converts_code_units<S: store::ParagraphStore<session::Kept>>(
+    session: &mut session::Session<S>,
+) -> bool {
+    let is_put: bool = insert_wide(session);
+    let unit: Option<usize> = session.utf16_of(4);
+    let place: Option<(usize, usize)> = session.position_of_utf16(4);
+    let end: Option<(usize, usize)> = session.position_of_utf16(11);
+    is_put & (unit == Some(5)) & (place == Some((3, 1))) & (end == Some((10, 0)))
+}
+
+#[test]
+fn utf16_of_4_is_5_and_the_end_is_character_10(rt: HostRuntime) {
+    assert!(rt; holds(rt.alloc(), Call::CodeUnits));
 }
 
 fn counts_chars<S: store::ParagraphStore<session::Kept>>(session: &session::Session<S>) -> bool {
