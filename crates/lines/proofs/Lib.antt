@@ -13,6 +13,7 @@ mod LengthLemmas
 pub mod PageLemmas
 mod RunColumnLemmas
 mod SelectionLemmas
+mod ShownColumnLemmas
 mod ShowLemmas
 pub mod SkippedLemmas
 mod SpanLemmas
