@@ -10,7 +10,7 @@ mod IsolateLemmas
 mod JumpLemmas
 pub mod LastLemmas
 pub mod LeastLemmas
-mod LengthLemmas
+pub mod LengthLemmas
 mod LevelLemmas
 mod MatchLemmas
 mod NeutralLemmas

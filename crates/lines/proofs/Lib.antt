@@ -14,6 +14,7 @@ pub mod PageLemmas
 mod RunColumnLemmas
 mod SegmentLemmas
 mod SelectionLemmas
+mod ShownColumnLemmas
 mod ShowLemmas
 pub mod SkippedLemmas
 mod SpanLemmas

@@ -21,7 +21,7 @@ use Rattle.lines.specs.declared.char_info.CharInfo.{CharInfo}
 use Rattle.bidi.specs.Levels.{levels_of}
 
 -- whether the numbers rise strictly, start at `low` or above, and are below n
-abbrev Rise : ℕ → ℕ → List ℕ → Type 0
+abbrev pub Rise : ℕ → ℕ → List ℕ → Type 0
 Rise low n [] = ⊤
 Rise low n (x ∷ xs) = (low ≤ x) × (x < n) × Rise (suc x) n xs
 
@@ -76,6 +76,14 @@ from_within tables options base text levels ps low n (s ∷ []) e rise =
 from_within tables options base text levels ps low n (s ∷ t ∷ at) e rise =
     All-cons (λ (line : Line). line.start + length line.levels ≤ n) (line_between tables options base text levels ps s t) (lines_from tables options base text levels ps (t ∷ at))
     (omega (arith, levels_most tables options base text levels ps s t, rise.2.0, rise.2.1)) (from_within tables options base text levels ps (suc s) n (t ∷ at) e rise.2)
+
+-- the line starts of a paragraph rise strictly
+pub starts_in : (rules : Rules) (width : ℕ) (text : List ℕ) → Rise 0 (length text) (line_starts_of rules.options.nobreak width (infos_of rules.tables rules.options.whole_numbers text))
+unfolding line_starts_of infos_of
+starts_in rules width text =
+    let ps : List CharInfo = infos_of rules.tables rules.options.whole_numbers text in
+    rise_to 0 (length ps) (length text) (line_starts_of rules.options.nobreak width ps) (length-infos rules.tables text (marks_of rules.tables rules.options.whole_numbers text) (cluster_ends text))
+    (starts_rise rules.options.nobreak width 0 0 (length ps) ps (omega arith))
 
 -- the shown parts of a paragraph's lines are inside the paragraph
 pub lines_within : (rules : Rules) (width : ℕ) (text : List ℕ) → AreWithin (length text) (lines_of rules width text)

@@ -38,7 +38,7 @@ front_of_zeros (suc n) [] all k = refl
 front_of_zeros (suc n) (level ∷ levels) all zero = all zero
 front_of_zeros (suc n) (level ∷ levels) all (suc k) = front_of_zeros n levels (λ j. all (suc j)) k
 
-length-line_levels : (base : ℕ) (classes : List BidiClass) (levels : List ℕ) → length levels ≡ length classes → length (line_levels base classes levels) ≡ length levels
+pub length-line_levels : (base : ℕ) (classes : List BidiClass) (levels : List ℕ) → length levels ≡ length classes → length (line_levels base classes levels) ≡ length levels
 length-line_levels base [] levels same = sym same
 length-line_levels base (class ∷ classes) [] same = refl
 length-line_levels base (class ∷ classes) (level ∷ levels) same = ap suc (length-line_levels base classes levels (omega (arith, same)))

@@ -1,7 +1,9 @@
 //! Theorems about all layouts.
-ghost use Rattle.std.specs.Prelude.{◌≡◌, ◌≤◌, ℕ, List, length, sum_by};
+ghost use Rattle.std.specs.Prelude.{◌≡◌, ◌≤◌, ℕ, List, length, sum_by, All};
 ghost use Rattle.std.specs.List.{flat_map};
+ghost use Rattle.reorder.specs.Runs.{runs_of};
 ghost use Rattle.lines.specs.Bytes.{line_bytes};
+ghost use Rattle.lines.specs.Columns.{run_columns};
 ghost use Rattle.lines.specs.Layouts.{Layout, Rules, layout_of, lines_of, visuals};
 ghost use Rattle.lines.specs.Pages.{layout_bytes};
 ghost use Rattle.lines.specs.declared.print.Print.{Print};
@@ -31,4 +33,12 @@ pub fn lines_have_all_characters()
 pub fn paragraphs_print_their_lines()
     ensures { (width : ℕ) (print : Print) (layout : Layout)
         → layout_bytes width print layout ≡ flat_map (line_bytes width print) (visuals layout) }
+{}
+
+/// States, as a theorem, that the columns of a line's level runs add up to those of the line, by any rules and
+/// at any width. `VisualLine::runs` returns the runs. Costs nothing at run time.
+pub fn runs_have_all_columns()
+    ensures { (rules : Rules) (width : ℕ) (text : List ℕ)
+        → All (λ line. sum_by (run_columns line) (runs_of line.levels) ≡ line.columns)
+        (visuals (layout_of rules width text)) }
 {}

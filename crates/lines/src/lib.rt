@@ -58,7 +58,9 @@ pub use engine::{Engine, PARAGRAPH_LIMIT};
 pub use extents::Extents;
 pub use fill::Fill;
 pub use laid::Laid;
-pub use laws::{lines_are_few, lines_have_all_characters, paragraphs_print_their_lines};
+pub use laws::{
+    lines_are_few, lines_have_all_characters, paragraphs_print_their_lines, runs_have_all_columns,
+};
 pub use options::Options;
 pub use print::{Print, PrintFault};
 pub use reflow::ReflowScratch;

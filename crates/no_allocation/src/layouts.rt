@@ -95,10 +95,21 @@ pub fn of_line(line: &VisualLine<'_>) -> u64 {
     sum = mixed(sum, line.columns_left(1) as u64);
     sum = mixed(sum, line.columns_at(1) as u64);
     sum = mixed_place(sum, line.covering(1));
-    for span in line.spans(1, 3) {
+    sum = mixed(sum, of_ranges(line));
+    mixed(sum, written(line))
+}
+
+// Returns a digest of the columns of a range of a line, and of its level runs.
+fn of_ranges(line: &VisualLine<'_>) -> u64 {
+    let mut sum = 0;
+    for span in line.spans(1, 5) {
         sum = mixed(mixed(sum, span.left as u64), span.right as u64);
     }
-    mixed(sum, written(line))
+    for run in line.runs() {
+        sum = mixed(mixed(sum, run.start as u64), run.len as u64);
+        sum = mixed(sum, u64::from(run.level));
+    }
+    sum
 }
 
 /// The options that print everything about a line.

@@ -1,5 +1,6 @@
 //! The queries that a script makes about the current text, and the replies to them.
 ghost use Rattle.std.specs.Prelude.{◌≡◌, ◌^◌, ◌<◌, ◌≤◌, IfOk, IfErr, OnErr, length, slice_index};
+ghost use Rattle.std.specs.Prelude.{◌∷◌, [], option_map};
 ghost use Rattle.lines.specs.Engine.{rules_of};
 ghost use Rattle.reorder.specs.Order.{is_odd};
 ghost use Rattle.lines.specs.Writing.{PassedOn};
