@@ -23,8 +23,8 @@ fn main(rt: HostRuntime) -> ExitCode {
         return ExitCode::SUCCESS;
     };
     let reported = report(&rt, &fault);
-    // Failing to write help or the version is an error. If another message cannot be written, only the exit
-    // status reports its fault.
+    // Failing to write help or the version is an error. If any other message cannot be written, only
+    // the exit status reports the error.
     if reported.is_err() && fault.status() == 0 {
         let _ = eprintln!(&rt; "fribidi: cannot write help");
         return ExitCode::FAILURE;
@@ -104,7 +104,7 @@ fn table_fault(fault: FolderFault) -> ProgramFault {
     }
 }
 
-// Reads the text of an edit script, and then runs the script on it.
+// Reads the text that a script edits, and then runs the script on that text.
 fn execute(
     rt: &HostRuntime,
     script: &str,

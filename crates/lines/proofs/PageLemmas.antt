@@ -12,7 +12,7 @@ use Rattle.lines.specs.Pages.{layout_bytes, lines_bytes}
 use Rattle.lines.specs.Visual.{Line, Visual, visual_of}
 use Rattle.lines.specs.declared.print.Print.{Print}
 
--- in a list of lines that are numbered from 0, item k is the k-th line with the number k
+-- if the lines of a list are numbered from 0, item k is the pair of k and line k
 line_with : (lines : List Line) (k : ℕ) (line : Line) → k < length lines → slice_get lines k ≡ Some line → get_or (enumerate_from 0 lines) k (0, line) ≡ (k, line)
 line_with lines k line within got =
     let place : 0 + k ≡ k = omega arith in

@@ -35,8 +35,8 @@ pub fn paragraphs_print_their_lines()
         → layout_bytes width print layout ≡ flat_map (line_bytes width print) (visuals layout) }
 {}
 
-/// States, as a theorem, that the columns of a line's level runs add up to those of the line, by any rules and
-/// at any width. `VisualLine::runs` returns the runs. Costs nothing at run time.
+/// States, as a theorem, that the columns of a line's level runs add up to those of the line, by any rules
+/// and at any width. `VisualLine::runs` returns the runs. Costs nothing at run time.
 pub fn runs_have_all_columns()
     ensures { (rules : Rules) (width : ℕ) (text : List ℕ)
         → All (λ line. sum_by (run_columns line) (runs_of line.levels) ≡ line.columns)

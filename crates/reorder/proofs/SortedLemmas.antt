@@ -123,7 +123,7 @@ module _ (levels : List ℕ) where
   abbrev level_at : ℕ → ℕ
   level_at i = get_or levels i 0
 
-  -- whether the reversals of the levels from k up change the order of two characters with this lowest level between them
+  -- whether L2's reversals at levels k and above swap two characters, if `low` is the lowest level between them
   abbrev turns : ℕ → ℕ → Bool
   turns k low = is_odd (suc low - k)
 

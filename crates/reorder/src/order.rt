@@ -215,7 +215,8 @@ fn reverse_groups<C: Classes>(line: &C, levels: &[u8], vtol: &mut [u32])
 }
 
 // Reverses the group at the front of a list, if there is one. Returns the number of positions that are then
-// final. The last of these positions is that of a base, or of a mark without a base.
+// final. Before the call, item `result - 1` is a base,
+// or a mark without a base.
 fn reverse_group<C: Classes>(line: &C, levels: &[u8], items: &mut [u32]) -> usize
     requires line { length levels.now ≤ length (C.all line.now) }
     requires items { (start : ℕ) × (items.old ≡ drop start (order_of levels.now)) }

@@ -185,7 +185,7 @@ impl<'a> Exchanger<Kept> for Reflow<'a> {
 
     ghost worked = { λ reflow. reflow.written };
 
-    // How many characters of a paragraph have their lines written.
+    // The number of characters in a paragraph whose lines are replaced.
     ghost cost = { written_for };
 
     ghost keeps_chars = { λ by kept part _. ap length (text_stays by kept part) };

@@ -71,7 +71,7 @@ static ROWS: [(&str, &str); 15] = [
     ("a \u{300}b", "×÷×!"),
 ];
 
-// Texts and their marks without whole numbers, and with them.
+// Texts, and their marks with `whole_numbers` off and on.
 static NUMBERS: [(&str, &str, &str); 23] = [
     ("$(1", "××!", "××!"),
     ("$(a", "××!", "÷×!"),

@@ -13,8 +13,8 @@ use Rattle.tool.specs.Scripts.{script_lines}
 use Rattle.tool.specs.Work.{LinesWork}
 
 -- What a run wrote: the replies to the first k lines. After a failed write, n bytes were written, and the
--- sink failed within the reply to the next line. If no write and no allocation failed, the first k lines are
--- all lines, and the run ends with the fault of the input, if any.
+-- sink failed within the reply to the next line. If no write or allocation failed, k is the number of
+-- lines, and the run ends with the error of the input, if any.
 abbrev pub Answered : Rules → ScriptOptions → Held → List (List ℕ) → Option RunFault → ℕ → Device → Device → Option RunFault → Type 0
 Answered rules options held lines wrong k old new (Some (fault.Write n)) =
     (length (answers rules options held (take k lines)) ≤ n) × StoppedAt n (answers rules options held (take (k + 1) lines)) old new

@@ -16,7 +16,7 @@ texts_or_none : (o : Option (Bor (List (Bor Text)))) (none : Bor (List (Bor Text
 texts_or_none None none empty = ap (map (λ s. s.now)) empty
 texts_or_none (Some s) none empty = refl
 
--- whether a script has exactly one text, and whether queries have a script, computed from the matches
+-- the checks that `--script` has exactly one file and that `--queries` has `--script`, computed from the matches
 some_told : (o : Option (Bor Text)) → is_some (option_map (λ s. s.now) o) ≡ is_some o
 some_told None = refl
 some_told (Some s) = refl
