@@ -6,10 +6,13 @@ use Rattle.std.proofs.Math.Seq.{take-length, take-suc}
 use Rattle.std.proofs.lemmas.Bool.{and_parts, cases_eq}
 use Rattle.std.proofs.lemmas.List.{get_or-drop, length-take-le, take-append-drop}
 use Rattle.std.specs.List.{slice_range}
+use Rattle.ucd_table.specs.Rows.{value_in}
 use Rattle.ucd_breaks.specs.GraphemeClusterBreak.{grapheme_cluster_break}
+use Rattle.ucd_breaks.specs.GraphemeClusterBreakRows.{grapheme_cluster_break_rows}
 use Rattle.ucd_breaks.specs.declared.GraphemeClusterBreak.{GraphemeClusterBreak}
 use Rattle.ucd_breaks.specs.declared.GraphemeClusterBreak.TheVariants.{Control, Extend, Lf, Other, RegionalIndicator, SpacingMark, Zwj}
 use Rattle.ucd_derived.specs.IndicConjunctBreak.{indic_conjunct_break}
+use Rattle.ucd_derived.specs.IndicConjunctBreakRows.{indic_conjunct_break_rows}
 use Rattle.ucd_derived.specs.declared.IndicConjunctBreak.{IndicConjunctBreak}
 use Rattle.ucd_derived.specs.declared.IndicConjunctBreak.TheVariants as InCb
 use Rattle.unicode_segmentation.specs.Grapheme.{break_by_pair, ends_in_half_flag, ends_in_linker, ends_in_pictograph, is_consonant, is_extend, is_grapheme_break, is_regional, is_zwj, joins_conjunct, joins_emoji, joins_flag}
@@ -285,3 +288,17 @@ module _ (text : List ℕ) (from to k : ℕ) (opens : IsSplitPoint text from) (c
       let first : k - from ≡ 0 = omega (arith, one, start, past) in
       let end = only_end (cluster_ends (slice_range text from to)) (length_window ∙ one) closes_window in
       window_end ∙ ap (λ n. from + cluster_end (cluster_ends (slice_range text from to)) n) first ∙ omega (arith, end, first, start)
+
+-- Rows worked by hand. A split is possible between letters, between emoji, after an emoji with a modifier, and between a space and
+-- a letter of a conjunct; it is not possible next to a joiner, between CR and LF, in a flag, in a conjunct or in a syllable.
+splits : can_split 0x61 0x62 && can_split 0x1F469 0x1F469 && can_split 0x1F3FD 0x1F44D && can_split 0x20 0x937 && can_split 0x20 0xD55C ≡ true
+unfolding can_split grapheme_cluster_break value_in grapheme_cluster_break_rows indic_conjunct_break indic_conjunct_break_rows
+splits = refl
+
+joins : can_split 0x1F468 0x200D || can_split 0x200D 0x1F469 || can_split 0xA9 0x200D || can_split 0xD 0xA || can_split 0x65 0x301 ≡ false
+unfolding can_split grapheme_cluster_break value_in grapheme_cluster_break_rows indic_conjunct_break indic_conjunct_break_rows
+joins = refl
+
+joins_more : can_split 0x1F1E9 0x1F1EA || can_split 0x94D 0x937 || can_split 0x937 0x94D || can_split 0xD558 0x11AB || can_split 0x1F44D 0x1F3FD ≡ false
+unfolding can_split grapheme_cluster_break value_in grapheme_cluster_break_rows indic_conjunct_break indic_conjunct_break_rows
+joins_more = refl

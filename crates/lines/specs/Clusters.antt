@@ -84,7 +84,7 @@ may_start SpacingMark = false
 may_start Zwj = false
 may_start _ = true
 
--- GB9c does not join the two characters, and does not look back past the second one
+-- GB9c does not join the two characters, and no later match of it reaches back past the second one
 abbrev pub no_conjunct : IndicConjunctBreak → IndicConjunctBreak → Bool
 no_conjunct _ InCb.Extend = false
 no_conjunct InCb.Extend InCb.Consonant = false

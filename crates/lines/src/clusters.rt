@@ -124,8 +124,8 @@ fn window_end(text: &[char], k: usize) -> usize
     text.len()
 }
 
-// Returns whether the text before character `k` and the text from it on have the same clusters as the whole
-// text, by a test of the two characters there.
+// Returns whether the two characters at index `k` show that the texts before and after it have the same
+// clusters as the whole text.
 fn is_split_point(text: &[char], k: usize) -> bool
     requires some { 0 < k }
     requires within { k < length text.now }
@@ -147,6 +147,8 @@ fn can_split(last: char, next: char) -> bool
         )
 }
 
+// Returns whether no rule joins a character of this class to the first one of a cluster, with the exception
+// of GB9c.
 fn may_end(last: GraphemeClusterBreak) -> bool
     ensures { result ≡ may_end last }
 {
@@ -160,6 +162,8 @@ fn may_end(last: GraphemeClusterBreak) -> bool
     )
 }
 
+// Returns whether no rule joins a character of this class to the last one of a cluster, with the exception of
+// GB9c. No rule looks back past it.
 fn may_start(next: GraphemeClusterBreak) -> bool
     ensures { result ≡ may_start next }
 {
@@ -169,7 +173,8 @@ fn may_start(next: GraphemeClusterBreak) -> bool
     )
 }
 
-// Returns whether rule GB9c does not join two characters, and does not look back past the second one.
+// Returns whether GB9c does not join two characters, and no later match of it reaches back past the second
+// one.
 fn no_conjunct(last: IndicConjunctBreak, next: IndicConjunctBreak) -> bool
     ensures { result ≡ no_conjunct last next }
 {

@@ -242,10 +242,9 @@ impl Laid {
 
     /// Returns the start and the end of the grapheme cluster of character `k` (UAX #29).
     ///
-    /// Reads the characters back to the nearest place where a cluster ends whatever comes before and after
-    /// the two characters there, such as before most letters and emoji, and on to the next such place. At
-    /// worst, as in a paragraph of flags, reads the paragraph. Allocates a copy of these characters if there
-    /// is more than one.
+    /// Reads the characters back to the nearest place where a cluster ends regardless of other characters,
+    /// such as before most letters and emoji, and on to the next such place. At worst, as in a paragraph of
+    /// flags, reads the paragraph. Allocates a copy of these characters if there is more than one.
     pub fn cluster(
         &self,
         alloc: std::alloc::Global,

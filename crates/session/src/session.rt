@@ -225,10 +225,9 @@ impl<S: ParagraphStore<Kept>> Session<S> {
     /// Returns the grapheme cluster of the character at a position, within its paragraph, or `None` past the
     /// last character.
     ///
-    /// Reads the characters back to the nearest place where a cluster ends whatever comes before and after
-    /// the two characters there, such as before most letters and emoji, and on to the next such place. At
-    /// worst, as in a paragraph of flags, reads the paragraph. Allocates a copy of these characters if there
-    /// is more than one.
+    /// Reads the characters back to the nearest place where a cluster ends regardless of other characters,
+    /// such as before most letters and emoji, and on to the next such place. At worst, as in a paragraph of
+    /// flags, reads the paragraph. Allocates a copy of these characters if there is more than one.
     pub fn cluster(&self, pos: usize) -> Result<Option<Cluster>, AllocError>
         ensures ok { IfOk result (λ cluster. cluster ≡ cluster_at self.now.kept pos) }
         ensures memory { OnErr result (pos < length (text_at self.now)) }

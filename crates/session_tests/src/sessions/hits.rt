@@ -130,7 +130,7 @@ fn has_columns<S: ParagraphStore<Kept>>(
 type ClusterRow<'a> = (&'a str, usize, Option<(usize, usize)>);
 
 // A woman, a joiner and a man form one cluster. So do a letter and its mark, and CR and LF.
-static CLUSTERS: [ClusterRow<'_>; 8] = [
+static CLUSTERS: [ClusterRow<'_>; 17] = [
     ("a\u{1f469}\u{200d}\u{1f468}b", 0, Some((0, 1))),
     ("a\u{1f469}\u{200d}\u{1f468}b", 1, Some((1, 4))),
     ("a\u{1f469}\u{200d}\u{1f468}b", 3, Some((1, 4))),
@@ -139,6 +139,15 @@ static CLUSTERS: [ClusterRow<'_>; 8] = [
     ("x\r\ny", 2, Some((1, 3))),
     ("x\r\ny", 3, Some((3, 4))),
     ("x\r\ny", 4, None),
+    ("ab\r\n", 3, Some((2, 4))),
+    ("abc\u{1f469}\u{200d}\u{1f468}\u{200d}\u{1f467}de", 5, Some((3, 8))),
+    ("a\u{1f1e9}\u{1f1ea}\u{1f1eb}\u{1f1f7}", 3, Some((3, 5))),
+    ("ab\u{915}\u{94d}\u{937}c", 4, Some((2, 5))),
+    ("a \u{915}\u{94d}\u{200d}\u{937}\u{937}", 5, Some((2, 6))),
+    ("a\u{a9}\u{200d}\u{1f469}", 3, Some((1, 4))),
+    ("\u{1f44d}\u{1f3fd}\u{1f44d}\u{1f3fd}", 2, Some((2, 4))),
+    ("ab\u{d55c}\u{ae00}", 3, Some((3, 4))),
+    ("ab\u{d558}\u{11ab}c", 3, Some((2, 4))),
 ];
 
 // Returns a cluster, and tries again after an allocation failure.
