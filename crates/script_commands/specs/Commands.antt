@@ -150,14 +150,14 @@ by_word (Some rest) query other = query rest
 by_word None query other = other
 
 -- `byte POS`, `utf16 POS`, `frombyte BYTE` and `fromutf16 UNIT`
-abbrev pub offset_query_in : List ℕ → Option Query
+unfoldable pub offset_query_in : List ℕ → Option Query
 offset_query_in line =
     by_word (stripped (codes "byte ") line) (with_one ask.Byte)
     (by_word (stripped (codes "utf16 ") line) (with_one ask.Utf16)
     (by_word (stripped (codes "frombyte ") line) (with_one ask.FromByte)
     (by_word (stripped (codes "fromutf16 ") line) (with_one ask.FromUtf16) None)))
 
-abbrev pub query_in : List ℕ → Option Query
+unfoldable pub query_in : List ℕ → Option Query
 query_in line =
     by_word (stripped (codes "lines ") line) (with_two ask.Lines)
     (by_word (stripped (codes "caret ") line) (with_one ask.Caret)

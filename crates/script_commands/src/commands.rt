@@ -112,6 +112,7 @@ fn read_query(line: &[char]) -> Option<Command>
     Some(Command::Ask(parse_query(line)?))
 }
 
+#[tactic(auto, unfolding(crate::specs::Commands::query_in))]
 fn parse_query(line: &[char]) -> Option<Query>
     ensures { result ≡ query_in line.now }
 {
@@ -146,6 +147,7 @@ fn parse_query(line: &[char]) -> Option<Query>
     parse_offset_query(line)
 }
 
+#[tactic(auto, unfolding(crate::specs::Commands::offset_query_in))]
 fn parse_offset_query(line: &[char]) -> Option<Query>
     ensures { result ≡ offset_query_in line.now }
 {
