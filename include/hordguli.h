@@ -430,12 +430,16 @@ typedef struct hordguli_word {
  * Cost: O(log n), plus time and memory proportional to the whole paragraph. */
 hordguli_status hordguli_word_at(hordguli_session *session, size_t pos, hordguli_word *word);
 
-/* Stores in `*byte` how many bytes of UTF-8, and in `*unit` how many UTF-16 code units, the text before `pos` has.
- * Editors and the Language Server Protocol count these. Fails with OUT_OF_RANGE if `pos` is past the end.
+/* Stores in `*byte` how many bytes of UTF-8 the text before `pos` needs. Fails with OUT_OF_RANGE if `pos` is past the
+ * end.
  * Errors: NULL, OVERLAP, CLOSED, OUT_OF_RANGE.
- * Cost: O(log n), plus O(length of the paragraph) unless the paragraph is ASCII or, for UTF-16, has no character above
- * U+FFFF. */
+ * Cost: O(log n), plus O(length of the paragraph) unless the paragraph is ASCII. */
 hordguli_status hordguli_byte_of(hordguli_session *session, size_t pos, size_t *byte);
+
+/* Stores in `*unit` how many UTF-16 code units the text before `pos` needs, which is how the Language Server Protocol
+ * counts. Fails with OUT_OF_RANGE if `pos` is past the end.
+ * Errors: NULL, OVERLAP, CLOSED, OUT_OF_RANGE.
+ * Cost: O(log n), plus O(length of the paragraph) if the paragraph has a character above U+FFFF. */
 hordguli_status hordguli_utf16_of(hordguli_session *session, size_t pos, size_t *unit);
 
 /* The character at `pos`, and how many of its bytes or code units come before an offset: 0 at its start. */
@@ -444,11 +448,16 @@ typedef struct hordguli_position {
     size_t rest;
 } hordguli_position;
 
-/* Stores the position of a UTF-8 byte or of a UTF-16 code unit, counted from 0, in `*position`. At the end of the text,
- * `pos` is the number of characters and `rest` is 0. Fails with OUT_OF_RANGE if the offset is past the end.
+/* Stores the position of a UTF-8 byte, counted from 0, in `*position`. At the end of the text, `pos` is the number of
+ * characters and `rest` is 0. Fails with OUT_OF_RANGE if `byte` is past the end.
  * Errors: NULL, OVERLAP, CLOSED, OUT_OF_RANGE.
  * Cost: as `hordguli_byte_of`. */
 hordguli_status hordguli_position_of_byte(hordguli_session *session, size_t byte, hordguli_position *position);
+
+/* Stores the position of a UTF-16 code unit, counted from 0, in `*position`. At the end of the text, `pos` is the number
+ * of characters and `rest` is 0. Fails with OUT_OF_RANGE if `unit` is past the end.
+ * Errors: NULL, OVERLAP, CLOSED, OUT_OF_RANGE.
+ * Cost: as `hordguli_utf16_of`. */
 hordguli_status hordguli_position_of_utf16(hordguli_session *session, size_t unit, hordguli_position *position);
 
 /* The columns from `left` up to but not including `right`, counted from the left edge of a line's shown part. */
