@@ -140,7 +140,11 @@ static CLUSTERS: [ClusterRow<'_>; 17] = [
     ("x\r\ny", 3, Some((3, 4))),
     ("x\r\ny", 4, None),
     ("ab\r\n", 3, Some((2, 4))),
-    ("abc\u{1f469}\u{200d}\u{1f468}\u{200d}\u{1f467}de", 5, Some((3, 8))),
+    (
+        "abc\u{1f469}\u{200d}\u{1f468}\u{200d}\u{1f467}de",
+        5,
+        Some((3, 8)),
+    ),
     ("a\u{1f1e9}\u{1f1ea}\u{1f1eb}\u{1f1f7}", 3, Some((3, 5))),
     ("ab\u{915}\u{94d}\u{937}c", 4, Some((2, 5))),
     ("a \u{915}\u{94d}\u{200d}\u{937}\u{937}", 5, Some((2, 6))),
