@@ -20,7 +20,7 @@ abbrev pub sequence_levels : (ℕ → Option Bracket) → ℕ → BidiClass → 
 sequence_levels bracket_of level sos eos characters types =
     map (implicit_level level) (neutral (direction level) sos eos (brackets bracket_of (direction level) sos characters types (weak sos types)))
 
--- writes each value to the list `levels`, at the corresponding index in the list of places
+-- writes each value to `levels`, at the index that the corresponding item of `places` gives
 abbrev pub put : List ℕ → List ℕ → List ℕ → List ℕ
 put levels (place ∷ places) (value ∷ values) = put (slice_set levels place value) places values
 put levels places values = levels

@@ -119,8 +119,7 @@ pub record AreTypesSoFar (sos : BidiClass) (old current : List BidiClass) (befor
   pub whole : take start current ++ types_after row (at - start) (w3_type strong) (read_types before strong (drop at old))
       ≡ types_after Nothing 0 (w3_type sos) (read_types sos sos old)
 
--- if `current` has the types of the pass at the index `at`, `settled` has them at `next`, the end of a run of
--- equal types
+-- if `current` is the state of the pass at `at`, `settled` is its state at `next`, where the run of equal types ends
 abbrev pub SettlesRow : List BidiClass → ℕ → BidiClass → List BidiClass → ℕ → Type 0
 SettlesRow current at class settled next =
     (sos : BidiClass) (old : List BidiClass) (before strong : BidiClass) (row : Row) (start : ℕ) → AreTypesSoFar sos old current before strong row start at

@@ -177,8 +177,8 @@ answers_same_plain false b p q carry = rw (zw b p q carry, op b p q carry, qu b 
 pub answers_same : (whole_numbers : Bool) (b : Base) (p q : List Base) → carried p ≡ carried q → answers whole_numbers (b ∷ p) ≡ answers whole_numbers (b ∷ q)
 answers_same whole_numbers b p q carry = answers_same_plain whole_numbers (record { first = record b.first { is_future_pictograph = false }; attached = narrow CM ∷ [] }) p q carry
 
--- the results of all conditions are `answers`, with the results of LB8a and LB30b for pictographs taken from
--- the last base
+-- the results of all conditions are those in `answers`, except LB8a and the pictograph case of LB30b, which
+-- depend on the last base
 all_answers : (whole_numbers : Bool) (last : Base) (others : List Base)
     → map (λ row. row.before (last ∷ others)) (rows whole_numbers)
     ≡ answered_with whole_numbers (is_same (end_of last).class ZWJ) last.first.is_future_pictograph

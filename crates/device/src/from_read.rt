@@ -5,8 +5,8 @@ use crate::{Source, countable};
 use std::io;
 use std::io::ErrorKind;
 
-/// A source that wraps a reader of std. It reports the bytes that the reader reports, passes at most 2^64 - 1
-/// bytes and then fails.
+/// A source that wraps a reader of std. Its `read` returns the count that the reader
+/// returns. Once 2^64 - 1 bytes have been read, it fails.
 #[derive(Drop)]
 pub struct FromRead<R> {
     inner: R,

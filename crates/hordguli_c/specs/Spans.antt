@@ -14,7 +14,7 @@ use Rattle.hordguli_c.specs.declared.status.Status.TheVariants as is
 abbrev pub span_out : Span → SpanOut
 span_out span = record { left = span.left; right = span.right }
 
--- the spans of a range in a line, whose positions count from the start of the line
+-- the spans of a range in a line; `from` and `to` count from the start of the line
 abbrev pub spans_out : Visual → ℕ → ℕ → List SpanOut
 spans_out line from to = map span_out (spans_of line from to)
 

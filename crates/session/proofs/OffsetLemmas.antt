@@ -221,7 +221,7 @@ offset_there encoding text pos within none = let wrong = none ∙ offset_within 
 pub offset_is : (encoding : Encoding) (text : List ℕ) (pos n : ℕ) → pos ≤ length text → Some n ≡ offset_of encoding text pos → n ≡ length_in encoding (take pos text)
 offset_is encoding text pos n within some = ap (λ o. unwrap_or o n) (some ∙ offset_within encoding text pos within)
 
--- the bytes of a range are those before its end without those before its start
+-- the number of bytes in the UTF-8 encoding of a text is its length in UTF-8 bytes
 encoded_length : (text : List ℕ) → length (encode_utf8_all text) ≡ length_in Utf8 text
 encoded_length [] = refl
 encoded_length (c ∷ cs) =

@@ -47,8 +47,8 @@ text_refusal is_cut text =
     if nat_lt TEXT_LIMIT (length text) then Some TextTooLong
     else (if is_within_limit is_cut text then None else Some ParagraphTooLong)
 
--- the reason for refusing an edit, or `None`: the edit reaches past the end of the text, or its result is
--- refused
+-- The reason for refusing an edit, or `None`. An edit is refused if it reaches past the end of the text, or if its
+-- result is refused.
 abbrev pub refusal : (ℕ → ℕ → Bool) → List ℕ → Replacement → Option EditFault
 refusal is_cut text edit =
     if nat_lt (length text) (edit.pos + edit.count) then Some OutOfRange

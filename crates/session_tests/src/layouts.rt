@@ -1,4 +1,5 @@
-//! Worked examples of layouts. The tests also pass if any one allocation fails, except one in `refill`.
+//! Worked examples of layouts. The tests also pass if any single allocation outside `refill`
+//! fails.
 ghost use Rattle.std.specs.Prelude.{◌≡◌, ◌<◌, IfOk, OnOk};
 ghost use Rattle.lines.specs.Engine.{rules_of, SameRules};
 ghost use Rattle.lines.specs.Extents.{extents_of};

@@ -2,7 +2,7 @@
 ghost use Rattle.std.specs.Prelude.{◌≡◌, ℕ, refl};
 ghost use Rattle.store.specs.Exchanging.{raised};
 
-/// An item with numbers of characters, lines, UTF-8 bytes and UTF-16 code units.
+/// An item that has a count of characters, lines, UTF-8 bytes and UTF-16 code units.
 pub trait Measured {
     ghost chars: { Self → ℕ };
 

@@ -230,7 +230,7 @@ fn is_same(found: Found, other: Found) -> bool {
     Found { visits: 0, ..found } == Found { visits: 0, ..other }
 }
 
-// Whether both stores find the same for each character, line, byte and code unit.
+// Whether both stores return the same result for each character, line, byte and code unit.
 fn finds_same<S: ParagraphStore<Item>, T: ParagraphStore<Item>>(left: &S, right: &T) -> bool {
     let (chars, lines) = (left.total_chars(), left.total_lines());
     if right.total_chars() != chars || right.total_lines() != lines {

@@ -14,7 +14,6 @@
 //!     settings.width,
 //!     &settings.print,
 //! )
-//! .map_err(ProgramFault::Run)
 //! ```
 #![tactic(auto)]
 

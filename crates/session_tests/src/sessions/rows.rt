@@ -229,7 +229,7 @@ const SHOWN: Print = Print {
     ..LEVELS
 };
 
-// Whether the edit has the right result, and these bytes are printed after it.
+// Whether the step's edit has the expected result, and the step's text is printed after it.
 fn is_step<S: ParagraphStore<Kept>>(
     rt: &impl Abort,
     edited: &mut Session<S>,
