@@ -45,7 +45,7 @@ pub trait Sink {
     ghost state: { Self → Device };
 
     /// Writes bytes from the front of `bytes`, which must not be empty, and returns their number. If the
-    /// write fails, no byte has passed, and the call counts as failed. A call that returns 0 counts as failed
+    /// write fails, no byte is written, and the failure is counted. A call that returns 0 counts as a failure
     /// too.
     fn write(&mut self, bytes: &[u8]) -> Result<usize, ErrorKind>
         requires { 0 < length bytes.now }
