@@ -1,14 +1,16 @@
 -- A search in a subtree finds the same item as a search in the whole list.
-use Rattle.std.proofs.Common.{◌≡◌, ℕ, ◌+◌, ◌<◌, List, ◌∷◌, ◌++◌, length, take, sum_by, arith, length-append, append_assoc, sym, ap, ◌∙◌}
+use Rattle.std.proofs.Common.{◌≡◌, ℕ, ◌+◌, ◌-◌, ◌<◌, List, ◌∷◌, ◌++◌, length, take, sum_by, arith, length-append, append_assoc, sym, ap, ◌∙◌}
 use Rattle.std.proofs.Math.Seq.{take-append_seam}
-use Rattle.std.proofs.lemmas.List.Sums.{sum_by-append, sum_by-cons}
-use Rattle.store.specs.Finding.{Finds, IsPlace, CountsBefore, found_at}
+use Rattle.std.proofs.lemmas.List.{take-append-le}
+use Rattle.std.proofs.lemmas.List.Sums.{sum_by-append, sum_by-cons, sum_by-take-drop}
+use Rattle.store.specs.Finding.{FindsItem, IsPlace, IsItemPlace, CountsBefore, found_at}
 use Rattle.store.specs.Sums.{measure, part, AreSums, SumsFit}
 use Rattle.store.specs.declared.found.Place.{Place}
 use Rattle.store.specs.declared.measured.Measured.{Ghosts}
 use Rattle.store.specs.declared.sums.Unit.{Unit as Counted}
 use Rattle.store.specs.declared.sums.Unit.TheVariants.{Char, Line, Byte, Utf16}
 use Rattle.store.proofs.FitsLemmas.{sums_less}
+use Rattle.store.proofs.ListLemmas.{take_far}
 
 module _ {P : Type 0} (G : Ghosts P) (unit : Counted) where
   -- the counts of a place are the sums of the items before it
@@ -79,3 +81,63 @@ module _ {P : Type 0} (G : Ghosts P) (unit : Counted) where
         (omega (arith, at.rest, sum_by-append (measure G unit) l (x ∷ at.before), sum_by-cons (measure G unit) x at.before))
         (omega (arith, at.within))
         sums_are
+
+-- the place of an item by its index
+module _ {P : Type 0} (G : Ghosts P) where
+  pub item_found : (items : List P) (index : ℕ) (f : Place) → IsItemPlace G items index f → FindsItem G.chars G.lines items index (found_at f)
+  item_found items index f is = record {
+    index_is = is.index_is;
+    rest = is.rest;
+    chars_before = is.sums.each Char;
+    lines_before = is.sums.each Line;
+  }
+
+  pub item_counts : (items : List P) (index : ℕ) (f : Place) → IsItemPlace G items index f → CountsBefore G.bytes G.utf16 items (found_at f)
+  item_counts items index f is =
+      let front : take index items ≡ take f.index items = ap (λ (k : ℕ). take k items) (sym is.index_is) in record {
+        bytes_before = is.sums.each Byte ∙ ap (sum_by G.bytes) front;
+        utf16_before = is.sums.each Utf16 ∙ ap (sum_by G.utf16) front;
+      }
+
+  -- an item of the left subtree, the root's item, and an item of the right subtree
+  module _ (l : List P) (x : P) (r : List P) where
+    pub item_before : (index : ℕ) (f g : Place) → index < length l → g.index ≡ f.index → g.rest ≡ f.rest → g.before ≡ f.before → IsItemPlace G l index f
+        → IsItemPlace G (l ++ x ∷ r) index g
+    item_before index f g below index_is rest_is sums_are is =
+        let front : take index l ≡ take index (l ++ x ∷ r) = sym (take-append-le index l (x ∷ r) (omega (arith, below))) in record {
+          index_is = index_is ∙ is.index_is;
+          rest = rest_is ∙ is.rest;
+          sums = record { each = λ u. ap (λ sums. part sums u) sums_are ∙ is.sums.each u ∙ ap (sum_by (measure G u)) front };
+        }
+
+    pub item_there : (index : ℕ) (g : Place) → index ≡ length l → g.index ≡ index → g.rest ≡ 0 → AreSums G l g.before → IsItemPlace G (l ++ x ∷ r) index g
+    item_there index g there index_is rest_is sums_are =
+        let front : l ≡ take index (l ++ x ∷ r) = sym (ap (λ (k : ℕ). take k (l ++ x ∷ r)) there ∙ take-append_seam l (x ∷ r)) in record {
+          index_is = index_is;
+          rest = rest_is;
+          sums = record { each = λ u. sums_are.each u ∙ ap (sum_by (measure G u)) front };
+        }
+
+    pub items_fit : (k : ℕ) → SumsFit G (l ++ x ∷ r) → SumsFit G (l ++ x ∷ take k r)
+    items_fit k fit =
+        sums_less G (l ++ x ∷ r) (l ++ x ∷ take k r)
+        (λ (size : P → ℕ). omega (
+          arith,
+          sum_by-append size l (x ∷ r),
+          sum_by-append size l (x ∷ take k r),
+          sum_by-cons size x r,
+          sum_by-cons size x (take k r),
+          sum_by-take-drop size r k,
+        ))
+        fit
+
+    pub item_after : (index k : ℕ) (g : Place) → index ≡ length l + 1 + k → g.index ≡ index → g.rest ≡ 0 → AreSums G (l ++ x ∷ take k r) g.before
+        → IsItemPlace G (l ++ x ∷ r) index g
+    item_after index k g there index_is rest_is sums_are =
+        let n : index - length l - 1 ≡ k = omega (arith, there) in
+        let front : l ++ x ∷ take k r ≡ take index (l ++ x ∷ r) =
+        sym (take_far l r x index (omega (arith, there)) ∙ ap (λ (m : ℕ). l ++ x ∷ take m r) n) in record {
+          index_is = index_is;
+          rest = rest_is;
+          sums = record { each = λ u. sums_are.each u ∙ ap (sum_by (measure G u)) front };
+        }

@@ -58,7 +58,7 @@ module _ {A : Type 0} where
       omega (arith, ap length kept_parts, length-append a (c ++ ys), length-append c ys) in
       (result_is ∙ rotated a c ys kept i n kept_parts (sym la) end_is, moved_parts)
 
-  -- if the first k items of a list are copied over another list, copying item k makes them the first k + 1
+  -- if the first k items of a list are copied over another list, copying item k extends the copy to k + 1 items
   pub set_next : (made xs now : List A) (k : ℕ) (y : A) → length made ≡ length xs → k < length xs
       → now ≡ take k made ++ drop k xs → y ≡ get_or made k y → set now k y ≡ take (k + 1) made ++ drop (k + 1) xs
   set_next made xs now k y l h now_is y_is =

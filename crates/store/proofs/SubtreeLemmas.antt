@@ -1,5 +1,5 @@
 -- The properties of a node that do not change when its items exchange parts.
-use Rattle.std.proofs.Common.{◌≡◌, ℕ, ◌+◌, ◌≤◌, ◌∷◌, ◌++◌, length, arith, length-append}
+use Rattle.std.proofs.Common.{◌≡◌, ◌+◌, ◌≤◌, ◌∷◌, ◌++◌, length, arith, length-append}
 use Rattle.store.specs.Subtrees.{IsSummed}
 use Rattle.store.specs.Sums.{AreSums}
 use Rattle.store.specs.Trees.{Tree, Fork, in_order, height, IsBalanced}

@@ -1,5 +1,5 @@
 -- The sums of lists in each unit.
-use Rattle.std.proofs.Common.{◌≡◌, ℕ, ◌+◌, ◌<◌, ◌^◌, List, [], ◌∷◌, ◌++◌, ◌-◌, ◌≤◌, slice_range, sum_by, arith}
+use Rattle.std.proofs.Common.{◌≡◌, ℕ, ◌+◌, ◌<◌, ◌^◌, List, ◌∷◌, ◌++◌, ◌-◌, ◌≤◌, slice_range, sum_by, arith}
 use Rattle.std.proofs.lemmas.List.Sums.{sum_by-append, sum_by-cons}
 use Rattle.std.specs.List.{splice, AllZip}
 use Rattle.store.specs.Exchanging.{pairwise}

@@ -1,4 +1,4 @@
--- The result of a search in a list of items: the item that has a character, line, byte or UTF-16 code unit.
+-- The result of a search in a list of items: the item that contains a character, line, byte or UTF-16 code unit.
 use Rattle.std.specs.Prelude.{◌≡◌, ℕ, ◌+◌, ◌<◌, List, ◌∷◌, ◌++◌, length, take, sum_by}
 use Rattle.store.specs.Sums.{measure, AreSums}
 use Rattle.store.specs.declared.found.Found.{Found}
@@ -18,6 +18,13 @@ pub record Finds {P : Type 0} (size chars lines : P → ℕ) (items : List P) (n
   pub within : found.rest < size item
   pub chars_before : found.chars_before ≡ sum_by chars before
   pub lines_before : found.lines_before ≡ sum_by lines before
+
+-- the item at an index, with the characters and lines of the items before it
+pub record FindsItem {P : Type 0} (chars lines : P → ℕ) (items : List P) (index : ℕ) (found : Found) : Type 0 where
+  pub index_is : found.index ≡ index
+  pub rest : found.rest ≡ 0
+  pub chars_before : found.chars_before ≡ sum_by chars (take index items)
+  pub lines_before : found.lines_before ≡ sum_by lines (take index items)
 
 -- the bytes and UTF-16 code units of the items before the found one
 pub record CountsBefore {P : Type 0} (bytes utf16 : P → ℕ) (items : List P) (found : Found) : Type 0 where
@@ -40,3 +47,9 @@ found_at place = record {
 pub record IsPlace {P : Type 0} (G : Ghosts P) (unit : Counted) (items : List P) (n : ℕ) (place : Place) : Type 0 where
   pub finds : Finds (measure G unit) G.chars G.lines items n (found_at place)
   pub sums : AreSums G finds.before place.before
+
+-- whether a place is that of the item at an index, with all sums of the items before it
+pub record IsItemPlace {P : Type 0} (G : Ghosts P) (items : List P) (index : ℕ) (place : Place) : Type 0 where
+  pub index_is : place.index ≡ index
+  pub rest : place.rest ≡ 0
+  pub sums : AreSums G (take index items) place.before

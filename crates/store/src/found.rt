@@ -15,15 +15,15 @@ pub struct Found {
     pub chars_before: usize,
     /// The number of lines in the items before this one.
     pub lines_before: usize,
-    /// The number of UTF-8 bytes of the items before it.
+    /// The number of UTF-8 bytes in the items before this one.
     pub bytes_before: usize,
-    /// The number of UTF-16 code units of the items before it.
+    /// The number of UTF-16 code units in the items before this one.
     pub utf16_before: usize,
     /// The number of items that the search visited.
     pub visits: usize,
 }
 
-/// The result of a search so far, with the sums of the items before it in one value.
+/// A `Found` under construction. `before` has the sums over all items before this one.
 #[derive(Clone, Copy)]
 pub(crate) struct Place {
     pub(crate) index: usize,

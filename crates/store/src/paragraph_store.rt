@@ -4,7 +4,7 @@ ghost use Rattle.std.specs.Prelude.{ℕ, List, [], length, map, slice_get, slice
 ghost use Rattle.std.specs.Prelude.{IfOk, IfErr, OnOk, OnErr};
 ghost use Rattle.std.specs.List.{splice, AllZip};
 ghost use Rattle.store.specs.Exchanging.{pairwise, raised, total_cost};
-ghost use Rattle.store.specs.Finding.{CountsBefore, Finds};
+ghost use Rattle.store.specs.Finding.{CountsBefore, Finds, FindsItem};
 
 use crate::found::Found;
 use crate::measured::{ByItem, Exchange, Exchanger, Measured};
@@ -72,6 +72,12 @@ pub trait ParagraphStore<P: Measured> {
     fn find_utf16(&self, unit: usize) -> Found
         requires { unit < sum_by P.utf16 (items self.now) }
         ensures found { Finds P.utf16 P.chars P.lines (items self.now) unit result }
+        ensures counts { CountsBefore P.bytes P.utf16 (items self.now) result };
+
+    /// Finds the item at an index, with the sums of the items before it.
+    fn find_item(&self, index: usize) -> Found
+        requires { index < length (items self.now) }
+        ensures found { FindsItem P.chars P.lines (items self.now) index result }
         ensures counts { CountsBefore P.bytes P.utf16 (items self.now) result };
 
     /// Replaces the items of a range with new ones, and returns the old items. The new sums must fit in a

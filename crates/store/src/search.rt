@@ -3,7 +3,7 @@ ghost use Rattle.std.specs.Prelude.{◌≡◌, ℕ, ◌+◌, ◌^◌, ◌<◌, �
 ghost use Rattle.std.specs.Prelude.{length, map, sum_by, option_map, slice_get, vec_capacity};
 ghost use Rattle.std.specs.List.{AllZip};
 ghost use Rattle.store.specs.Exchanging.{pairwise, raised, total_cost};
-ghost use Rattle.store.specs.Finding.{IsPlace};
+ghost use Rattle.store.specs.Finding.{IsItemPlace, IsPlace};
 ghost use Rattle.store.specs.Sums.{measure};
 ghost use Rattle.store.specs.Trees.{height, in_order, IsBalanced, nodes_to};
 
@@ -79,6 +79,43 @@ impl<P: Measured> Subtree<P> {
         Place {
             index: index + 1 + place.index,
             rest: place.rest,
+            before: before.plus(Sums::of(&node.item)).plus(place.before),
+            visits: place.visits + 1,
+        }
+    }
+
+    /// Finds the item at an index.
+    pub(crate) fn find_item(&self, index: usize) -> Place
+        requires { index < length (in_order self.now) }
+        ensures found { IsItemPlace P.Measured (in_order self.now) index result }
+        ensures visits { result.visits ≡ nodes_to self.now index }
+    {
+        let Some(node) = &self.root else {
+            unreachable!()
+        };
+        let node: &Node<P> = node;
+        // The invariants of the trees bound the sums.
+        let (_height, _sums) = (self.height(), self.sums());
+        let (count, before) = (node.left.count(), node.left.sums());
+        if index < count {
+            let place = node.left.find_item(index);
+            return Place {
+                visits: place.visits + 1,
+                ..place
+            };
+        }
+        if index == count {
+            return Place {
+                index,
+                rest: 0,
+                before,
+                visits: 1,
+            };
+        }
+        let place = node.right.find_item(index - count - 1);
+        Place {
+            index,
+            rest: 0,
             before: before.plus(Sums::of(&node.item)).plus(place.before),
             visits: place.visits + 1,
         }

@@ -5,7 +5,7 @@ ghost use Rattle.std.specs.Prelude.{slice_range, sum_by, vec_capacity};
 ghost use Rattle.std.specs.Prelude.{IfOk, IfErr, OnOk, OnErr};
 ghost use Rattle.std.specs.List.{splice, AllZip};
 ghost use Rattle.store.specs.Exchanging.{pairwise};
-ghost use Rattle.store.specs.Finding.{CountsBefore, Finds};
+ghost use Rattle.store.specs.Finding.{CountsBefore, Finds, FindsItem};
 ghost use Rattle.store.specs.Sums.{measure};
 ghost use Rattle.store.specs.Trees.{fewest_nodes, height, in_order, IsBalanced, nodes_to, Tree};
 
@@ -216,6 +216,18 @@ impl<P: Measured> ParagraphStore<P> for TreeStore<P> {
         ensures few { 2 ^ (result.visits / 2) ≤ length (in_order self.now) + 1 }
     {
         self.find(Unit::Utf16, unit)
+    }
+
+    /// Visits the nodes from the root to the item found.
+    fn find_item(&self, index: usize) -> Found
+        requires { index < length (in_order self.now) }
+        ensures found { FindsItem P.chars P.lines (in_order self.now) index result }
+        ensures counts { CountsBefore P.bytes P.utf16 (in_order self.now) result }
+        ensures visits { result.visits ≡ nodes_to self.now index }
+        ensures few { 2 ^ (result.visits / 2) ≤ length (in_order self.now) + 1 }
+    {
+        self.stays_balanced();
+        self.root.find_item(index).found()
     }
 
     fn replace(

@@ -5,7 +5,7 @@ ghost use Rattle.std.specs.Prelude.{slice_get, slice_range, option_map, sum_by, 
 ghost use Rattle.std.specs.Prelude.{IfOk, IfErr, OnOk, OnErr};
 ghost use Rattle.std.specs.List.{splice, AllZip};
 ghost use Rattle.store.specs.Exchanging.{pairwise, raised, total_cost};
-ghost use Rattle.store.specs.Finding.{CountsBefore, Finds, IsPlace};
+ghost use Rattle.store.specs.Finding.{CountsBefore, Finds, FindsItem, IsItemPlace, IsPlace};
 ghost use Rattle.store.specs.Sums.{measure, AreSums, SumsFit};
 
 use crate::found::{Found, Place};
@@ -81,6 +81,22 @@ fn find<P: Measured>(items: &[P], unit: Unit, n: usize) -> Place
         before = before.plus(Sums::of(item));
     }
     unreachable!()
+}
+
+// Finds the item at an index, by adding up the items before it.
+fn find_item<P: Measured>(items: &[P], index: usize) -> Place
+    requires within { index < length items.now }
+    requires fit { SumsFit P.Measured items.now }
+    ensures found { IsItemPlace P.Measured items.now index result }
+    ensures visits { result.visits ≡ index }
+{
+    let (front, _) = items.split_at(index);
+    Place {
+        index,
+        rest: 0,
+        before: sums(front),
+        visits: index,
+    }
 }
 
 // Moves the last `count` items, in order, to an empty list that has capacity for them.
@@ -247,6 +263,17 @@ impl<P: Measured> ParagraphStore<P> for VecStore<P> {
         ensures visits { result.visits ≡ result.index + 1 }
     {
         self.find(Unit::Utf16, unit)
+    }
+
+    /// Visits each item before the one found.
+    fn find_item(&self, index: usize) -> Found
+        requires { index < length self.now }
+        ensures found { FindsItem P.chars P.lines self.now index result }
+        ensures counts { CountsBefore P.bytes P.utf16 self.now result }
+        ensures visits { result.visits ≡ index }
+    {
+        self.sums.fits();
+        find_item(&self.items, index).found()
     }
 
     fn replace(

@@ -1,4 +1,4 @@
-use Rattle.std.proofs.Common.{◌≡◌, ◌+◌, ◌-◌, ◌∷◌, ◌++◌, length, sum_by, refl, sym, ap, subst, ◌∙◌, arith}
+use Rattle.std.proofs.Common.{◌≡◌, ◌+◌, ◌-◌, length, sum_by, refl, sym, ap, subst, ◌∙◌, arith}
 use Rattle.store.specs.Subtrees.{tree_of, tree_of_node}
 use Rattle.store.specs.Sums.{measure, SumsFit}
 use Rattle.store.specs.Trees.{in_order, height}

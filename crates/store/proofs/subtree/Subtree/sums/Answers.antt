@@ -1,6 +1,5 @@
 use Rattle.std.proofs.Common.{ap, ◌∙◌, sym, subst}
-use Rattle.store.specs.Subtrees.{tree_of, tree_of_node, IsSound, IsSummed}
-use Rattle.store.specs.Sums.{AreSums}
+use Rattle.store.specs.Subtrees.{tree_of, IsSound, IsSummed}
 use Rattle.store.specs.Trees.{in_order}
 use Rattle.store.proofs.SumsLemmas.{fit_by}
 use Rattle.store.proofs.subtree.Subtree.sums.Goals as goal

@@ -1,7 +1,5 @@
-use Rattle.std.proofs.Common.{ap, arith, sym, subst}
-use Rattle.store.specs.Finding.{CountsBefore, Finds}
-use Rattle.store.specs.Sums.{measure}
-use Rattle.store.specs.Trees.{height, in_order}
+use Rattle.std.proofs.Common.{ap, arith, sym}
+use Rattle.store.specs.Trees.{height}
 use Rattle.store.proofs.TreeLemmas.{nodes_low, low}
 use Rattle.store.proofs.FindLemmas.{counts_at}
 use Rattle.store.proofs.tree_store.TreeStore.find.Goals as goal
