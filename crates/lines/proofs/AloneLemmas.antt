@@ -147,7 +147,7 @@ alone_is_apart c =
     (either _ _ (is_apart c ≡ true) (apart_in 65280 65437 c wide_forms)
     (apart_in 131072 196607 c more_ideographs))))))))))))
 
--- such characters pass the tests of split points
+-- between two characters that stand apart, there is a split point (`may_end`, `may_start`, `no_conjunct`)
 ends_one : (g : GraphemeClusterBreak) → stands_apart g ≡ true → may_end g ≡ true
 ends_one Control one = refl
 ends_one Lf one = refl

@@ -21,7 +21,7 @@ use Rattle.lines.proofs.SkippedLemmas.{length-infos}
 use Rattle.lines.proofs.StayLemmas.{EndsAtMust}
 use Rattle.lines.proofs.VisualLemmas.{starts_within}
 
-starts_from : (tables : Tables) (options : Options) (base : ℕ) (text levels : List ℕ) (ps : List CharInfo) (starts : List ℕ)
+pub starts_from : (tables : Tables) (options : Options) (base : ℕ) (text levels : List ℕ) (ps : List CharInfo) (starts : List ℕ)
     → map start_of (lines_from tables options base text levels ps starts) ≡ starts
 starts_from tables options base text levels ps [] = refl
 starts_from tables options base text levels ps (s ∷ []) = refl

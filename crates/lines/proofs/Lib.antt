@@ -1,8 +1,11 @@
+mod AdjoinLemmas
 mod AloneLemmas
 mod BareLemmas
 mod BeginningLemmas
+mod BesideLemmas
 pub mod ClusterLemmas
-mod ColumnLemmas
+pub mod ColumnLemmas
+pub mod EndLemmas
 mod ExtentLemmas
 mod FewLines
 pub mod FillingLemmas
@@ -10,12 +13,13 @@ pub mod InfoLemmas
 pub mod KeptLemmas
 pub mod LayoutLemmas
 mod LengthLemmas
+mod OrderedLemmas
 pub mod PageLemmas
-mod RunColumnLemmas
+pub mod RunColumnLemmas
 mod SegmentLemmas
 mod SelectionLemmas
+pub mod ShowLemmas
 mod ShownColumnLemmas
-mod ShowLemmas
 pub mod SkippedLemmas
 mod SpanLemmas
 mod SplitLemmas

@@ -65,7 +65,7 @@ module _ (p q : ℕ → Bool) (front : ℕ) where
 
 -- the same for lists: the ends of a text in three parts, and those of the part in the middle
 module _ (front ends rest : List Bool) (j : ℕ) (within : j < length ends) where
-  ends_same : (i : ℕ) → i < length ends → ends_at (front ++ (ends ++ rest)) (length front + i) ≡ ends_at ends i
+  pub ends_same : (i : ℕ) → i < length ends → ends_at (front ++ (ends ++ rest)) (length front + i) ≡ ends_at ends i
   ends_same i below = get_or-append-add front (ends ++ rest) i false ∙ get_or_append_left ends rest false i below
 
   before_front : (length front ≡ 0) ⊎ (ends_at front (length front - 1) ≡ true) → (length front ≡ 0) ⊎ (ends_at (front ++ (ends ++ rest)) (length front - 1) ≡ true)

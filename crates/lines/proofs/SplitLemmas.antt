@@ -17,7 +17,7 @@ use Rattle.ucd_derived.specs.declared.IndicConjunctBreak.{IndicConjunctBreak}
 use Rattle.ucd_derived.specs.declared.IndicConjunctBreak.TheVariants as InCb
 use Rattle.unicode_segmentation.specs.Grapheme.{break_by_pair, ends_in_half_flag, ends_in_linker, ends_in_pictograph, is_consonant, is_extend, is_grapheme_break, is_regional, is_zwj, joins_conjunct, joins_emoji, joins_flag}
 use Rattle.lines.proofs.ClusterLemmas.{length-cluster_ends}
-use Rattle.lines.proofs.SegmentLemmas.{begin_within, end_within, only_end}
+use Rattle.lines.proofs.SegmentLemmas.{begin_within, end_within, ends_same, only_end}
 use Rattle.lines.specs.Clusters.{can_split, cluster_begin, cluster_end, cluster_ends, ends_after, ends_at, is_split_point, may_end, may_start, no_conjunct, IsSplitPoint}
 
 -- the three tests of two characters that a text can be split between
@@ -276,6 +276,13 @@ module _ (text : List ℕ) (from to k : ℕ) (opens : IsSplitPoint text from) (c
       ap₂ cluster_end parts place
       ∙ end_within front ends after_it (k - from) (omega (arith, start, past, length_window)) closes_window
       ∙ ap (λ n. n + cluster_end ends (k - from)) length_front
+
+  pub window_at : ends_at (cluster_ends text) k ≡ ends_at (cluster_ends (slice_range text from to)) (k - from)
+  window_at =
+      let front = cluster_ends (take from text) in
+      let ends = cluster_ends (slice_range text from to) in
+      let after_it = cluster_ends (drop (to - from) (drop from text)) in
+      ap₂ ends_at parts place ∙ ends_same front ends after_it (k - from) (omega (arith, start, past, length_window)) (k - from) (omega (arith, start, past, length_window))
 
   -- a window of one character is a cluster
   pub only_begin : to - from ≡ 1 → cluster_begin (cluster_ends text) k ≡ k

@@ -1,6 +1,7 @@
 -- Where the extended grapheme clusters of a text end, according to the crate `unicode_segmentation`
 -- (UAX #29).
-use Rattle.std.specs.Prelude.{◌≡◌, ℕ, ◌+◌, ◌-◌, nat_le, Bool, true, false, ◌&&◌, ◌||◌, ◌⊎◌, List, [], ◌∷◌, ◌++◌, length, replicate, slice_index_or, Option, Some, None}
+use Rattle.std.specs.Prelude.{◌≡◌, ℕ, ◌+◌, ◌-◌, ◌==◌, nat_le, Bool, true, false, ◌&&◌, ◌||◌, ◌⊎◌, List, [], ◌∷◌, ◌++◌, length, filter, replicate, slice_index_or, Option, Some, None}
+use Rattle.std.specs.List.{range_with_len}
 use Rattle.std.specs.Str.{chars}
 use Rattle.bidi.specs.Brackets.{greatest}
 use Rattle.ucd.specs.Least.{least}
@@ -37,6 +38,11 @@ cluster_begin ends k = after (greatest (ends_at ends) k) 0
 
 abbrev pub cluster_end : List Bool → ℕ → ℕ
 cluster_end ends k = after (least (ends_at ends) k (length ends - k)) (length ends)
+
+-- Where the clusters of a part of a text end, from its start. The part has `len` characters from `start` on. Its end is the last of
+-- these ends, also where it parts a cluster.
+abbrev pub ends_in : List Bool → ℕ → ℕ → List ℕ
+ends_in ends start len = filter (λ k. k == len || ends_at ends (start + k - 1)) (range_with_len 1 len)
 
 -- the ends of one segment, given its bytes: true for its last character only
 abbrev pub ends_of : List ℕ → List Bool

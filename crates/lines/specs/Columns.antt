@@ -14,6 +14,10 @@ unmirrored line = map (slice_index line.text) line.vtol
 abbrev pub columns_at : Visual → ℕ → ℕ
 columns_at line place = if nat_lt place (length line.vtol) then columns_of (slice_index line.text (slice_index line.vtol place)) else 0
 
+-- the columns of the shown characters from position `start` up to `end`, in logical order
+abbrev pub columns_between : Visual → ℕ → ℕ → ℕ
+columns_between line start end = sum_by columns_of (slice_range line.text start end)
+
 -- the columns to the left of a visual position
 abbrev pub columns_left : Visual → ℕ → ℕ
 columns_left line place = sum_by columns_of (take place (unmirrored line))

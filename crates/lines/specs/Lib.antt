@@ -14,11 +14,13 @@ pub mod Filling
 pub mod Kept
 pub mod Layouts
 pub mod LentExtents
+pub mod Ordered
 pub mod Pages
 pub mod Paragraphs
 pub mod Parts
 pub mod Printing
 pub mod Selections
+pub mod Separators
 pub mod Showing
 pub mod Spans
 pub mod Sums

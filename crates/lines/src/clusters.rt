@@ -1,9 +1,9 @@
 //! Finds where the grapheme clusters and the words of a paragraph end (UAX #29), using the crate
 //! `unicode_segmentation`.
-ghost use Rattle.std.specs.Prelude.{◌≡◌, ℕ, ◌<◌, ◌≤◌, ◌++◌, false, length, IfOk, OnErr, OnOk};
+ghost use Rattle.std.specs.Prelude.{◌≡◌, ℕ, ◌+◌, ◌<◌, ◌≤◌, ◌++◌, false, length, IfOk, OnErr, OnOk};
 ghost use Rattle.std.specs.List.{list_all};
 ghost use Rattle.lines.specs.Bare.{with_ends};
-ghost use Rattle.lines.specs.Clusters.{cluster_begin, cluster_end, cluster_ends, ends_of};
+ghost use Rattle.lines.specs.Clusters.{cluster_begin, cluster_end, cluster_ends, ends_in, ends_of};
 ghost use Rattle.lines.specs.Clusters.{can_split, is_alone, is_split_point, may_end, may_start, no_conjunct};
 ghost use Rattle.lines.specs.Clusters.{IsSplitPoint};
 ghost use Rattle.lines.specs.Words.{word_ends};
@@ -52,6 +52,42 @@ pub fn cluster_of(alloc: Global, text: &[char], k: usize) -> Result<(usize, usiz
     let first = cluster_begin(&ends, k - start);
     let past = cluster_end(&ends, k - start);
     Ok((start + first, start + past))
+}
+
+/// Returns where the clusters of `len` characters from `start` on end, counted from `start`. The last of
+/// these ends is `len`. Finds only the clusters between the two split points around these characters.
+pub fn ends_in(
+    alloc: Global,
+    text: &[char],
+    start: usize,
+    len: usize,
+) -> Result<Vec<usize>, AllocError>
+    requires some { 0 < len }
+    requires within { start + len ≤ length text.now }
+    ensures { IfOk result (λ found. found.items ≡ ends_in (cluster_ends text.now) start len) }
+{
+    let first = window_start(text, start);
+    let ends = cluster_ends(alloc, &text[first..window_end(text, start + len - 1)])?;
+    part_ends(alloc, &ends, start - first, len)
+}
+
+// Returns where the clusters of `len` characters from `start` on end, given where those of the text end.
+fn part_ends(
+    alloc: Global,
+    ends: &[bool],
+    start: usize,
+    len: usize,
+) -> Result<Vec<usize>, AllocError>
+    requires { start + len ≤ length ends.now }
+    ensures { IfOk result (λ found. found.items ≡ ends_in ends.now start len) }
+{
+    let mut found = Vec::new(alloc);
+    for k in 1..len + 1 {
+        if k == len || ends[start + k - 1] {
+            found.push(k)?;
+        }
+    }
+    Ok(found)
 }
 
 /// Returns the start of the segment of character `k`, such as its cluster or word. `ends[i]` says whether a
@@ -163,7 +199,7 @@ fn may_end(last: GraphemeClusterBreak) -> bool
 }
 
 // Returns whether no rule joins a character of this class to the last one of a cluster, with the exception of
-// GB9c. No rule looks back past it.
+// GB9c. No rule looks at what comes before such a character.
 fn may_start(next: GraphemeClusterBreak) -> bool
     ensures { result ≡ may_start next }
 {

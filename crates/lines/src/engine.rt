@@ -9,6 +9,7 @@ ghost use Rattle.lines.specs.Layouts.{AreWithin, base_of};
 ghost use Rattle.lines.specs.Buffers.{held_lines, AreSound};
 ghost use Rattle.lines.specs.Pages.{lines_bytes, paragraph_bytes};
 ghost use Rattle.lines.specs.Printing.{FailedAs, skips_lines};
+ghost use Rattle.lines.specs.Separators.{separator_len};
 
 use crate::buffers::LayoutBuffers;
 use crate::bytes::write_base;
@@ -20,6 +21,7 @@ use crate::options::Options;
 use crate::paragraph::LentRules;
 use crate::print::{Print, PrintFault};
 use crate::reflow::ReflowScratch;
+use crate::separators::ends_line;
 use crate::workspace::Workspace;
 use crate::writing::Form;
 use bidi::{base_level, first_cut, first_cut_in_text, is_cut};
@@ -110,6 +112,18 @@ impl Engine {
         ensures { result ≡ cut_by (rules_of self.now) before after }
     {
         is_cut(&self.tables, before, after)
+    }
+
+    /// Returns the number of characters in a line's separator: 2 for CR LF, 1 for any other, 0 if there is
+    /// none. A separator has bidi class B, or line breaking class BK, CR, LF or NL. `before` and `last` are
+    /// the last two characters of the line.
+    pub fn separator_len(&self, before: char, last: char) -> usize
+        ensures { result ≡ separator_len (rules_of self.now).tables before last }
+    {
+        if !ends_line(&self.tables, last) {
+            return 0;
+        }
+        if before == '\r' && last == '\n' { 2 } else { 1 }
     }
 
     /// Returns the index of the first paragraph boundary in a text, or `None` if the text is empty or one

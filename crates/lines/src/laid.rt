@@ -214,7 +214,8 @@ impl Laid {
 impl Laid {
     ghost use Rattle.std.specs.Prelude.{List};
     ghost use Rattle.lines.specs.Beginnings.{BeginInOrder};
-    ghost use Rattle.lines.specs.Clusters.{cluster_begin, cluster_end, cluster_ends};
+    ghost use Rattle.std.specs.Prelude.{◌+◌};
+    ghost use Rattle.lines.specs.Clusters.{cluster_begin, cluster_end, cluster_ends, ends_in};
     ghost use Rattle.lines.specs.Layouts.{Rules, lines_of};
     ghost use Rattle.lines.specs.Words.{word_ends};
 
@@ -258,6 +259,24 @@ impl Laid {
         ensures within { IfOk result (λ found. found.1 ≤ length self.now.text) }
     {
         crate::clusters::cluster_of(alloc, &self.text, k)
+    }
+
+    /// Returns where the grapheme clusters of `len` characters from `start` on end, counted from `start`. The
+    /// last of these ends is `len`, even if a cluster continues after it.
+    ///
+    /// Reads the characters around `start` and `start + len` as `cluster` does, and those between.
+    pub fn cluster_ends_in(
+        &self,
+        alloc: std::alloc::Global,
+        start: usize,
+        len: usize,
+    ) -> Result<Vec<usize>, std::alloc::AllocError>
+        requires some { 0 < len }
+        requires within { start + len ≤ length self.now.text }
+        ensures { IfOk result (λ found. found.items
+            ≡ ends_in (cluster_ends self.now.text) start len) }
+    {
+        crate::clusters::ends_in(alloc, &self.text, start, len)
     }
 
     /// Returns, for each character, whether there is a word boundary after it (UAX #29).

@@ -5,6 +5,7 @@ ghost use Rattle.reorder.specs.Runs.{runs_of};
 ghost use Rattle.lines.specs.Bytes.{line_bytes};
 ghost use Rattle.lines.specs.Columns.{run_columns};
 ghost use Rattle.lines.specs.Layouts.{Layout, Rules, layout_of, lines_of, visuals};
+ghost use Rattle.lines.specs.Ordered.{IsOrdered, MarksStay, RunsAdjoin};
 ghost use Rattle.lines.specs.Pages.{layout_bytes};
 ghost use Rattle.lines.specs.declared.print.Print.{Print};
 
@@ -35,10 +36,24 @@ pub fn paragraphs_print_their_lines()
         → layout_bytes width print layout ≡ flat_map (line_bytes width print) (visuals layout) }
 {}
 
-/// States, as a theorem, that the columns of a line's level runs add up to those of the line, by any rules
+/// States, as a theorem, that the columns of a line's level runs add up to those of the line, under any rules
 /// and at any width. `VisualLine::runs` returns the runs. Costs nothing at run time.
 pub fn runs_have_all_columns()
     ensures { (rules : Rules) (width : ℕ) (text : List ℕ)
         → All (λ line. sum_by (run_columns line) (runs_of line.levels) ≡ line.columns)
         (visuals (layout_of rules width text)) }
+{}
+
+/// States, as a theorem, that each line has a level and a position for each shown character, and that its
+/// position maps are inverse, under any rules and at any width. Costs nothing at run time.
+pub fn lines_are_ordered()
+    ensures { (rules : Rules) (width : ℕ) (text : List ℕ)
+        → All IsOrdered (visuals (layout_of rules width text)) }
+{}
+
+/// States, as a theorem, that the characters of a level run are next to each other, at any width. The rules
+/// must leave marks in place, or marks must take no columns. Costs nothing at run time.
+pub fn runs_adjoin()
+    ensures { (rules : Rules) (width : ℕ) (text : List ℕ) → MarksStay rules text
+        → All RunsAdjoin (visuals (layout_of rules width text)) }
 {}

@@ -45,6 +45,7 @@ mod printing;
 mod properties;
 mod reflow;
 mod reserve;
+mod separators;
 mod showing;
 mod spans;
 mod visual_line;
@@ -59,7 +60,8 @@ pub use extents::Extents;
 pub use fill::Fill;
 pub use laid::Laid;
 pub use laws::{
-    lines_are_few, lines_have_all_characters, paragraphs_print_their_lines, runs_have_all_columns,
+    lines_are_few, lines_are_ordered, lines_have_all_characters, paragraphs_print_their_lines,
+    runs_adjoin, runs_have_all_columns,
 };
 pub use options::Options;
 pub use print::{Print, PrintFault};

@@ -5,7 +5,8 @@ ghost use Rattle.device.specs.Device.{Wrote, StoppedAt};
 ghost use Rattle.ucd.specs.Within.{AreWithin};
 ghost use Rattle.reorder.specs.Runs.{runs_of, AreRuns};
 ghost use Rattle.lines.specs.Bytes.{line_bytes, padding};
-ghost use Rattle.lines.specs.Columns.{columns_at, columns_left, covering, padding_of, run_columns};
+ghost use Rattle.lines.specs.Columns.{columns_at, columns_between, columns_left};
+ghost use Rattle.lines.specs.Columns.{covering, padding_of, run_columns};
 ghost use Rattle.lines.specs.CharInfos.{columns_of};
 ghost use Rattle.lines.specs.Spans.{is_covered, spans_of, AreMaximal};
 ghost use Rattle.lines.specs.Writing.{PassedOn, StoppedIn};
@@ -140,6 +141,20 @@ impl<'a> VisualLine<'a> {
         }
     }
 
+    /// Returns the number of columns of the shown characters from position `start` up to `end`. Positions
+    /// past the last one are ignored.
+    pub fn columns_between(&self, start: usize, end: usize) -> usize
+        ensures value { result ≡ columns_between self.now start end }
+        ensures fits { result < 2 ^ 63 }
+    {
+        let end = end.min(self.text.len());
+        if start < end {
+            total_columns(&self.text[start..end])
+        } else {
+            0
+        }
+    }
+
     /// Returns the visual position of the character that covers `column`, or `None` past the right edge.
     /// Columns are counted from the left edge. A character of width 0 covers no column.
     pub fn covering(&self, column: usize) -> Option<usize>
@@ -244,7 +259,27 @@ pub(crate) fn columns_at(text: &[char], vtol: &[u32], place: usize) -> usize
     ensures value { result ≡ columns_of (slice_index text.now (slice_index vtol.now place)) }
     ensures few { result ≤ 3 }
 {
-    match text[vtol[place] as usize].width() {
+    width_of(text[vtol[place] as usize])
+}
+
+// Returns the number of columns of some characters.
+fn total_columns(text: &[char]) -> usize
+    ensures value { result ≡ sum_by columns_of text.now }
+    ensures fits { result < 2 ^ 63 }
+{
+    let mut columns = 0;
+    for c in text {
+        columns += width_of(*c);
+    }
+    columns
+}
+
+// Returns the width in columns of a character.
+fn width_of(c: char) -> usize
+    ensures value { result ≡ columns_of c }
+    ensures few { result ≤ 3 }
+{
+    match c.width() {
         Some(width) => width,
         None => 0,
     }

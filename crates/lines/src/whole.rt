@@ -22,7 +22,7 @@ use breaks::marks_are_as_many;
 use device::Sink;
 use ucd::LineClass;
 
-/// Returns whether no line must end before the last character.
+/// Returns whether the paragraph has no mandatory break before its end.
 pub(crate) fn is_whole(text: &Text<'_>) -> bool
     requires { IsLookedUp text.now }
     ensures yes { result ≡ true → IsWhole text.now.rules.tables.now text.now.characters.now }

@@ -1,0 +1,37 @@
+-- What holds of the order of each visual line.
+use Rattle.std.specs.Prelude.{◌≡◌, ℕ, suc, ◌+◌, ◌<◌, ◌≤◌, false, true, ◌⊎◌, List, length, slice_index, All}
+use Rattle.reorder.specs.Order.{is_odd, AreInverse}
+use Rattle.ucd.specs.Classes.{is_mark}
+use Rattle.ucd.specs.Tables.{class_of}
+use Rattle.lines.specs.CharInfos.{columns_of}
+use Rattle.lines.specs.Columns.{columns_between, columns_left}
+use Rattle.lines.specs.Layouts.{Rules}
+use Rattle.lines.specs.Visual.{Visual}
+
+-- whether the lists of a line have an item for each shown character, and its position maps are inverse
+pub record IsOrdered (line : Visual) : Type 0 where
+  pub text : length line.text ≡ length line.levels
+  pub vtol : length line.vtol ≡ length line.levels
+  pub ltov : length line.ltov ≡ length line.levels
+  pub inverse : AreInverse (length line.levels) line.vtol line.ltov
+  pub within : length line.levels ≤ line.len
+
+-- whether the marks of a text stay where L2 puts them, or take no columns (as all in Unicode's tables but U+2D7F and U+1171E)
+abbrev pub MarksStay : Rules → List ℕ → Type 0
+MarksStay rules text = (rules.options.reordernsm ≡ false) ⊎ All (λ c. is_mark (class_of rules.tables c) ≡ true → columns_of c ≡ 0) text
+
+-- two characters of one level run, both of which take columns
+pub record AreInRun (line : Visual) (j k : ℕ) : Type 0 where
+  pub order : j ≤ k
+  pub within : k < length line.levels
+  pub level : (i : ℕ) → j ≤ i → i ≤ k → slice_index line.levels i ≡ slice_index line.levels j
+  pub first : 0 < columns_between line j (suc j)
+  pub last : 0 < columns_between line k (suc k)
+
+-- Whether the characters of each level run are next to each other, from left to right at an even level, and from right to left at an odd
+-- one. So from the leading edge of one of them to that of a later one are the columns of the characters between.
+pub record RunsAdjoin (line : Visual) : Type 0 where
+  pub even : (j k : ℕ) → AreInRun line j k → is_odd (slice_index line.levels j) ≡ false
+      → columns_left line (slice_index line.ltov k) ≡ columns_left line (slice_index line.ltov j) + columns_between line j k
+  pub odd : (j k : ℕ) → AreInRun line j k → is_odd (slice_index line.levels j) ≡ true
+      → columns_left line (slice_index line.ltov k + 1) + columns_between line j k ≡ columns_left line (slice_index line.ltov j + 1)
