@@ -72,6 +72,8 @@ fn of_session<S: ParagraphStore<Kept>>(session: &Session<S>) -> u64 {
 // Returns a digest of the n-th line and paragraph.
 fn of_number<S: ParagraphStore<Kept>>(session: &Session<S>, n: usize) -> u64 {
     let mut sum = mixed_place(0, session.line_start(n));
+    sum = mixed_place(sum, session.paragraph_start(n));
+    sum = mixed_place(sum, session.paragraph_first_line(n));
     sum = match session.line(n) {
         Some(line) => mixed(sum, of_line(&line)),
         None => mixed(sum, 0),

@@ -11,7 +11,7 @@ use Rattle.session.specs.Places.{IsLined, count_to, paragraph_starts}
 use Rattle.session.specs.Touched.{start_of}
 use Rattle.session.specs.Words.{word_at, word_by}
 use Rattle.lines.specs.Words.{word_ends}
-use Rattle.session.proofs.EdgeLemmas.{chars_of, lines_of, front_is, start_of-is, sum_whole, item_read, text_read}
+use Rattle.session.proofs.BorderLemmas.{chars_of, lines_of, front_is, start_of-is, sum_whole, item_read, text_read}
 use Rattle.session.proofs.PlaceLemmas.{count_paragraphs}
 
 pub no_cluster : (kept : List Layout) (pos : ℕ) → length (text_of kept) ≤ pos → None ≡ cluster_at kept pos

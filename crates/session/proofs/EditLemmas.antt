@@ -15,19 +15,19 @@ use Rattle.lines.specs.declared.engine.Engine.{Engine}
 use Rattle.session.specs.Sessions.{SessionState, IsWholeLayout, IsCountedFor, Edits, EditsNot, text_at, cuts_at}
 use Rattle.session.specs.Edits.{Replacement, replaced, replacing, refusal, text_refusal, paragraphs_refusal, are_within, is_within_limit}
 use Rattle.session.specs.Damage.{Replaces, IsDamage}
-use Rattle.session.specs.Edges.{IsEdge, IsFrontEdge, IsBackEdge, damage_between}
+use Rattle.session.specs.Borders.{IsBorder, IsFrontBorder, IsBackBorder, damage_between}
 use Rattle.lines.specs.Layouts.{visuals}
 use Rattle.session.specs.Kept.{pars_of, text_of, lines_in, layouts_of}
 use Rattle.session.specs.Sessions.{IsAnswerFor}
 use Rattle.session.specs.Touched.{fresh}
-use Rattle.session.specs.declared.edge.Edge.{Edge}
+use Rattle.session.specs.declared.borders.Border.{Border}
 use Rattle.session.specs.declared.edits.Damage.{Damage}
 use Rattle.session.specs.declared.edits.EditFault.{EditFault}
 use Rattle.session.specs.declared.edits.EditFault.TheVariants.{OutOfRange, ParagraphTooLong, NoMemory}
 use Rattle.session.proofs.UnitLemmas.{few_in_all, AreFew}
 use Rattle.session.proofs.ReplacementLemmas.{IsSpliced, IsSpliced-from_touched, region_of, length-replaced_text}
-use Rattle.session.proofs.EdgeLemmas.{chars_of, lines_of as line_number, length-text, length-lines}
-use Rattle.session.proofs.RegionParts.{touched_by, front_of, back_of, AreTouched-edges, region_parts, edges_rise, take-both}
+use Rattle.session.proofs.BorderLemmas.{chars_of, lines_of as line_number, length-text, length-lines}
+use Rattle.session.proofs.RegionParts.{touched_by, front_of, back_of, AreTouched-borders, region_parts, borders_rise, take-both}
 use Rattle.session.proofs.RefusalLemmas.{allowed-within_limit, text_refusal-short, refusal-inside}
 use Rattle.session.specs.declared.edits.TheConstants.{TEXT_LIMIT}
 
@@ -114,14 +114,14 @@ pub at_ok : {X E Q : Type 0} (r : Result X E) → is_err r ≡ false → OnOk r 
 at_ok (Ok x) e h = h
 at_ok (Err e') e h = absurd (cc e)
 
--- facts about the line sums of a store before and after new paragraphs replace those between two edges
-pub record AreSums (front back : Edge) (new : List Layout) (total total_2 : ℕ) : Type 0 where
+-- facts about the line sums of a store before and after new paragraphs replace those between two borders
+pub record AreSums (front back : Border) (new : List Layout) (total total_2 : ℕ) : Type 0 where
   pub order : front.lines ≤ back.lines
   pub within : back.lines - front.lines ≤ total
   pub others : total - (back.lines - front.lines) ≤ total_2
   pub made : total_2 - (total - (back.lines - front.lines)) ≡ length (lines_in new)
 
-pub AreSums-splice : (kept new : List Layout) (front back : Edge) (total total_2 : ℕ) → IsEdge kept front → IsEdge kept back → front.index ≤ back.index
+pub AreSums-splice : (kept new : List Layout) (front back : Border) (total total_2 : ℕ) → IsBorder kept front → IsBorder kept back → front.index ≤ back.index
     → total ≡ sum_by line_number kept → total_2 ≡ sum_by line_number (splice kept front.index back.index new) → AreSums front back new total total_2
 AreSums-splice kept new front back total total_2 f b rise total-is total_2-is =
     let left = take front.index kept in
@@ -139,7 +139,7 @@ AreSums-splice kept new front back total total_2 f b rise total-is total_2-is =
     record { order = omega arith; within = omega arith; others = omega arith; made = omega arith }
 
 module _ (law : ParagraphsArePieces) (few : LinesAreFew) (engine : Engine) (width : ℕ) (kept : List Layout) (whole : IsWholeLayout (record { engine = engine; width = width; kept = kept }))
-    (pos count : ℕ) (piece : List ℕ) (within : pos + count ≤ length (text_of kept)) (front back : Edge) (f : IsFrontEdge kept pos front) (b : IsBackEdge kept (pos + count) back) where
+    (pos count : ℕ) (piece : List ℕ) (within : pos + count ≤ length (text_of kept)) (front back : Border) (f : IsFrontBorder kept pos front) (b : IsBackBorder kept (pos + count) back) where
   abbrev pub region : List ℕ
   region = front_of (pars_of kept) front pos ++ (piece ++ back_of (pars_of kept) back (pos + count))
 
@@ -157,13 +157,13 @@ module _ (law : ParagraphsArePieces) (few : LinesAreFew) (engine : Engine) (widt
 
   spliced : IsSpliced (cut_by rules) (pars_of kept) pos count piece (touched_by front back)
   spliced = IsSpliced-from_touched law (cut_by rules) (pars_of kept) pos count piece (touched_by front back)
-      (sym pars-kept) within (AreTouched-edges kept pos (pos + count) front back order within f b)
+      (sym pars-kept) within (AreTouched-borders kept pos (pos + count) front back order within f b)
 
   region_is : region_of (pars_of kept) (touched_by front back) pos (pos + count) piece ≡ region
   region_is = region_parts kept pos (pos + count) front back order within f b piece
 
   pub rise : front.index ≤ back.index
-  rise = edges_rise kept pos (pos + count) front back order within f b
+  rise = borders_rise kept pos (pos + count) front back order within f b
 
   pub length-region : length region ≡ fresh (pars_of kept) edit
   length-region = ap length (sym region_is) ∙ spliced.size
@@ -242,19 +242,19 @@ module _ (law : ParagraphsArePieces) (few : LinesAreFew) (engine : Engine) (widt
         let right = drop back.index kept in
         let place : front.index + (back.index - front.index) ≡ back.index = omega (arith, rise) in
         let upto : take back.index kept ≡ left ++ mid = take_both kept front.index back.index rise in
-        let left-size : length left ≡ front.index = length-take-le front.index kept f.edge_is.within in
-        let mid-size : length mid ≡ back.index - front.index = omega (arith, ap length upto, length-append left mid, length-take-le back.index kept b.edge_is.within) in
+        let left-size : length left ≡ front.index = length-take-le front.index kept f.border_is.within in
+        let mid-size : length mid ≡ back.index - front.index = omega (arith, ap length upto, length-append left mid, length-take-le back.index kept b.border_is.within) in
         let lines-upto : back.lines ≡ front.lines + length (lines_in mid) =
-        b.edge_is.lines ∙ ap (λ ks. length (lines_in ks)) upto ∙ ap length (flat_map-append visuals left mid) ∙ length-append (lines_in left) (lines_in mid)
-        ∙ ap (λ n. n + length (lines_in mid)) (sym f.edge_is.lines) in
+        b.border_is.lines ∙ ap (λ ks. length (lines_in ks)) upto ∙ ap length (flat_map-append visuals left mid) ∙ length-append (lines_in left) (lines_in mid)
+        ∙ ap (λ n. n + length (lines_in mid)) (sym f.border_is.lines) in
         record {
           first_par = spliced.first;
           old_pars = omega (arith, spliced.number);
-          first_line = f.edge_is.lines;
+          first_line = f.border_is.lines;
           old_lines = omega (arith, lines-upto) ∙ ap (λ n. length (lines_in (slice_range kept front.index n))) (sym place);
           pars = Replaces-middle left mid right new kept after front.index (back.index - front.index) (length new) old-parts refl (sym left-size) (sym mid-size) refl;
           lines = Replaces-middle (lines_in left) (lines_in mid) (lines_in right) (lines_in new) (lines_in kept) (lines_in after) front.lines (back.lines - front.lines) (length (lines_in new))
-              (ap lines_in old-parts ∙ lines-parts left mid right) (lines-parts left new right) f.edge_is.lines (omega (arith, lines-upto)) refl;
+              (ap lines_in old-parts ∙ lines-parts left mid right) (lines-parts left new right) f.border_is.lines (omega (arith, lines-upto)) refl;
         }
 
     pub Edits-after : (new_engine : Engine) → is_within_limit (cut_by rules) region ≡ true → SameRules engine new_engine → LaysOutAtMost (length region) engine new_engine

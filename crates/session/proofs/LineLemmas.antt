@@ -8,7 +8,7 @@ use Rattle.store.specs.Finding.{Finds}
 use Rattle.store.specs.declared.found.Found.{Found}
 use Rattle.lines.specs.Layouts.{visuals}
 use Rattle.session.specs.Kept.{lines_in}
-use Rattle.session.proofs.EdgeLemmas.{chars_of, lines_of, length-lines, length-visuals, item_read}
+use Rattle.session.proofs.BorderLemmas.{chars_of, lines_of, length-lines, length-visuals, item_read}
 
 pub slice_get_after : {A : Type 0} (xs ys : List A) (i : ℕ) → slice_get (xs ++ ys) (length xs + i) ≡ slice_get ys i
 slice_get_after [] ys i = rw zero-add refl

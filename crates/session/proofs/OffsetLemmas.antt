@@ -1,5 +1,5 @@
 -- Positions of a text, and numbers of UTF-8 bytes or UTF-16 code units before them.
-use Rattle.std.proofs.Common.{◌≡◌, ℕ, ◌+◌, ◌-◌, ◌*◌, ◌<◌, ◌≤◌, nat_le, nat_lt, Bool, true, false, if◌then◌else◌, List, [], ◌∷◌, ◌++◌, length, take, drop, get_or, sum_by, encode_utf8, encode_utf8_all, Option, Some, None, is_none, unwrap_or, inl, inr, zero, suc, add-one, refl, sym, ap, ap₂, ◌∙◌, arith, append_assoc, length-append}
+use Rattle.std.proofs.Common.{◌≡◌, ℕ, ◌+◌, ◌-◌, ◌<◌, ◌≤◌, nat_le, nat_lt, Bool, true, false, if◌then◌else◌, List, [], ◌∷◌, ◌++◌, length, take, drop, get_or, sum_by, encode_utf8, encode_utf8_all, Option, Some, None, is_none, unwrap_or, inl, inr, zero, suc, add-one, refl, sym, ap, ap₂, ◌∙◌, arith, append_assoc, length-append}
 use Rattle.std.specs.Char.{len_utf8}
 use Rattle.std.specs.List.{slice_get, slice_range}
 use Rattle.std.specs.Option.{option_map}
@@ -20,7 +20,7 @@ use Rattle.session.specs.Reading.{utf8_part}
 use Rattle.store.specs.Finding.{CountsBefore, Finds}
 use Rattle.store.specs.declared.found.Found.{Found}
 use Rattle.store.proofs.ListLemmas.{at_place, take_far}
-use Rattle.session.proofs.EdgeLemmas.{chars_of, lines_of, front_is, item_read, length-text, sum_whole}
+use Rattle.session.proofs.BorderLemmas.{chars_of, lines_of, front_is, item_read, length-text, sum_whole}
 use Rattle.session.proofs.PlaceLemmas.{text_append}
 use Rattle.session.proofs.ReadingLemmas.{same_none}
 

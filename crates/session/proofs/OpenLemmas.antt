@@ -14,7 +14,7 @@ use Rattle.session.specs.Sessions.{IsAnswerFor}
 use Rattle.session.specs.declared.edits.EditFault.{EditFault}
 use Rattle.session.specs.declared.edits.EditFault.TheVariants.{WidthOutOfRange, TextTooLong, ParagraphTooLong, NoMemory}
 use Rattle.session.proofs.UnitLemmas.{few_in_all, AreFew}
-use Rattle.session.proofs.EdgeLemmas.{chars_of, lines_of}
+use Rattle.session.proofs.BorderLemmas.{chars_of, lines_of}
 use Rattle.session.proofs.EditLemmas.{LinesAreFew, chars-laid, few-laid, text-layouts, IsWholeLayout-same}
 use Rattle.session.proofs.RefusalLemmas.{text_refusal-long, text_refusal-short}
 use Rattle.session.specs.declared.edits.TheConstants.{TEXT_LIMIT}

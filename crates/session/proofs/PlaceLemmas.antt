@@ -1,5 +1,5 @@
 -- Where lines start, and on which line a character is.
-use Rattle.std.proofs.Common.{◌≡◌, ℕ, zero, suc, ◌+◌, ◌-◌, ◌<◌, ◌≤◌, Bool, true, false, cond, ◌==◌, ◌&&◌, ◌||◌, if◌then◌else◌, nat_le, nat_lt, List, [], ◌∷◌, ◌++◌, length, map, get_or, sum_by, Some, None, is_none, refl, sym, ap, ap₂, subst, ◌∙◌, inl, inr, arith}
+use Rattle.std.proofs.Common.{◌≡◌, ℕ, zero, suc, ◌+◌, ◌-◌, ◌<◌, ◌≤◌, Bool, true, false, cond, ◌==◌, ◌&&◌, ◌||◌, if◌then◌else◌, nat_le, nat_lt, List, [], ◌∷◌, ◌++◌, length, map, take, get_or, sum_by, Some, None, is_none, refl, sym, ap, ap₂, subst, ◌∙◌, inl, inr, arith}
 use Rattle.std.specs.List.{All, slice_get}
 use Rattle.std.proofs.Math.ListN.{get_or-eq_default}
 use Rattle.std.proofs.lemmas.Bool.{cases_lt, cond-true, cond-false, le-leb, le-ltb, lt-leb, lt-ltb, eq-eqb, ne_eqb}
@@ -19,13 +19,13 @@ use Rattle.lines.specs.Visual.{Line}
 use Rattle.store.specs.Finding.{Finds}
 use Rattle.store.specs.declared.found.Found.{Found}
 use Rattle.session.specs.Kept.{lines_in, text_of}
-use Rattle.session.specs.Places.{count_to, lines_from, line_starts, paragraph_starts, paragraphs_from, is_closed, next_place, place_at, place_in, IsLined}
+use Rattle.session.specs.Places.{count_to, first_line_at, lines_from, line_starts, paragraph_starts, paragraphs_from, is_closed, next_place, place_at, place_in, IsLined}
 use Rattle.session.specs.Sessions.{SessionState, IsWholeLayout, cuts_at, text_at}
 use Rattle.session.specs.declared.edits.TheConstants.{TEXT_LIMIT}
 use Rattle.session.proofs.RefusalLemmas.{allowed-length}
 use Rattle.session.proofs.WidthLemmas.{all_each, each_laid_out}
 use Rattle.session.specs.declared.places.Place.{Place}
-use Rattle.session.proofs.EdgeLemmas.{chars_of, lines_of, item_read, length-lines, length-text, length-visuals, sum_whole}
+use Rattle.session.proofs.BorderLemmas.{chars_of, lines_of, item_read, length-lines, length-text, length-visuals, sum_whole}
 use Rattle.session.proofs.LineLemmas.{slice_get_after, slice_get_left}
 
 -- ---- where lines start
@@ -399,6 +399,30 @@ none_past xs n total is = elim (cases_lt n total) [
 
 pub none_place : (rules : Rules) (kept : List Layout) (pos : ℕ) → is_none (place_at rules kept pos) ≡ nat_lt (length (text_of kept)) pos
 none_place rules kept pos = none_if (nat_lt (length (text_of kept)) pos) (pos == length (text_of kept) && is_closed rules (text_of kept)) (next_place kept) (place_in kept pos)
+
+-- ---- where a paragraph starts
+
+start_from : (place : ℕ) (kept : List Layout) (i : ℕ) → i < length kept → slice_get (paragraphs_from place kept) i ≡ Some (place + sum_by chars_of (take i kept))
+start_from place [] i within = absurd (omega (arith, within))
+start_from place (l ∷ kept) zero within = ap Some (omega arith)
+start_from place (l ∷ kept) (suc i) within =
+    start_from (place + length l.text) kept i (omega (arith, within)) ∙ ap Some (omega (arith, sum_by-cons chars_of l (take i kept)))
+
+module _ (kept : List Layout) (i : ℕ) where
+  pub paragraph_start_is : (chars : ℕ) → i < length kept → chars ≡ sum_by chars_of (take i kept) → Some chars ≡ slice_get (paragraph_starts kept) i
+  paragraph_start_is chars within is =
+      let there : chars ≡ 0 + sum_by chars_of (take i kept) = omega (arith, is) in
+      ap Some there ∙ sym (start_from 0 kept i within)
+
+  pub no_paragraph_start : length kept ≤ i → None ≡ slice_get (paragraph_starts kept) i
+  no_paragraph_start past = sym (slice_get_past (paragraph_starts kept) i (omega (arith, past, length-paragraphs_from 0 kept)))
+
+  pub first_line_is : (lines : ℕ) → i < length kept → lines ≡ sum_by lines_of (take i kept) → Some lines ≡ first_line_at kept i
+  first_line_is lines within is =
+      ap Some (is ∙ sym (length-lines (take i kept))) ∙ sym (cond-true (nat_lt i (length kept)) (Some (length (lines_in (take i kept)))) None (lt-ltb i (length kept) within))
+
+  pub no_first_line : length kept ≤ i → None ≡ first_line_at kept i
+  no_first_line past = sym (cond-false (nat_lt i (length kept)) (Some (length (lines_in (take i kept)))) None (le-ltb i (length kept) past))
 
 -- the text of a session is at most as long as the limit
 pub text_short : (state : SessionState) → IsWholeLayout state → length (text_at state) ≤ TEXT_LIMIT

@@ -6,7 +6,7 @@ use Rattle.std.proofs.lemmas.Bool.{cases_lt}
 use Rattle.std.proofs.Math.Seq.{drop-append-add, drop-append-le, take-append-add}
 use Rattle.store.specs.Finding.{Finds}
 use Rattle.store.specs.declared.found.Found.{Found}
-use Rattle.session.proofs.EdgeLemmas.{chars_of, length-lines, length-visuals, lines_of}
+use Rattle.session.proofs.BorderLemmas.{chars_of, length-lines, length-visuals, lines_of}
 use Rattle.std.proofs.lemmas.List.Concat.{flat_map-append}
 use Rattle.std.proofs.lemmas.List.Folds.{flat_map-map}
 use Rattle.std.proofs.lemmas.Option.{get_or_from_slice_get, slice_get_within}

@@ -12,7 +12,7 @@ use Rattle.session.specs.Kept.{pars_of, text_of}
 use Rattle.session.specs.Places.{IsLined}
 use Rattle.session.specs.Reading.{paragraph_end, text_part, utf8_len, utf8_part}
 use Rattle.session.specs.Touched.{start_of}
-use Rattle.session.proofs.EdgeLemmas.{chars_of, lines_of, item_read, length-text, start_of-is, sum_next}
+use Rattle.session.proofs.BorderLemmas.{chars_of, lines_of, item_read, length-text, start_of-is, sum_next}
 use Rattle.session.proofs.PlaceLemmas.{count_paragraphs, text_append}
 
 pub part_past : (kept : List Layout) (pos count : ℕ) → length (text_of kept) < pos + count → text_part kept pos count ≡ None

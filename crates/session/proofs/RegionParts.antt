@@ -6,11 +6,11 @@ use Rattle.std.proofs.lemmas.Bool.{cases_eq, cases_lt}
 use Rattle.std.proofs.lemmas.List.{append-nil, length-append, length-drop, length-map, take-append-le, take_all, drop-drop, drop_at, drop_all, drop_more, get_or_past, take_more, get_or-drop}
 use Rattle.std.proofs.lemmas.List.Folds.{concat-append}
 use Rattle.lines.specs.Layouts.{Layout}
-use Rattle.session.specs.Edges.{IsFrontEdge, IsBackEdge}
+use Rattle.session.specs.Borders.{IsFrontBorder, IsBackBorder}
 use Rattle.session.specs.Kept.{pars_of, text_of}
 use Rattle.session.specs.Touched.{AreTouched, Span}
 use Rattle.session.specs.Touched.{start_of}
-use Rattle.session.specs.declared.edge.Edge.{Edge}
+use Rattle.session.specs.declared.borders.Border.{Border}
 use Rattle.session.proofs.ReplacementLemmas.{region_of}
 use Rattle.session.proofs.TouchedLemmas.{start_of-more, start_of-le, start_of-end, AreTouched-from_walks}
 
@@ -80,33 +80,33 @@ no_back : (pars : List (List ℕ)) (first last n m k : ℕ) → length pars ≡ 
 no_back pars first last n m k none =
     ap (drop n) (no_slice pars first last none) ∙ drop_all n [] (omega arith) ∙ sym (ap (drop m) (get_or_past pars k [] (omega arith)) ∙ drop_all m [] (omega arith))
 
--- the touched paragraphs, given by the edges before and after them
-abbrev pub touched_by : Edge → Edge → Span
+-- the touched paragraphs, given by the borders before and after them
+abbrev pub touched_by : Border → Border → Span
 touched_by front back = record { first = front.index; end = back.index; start = front.chars; stop = back.chars }
 
 -- the text of the first touched paragraph up to a position, and the text of the last one from another
 -- position on
-abbrev pub front_of : List (List ℕ) → Edge → ℕ → List ℕ
+abbrev pub front_of : List (List ℕ) → Border → ℕ → List ℕ
 front_of pars front pos = take (pos - front.chars) (get_or pars front.index [])
 
-abbrev pub back_of : List (List ℕ) → Edge → ℕ → List ℕ
+abbrev pub back_of : List (List ℕ) → Border → ℕ → List ℕ
 back_of pars back to = let text = get_or pars (back.index - 1) [] in drop (length text - (back.chars - to)) text
 
-module _ (kept : List Layout) (pos to : ℕ) (front back : Edge) (order : pos ≤ to) (within : to ≤ length (text_of kept)) (f : IsFrontEdge kept pos front) (b : IsBackEdge kept to back) where
+module _ (kept : List Layout) (pos to : ℕ) (front back : Border) (order : pos ≤ to) (within : to ≤ length (text_of kept)) (f : IsFrontBorder kept pos front) (b : IsBackBorder kept to back) where
   pars_number : length (pars_of kept) ≡ length kept
   pars_number = length-map kept (λ l. l.text)
 
-  -- the front edge is at or before the edited range, the back edge at or after it
+  -- the front border is at or before the edited range, the back border at or after it
   front_low : front.chars ≤ pos
   front_low = elim (cases_eq front.index 0) [
-    | inl e ↦ let start : front.chars ≡ 0 = f.edge_is.chars ∙ ap (start_of (pars_of kept)) e in omega arith
+    | inl e ↦ let start : front.chars ≡ 0 = f.border_is.chars ∙ ap (start_of (pars_of kept)) e in omega arith
     | inr ne ↦ omega (arith, f.before (omega arith))
   ]
 
   back_high : to ≤ back.chars
   back_high = elim (cases_lt back.index (length kept)) [
     | inl more ↦ omega (arith, b.after more)
-    | inr all ↦ omega (arith, b.edge_is.chars, start_of-end (pars_of kept) back.index (omega (arith, pars_number)))
+    | inr all ↦ omega (arith, b.border_is.chars, start_of-end (pars_of kept) back.index (omega (arith, pars_number)))
   ]
 
   -- an edit touches at least one paragraph, unless the text has none
@@ -116,27 +116,27 @@ module _ (kept : List Layout) (pos to : ℕ) (front back : Edge) (order : pos �
     | inr none ↦
         let le = start_of-le (pars_of kept) back.index front.index (omega arith) in
         let last : back.index ≡ length kept = elim (cases_lt back.index (length kept)) [
-          | inl more ↦ absurd (omega (arith, b.after more, b.edge_is.chars, f.edge_is.chars, front_low, le))
-          | inr all ↦ omega (arith, b.edge_is.within)
+          | inl more ↦ absurd (omega (arith, b.after more, b.border_is.chars, f.border_is.chars, front_low, le))
+          | inr all ↦ omega (arith, b.border_is.within)
         ] in
-        let whole = start_of-end (pars_of kept) front.index (omega (arith, pars_number, f.edge_is.within)) in
+        let whole = start_of-end (pars_of kept) front.index (omega (arith, pars_number, f.border_is.within)) in
         let first : front.index ≡ 0 = elim (cases_eq front.index 0) [
           | inl e ↦ e
-          | inr ne ↦ absurd (omega (arith, f.before (omega arith), f.edge_is.chars, whole))
+          | inr ne ↦ absurd (omega (arith, f.before (omega arith), f.border_is.chars, whole))
         ] in
-        inr (omega (arith, pars_number, f.edge_is.within))
+        inr (omega (arith, pars_number, f.border_is.within))
   ]
 
-  pub edges_rise : front.index ≤ back.index
-  edges_rise = elim some_or_none [
+  pub borders_rise : front.index ≤ back.index
+  borders_rise = elim some_or_none [
     | inl some ↦ omega arith
-    | inr none ↦ omega (arith, f.edge_is.within, pars_number)
+    | inr none ↦ omega (arith, f.border_is.within, pars_number)
   ]
 
-  pub AreTouched-edges : AreTouched (pars_of kept) pos to (touched_by front back)
-  AreTouched-edges =
-      AreTouched-from_walks (pars_of kept) pos to front.index back.index front.chars back.chars order within f.edge_is.chars b.edge_is.chars edges_rise
-      (omega (arith, b.edge_is.within, pars_number)) f.before (λ some. f.after (omega (arith, pars_number))) (λ i above below. b.before i below) (λ more. b.after (omega (arith, pars_number)))
+  pub AreTouched-borders : AreTouched (pars_of kept) pos to (touched_by front back)
+  AreTouched-borders =
+      AreTouched-from_walks (pars_of kept) pos to front.index back.index front.chars back.chars order within f.border_is.chars b.border_is.chars borders_rise
+      (omega (arith, b.border_is.within, pars_number)) f.before (λ some. f.after (omega (arith, pars_number))) (λ i above below. b.before i below) (λ more. b.after (omega (arith, pars_number)))
 
   -- the new text of the touched paragraphs has three parts: the front, the inserted text and the rest
   pub region_parts : (piece : List ℕ) → region_of (pars_of kept) (touched_by front back) pos to piece ≡ front_of (pars_of kept) front pos ++ (piece ++ back_of (pars_of kept) back to)
@@ -144,15 +144,15 @@ module _ (kept : List Layout) (pos to : ℕ) (front back : Edge) (order : pos �
       let pars = pars_of kept in
       let place : pos - front.chars + (to - front.chars - (pos - front.chars)) ≡ to - front.chars = omega (arith, front_low) in
       let first : take (pos - front.chars) (concat (slice_range pars front.index back.index)) ≡ front_of pars front pos = elim some_or_none [
-        | inl some ↦ ap (λ n. take (pos - n) (concat (slice_range pars front.index back.index))) f.edge_is.chars
-            ∙ front_part pars front.index back.index pos to some (omega (arith, b.edge_is.within, pars_number)) (f.after (omega (arith, b.edge_is.within)))
-            ∙ ap (λ n. take (pos - n) (get_or pars front.index [])) (sym f.edge_is.chars)
+        | inl some ↦ ap (λ n. take (pos - n) (concat (slice_range pars front.index back.index))) f.border_is.chars
+            ∙ front_part pars front.index back.index pos to some (omega (arith, b.border_is.within, pars_number)) (f.after (omega (arith, b.border_is.within)))
+            ∙ ap (λ n. take (pos - n) (get_or pars front.index [])) (sym f.border_is.chars)
         | inr none ↦ no_front pars front.index back.index (pos - front.chars) none
       ] in
       let last : drop (to - front.chars) (concat (slice_range pars front.index back.index)) ≡ back_of pars back to = elim some_or_none [
-        | inl some ↦ ap (λ n. drop (to - n) (concat (slice_range pars front.index back.index))) f.edge_is.chars
-            ∙ back_part pars front.index back.index pos to some (omega (arith, b.edge_is.within, pars_number)) (b.before (back.index - 1) (omega arith)) (omega (arith, b.edge_is.chars, back_high))
-            ∙ ap (λ n. drop (length (get_or pars (back.index - 1) []) - (n - to)) (get_or pars (back.index - 1) [])) (sym b.edge_is.chars)
+        | inl some ↦ ap (λ n. drop (to - n) (concat (slice_range pars front.index back.index))) f.border_is.chars
+            ∙ back_part pars front.index back.index pos to some (omega (arith, b.border_is.within, pars_number)) (b.before (back.index - 1) (omega arith)) (omega (arith, b.border_is.chars, back_high))
+            ∙ ap (λ n. drop (length (get_or pars (back.index - 1) []) - (n - to)) (get_or pars (back.index - 1) [])) (sym b.border_is.chars)
         | inr none ↦ no_back pars front.index back.index (to - front.chars) (length (get_or pars (back.index - 1) []) - (back.chars - to)) (back.index - 1) none
       ] in
       ap₂ (λ xs ys. xs ++ (piece ++ ys)) first (ap (λ n. drop n (concat (slice_range pars front.index back.index))) place ∙ last)

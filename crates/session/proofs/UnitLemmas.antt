@@ -5,7 +5,7 @@ use Rattle.std.proofs.lemmas.List.Sums.{sum_by-cons}
 use Rattle.std.proofs.lemmas.Str.{len_utf8_bounds}
 use Rattle.lines.specs.Layouts.{Layout}
 use Rattle.session.specs.Offsets.{len_utf16}
-use Rattle.session.proofs.EdgeLemmas.{chars_of}
+use Rattle.session.proofs.BorderLemmas.{chars_of}
 
 -- a character has at most four units
 abbrev pub AreFew : (ℕ → ℕ) → Type 0

@@ -16,7 +16,7 @@ use Rattle.session.specs.Sessions.{IsWholeLayout, SetsWidth}
 use Rattle.session.specs.Edits.{are_within, text_refusal, width_refusal}
 use Rattle.session.specs.Kept.{changed, changed_in, text_of, layouts_of, put_into, written_for, BringsTo, CanBePut, Writer}
 use Rattle.session.specs.declared.edits.EditFault.TheVariants.{WidthOutOfRange}
-use Rattle.session.proofs.EdgeLemmas.{chars_of, lines_of as line_number, length-text, length-lines}
+use Rattle.session.proofs.BorderLemmas.{chars_of, lines_of as line_number, length-text, length-lines}
 use Rattle.session.proofs.EditLemmas.{LinesAreFew, few-laid, text-layouts, IsWholeLayout-same}
 use Rattle.session.proofs.JoinedLemmas.{first_piece}
 use Rattle.session.proofs.OpenLemmas.{positive}

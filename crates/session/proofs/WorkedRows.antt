@@ -5,6 +5,7 @@ use Rattle.lines.specs.Visual.{Line}
 use Rattle.session.specs.Edits.{after_all, deletion, insertion}
 use Rattle.session.specs.Kept.{changed}
 use Rattle.session.specs.Offsets.{offset_of, position_of}
+use Rattle.session.specs.Places.{first_line_at, paragraph_starts}
 use Rattle.session.specs.Touched.{first_touched, touched_count, fresh}
 use Rattle.session.specs.declared.offsets.Encoding.TheVariants.{Utf8, Utf16}
 use Rattle.session.specs.declared.edits.TheConstants.{TEXT_LIMIT}
@@ -46,6 +47,11 @@ three_laid =
 
 changed-of-three : (changed 2 three_laid ≡ 3) × (changed 1 three_laid ≡ 8) × (changed 2 [] ≡ 0)
 changed-of-three = (refl, refl, refl)
+
+-- their paragraphs start at 0, 3 and 6, on the lines 0, 1 and 3
+starts-of-three : (paragraph_starts three_laid ≡ 0 ∷ 3 ∷ 6 ∷ []) × (first_line_at three_laid 0 ≡ Some 0) × (first_line_at three_laid 1 ≡ Some 1)
+    × (first_line_at three_laid 2 ≡ Some 3) × (first_line_at three_laid 3 ≡ None)
+starts-of-three = (refl, refl, refl, refl, refl)
 
 -- refused edits change nothing
 abbrev after_newline : ℕ → ℕ → Bool

@@ -1,36 +1,129 @@
--- The starts and ends of paragraphs as edges: how many paragraphs, characters and lines come before each.
-use Rattle.std.specs.Prelude.{◌≡◌, ℕ, ◌+◌, ◌-◌, ◌<◌, ◌≤◌, List, length, take}
-use Rattle.lines.specs.Layouts.{Layout}
-use Rattle.session.specs.Kept.{pars_of, lines_in}
-use Rattle.session.specs.Touched.{start_of}
-use Rattle.session.specs.declared.edge.Edge.{Edge}
-use Rattle.session.specs.declared.edits.Damage.{Damage}
+-- The two edges of a position, and steps from edge to edge on a line.
+use Rattle.std.specs.Prelude.{◌≡◌, ℕ, zero, suc, ◌+◌, ◌-◌, nat_le, nat_lt, ◌==◌, Bool, ◌&&◌, max, List, length, slice_get, slice_index, Option, Some, None, option_and_then, option_map, unwrap_or, if◌then◌else◌}
+use Rattle.lines.specs.Columns.{columns_left, covering}
+use Rattle.lines.specs.Layouts.{Layout, Rules}
+use Rattle.lines.specs.Separators.{separator_len}
+use Rattle.lines.specs.Visual.{Visual}
+use Rattle.reorder.specs.Order.{is_odd}
+use Rattle.session.specs.Carets.{caret_at, line_end}
+use Rattle.session.specs.Clusters.{cluster_at}
+use Rattle.session.specs.Kept.{lines_in, text_of}
+use Rattle.session.specs.Places.{is_closed, line_starts, place_in}
+use Rattle.session.specs.Units.{column_after, column_before, unit_of}
+use Rattle.session.specs.declared.carets.Caret.{Caret}
+use Rattle.session.specs.declared.clusters.Cluster.{Cluster}
+use Rattle.session.specs.declared.edges.Direction.{Direction}
+use Rattle.session.specs.declared.edges.Direction.TheVariants.{Left, Right}
+use Rattle.session.specs.declared.edges.Edge.{Edge}
+use Rattle.session.specs.declared.edges.LineEdges.{LineEdges}
+use Rattle.session.specs.declared.edges.Side.{Side}
+use Rattle.session.specs.declared.edges.Side.TheVariants.{Before, After}
+use Rattle.session.specs.declared.places.Place.{Place}
+use Rattle.session.specs.declared.units.CaretUnit.{CaretUnit}
 
--- `index` paragraphs come before an edge, with `chars` characters and `lines` lines
-pub record IsEdge (kept : List Layout) (edge : Edge) : Type 0 where
-  pub within : edge.index ≤ length kept
-  pub chars : edge.chars ≡ start_of (pars_of kept) edge.index
-  pub lines : edge.lines ≡ length (lines_in (take edge.index kept))
+abbrev pub before : ℕ → Edge
+before pos = record { pos = pos; side = Before }
 
--- whether an edge is the start of the first paragraph touched by an edit whose range starts at `pos`
-pub record IsFrontEdge (kept : List Layout) (pos : ℕ) (edge : Edge) : Type 0 where
-  pub edge_is : IsEdge kept edge
-  pub before : 0 < edge.index → edge.chars < pos
-  pub after : edge.index < length kept → pos ≤ start_of (pars_of kept) (edge.index + 1)
+abbrev pub after : ℕ → Edge
+after pos = record { pos = pos; side = After }
 
--- whether an edge is the end of the last paragraph touched by an edit whose range ends at `to`
-pub record IsBackEdge (kept : List Layout) (to : ℕ) (edge : Edge) : Type 0 where
-  pub edge_is : IsEdge kept edge
-  pub before : (i : ℕ) → i < edge.index → start_of (pars_of kept) i ≤ to
-  pub after : edge.index < length kept → to < edge.chars
+-- the edges at the left and the right end of a unit, on a line that starts at `start`
+abbrev pub left_edge : ℕ → CaretUnit → Edge
+left_edge start unit = if is_odd unit.level then after (start + unit.end) else before (start + unit.start)
 
--- the damage of an edit that puts new paragraphs in place of those between two edges
-abbrev pub damage_between : Edge → Edge → List Layout → Damage
-damage_between front back fresh = record {
-  first_line = front.lines;
-  old_lines = back.lines - front.lines;
-  new_lines = length (lines_in fresh);
-  first_par = front.index;
-  old_pars = back.index - front.index;
-  new_pars = length fresh;
-}
+abbrev pub right_edge : ℕ → CaretUnit → Edge
+right_edge start unit = if is_odd unit.level then before (start + unit.start) else after (start + unit.end)
+
+-- the column of the edge on a side of character k
+abbrev pub column_on : Side → Visual → ℕ → Cluster → ℕ → ℕ
+column_on Before line start cluster k = column_before line start cluster k
+column_on After line start cluster k = column_after line start cluster k
+
+-- the caret on a side of character k of a line that starts at `start`, or at the line's end if the character is not shown
+abbrev pub caret_beside : Side → ℕ → Visual → ℕ → ℕ → Cluster → Caret
+caret_beside side n line start k cluster =
+    if nat_lt k (length line.levels)
+    then record { line = n; column = column_on side line start cluster k; level = slice_index line.levels k }
+    else line_end n line
+
+module _ (kept : List Layout) where
+  -- line n, and the position at which it starts
+  abbrev pub line_at : ℕ → Option (Visual × ℕ)
+  line_at n = option_and_then (λ line. option_map (λ start. (line, start)) (slice_get (line_starts kept) n)) (slice_get (lines_in kept) n)
+
+  -- the unit of character k of a line that starts at `start`
+  abbrev pub unit_in : Visual → ℕ → ℕ → Option CaretUnit
+  unit_in line start k = option_map (λ cluster. unit_of line start cluster k) (cluster_at kept (start + k))
+
+  -- the unit that covers a column of a line
+  abbrev pub unit_at : Visual → ℕ → ℕ → Option CaretUnit
+  unit_at line start column = option_and_then (λ place. unit_in line start (slice_index line.vtol place)) (covering line column)
+
+  -- the caret on a side of the character at `place`, which is the character at `pos`
+  abbrev pub caret_of : Side → ℕ → Place → Option Caret
+  caret_of side pos place = option_and_then (λ line. option_map (caret_beside side place.line line (pos - place.offset) place.offset) (cluster_at kept pos)) (slice_get (lines_in kept) place.line)
+
+  -- A step from a column of a line to the nearest end of a unit: that of the unit which covers the next column.
+  abbrev pub step_on : Visual → ℕ → ℕ → Direction → Option Edge
+  step_on line start column Right = option_map (right_edge start) (unit_at line start column)
+  step_on line start zero Left = None
+  step_on line start (suc column) Left = option_map (left_edge start) (unit_at line start column)
+
+  -- the edge at a column, given the units that cover this column and the last column
+  abbrev pub edge_by : ℕ → Option CaretUnit → Option CaretUnit → Edge
+  edge_by start (Some unit) last = left_edge start unit
+  edge_by start None (Some unit) = right_edge start unit
+  edge_by start None None = before start
+
+  abbrev pub edge_on : Visual → ℕ → ℕ → Edge
+  edge_on line start column = edge_by start (unit_at line start column) (unit_at line start (columns_left line (length line.vtol) - 1))
+
+-- whether line n would be the next one: it is the line after the last, and a new paragraph would start at the end of the text
+abbrev pub is_next : Rules → List Layout → ℕ → Bool
+is_next rules kept n = (n == length (lines_in kept)) && is_closed rules (text_of kept)
+
+-- the caret before or after a position, on the line of the character there; at the end of the text as `caret_at`; `None` past the end, and
+-- after nothing
+abbrev pub edge_caret_by : Rules → List Layout → Side → ℕ → Option Caret
+edge_caret_by rules kept Before pos =
+    if nat_le (length (text_of kept)) pos then caret_at rules kept pos else caret_of kept Before pos (place_in kept pos)
+edge_caret_by rules kept After zero = None
+edge_caret_by rules kept After (suc pos) = if nat_le (length (text_of kept)) pos then None else caret_of kept After pos (place_in kept pos)
+
+abbrev pub edge_caret_at : Rules → List Layout → Edge → Option Caret
+edge_caret_at rules kept edge = edge_caret_by rules kept edge.side edge.pos
+
+-- a step from an edge
+abbrev pub step_at : Rules → List Layout → Edge → Direction → Option Edge
+step_at rules kept edge direction =
+    option_and_then (λ caret. option_and_then (λ found. step_on kept found.0 found.1 caret.column direction) (line_at kept caret.line))
+    (edge_caret_at rules kept edge)
+
+-- the edge at a column of line n; `None` for lines past the next one
+abbrev pub edge_at : Rules → List Layout → ℕ → ℕ → Option Edge
+edge_at rules kept n column =
+    if is_next rules kept n then Some (before (length (text_of kept)))
+    else option_map (λ found. edge_on kept found.0 found.1 column) (line_at kept n)
+
+-- the position at which line n ends
+abbrev pub end_of : List Layout → ℕ → ℕ
+end_of kept n = unwrap_or (slice_get (line_starts kept) (suc n)) (length (text_of kept))
+
+-- The last edge of a line from `start` up to `end`, of which `visible` characters are shown: before the characters that end the line, before
+-- the end of the text, before the first space that is not shown, or else after the last character.
+abbrev pub last_edge : Rules → List ℕ → ℕ → ℕ → ℕ → Edge
+last_edge rules text start end visible =
+    let separators = separator_len rules.tables (slice_index text (max (end - 2) start)) (slice_index text (end - 1)) in
+    (if nat_lt 0 separators then before (end - separators)
+    else (if end == length text then before end
+    else (if nat_lt visible (end - start) then before (start + visible) else after end)))
+
+-- the first and the last edge of line n, in logical order; `None` for lines past the next one
+abbrev pub line_edges : Rules → List Layout → ℕ → Option LineEdges
+line_edges rules kept n =
+    let next = before (length (text_of kept)) in
+    (if is_next rules kept n then Some (record { first = next; last = next })
+    else option_map (λ found. record {
+      first = before found.1;
+      last = last_edge rules (text_of kept) found.1 (end_of kept n) (length (found.0).levels);
+    }) (line_at kept n))

@@ -1,8 +1,9 @@
+pub mod Borders
 pub mod Carets
-pub mod Edits
 pub mod Clusters
 pub mod Damage
 pub mod Edges
+pub mod Edits
 pub mod Hits
 pub mod Kept
 pub mod Offsets
@@ -12,5 +13,7 @@ pub mod Reading
 pub mod Runs
 pub mod Scans
 pub mod Sessions
+pub mod Steps
 pub mod Touched
+pub mod Units
 pub mod Words

@@ -1,5 +1,5 @@
 -- Where the lines of a text start, and on which line a character is.
-use Rattle.std.specs.Prelude.{ℕ, ◌+◌, ◌-◌, ◌<◌, nat_le, nat_lt, ◌==◌, ◌&&◌, ◌||◌, Bool, List, [], ◌∷◌, ◌++◌, length, map, count_by, slice_index, Option, Some, None, if◌then◌else◌}
+use Rattle.std.specs.Prelude.{ℕ, ◌+◌, ◌-◌, ◌<◌, nat_le, nat_lt, ◌==◌, ◌&&◌, ◌||◌, Bool, List, [], ◌∷◌, ◌++◌, length, map, take, count_by, slice_index, Option, Some, None, if◌then◌else◌}
 use Rattle.lines.specs.Beginnings.{BeginInOrder}
 use Rattle.lines.specs.Layouts.{cut_by, Layout, Rules}
 use Rattle.session.specs.Kept.{lines_in, text_of}
@@ -21,6 +21,10 @@ line_starts kept = lines_from 0 kept
 
 abbrev pub paragraph_starts : List Layout → List ℕ
 paragraph_starts kept = paragraphs_from 0 kept
+
+-- the index of a paragraph's first line: the number of lines of the paragraphs before it
+abbrev pub first_line_at : List Layout → ℕ → Option ℕ
+first_line_at kept index = if nat_lt index (length kept) then Some (length (lines_in (take index kept))) else None
 
 -- how many starts are at or before a position
 abbrev pub count_to : ℕ → List ℕ → ℕ

@@ -1,7 +1,7 @@
 //! Where to draw a caret before a character.
 ghost use Rattle.std.specs.Prelude.{◌≡◌, ◌^◌, ◌<◌, slice_index};
 ghost use Rattle.reorder.specs.Order.{is_odd};
-ghost use Rattle.session.specs.Carets.{caret_in, line_end};
+ghost use Rattle.session.specs.Carets.{caret_in, leading_edge, line_end, trailing_edge};
 
 use crate::places::Place;
 use lines::VisualLine;
@@ -17,8 +17,8 @@ pub struct Caret {
     pub level: u8,
 }
 
-// Returns the caret at the end of a line, in the base direction of its paragraph.
-fn line_end(line: &VisualLine<'_>, n: usize) -> Caret
+/// Returns the caret at the end of a line, in the base direction of its paragraph.
+pub fn line_end(line: &VisualLine<'_>, n: usize) -> Caret
     ensures caret { result ≡ line_end n line.now }
     ensures fits { result.column < 2 ^ 63 }
 {
@@ -34,7 +34,7 @@ fn line_end(line: &VisualLine<'_>, n: usize) -> Caret
     }
 }
 
-fn is_odd(level: u8) -> bool
+pub fn is_odd(level: u8) -> bool
     ensures { result ≡ is_odd level }
 {
     level % 2 == 1
@@ -51,6 +51,41 @@ fn visual(line: &VisualLine<'_>, k: usize) -> usize
     }
 }
 
+/// Returns the level of a character, given its index in the line, or 0 if the character is not shown.
+pub fn level_of(line: &VisualLine<'_>, k: usize) -> u8
+    ensures { result ≡ slice_index line.now.levels k }
+{
+    match line.levels().get(k) {
+        Some(level) => *level,
+        None => 0,
+    }
+}
+
+/// Returns the column of the leading edge of character `k`: the left edge if its level is even.
+pub fn leading_edge(line: &VisualLine<'_>, k: usize) -> usize
+    ensures column { result ≡ leading_edge line.now k }
+    ensures fits { result < 2 ^ 63 }
+{
+    let left = visual(line, k);
+    line.columns_left(if is_odd(level_of(line, k)) {
+        left + 1
+    } else {
+        left
+    })
+}
+
+/// Returns the column of the trailing edge of character `k`: the right edge if its level is even.
+pub fn trailing_edge(line: &VisualLine<'_>, k: usize) -> usize
+    ensures { result ≡ trailing_edge line.now k }
+{
+    let left = visual(line, k);
+    line.columns_left(if is_odd(level_of(line, k)) {
+        left
+    } else {
+        left + 1
+    })
+}
+
 /// Returns the caret before the character at a place in a line. The caret is at the character's left edge if
 /// its level is even, or else at its right edge. If the character is not shown, the caret is at the end of
 /// the line.
@@ -60,14 +95,11 @@ pub fn caret_in(line: &VisualLine<'_>, place: Place) -> Caret
 {
     let k = place.offset;
     match line.levels().get(k) {
-        Some(level) => {
-            let left = visual(line, k);
-            Caret {
-                line: place.line,
-                column: line.columns_left(if is_odd(*level) { left + 1 } else { left }),
-                level: *level,
-            }
-        }
+        Some(level) => Caret {
+            line: place.line,
+            column: leading_edge(line, k),
+            level: *level,
+        },
         None => line_end(line, place.line),
     }
 }

@@ -1,11 +1,17 @@
-//! Finds the grapheme cluster of a character. An editor can use it to keep its caret from landing inside a
-//! cluster.
-ghost use Rattle.std.specs.Prelude.{◌≡◌, ◌<◌, All, length, IfOk, OnErr};
-ghost use Rattle.session.specs.Clusters.{cluster_at};
-ghost use Rattle.session.specs.Kept.{text_of};
+//! Finds the grapheme cluster of a character, and those of a line. An editor can use them to keep its caret
+//! from landing inside a cluster.
+ghost use Rattle.std.specs.Prelude.{◌≡◌, ◌-◌, ◌<◌, ◌≤◌, ℕ, All, length, map, option_map, slice_index};
+ghost use Rattle.std.specs.Prelude.{IfOk, OnErr};
+ghost use Rattle.lines.specs.Clusters.{cluster_ends, ends_in};
+ghost use Rattle.lines.specs.Kept.{AreStarts};
+ghost use Rattle.lines.specs.Layouts.{start_of};
+ghost use Rattle.lines.specs.Visual.{end_of};
+ghost use Rattle.session.specs.Clusters.{cluster_at, line_clusters};
+ghost use Rattle.session.specs.Kept.{lines_in, text_of};
 ghost use Rattle.session.specs.Places.{IsLined};
 
 use crate::kept::Kept;
+use lines::Laid;
 use std::alloc::{AllocError, Global};
 use store::ParagraphStore;
 
@@ -44,6 +50,55 @@ pub fn cluster_of<S: ParagraphStore<Kept>>(
                 end: start + cluster.1,
             }))
         }
+        None => unreachable!(),
+    }
+}
+
+// Returns where line `k` of a paragraph ends, given where its lines start and the paragraph's length.
+fn end_of(starts: &[u32], k: usize, len: usize) -> usize
+    requires starts { AreStarts len starts.now }
+    requires k { k < length starts.now }
+    ensures end { result ≡ end_of len starts.now k }
+    ensures some { slice_index starts.now k < result }
+    ensures within { result ≤ len }
+{
+    match starts.get(k + 1) {
+        Some(next) => *next as usize,
+        None => len,
+    }
+}
+
+// Returns where the clusters of line `k` of a paragraph end, from the line's start.
+fn clusters_in(laid: &Laid, alloc: Global, k: usize) -> Result<Vec<usize>, AllocError>
+    requires lined { IsLined laid.now }
+    requires k { k < length laid.now.lines }
+    ensures { IfOk result (λ ends. let starts = map start_of laid.now.lines in
+        ends.items ≡ ends_in (cluster_ends laid.now.text) (slice_index starts k)
+        (end_of (length laid.now.text) starts k - slice_index starts k)) }
+{
+    let starts = laid.line_starts();
+    let start = starts[k] as usize;
+    let end = end_of(starts, k, laid.text().len());
+    laid.cluster_ends_in(alloc, start, end - start)
+}
+
+/// Returns where the clusters of line `n` end, from the line's start, or `None` past the last line.
+pub fn line_clusters<S: ParagraphStore<Kept>>(
+    store: &S,
+    alloc: Global,
+    n: usize,
+) -> Result<Option<Vec<usize>>, AllocError>
+    requires { All IsLined (S.items store.now) }
+    ensures ok { IfOk result (λ ends. option_map (λ ends. ends.items) ends
+        ≡ line_clusters (S.items store.now) n) }
+    ensures memory { OnErr result (n < length (lines_in (S.items store.now))) }
+{
+    if n >= store.total_lines() {
+        return Ok(None);
+    }
+    let found = store.find_line(n);
+    match store.get(found.index) {
+        Some(kept) => Ok(Some(clusters_in(kept.laid(), alloc, found.rest)?)),
         None => unreachable!(),
     }
 }

@@ -7,7 +7,7 @@ pub const TEXT_LIMIT: usize = 16_777_216;
 /// An edit of a text, or a change of its width. Positions count characters (Unicode scalar values).
 #[derive(Clone, Copy, Debug)]
 pub enum Edit<'a> {
-    /// Inserts a text before the character at a position, or at the end.
+    /// Inserts text before the character at a position, or at the end.
     Insert(usize, &'a str),
     /// Deletes characters. The fields are the position of the first character and the number of characters.
     Delete(usize, usize),

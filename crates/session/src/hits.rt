@@ -16,8 +16,8 @@ pub struct Hit {
     pub trailing: bool,
 }
 
-// Returns the index in a line of the character at a visual position.
-fn logical(line: &VisualLine<'_>, place: usize) -> usize
+/// Returns the index in a line of the character at a visual position, or 0 past the last one.
+pub fn logical(line: &VisualLine<'_>, place: usize) -> usize
     ensures value { result ≡ slice_index line.now.vtol place }
     ensures fits { result < 2 ^ 32 }
 {

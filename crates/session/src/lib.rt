@@ -18,12 +18,14 @@
 //! ```
 //!
 //! `line` borrows a line, `print` and `print_lines` write lines, and `place` and `line_start` locate lines.
-//! `text` returns part of the text, and `write_text` writes part of it. A refused edit changes nothing.
+//! `paragraph_start` and `paragraph_first_line` locate paragraphs. `text` returns part of the text, and
+//! `write_text` writes part of it. A refused edit changes nothing.
 #![tactic(auto)]
 
+mod borders;
 mod carets;
 mod clusters;
-mod edge;
+mod edges;
 mod edits;
 mod hits;
 mod joined;
@@ -36,15 +38,17 @@ mod reading;
 mod replace;
 mod scan;
 mod session;
+mod units;
 mod width;
 mod words;
 
 pub use carets::Caret;
 pub use clusters::Cluster;
+pub use edges::{Direction, Edge, LineEdges, Side};
 pub use edits::{Damage, Edit, EditFault, TEXT_LIMIT};
 pub use hits::Hit;
 pub use kept::Kept;
-pub use laws::texts_are_laid_out_in_parts;
+pub use laws::{steps_lead_to_boundaries, texts_are_laid_out_in_parts};
 pub use places::Place;
 pub use printing::RangeFault;
 pub use session::Session;

@@ -6,7 +6,7 @@ ghost use Rattle.session.specs.Offsets.{before_in, length_in, offset_of, positio
 ghost use Rattle.session.specs.Offsets.{units_of, IsUnitAt};
 ghost use Rattle.store.specs.Finding.{Finds};
 
-use crate::edge::front;
+use crate::borders::front;
 use crate::kept::Kept;
 use store::{Found, Measured, ParagraphStore};
 

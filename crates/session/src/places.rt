@@ -1,11 +1,12 @@
-//! Finds where the lines of a text start, and which line a character is on. Paragraphs are found with the
-//! store's sums, and lines by where they start in their paragraph.
+//! Finds where the lines and paragraphs of a text start, and which line a character is on. Paragraphs are
+//! found with the store's sums, and lines by where they start in their paragraph.
 ghost use Rattle.std.specs.Prelude.{◌≡◌, ◌^◌, ◌<◌, ◌≤◌, ℕ, All, nat_le, count_by, length};
-ghost use Rattle.std.specs.Prelude.{slice_get, slice_index, IfSome};
+ghost use Rattle.std.specs.Prelude.{is_none, slice_get, slice_index, IfSome};
 ghost use Rattle.std.specs.List.Sorted.{IsNonDecreasing};
 ghost use Rattle.lines.specs.Engine.{rules_of};
 ghost use Rattle.session.specs.Kept.{text_of};
-ghost use Rattle.session.specs.Places.{is_closed, line_starts, place_at, place_in, IsLined};
+ghost use Rattle.session.specs.Places.{first_line_at, is_closed, line_starts, paragraph_starts};
+ghost use Rattle.session.specs.Places.{place_at, place_in, IsLined};
 ghost use Rattle.session.specs.declared.edits.TheConstants.{TEXT_LIMIT};
 
 use crate::kept::Kept;
@@ -51,6 +52,28 @@ pub fn line_start<S: ParagraphStore<Kept>>(store: &S, n: usize) -> Option<usize>
     }
 }
 
+/// Returns the position of a paragraph's first character, or `None` past the last paragraph.
+pub fn paragraph_start<S: ParagraphStore<Kept>>(store: &S, index: usize) -> Option<usize>
+    ensures start { result ≡ slice_get (paragraph_starts (S.items store.now)) index }
+    ensures none { is_none result ≡ nat_le (length (S.items store.now)) index }
+{
+    if index >= store.count() {
+        return None;
+    }
+    Some(store.find_item(index).chars_before)
+}
+
+/// Returns the index of a paragraph's first line, or `None` past the last paragraph.
+pub fn paragraph_first_line<S: ParagraphStore<Kept>>(store: &S, index: usize) -> Option<usize>
+    ensures line { result ≡ first_line_at (S.items store.now) index }
+    ensures none { is_none result ≡ nat_le (length (S.items store.now)) index }
+{
+    if index >= store.count() {
+        return None;
+    }
+    Some(store.find_item(index).lines_before)
+}
+
 // Returns how many line starts are at most `pos`.
 fn lines_to(starts: &[u32], pos: usize) -> usize
     requires { IsNonDecreasing starts.now }
@@ -83,8 +106,8 @@ fn place_in<S: ParagraphStore<Kept>>(store: &S, pos: usize) -> Place
     }
 }
 
-// Returns the character at a position of the text.
-fn char_at<S: ParagraphStore<Kept>>(store: &S, pos: usize) -> char
+/// Returns the character at a position of the text.
+pub fn char_at<S: ParagraphStore<Kept>>(store: &S, pos: usize) -> char
     requires { pos < length (text_of (S.items store.now)) }
     ensures { result ≡ slice_index (text_of (S.items store.now)) pos }
 {
@@ -98,8 +121,8 @@ fn char_at<S: ParagraphStore<Kept>>(store: &S, pos: usize) -> char
     }
 }
 
-// Returns whether a new paragraph would start at the end of the text.
-fn is_closed<S: ParagraphStore<Kept>>(store: &S, engine: &Engine) -> bool
+/// Returns whether a new paragraph would start at the end of the text.
+pub fn is_closed<S: ParagraphStore<Kept>>(store: &S, engine: &Engine) -> bool
     ensures { result ≡ is_closed (rules_of engine.now) (text_of (S.items store.now)) }
 {
     let len = store.total_chars();

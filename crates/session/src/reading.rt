@@ -6,7 +6,7 @@ ghost use Rattle.session.specs.Kept.{text_of};
 ghost use Rattle.session.specs.Places.{IsLined};
 ghost use Rattle.session.specs.Reading.{text_part, utf8_len, utf8_part};
 
-use crate::edge::{back, front};
+use crate::borders::{back, front};
 use crate::kept::Kept;
 use crate::offsets::{Encoding, offset_of};
 use device::Sink;

@@ -8,10 +8,10 @@ ghost use Rattle.session.specs.Edits.{replacing};
 ghost use Rattle.session.specs.Kept.{text_of};
 ghost use Rattle.session.specs.Offsets.{length_in};
 ghost use Rattle.session.specs.declared.offsets.Encoding.TheVariants.{Utf8, Utf16};
-ghost use Rattle.session.specs.Edges.{damage_between, IsEdge};
+ghost use Rattle.session.specs.Borders.{damage_between, IsBorder};
 ghost use Rattle.session.specs.declared.edits.EditFault.TheVariants.{NoMemory};
 
-use crate::edge::{Edge, back_edge, back_text, front_edge, front_text};
+use crate::borders::{Border, back_border, back_text, front_border, front_text};
 use crate::edits::{Damage, EditFault, TEXT_LIMIT};
 use crate::joined::lay_out_joined;
 use crate::kept::Kept;
@@ -20,15 +20,15 @@ use lines::{Engine, lines_are_few};
 use std::alloc::Global;
 use store::ParagraphStore;
 
-// Replaces the paragraphs between two edges. Changes nothing if an allocation fails.
+// Replaces the paragraphs between two borders. Changes nothing if an allocation fails.
 fn put<S: ParagraphStore<Kept>>(
     store: &mut S,
-    front: Edge,
-    back: Edge,
+    front: Border,
+    back: Border,
     new: Vec<Kept>,
 ) -> Result<Damage, EditFault>
-    requires front { IsEdge (S.items store.old) front }
-    requires back { IsEdge (S.items store.old) back }
+    requires front { IsBorder (S.items store.old) front }
+    requires back { IsBorder (S.items store.old) back }
     requires order { front.index ≤ back.index }
     requires chars_fit { sum_by (λ l. length l.text)
         (splice (S.items store.old) front.index back.index new.items) < 2 ^ 64 }
@@ -92,7 +92,7 @@ pub fn replace<S: ParagraphStore<Kept>>(
     // not overflow.
     paragraphs_are_pieces();
     lines_are_few();
-    let (front, back) = (front_edge(store, pos), back_edge(store, end));
+    let (front, back) = (front_border(store, pos), back_border(store, end));
     let new = match lay_out_joined(
         alloc,
         engine,

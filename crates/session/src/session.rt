@@ -1,21 +1,22 @@
 //! Sessions, which are generic over the `ParagraphStore`.
 ghost use Rattle.std.specs.Prelude.{◌≡◌, ◌+◌, ◌^◌, ◌<◌, ◌≤◌, nat_le, nat_lt, length};
-ghost use Rattle.std.specs.Prelude.{is_none, option_map, slice_get};
+ghost use Rattle.std.specs.Prelude.{is_none, option_map, slice_get, slice_index};
 ghost use Rattle.std.specs.Prelude.{IfOk, IfErr, IfSome, IsErrOf, OnOk, OnErr};
 ghost use Rattle.std.specs.List.{flat_map};
 ghost use Rattle.std.specs.Str.{chars};
 ghost use Rattle.device.specs.Device.{StoppedAt, Wrote};
 ghost use Rattle.lines.specs.Bytes.{line_bytes};
 ghost use Rattle.lines.specs.Engine.{analysed_of, filled_of, rules_of, written_of, SameRules};
+ghost use Rattle.lines.specs.Separators.{separator_len};
 ghost use Rattle.lines.specs.Writing.{PassedOn, StoppedIn};
 ghost use Rattle.lines.specs.declared.print.Print.{Print};
 ghost use Rattle.session.specs.Carets.{caret_at};
 ghost use Rattle.session.specs.Edits.{after_all, replacing, deletion, insertion};
-ghost use Rattle.session.specs.Clusters.{cluster_at};
+ghost use Rattle.session.specs.Clusters.{cluster_at, line_clusters};
 ghost use Rattle.session.specs.Hits.{hit_at};
 ghost use Rattle.session.specs.Kept.{lines_in};
 ghost use Rattle.session.specs.Offsets.{length_in, offset_of, position_of};
-ghost use Rattle.session.specs.Places.{line_starts, place_at};
+ghost use Rattle.session.specs.Places.{first_line_at, is_closed, line_starts, paragraph_starts, place_at};
 ghost use Rattle.session.specs.Printing.{lines_page, HasLines, PrintsNot, WritesNot};
 ghost use Rattle.session.specs.Reading.{text_part, utf8_len, utf8_part};
 ghost use Rattle.session.specs.Runs.{StopsAt, WorksAtMost};
@@ -26,13 +27,15 @@ ghost use Rattle.session.specs.declared.edits.EditFault.TheVariants.{NoMemory};
 ghost use Rattle.session.specs.declared.offsets.Encoding.TheVariants.{Utf8, Utf16};
 
 use crate::carets::{Caret, caret_in};
-use crate::clusters::{Cluster, cluster_of};
+use crate::clusters::{Cluster, cluster_of, line_clusters};
 use crate::edits::{Damage, Edit, EditFault, TEXT_LIMIT};
 use crate::hits::{Hit, hit_in};
 use crate::joined::lay_out_joined;
 use crate::kept::Kept;
 use crate::offsets::{Encoding, offset_of, position_of};
-use crate::places::{Place, line_start, place_of};
+use crate::places::{
+    Place, char_at, is_closed, line_start, paragraph_first_line, paragraph_start, place_of,
+};
 use crate::printing::{RangeFault, write_lines};
 use crate::reading::{text_part, utf8_len, write_text};
 use crate::replace::replace;
@@ -160,6 +163,7 @@ impl<S: ParagraphStore<Kept>> Session<S> {
     pub fn line_start(&self, n: usize) -> Option<usize>
         ensures start { result ≡ slice_get (line_starts self.now.kept) n }
         ensures none { is_none result ≡ nat_le (length (lines_in self.now.kept)) n }
+        ensures fits { IfSome result (λ start. start < 2 ^ 33) }
     {
         line_start(&self.store, n)
     }
@@ -176,6 +180,34 @@ impl<S: ParagraphStore<Kept>> Session<S> {
         paragraphs_are_pieces();
         Laid::lines_begin_in_order();
         place_of(&self.store, &self.engine, pos)
+    }
+
+    // Returns whether a new paragraph would start at the end of the text.
+    pub(crate) fn is_closed(&self) -> bool
+        ensures { result ≡ is_closed (rules_of self.now.engine) (text_at self.now) }
+    {
+        is_closed(&self.store, &self.engine)
+    }
+
+    // Returns the character at a position, or U+0000 past the last one.
+    fn char_at(&self, pos: usize) -> char
+        ensures { result ≡ slice_index (text_at self.now) pos }
+    {
+        if pos < self.store.total_chars() {
+            char_at(&self.store, pos)
+        } else {
+            '\0'
+        }
+    }
+
+    // Returns how many characters at the end of a line end it or its paragraph, given the positions of its
+    // last two characters.
+    pub(crate) fn separator_len(&self, before: usize, last: usize) -> usize
+        ensures { result ≡ separator_len (rules_of self.now.engine).tables
+            (slice_index (text_at self.now) before) (slice_index (text_at self.now) last) }
+    {
+        self.engine
+            .separator_len(self.char_at(before), self.char_at(last))
     }
 
     /// Returns where to draw a caret before the character at a position, or `None` past the end of the text.
@@ -238,6 +270,23 @@ impl<S: ParagraphStore<Kept>> Session<S> {
         cluster_of(&self.store, self.alloc, pos)
     }
 
+    /// Returns where the grapheme clusters of line `n` end, in characters from the line's start, or `None`
+    /// past the last line. The last of these ends is that of the line, even if its last cluster continues on
+    /// the next line.
+    ///
+    /// Reads the characters of the line, and the characters around it as `cluster` does. Allocates a copy of
+    /// all of them.
+    pub fn line_clusters(&self, n: usize) -> Result<Option<Vec<usize>>, AllocError>
+        ensures ok { IfOk result (λ ends. option_map (λ ends. ends.items) ends
+            ≡ line_clusters self.now.kept n) }
+        ensures memory { OnErr result (n < length (lines_in self.now.kept)) }
+    {
+        // By these theorems, no paragraph is empty, and lines start in order.
+        paragraphs_are_pieces();
+        Laid::lines_begin_in_order();
+        line_clusters(&self.store, self.alloc, n)
+    }
+
     /// Returns the word of the character at a position: the segment between two word boundaries (UAX #29) of
     /// its paragraph. Returns `None` past the last character. Spaces and punctuation are segments too.
     /// Allocates a copy of the paragraph, and needs time linear in its length.
@@ -274,7 +323,8 @@ impl<S: ParagraphStore<Kept>> Session<S> {
     }
 
     /// Returns the number of UTF-8 bytes before a position, or `None` past the end. Needs time logarithmic in
-    /// the number of paragraphs, and linear in the length of one unless that is ASCII. Allocates nothing.
+    /// the number of paragraphs and, unless the paragraph at `pos` is ASCII, linear in its length. Allocates
+    /// nothing.
     pub fn byte_of(&self, pos: usize) -> Option<usize>
         ensures byte { result ≡ offset_of Utf8 (text_at self.now) pos }
         ensures none { is_none result ≡ nat_lt (length (text_at self.now)) pos }
@@ -385,6 +435,24 @@ impl<S: ParagraphStore<Kept>> Session<S> {
         Some(self.store.get(index)?.laid())
     }
 
+    /// Returns the position of a paragraph's first character, or `None` past the last paragraph. Needs time
+    /// logarithmic in the number of paragraphs.
+    pub fn paragraph_start(&self, index: usize) -> Option<usize>
+        ensures start { result ≡ slice_get (paragraph_starts self.now.kept) index }
+        ensures none { is_none result ≡ nat_le (length self.now.kept) index }
+    {
+        paragraph_start(&self.store, index)
+    }
+
+    /// Returns the index of a paragraph's first line, or `None` past the last paragraph. Costs as much as
+    /// `paragraph_start`.
+    pub fn paragraph_first_line(&self, index: usize) -> Option<usize>
+        ensures line { result ≡ first_line_at self.now.kept index }
+        ensures none { is_none result ≡ nat_le (length self.now.kept) index }
+    {
+        paragraph_first_line(&self.store, index)
+    }
+
     /// Returns the width, in columns.
     pub fn width(&self) -> u16
         ensures width { result ≡ self.now.width }
@@ -414,7 +482,7 @@ impl<S: ParagraphStore<Kept>> Session<S> {
         self.engine.written()
     }
 
-    /// Inserts a text before the character at `pos`, or at the end.
+    /// Inserts text before the character at `pos`, or at the end.
     pub fn insert(&mut self, pos: usize, text: &str) -> Result<Damage, EditFault>
         ensures ok { IfOk result (Edits (insertion pos (chars text.now)) self.old self.new) }
         ensures err { IfErr result (EditsNot (insertion pos (chars text.now)) self.old self.new) }

@@ -1,6 +1,7 @@
 //! Worked examples of sessions, and long lists of edits compared with new sessions, over both stores. The
-//! tests also pass if any one allocation fails: the edit changes nothing then, and is tried again. Only `run`
-//! does not try again.
+//! tests also pass if any one allocation fails: the edit then changes nothing and is retried. Only `run`
+//! is not retried.
+mod edges;
 mod hits;
 mod parts;
 mod places;
@@ -335,6 +336,7 @@ impl<S: ParagraphStore<Kept> + Drop, T: ParagraphStore<Kept> + Drop> Pair<S, T> 
             Check::Widths => Ok(rows::check_widths(rt, self)?),
             Check::Run => Ok(rows::check_run(rt, self, &rows::EDITS)?),
             Check::Hits => Ok(hits::check_hits(rt, self, &hits::ROWS)?),
+            Check::Edges => Ok(edges::check_edges(rt, &mut self.edited)?),
             Check::Parts => Ok(parts::check_parts(rt, self)?),
             Check::Replaced => Ok(parts::check_replaced(rt, self)?),
             Check::Places => Ok(places::check_rows(rt, self, &places::ROWS)?),
@@ -352,6 +354,7 @@ enum Check {
     Widths,
     Run,
     Hits,
+    Edges,
     Parts,
     Replaced,
     Places,

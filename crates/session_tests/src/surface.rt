@@ -419,6 +419,7 @@ enum Call {
     CharCount,
     ParagraphCount,
     Paragraph,
+    ParagraphStart,
     Width,
     Analysed,
     Filled,
@@ -478,6 +479,7 @@ fn holds_in<S: store::ParagraphStore<session::Kept> + Drop>(
         Call::Print => prints(&session),
         Call::Bytes => converts_bytes(&mut session),
         Call::CodeUnits => converts_code_units(&mut session),
+        Call::ParagraphStart => starts_paragraph(&mut session),
         _ => reads(&session, call),
     };
     drop(session);
@@ -683,6 +685,21 @@ fn shows_paragraph<S: store::ParagraphStore<session::Kept>>(session: &session::S
 #[test]
 fn paragraph_1_ends_with_its_newline(rt: HostRuntime) {
     assert!(rt; holds(rt.alloc(), Call::Paragraph));
+}
+
+// Sets a width of one column, so that the first two paragraphs have two lines each.
+fn starts_paragraph<S: store::ParagraphStore<session::Kept>>(
+    session: &mut session::Session<S>,
+) -> bool {
+    let is_narrow: bool = session.set_width(1).is_ok();
+    let start: Option<usize> = session.paragraph_start(2);
+    let line: Option<usize> = session.paragraph_first_line(2);
+    is_narrow & (start == Some(6)) & (line == Some(4))
+}
+
+#[test]
+fn paragraph_2_starts_at_6_on_line_4(rt: HostRuntime) {
+    assert!(rt; holds(rt.alloc(), Call::ParagraphStart));
 }
 
 fn tells_width<S: store::ParagraphStore<session::Kept>>(session: &session::Session<S>) -> bool {

@@ -120,7 +120,7 @@ fn are_from(levels: &[u8], place: usize, wanted: &[u8]) -> bool {
     }
 }
 
-// Whether a resolver finds these levels of a list, from an index on, given the list's characters.
+// Whether a resolver finds these levels from an index on, from the characters of a list.
 fn is_found_of_text(
     alloc: Global,
     resolver: &mut Resolver,
@@ -135,8 +135,7 @@ fn is_found_of_text(
     Ok(is_base && are_from(&levels, place, wanted))
 }
 
-// Whether a resolver finds these levels of a list, from an index on, given the list's classes and bracket
-// types.
+// Whether a resolver finds these levels from an index on, from the classes and bracket types of a list.
 fn is_found_by(
     alloc: Global,
     resolver: &mut Resolver,
@@ -151,8 +150,8 @@ fn is_found_by(
     Ok(is_base && are_from(&levels, place, wanted))
 }
 
-// Whether a resolver finds these levels of a list, from an index on, both given the list's characters and
-// given its classes and bracket types.
+// Whether a resolver finds these levels from an index on, both from the characters of a list and from their
+// classes and bracket types.
 fn is_found(
     alloc: Global,
     resolver: &mut Resolver,

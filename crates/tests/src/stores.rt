@@ -230,7 +230,7 @@ fn is_same(found: Found, other: Found) -> bool {
     Found { visits: 0, ..found } == Found { visits: 0, ..other }
 }
 
-// Whether both stores return the same result for each character, line, byte and code unit.
+// Whether both stores return the same result for each character, line, byte, code unit and item.
 fn finds_same<S: ParagraphStore<Item>, T: ParagraphStore<Item>>(left: &S, right: &T) -> bool {
     let (chars, lines) = (left.total_chars(), left.total_lines());
     if right.total_chars() != chars || right.total_lines() != lines {
@@ -243,7 +243,7 @@ fn finds_same<S: ParagraphStore<Item>, T: ParagraphStore<Item>>(left: &S, right:
     for n in 0..lines {
         all_right &= is_same(left.find_line(n), right.find_line(n));
     }
-    all_right & finds_same_units(left, right)
+    all_right & finds_same_units(left, right) & finds_same_items(left, right)
 }
 
 // Whether both stores find the same for each byte and each code unit.
@@ -258,6 +258,19 @@ fn finds_same_units<S: ParagraphStore<Item>, T: ParagraphStore<Item>>(left: &S, 
     }
     for unit in 0..utf16 {
         all_right &= is_same(left.find_utf16(unit), right.find_utf16(unit));
+    }
+    all_right
+}
+
+// Whether both stores find the same for each item.
+fn finds_same_items<S: ParagraphStore<Item>, T: ParagraphStore<Item>>(left: &S, right: &T) -> bool {
+    let count = left.count();
+    if right.count() != count {
+        return false;
+    }
+    let mut all_right = true;
+    for index in 0..count {
+        all_right &= is_same(left.find_item(index), right.find_item(index));
     }
     all_right
 }

@@ -485,6 +485,7 @@ enum Call {
     FindLine,
     FindByte,
     FindUtf16,
+    FindItem,
     Found,
     Replace,
     ExchangeAll,
@@ -532,6 +533,7 @@ fn reads<S: store::ParagraphStore<Item> + Drop>(alloc: Global, call: Call) -> bo
         Call::FindLine => finds_line(&store),
         Call::FindByte => finds_byte(&store),
         Call::FindUtf16 => finds_utf16(&store),
+        Call::FindItem => finds_item(&store),
         Call::Found => tells_what_is_found(&store),
         _ => false,
     };
@@ -659,6 +661,21 @@ fn finds_utf16<S: store::ParagraphStore<Item>>(store: &S) -> bool {
 #[test]
 fn find_utf16_9_is_code_unit_3_of_the_second_item(rt: HostRuntime) {
     assert!(rt; holds(rt.alloc(), Call::FindUtf16));
+}
+
+fn finds_item<S: store::ParagraphStore<Item>>(store: &S) -> bool {
+    if store.count() < 2 {
+        return false;
+    }
+    let found: store::Found = store.find_item(1);
+    let chars_and_lines: [usize; 2] = [found.chars_before, found.lines_before];
+    let bytes_and_units: [usize; 2] = [found.bytes_before, found.utf16_before];
+    found.index == 1 && found.rest == 0 && chars_and_lines == [5, 1] && bytes_and_units == [7, 6]
+}
+
+#[test]
+fn find_item_1_has_the_sums_of_the_first_item(rt: HostRuntime) {
+    assert!(rt; holds(rt.alloc(), Call::FindItem));
 }
 
 fn tells_what_is_found<S: store::ParagraphStore<Item>>(store: &S) -> bool {

@@ -1,4 +1,4 @@
-//! Tests of where lines start, and of the line that each character is on.
+//! Tests of where lines and paragraphs start, and of the line that each character is on.
 use super::{Check, Pair, check_in_tree, renew};
 use session::{EditFault, Kept, Place, Session};
 use std::process::Abort;
@@ -35,13 +35,30 @@ fn stand_at<S: ParagraphStore<Kept>>(session: &Session<S>, places: &[[usize; 3]]
     all
 }
 
+// Whether each paragraph starts at the place of its first line, and no paragraph is after the last one.
+fn paragraphs_begin<S: ParagraphStore<Kept>>(session: &Session<S>) -> bool {
+    let count = session.paragraph_count();
+    let mut all = session.paragraph_start(count).is_none();
+    all &= session.paragraph_first_line(count).is_none();
+    for paragraph in 0..count {
+        all &= match (
+            session.paragraph_start(paragraph),
+            session.paragraph_first_line(paragraph),
+        ) {
+            (Some(start), Some(line)) => is_place(session.place(start), [paragraph, line, 0]),
+            _ => false,
+        };
+    }
+    all
+}
+
 fn is_row<S: ParagraphStore<Kept>>(
     session: &mut Session<S>,
     row: &Row<'_>,
 ) -> Result<bool, EditFault> {
     let (text, width, starts, places) = *row;
     renew(session, text, width)?;
-    Ok(begin_at(session, starts) & stand_at(session, places))
+    Ok(begin_at(session, starts) & stand_at(session, places) & paragraphs_begin(session))
 }
 
 pub(super) static ROWS: [Row<'_>; 6] = [

@@ -4,7 +4,7 @@ use Rattle.lines.specs.Layouts.{Layout}
 use Rattle.session.specs.Kept.{text_of}
 use Rattle.session.specs.declared.clusters.Cluster.{Cluster}
 use Rattle.session.proofs.ClusterLemmas.{cluster-fits, cluster-read, cluster-rest, no_cluster}
-use Rattle.session.proofs.EdgeLemmas.{chars_of, found_some, length-text}
+use Rattle.session.proofs.BorderLemmas.{chars_of, found_some, length-text}
 use Rattle.session.proofs.PlaceLemmas.{char_read}
 use Rattle.session.proofs.WantLemmas.{on_err}
 use Rattle.session.proofs.clusters.cluster_of.Goals as goal

@@ -2,7 +2,7 @@ use Rattle.std.proofs.Common.{◌≡◌, Some, length, sym, ap, ◌∙◌, arith
 use Rattle.std.proofs.lemmas.List.{take_all}
 use Rattle.session.specs.Kept.{text_of}
 use Rattle.session.specs.Offsets.{length_in}
-use Rattle.session.proofs.EdgeLemmas.{chars_of, found_some, length-text}
+use Rattle.session.proofs.BorderLemmas.{chars_of, found_some, length-text}
 use Rattle.session.proofs.OffsetLemmas.{front_within, length-units, offset_fits, offset_past, offset_read, offset_within}
 use Rattle.session.proofs.offsets.offset_of.Goals as goal
 

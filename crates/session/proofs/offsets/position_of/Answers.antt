@@ -1,7 +1,7 @@
 use Rattle.std.proofs.Common.{◌≡◌, Some, length, sym, ap, ◌∙◌, arith}
 use Rattle.session.specs.Kept.{text_of}
 use Rattle.session.specs.Offsets.{units_of}
-use Rattle.session.proofs.EdgeLemmas.{found_some, length-text}
+use Rattle.session.proofs.BorderLemmas.{found_some, length-text}
 use Rattle.session.proofs.OffsetLemmas.{length-units, position_end, position_fits, position_past, position_read, unit_within}
 use Rattle.session.proofs.offsets.position_of.Goals as goal
 

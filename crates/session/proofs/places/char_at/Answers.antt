@@ -1,7 +1,7 @@
 use Rattle.std.proofs.Common.{ap, length, get_or, ◌∙◌, arith}
 use Rattle.std.proofs.lemmas.List.{get_or_default}
 use Rattle.lines.specs.Layouts.{Layout}
-use Rattle.session.proofs.EdgeLemmas.{length-text, chars_of, found_some}
+use Rattle.session.proofs.BorderLemmas.{length-text, chars_of, found_some}
 use Rattle.session.proofs.PlaceLemmas.{char_read}
 use Rattle.session.proofs.places.char_at.Goals as goal
 

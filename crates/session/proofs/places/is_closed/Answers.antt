@@ -1,7 +1,7 @@
 use Rattle.std.proofs.Common.{◌-◌, ap, sym, get_or, ◌∙◌, arith}
 use Rattle.lines.specs.Engine.{rules_of}
 use Rattle.session.specs.Kept.{text_of}
-use Rattle.session.proofs.EdgeLemmas.{length-text}
+use Rattle.session.proofs.BorderLemmas.{length-text}
 use Rattle.session.proofs.PlaceLemmas.{closed_by_last, closed_empty}
 use Rattle.session.proofs.places.is_closed.Goals as goal
 

@@ -3,7 +3,7 @@ use Rattle.std.proofs.lemmas.Option.{slice_get_past}
 use Rattle.lines.specs.Layouts.{Layout, start_of as begins}
 use Rattle.std.specs.Prelude.{map}
 use Rattle.session.specs.Places.{line_starts}
-use Rattle.session.proofs.EdgeLemmas.{length-lines, lines_of, found_some}
+use Rattle.session.proofs.BorderLemmas.{length-lines, lines_of, found_some}
 use Rattle.session.proofs.PlaceLemmas.{length-lines_from, before_within, rest_within, start_read}
 use Rattle.session.proofs.places.line_start.Goals as goal
 

@@ -3,7 +3,7 @@ use Rattle.std.specs.Prelude.{map}
 use Rattle.lines.specs.Layouts.{Layout, start_of as begins}
 use Rattle.session.specs.Places.{count_to, place_in}
 use Rattle.session.specs.declared.places.Place.{Place}
-use Rattle.session.proofs.EdgeLemmas.{length-text, chars_of, found_some}
+use Rattle.session.proofs.BorderLemmas.{length-text, chars_of, found_some}
 use Rattle.session.proofs.PlaceLemmas.{lined_read, starts_sorted, place-few, place-fits, place-is, place-some}
 use Rattle.std.specs.List.Sorted.{IsNonDecreasing}
 use Rattle.session.proofs.places.place_in.Goals as goal

@@ -3,7 +3,7 @@ use Rattle.lines.specs.Engine.{rules_of}
 use Rattle.session.specs.Kept.{text_of}
 use Rattle.session.specs.Places.{place_in}
 use Rattle.session.specs.declared.places.Place.{Place}
-use Rattle.session.proofs.EdgeLemmas.{length-lines, length-text}
+use Rattle.session.proofs.BorderLemmas.{length-lines, length-text}
 use Rattle.session.proofs.PlaceLemmas.{open_some, place_past, place_inside, place_closed, place_open, place_after}
 use Rattle.session.proofs.places.place_of.Goals as goal
 

@@ -6,7 +6,7 @@ use Rattle.lines.specs.Layouts.{Layout, visuals}
 use Rattle.lines.specs.Writing.{PassedOn, StoppedIn}
 use Rattle.lines.proofs.WriteLemmas.{passed-append, stopped-before, stopped-after, same_fault}
 use Rattle.session.specs.Kept.{lines_in}
-use Rattle.session.proofs.EdgeLemmas.{length-lines, item_read, lines_of}
+use Rattle.session.proofs.BorderLemmas.{length-lines, item_read, lines_of}
 use Rattle.session.proofs.PrintLemmas.{front_more, lines_begin}
 use Rattle.session.proofs.WidthLemmas.{none_read}
 use Rattle.session.proofs.printing.write_lines.Goals as goal

@@ -2,7 +2,7 @@ use Rattle.std.proofs.Common.{◌+◌, drop, take, sym, arith}
 use Rattle.lines.specs.Layouts.{visuals}
 use Rattle.lines.specs.Writing.{StoppedIn}
 use Rattle.lines.proofs.WriteLemmas.{pieces-more, pieces-stopped, same_fault}
-use Rattle.session.proofs.EdgeLemmas.{length-visuals}
+use Rattle.session.proofs.BorderLemmas.{length-visuals}
 use Rattle.session.proofs.PrintLemmas.{line_pieces, line_pieces_all, line_pieces_whole, line_piece, line_within, part_few}
 use Rattle.session.proofs.WidthLemmas.{none_read}
 use Rattle.session.proofs.printing.write_part.Goals as goal

@@ -4,7 +4,7 @@ use Rattle.std.proofs.lemmas.List.{length-drop, length-take}
 use Rattle.lines.specs.Layouts.{Layout}
 use Rattle.session.specs.Reading.{paragraph_end}
 use Rattle.session.specs.Kept.{text_of}
-use Rattle.session.proofs.EdgeLemmas.{length-text, chars_of, found_some}
+use Rattle.session.proofs.BorderLemmas.{length-text, chars_of, found_some}
 use Rattle.session.proofs.PlaceLemmas.{char_read}
 use Rattle.session.proofs.ReadingLemmas.{part_past, part_within, part_read}
 use Rattle.session.proofs.reading.text_part.Goals as goal

@@ -2,7 +2,7 @@ use Rattle.std.proofs.Common.{◌≡◌, ◌+◌, ◌-◌, length, Some, sym, ap
 use Rattle.session.specs.Kept.{text_of}
 use Rattle.session.specs.Reading.{utf8_part}
 use Rattle.session.specs.declared.offsets.Encoding.TheVariants.{Utf8}
-use Rattle.session.proofs.EdgeLemmas.{length-text}
+use Rattle.session.proofs.BorderLemmas.{length-text}
 use Rattle.session.proofs.OffsetLemmas.{length-part, offset_is, offset_there}
 use Rattle.session.proofs.ReadingLemmas.{len_past, len_within}
 use Rattle.session.proofs.reading.utf8_len.Goals as goal

@@ -3,7 +3,7 @@ use Rattle.std.specs.List.{slice_range}
 use Rattle.lines.specs.Writing.{StoppedIn}
 use Rattle.lines.proofs.WriteLemmas.{encoded-append, passed-append, same_fault, stopped-after, stopped-before}
 use Rattle.session.specs.Kept.{text_of}
-use Rattle.session.proofs.EdgeLemmas.{length-text}
+use Rattle.session.proofs.BorderLemmas.{length-text}
 use Rattle.session.proofs.ReadingLemmas.{all_parts, part_few, part_more, part_there}
 use Rattle.session.proofs.reading.write_text.Goals as goal
 

@@ -1,5 +1,5 @@
 use Rattle.std.proofs.Common.{refl, sum_by, sym, ap, ◌∙◌}
-use Rattle.session.proofs.EdgeLemmas.{lines_of}
+use Rattle.session.proofs.BorderLemmas.{lines_of}
 use Rattle.session.proofs.EditLemmas.{at_ok, AreSums-splice}
 use Rattle.session.proofs.replace.put.Goals as goal
 

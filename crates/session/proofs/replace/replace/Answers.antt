@@ -12,7 +12,7 @@ use Rattle.session.specs.Kept.{text_of, layouts_of}
 use Rattle.session.specs.Offsets.{len_utf16}
 use Rattle.session.specs.Sessions.{IsAnswerFor}
 use Rattle.session.specs.declared.edits.EditFault.TheVariants.{OutOfRange, TextTooLong, ParagraphTooLong, NoMemory}
-use Rattle.session.proofs.EdgeLemmas.{length-text}
+use Rattle.session.proofs.BorderLemmas.{length-text}
 use Rattle.session.proofs.EditLemmas.{rise, chars_fit, lines_fit, units_fit, refusal-past, EditsNot-unchanged, EditsNot-by_region, Edits-after, ends_ok, ends_err}
 use Rattle.session.proofs.UnitLemmas.{utf8_few, utf16_few}
 use Rattle.session.proofs.RefusalLemmas.{allowed-length, refusal-too_long}
@@ -53,15 +53,15 @@ returns-then-len-count-gt-TEXT_LIMIT-clause-err g c =
     EditsNot-unchanged (replacing c.args.pos c.args.count piece) state TextTooLong c.requires
     (refusal-too_long (cut_by (rules_of c.args.engine.now)) (text_of kept) piece c.args.pos c.args.count within (omega (arith, size, n))) refl
 
-pub front_edge-front-requires : goal.front_edge-front-requires
-front_edge-front-requires g c =
+pub front_border-front-requires : goal.front_border-front-requires
+front_border-front-requires g c =
     let kept = g.S.ParagraphStore.items c.args.store.now in
     let piece = chars c.args.piece.now in
     let size : c.total_chars-len.result ≡ length (text_of kept) = c.total_chars-len.ensures ∙ sym (length-text kept) in
     omega (arith, size)
 
-pub back_edge-back-requires : goal.back_edge-back-requires
-back_edge-back-requires g c =
+pub back_border-back-requires : goal.back_border-back-requires
+back_border-back-requires g c =
     let kept = g.S.ParagraphStore.items c.args.store.now in
     let piece = chars c.args.piece.now in
     let size : c.total_chars-len.result ≡ length (text_of kept) = c.total_chars-len.ensures ∙ sym (length-text kept) in
@@ -77,15 +77,15 @@ returns-in-Err-clause-err g c =
     let n : c.count.result ≡ length piece = count_from_yields_List c.chars.result c.count.result c.count.ensures.ran (YieldsList-from_chars c.args.piece.now c.utf8.piece cc) in
     let short : length (text_of kept) - c.args.count + length piece ≤ TEXT_LIMIT = omega (arith, size, n) in
     let parts = ap₂ (λ xs ys. xs ++ (piece ++ ys)) c.front_text.ensures (c.back_text.ensures _ refl) in
-    let f = c.front_edge-front.ensures in
-    let b = c.back_edge-back.ensures in
+    let f = c.front_border-front.ensures in
+    let b = c.back_border-back.ensures in
     let law = c.paragraphs_are_pieces.ensures in
     let few = c.lines_are_few.ensures in
     let by = rules_of c.args.engine.now in
     let answer = subst (λ t. IsAnswerFor (paragraphs_refusal (cut_by by) t) c.in-Err.fault) parts c.in-Err.ensures.err in
     let counts = subst (λ t. IsCountedFor c.in-Err.fault (LaysOutAtMost (length t)) c.args.engine.now c.lay_out_joined.new.engine) parts c.in-Err.ensures.refused in
     EditsNot-by_region law few c.args.engine.now c.args.width kept c.requires c.args.pos c.args.count piece within
-    c.front_edge-front.result c.back_edge-back.result f b c.lay_out_joined.new.engine c.in-Err.fault short answer
+    c.front_border-front.result c.back_border-back.result f b c.lay_out_joined.new.engine c.in-Err.fault short answer
     c.lay_out_joined.ensures.rules counts
 
 pub put-requires-clause-order : goal.put-requires-clause-order
@@ -95,8 +95,8 @@ put-requires-clause-order g c =
     let size : c.total_chars-len.result ≡ length (text_of kept) = c.total_chars-len.ensures ∙ sym (length-text kept) in
     let within : c.args.pos + c.args.count ≤ length (text_of kept) = omega (arith, size) in
     rise c.paragraphs_are_pieces.ensures c.lines_are_few.ensures c.args.engine.now c.args.width kept c.requires
-    c.args.pos c.args.count piece within c.front_edge-front.result c.back_edge-back.result
-    c.front_edge-front.ensures c.back_edge-back.ensures
+    c.args.pos c.args.count piece within c.front_border-front.result c.back_border-back.result
+    c.front_border-front.ensures c.back_border-back.ensures
 
 pub put-requires-clause-chars_fit : goal.put-requires-clause-chars_fit
 put-requires-clause-chars_fit g c =
@@ -107,12 +107,12 @@ put-requires-clause-chars_fit g c =
     let n : c.count.result ≡ length piece = count_from_yields_List c.chars.result c.count.result c.count.ensures.ran (YieldsList-from_chars c.args.piece.now c.utf8.piece cc) in
     let short : length (text_of kept) - c.args.count + length piece ≤ TEXT_LIMIT = omega (arith, size, n) in
     let parts = ap₂ (λ xs ys. xs ++ (piece ++ ys)) c.front_text.ensures (c.back_text.ensures _ refl) in
-    let f = c.front_edge-front.ensures in
-    let b = c.back_edge-back.ensures in
+    let f = c.front_border-front.ensures in
+    let b = c.back_border-back.ensures in
     let law = c.paragraphs_are_pieces.ensures in
     let few = c.lines_are_few.ensures in
     let laid = c.in-Ok.ensures.ok ∙ ap (layouts_of (rules_of c.args.engine.now) c.args.width) parts in
-    chars_fit law few c.args.engine.now c.args.width kept c.requires c.args.pos c.args.count piece within c.front_edge-front.result c.back_edge-back.result f b c.in-Ok.new.items laid short
+    chars_fit law few c.args.engine.now c.args.width kept c.requires c.args.pos c.args.count piece within c.front_border-front.result c.back_border-back.result f b c.in-Ok.new.items laid short
 
 pub put-requires-clause-bytes_fit : goal.put-requires-clause-bytes_fit
 put-requires-clause-bytes_fit g c =
@@ -123,12 +123,12 @@ put-requires-clause-bytes_fit g c =
     let n : c.count.result ≡ length piece = count_from_yields_List c.chars.result c.count.result c.count.ensures.ran (YieldsList-from_chars c.args.piece.now c.utf8.piece cc) in
     let short : length (text_of kept) - c.args.count + length piece ≤ TEXT_LIMIT = omega (arith, size, n) in
     let parts = ap₂ (λ xs ys. xs ++ (piece ++ ys)) c.front_text.ensures (c.back_text.ensures _ refl) in
-    let f = c.front_edge-front.ensures in
-    let b = c.back_edge-back.ensures in
+    let f = c.front_border-front.ensures in
+    let b = c.back_border-back.ensures in
     let law = c.paragraphs_are_pieces.ensures in
     let few = c.lines_are_few.ensures in
     let laid = c.in-Ok.ensures.ok ∙ ap (layouts_of (rules_of c.args.engine.now) c.args.width) parts in
-    units_fit law few c.args.engine.now c.args.width kept c.requires c.args.pos c.args.count piece within c.front_edge-front.result c.back_edge-back.result f b c.in-Ok.new.items laid short len_utf8 utf8_few
+    units_fit law few c.args.engine.now c.args.width kept c.requires c.args.pos c.args.count piece within c.front_border-front.result c.back_border-back.result f b c.in-Ok.new.items laid short len_utf8 utf8_few
 
 pub put-requires-clause-utf16_fit : goal.put-requires-clause-utf16_fit
 put-requires-clause-utf16_fit g c =
@@ -139,12 +139,12 @@ put-requires-clause-utf16_fit g c =
     let n : c.count.result ≡ length piece = count_from_yields_List c.chars.result c.count.result c.count.ensures.ran (YieldsList-from_chars c.args.piece.now c.utf8.piece cc) in
     let short : length (text_of kept) - c.args.count + length piece ≤ TEXT_LIMIT = omega (arith, size, n) in
     let parts = ap₂ (λ xs ys. xs ++ (piece ++ ys)) c.front_text.ensures (c.back_text.ensures _ refl) in
-    let f = c.front_edge-front.ensures in
-    let b = c.back_edge-back.ensures in
+    let f = c.front_border-front.ensures in
+    let b = c.back_border-back.ensures in
     let law = c.paragraphs_are_pieces.ensures in
     let few = c.lines_are_few.ensures in
     let laid = c.in-Ok.ensures.ok ∙ ap (layouts_of (rules_of c.args.engine.now) c.args.width) parts in
-    units_fit law few c.args.engine.now c.args.width kept c.requires c.args.pos c.args.count piece within c.front_edge-front.result c.back_edge-back.result f b c.in-Ok.new.items laid short len_utf16 utf16_few
+    units_fit law few c.args.engine.now c.args.width kept c.requires c.args.pos c.args.count piece within c.front_border-front.result c.back_border-back.result f b c.in-Ok.new.items laid short len_utf16 utf16_few
 
 pub put-requires-clause-lines_fit : goal.put-requires-clause-lines_fit
 put-requires-clause-lines_fit g c =
@@ -155,12 +155,12 @@ put-requires-clause-lines_fit g c =
     let n : c.count.result ≡ length piece = count_from_yields_List c.chars.result c.count.result c.count.ensures.ran (YieldsList-from_chars c.args.piece.now c.utf8.piece cc) in
     let short : length (text_of kept) - c.args.count + length piece ≤ TEXT_LIMIT = omega (arith, size, n) in
     let parts = ap₂ (λ xs ys. xs ++ (piece ++ ys)) c.front_text.ensures (c.back_text.ensures _ refl) in
-    let f = c.front_edge-front.ensures in
-    let b = c.back_edge-back.ensures in
+    let f = c.front_border-front.ensures in
+    let b = c.back_border-back.ensures in
     let law = c.paragraphs_are_pieces.ensures in
     let few = c.lines_are_few.ensures in
     let laid = c.in-Ok.ensures.ok ∙ ap (layouts_of (rules_of c.args.engine.now) c.args.width) parts in
-    lines_fit law few c.args.engine.now c.args.width kept c.requires c.args.pos c.args.count piece within c.front_edge-front.result c.back_edge-back.result f b c.in-Ok.new.items laid short
+    lines_fit law few c.args.engine.now c.args.width kept c.requires c.args.pos c.args.count piece within c.front_border-front.result c.back_border-back.result f b c.in-Ok.new.items laid short
 
 pub returns-clause-ok : goal.returns-clause-ok
 returns-clause-ok g c =
@@ -171,8 +171,8 @@ returns-clause-ok g c =
     let n : c.count.result ≡ length piece = count_from_yields_List c.chars.result c.count.result c.count.ensures.ran (YieldsList-from_chars c.args.piece.now c.utf8.piece cc) in
     let short : length (text_of kept) - c.args.count + length piece ≤ TEXT_LIMIT = omega (arith, size, n) in
     let parts = ap₂ (λ xs ys. xs ++ (piece ++ ys)) c.front_text.ensures (c.back_text.ensures _ refl) in
-    let f = c.front_edge-front.ensures in
-    let b = c.back_edge-back.ensures in
+    let f = c.front_border-front.ensures in
+    let b = c.back_border-back.ensures in
     let law = c.paragraphs_are_pieces.ensures in
     let few = c.lines_are_few.ensures in
     let by = rules_of c.args.engine.now in
@@ -184,7 +184,7 @@ returns-clause-ok g c =
     (record { engine = c.lay_out_joined.new.engine; width = c.args.width; kept = ks })) c.put.result _ _ _
     c.put.ensures.ok c.put.ensures.damage
     (Edits-after law few c.args.engine.now c.args.width kept c.requires c.args.pos c.args.count piece within
-    c.front_edge-front.result c.back_edge-back.result f b c.in-Ok.new.items laid short c.lay_out_joined.new.engine
+    c.front_border-front.result c.back_border-back.result f b c.in-Ok.new.items laid short c.lay_out_joined.new.engine
     allowed c.lay_out_joined.ensures.rules counts)
 
 pub returns-clause-err : goal.returns-clause-err
@@ -196,8 +196,8 @@ returns-clause-err g c =
     let n : c.count.result ≡ length piece = count_from_yields_List c.chars.result c.count.result c.count.ensures.ran (YieldsList-from_chars c.args.piece.now c.utf8.piece cc) in
     let short : length (text_of kept) - c.args.count + length piece ≤ TEXT_LIMIT = omega (arith, size, n) in
     let parts = ap₂ (λ xs ys. xs ++ (piece ++ ys)) c.front_text.ensures (c.back_text.ensures _ refl) in
-    let f = c.front_edge-front.ensures in
-    let b = c.back_edge-back.ensures in
+    let f = c.front_border-front.ensures in
+    let b = c.back_border-back.ensures in
     let law = c.paragraphs_are_pieces.ensures in
     let few = c.lines_are_few.ensures in
     let by = rules_of c.args.engine.now in
@@ -208,7 +208,7 @@ returns-clause-err g c =
     (record { engine = c.lay_out_joined.new.engine; width = c.args.width; kept = ks })) c.put.result _ _
     c.put.ensures.err c.put.ensures.fault
     (EditsNot-by_region law few c.args.engine.now c.args.width kept c.requires c.args.pos c.args.count piece within
-    c.front_edge-front.result c.back_edge-back.result f b c.lay_out_joined.new.engine NoMemory short
+    c.front_border-front.result c.back_border-back.result f b c.lay_out_joined.new.engine NoMemory short
     (cond-true _ None (Some ParagraphTooLong) allowed) c.lay_out_joined.ensures.rules counts)
 
 pub returns-clause-memory : goal.returns-clause-memory
@@ -217,4 +217,4 @@ returns-clause-memory g c wants =
     let piece = chars c.args.piece.now in
     let some = of_err c.put.result NoMemory c.put.ensures.memory wants in
     some_put c.args.engine.now c.args.width kept c.requires c.front_text.result.now piece c.back_text.result.now _ _ _ _ c.front_text.ensures (c.back_text.ensures _ refl)
-    (rules_of c.args.engine.now) c.front_edge-front.result.index c.back_edge-back.result.index c.in-Ok.new.items c.back_edge-back.ensures.edge_is.within c.in-Ok.ensures.ok some
+    (rules_of c.args.engine.now) c.front_border-front.result.index c.back_border-back.result.index c.in-Ok.new.items c.back_border-back.ensures.border_is.within c.in-Ok.ensures.ok some

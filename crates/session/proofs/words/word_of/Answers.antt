@@ -4,7 +4,7 @@ use Rattle.lines.specs.Words.{word_ends}
 use Rattle.session.specs.Kept.{text_of}
 use Rattle.session.specs.Words.{word_by}
 use Rattle.session.proofs.ClusterLemmas.{cluster-fits, cluster-rest, no_word, word-read}
-use Rattle.session.proofs.EdgeLemmas.{chars_of, found_some, length-text}
+use Rattle.session.proofs.BorderLemmas.{chars_of, found_some, length-text}
 use Rattle.session.proofs.PlaceLemmas.{char_read}
 use Rattle.session.proofs.WantLemmas.{on_err}
 use Rattle.session.proofs.words.word_of.Goals as goal

@@ -1,5 +1,5 @@
 use Rattle.std.proofs.Common.{sym, ◌∙◌}
-use Rattle.session.proofs.EdgeLemmas.{length-text}
+use Rattle.session.proofs.BorderLemmas.{length-text}
 use Rattle.session.proofs.session.Session.char_count.Goals as goal
 
 pub returns : goal.returns

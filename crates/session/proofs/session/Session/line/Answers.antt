@@ -1,6 +1,6 @@
 use Rattle.std.proofs.Common.{sym, ap, slice_get, ◌∙◌}
 use Rattle.lines.specs.Layouts.{Layout, visuals}
-use Rattle.session.proofs.EdgeLemmas.{length-lines, lines_of, found_some}
+use Rattle.session.proofs.BorderLemmas.{length-lines, lines_of, found_some}
 use Rattle.session.proofs.LineLemmas.{line_read, line_past}
 use Rattle.session.proofs.session.Session.line.Goals as goal
 

@@ -1,5 +1,5 @@
 use Rattle.std.proofs.Common.{sym, ◌∙◌}
-use Rattle.session.proofs.EdgeLemmas.{length-lines}
+use Rattle.session.proofs.BorderLemmas.{length-lines}
 use Rattle.session.proofs.session.Session.line_count.Goals as goal
 
 pub returns : goal.returns

@@ -3,7 +3,7 @@ use Rattle.std.specs.List.{flat_map}
 use Rattle.lines.specs.Bytes.{line_bytes}
 use Rattle.lines.specs.Writing.{StoppedIn}
 use Rattle.session.specs.Kept.{lines_in}
-use Rattle.session.proofs.EdgeLemmas.{length-lines}
+use Rattle.session.proofs.BorderLemmas.{length-lines}
 use Rattle.session.proofs.session.Session.print_lines_after.Goals as goal
 use Rattle.session.proofs.session.Session.print_lines_after.Goals.{then-first-lines-via-then-first-lines, then-first-lines-via-else-first-lines+then-count-lines}
 

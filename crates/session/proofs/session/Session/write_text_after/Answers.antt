@@ -1,6 +1,6 @@
 use Rattle.std.proofs.Common.{◌≡◌, length, refl, sym, ◌∙◌, arith}
 use Rattle.session.specs.Kept.{text_of}
-use Rattle.session.proofs.EdgeLemmas.{length-text}
+use Rattle.session.proofs.BorderLemmas.{length-text}
 use Rattle.session.proofs.PlaceLemmas.{lines_lined}
 use Rattle.session.proofs.session.Session.write_text_after.Goals as goal
 use Rattle.session.proofs.session.Session.write_text_after.Goals.{then-pos-chars-via-then-pos-chars, then-pos-chars-via-else-pos-chars+then-count-chars}

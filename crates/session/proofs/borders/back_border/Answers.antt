@@ -1,10 +1,10 @@
 use Rattle.std.proofs.Common.{arith}
-use Rattle.session.proofs.EdgeLemmas.{to_within, chars_next, lines_next, found_some, chars_of, IsBackEdge-found, IsBackEdge-end}
-use Rattle.session.proofs.edge.back_edge.Goals as goal
+use Rattle.session.proofs.BorderLemmas.{to_within, chars_next, lines_next, found_some, chars_of, IsBackBorder-found, IsBackBorder-end}
+use Rattle.session.proofs.borders.back_border.Goals as goal
 
 pub returns-then-to-chars : goal.returns-then-to-chars
 returns-then-to-chars g c =
-    IsBackEdge-end (g.S.ParagraphStore.items c.args.store.now) c.args.to c.count-count.result c.total_chars-chars.result c.total_lines-lines.result
+    IsBackBorder-end (g.S.ParagraphStore.items c.args.store.now) c.args.to c.count-count.result c.total_chars-chars.result c.total_lines-lines.result
     c.count-count.ensures c.total_chars-chars.ensures c.total_lines-lines.ensures c.if-to-chars.true
 
 pub find_char-found-requires : goal.find_char-found-requires
@@ -31,4 +31,4 @@ unreachable-requires g c =
 pub returns : goal.returns
 returns g c =
     rw (c.chars.ensures, c.lines.ensures)
-    (IsBackEdge-found (g.S.ParagraphStore.items c.args.store.now) c.args.to c.find_char-found.result c.in-Some.kept.now c.in-Some.ensures c.find_char-found.ensures.found)
+    (IsBackBorder-found (g.S.ParagraphStore.items c.args.store.now) c.args.to c.find_char-found.result c.in-Some.kept.now c.in-Some.ensures c.find_char-found.ensures.found)

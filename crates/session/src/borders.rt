@@ -1,6 +1,6 @@
 //! Finds the paragraphs of a store that an edit touches, using the store's sums.
 ghost use Rattle.std.specs.Prelude.{◌≡◌, ◌≤◌, ◌-◌, List, [], ℕ, length, take, drop, slice_index_or};
-ghost use Rattle.session.specs.Edges.{IsBackEdge, IsFrontEdge};
+ghost use Rattle.session.specs.Borders.{IsBackBorder, IsFrontBorder};
 ghost use Rattle.session.specs.Kept.{pars_of, text_of};
 
 use crate::kept::Kept;
@@ -8,26 +8,26 @@ use store::{Measured, ParagraphStore};
 
 /// The start of a paragraph or the end of the text: how many paragraphs, characters and lines come before it.
 #[derive(Clone, Copy, Debug)]
-pub struct Edge {
+pub struct Border {
     pub index: usize,
     pub chars: usize,
     pub lines: usize,
 }
 
 /// Returns the start of the first paragraph that is touched by an edit starting at `pos`.
-pub fn front_edge<S: ParagraphStore<Kept>>(store: &S, pos: usize) -> Edge
+pub fn front_border<S: ParagraphStore<Kept>>(store: &S, pos: usize) -> Border
     requires { pos ≤ length (text_of (S.items store.now)) }
-    ensures { IsFrontEdge (S.items store.now) pos result }
+    ensures { IsFrontBorder (S.items store.now) pos result }
 {
     if pos == 0 {
-        return Edge {
+        return Border {
             index: 0,
             chars: 0,
             lines: 0,
         };
     }
     let found = store.find_char(pos - 1);
-    Edge {
+    Border {
         index: found.index,
         chars: pos - 1 - found.rest,
         lines: found.lines_before,
@@ -35,14 +35,14 @@ pub fn front_edge<S: ParagraphStore<Kept>>(store: &S, pos: usize) -> Edge
 }
 
 /// Returns the end of the last paragraph that is touched by an edit ending at `to`.
-pub fn back_edge<S: ParagraphStore<Kept>>(store: &S, to: usize) -> Edge
+pub fn back_border<S: ParagraphStore<Kept>>(store: &S, to: usize) -> Border
     requires { to ≤ length (text_of (S.items store.now)) }
-    ensures { IsBackEdge (S.items store.now) to result }
+    ensures { IsBackBorder (S.items store.now) to result }
 {
     // The contracts of these calls bound the sums.
     let (count, chars, lines) = (store.count(), store.total_chars(), store.total_lines());
     if to == chars {
-        return Edge {
+        return Border {
             index: count,
             chars,
             lines,
@@ -50,7 +50,7 @@ pub fn back_edge<S: ParagraphStore<Kept>>(store: &S, to: usize) -> Edge
     }
     let found = store.find_char(to);
     match store.get(found.index) {
-        Some(kept) => Edge {
+        Some(kept) => Border {
             index: found.index + 1,
             chars: to - found.rest + kept.chars(),
             lines: found.lines_before + kept.lines(),
@@ -73,28 +73,28 @@ pub fn back(text: &[char], from: usize) -> &[char]
     &text[from.min(text.len())..]
 }
 
-/// Returns the characters before `pos` in the paragraph that starts at an edge.
-pub fn front_text<S: ParagraphStore<Kept>>(store: &S, edge: Edge, pos: usize) -> &[char]
+/// Returns the characters before `pos` in the paragraph that starts at a border.
+pub fn front_text<S: ParagraphStore<Kept>>(store: &S, border: Border, pos: usize) -> &[char]
     ensures { result.now
-        ≡ take (pos - edge.chars) (slice_index_or (pars_of (S.items store.now)) edge.index []) }
+        ≡ take (pos - border.chars) (slice_index_or (pars_of (S.items store.now)) border.index []) }
 {
-    match store.get(edge.index) {
-        Some(kept) => front(kept.laid().text(), pos.saturating_sub(edge.chars)),
+    match store.get(border.index) {
+        Some(kept) => front(kept.laid().text(), pos.saturating_sub(border.chars)),
         None => &[],
     }
 }
 
-/// Returns the characters at and after `from` in the paragraph that ends at an edge.
-pub fn back_text<S: ParagraphStore<Kept>>(store: &S, edge: Edge, from: usize) -> &[char]
-    ensures { (text : List ℕ) → text ≡ slice_index_or (pars_of (S.items store.now)) (edge.index - 1) []
-        → result.now ≡ drop (length text - (edge.chars - from)) text }
+/// Returns the characters at and after `from` in the paragraph that ends at a border.
+pub fn back_text<S: ParagraphStore<Kept>>(store: &S, border: Border, from: usize) -> &[char]
+    ensures { (text : List ℕ) → text ≡ slice_index_or (pars_of (S.items store.now)) (border.index - 1) []
+        → result.now ≡ drop (length text - (border.chars - from)) text }
 {
-    match store.get(edge.index.saturating_sub(1)) {
+    match store.get(border.index.saturating_sub(1)) {
         Some(kept) => {
             let text = kept.laid().text();
             back(
                 text,
-                text.len().saturating_sub(edge.chars.saturating_sub(from)),
+                text.len().saturating_sub(border.chars.saturating_sub(from)),
             )
         }
         None => &[],

@@ -1,0 +1,36 @@
+-- The starts and ends of paragraphs as borders: how many paragraphs, characters and lines come before each.
+use Rattle.std.specs.Prelude.{◌≡◌, ℕ, ◌+◌, ◌-◌, ◌<◌, ◌≤◌, List, length, take}
+use Rattle.lines.specs.Layouts.{Layout}
+use Rattle.session.specs.Kept.{pars_of, lines_in}
+use Rattle.session.specs.Touched.{start_of}
+use Rattle.session.specs.declared.borders.Border.{Border}
+use Rattle.session.specs.declared.edits.Damage.{Damage}
+
+-- `index` paragraphs come before a border, with `chars` characters and `lines` lines
+pub record IsBorder (kept : List Layout) (border : Border) : Type 0 where
+  pub within : border.index ≤ length kept
+  pub chars : border.chars ≡ start_of (pars_of kept) border.index
+  pub lines : border.lines ≡ length (lines_in (take border.index kept))
+
+-- whether a border is the start of the first paragraph touched by an edit whose range starts at `pos`
+pub record IsFrontBorder (kept : List Layout) (pos : ℕ) (border : Border) : Type 0 where
+  pub border_is : IsBorder kept border
+  pub before : 0 < border.index → border.chars < pos
+  pub after : border.index < length kept → pos ≤ start_of (pars_of kept) (border.index + 1)
+
+-- whether a border is the end of the last paragraph touched by an edit whose range ends at `to`
+pub record IsBackBorder (kept : List Layout) (to : ℕ) (border : Border) : Type 0 where
+  pub border_is : IsBorder kept border
+  pub before : (i : ℕ) → i < border.index → start_of (pars_of kept) i ≤ to
+  pub after : border.index < length kept → to < border.chars
+
+-- the damage of an edit that puts new paragraphs in place of those between two borders
+abbrev pub damage_between : Border → Border → List Layout → Damage
+damage_between front back fresh = record {
+  first_line = front.lines;
+  old_lines = back.lines - front.lines;
+  new_lines = length (lines_in fresh);
+  first_par = front.index;
+  old_pars = back.index - front.index;
+  new_pars = length fresh;
+}

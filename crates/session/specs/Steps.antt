@@ -1,0 +1,112 @@
+-- What the units of a line and the steps over them have in common with its columns.
+use Rattle.std.specs.Prelude.{◌≡◌, ℕ, zero, suc, ◌<◌, ◌≤◌, ◌⊎◌, List, Some, None, Option, option_and_then, if◌then◌else◌}
+use Rattle.lines.specs.Layouts.{Layout, Rules}
+use Rattle.lines.specs.Visual.{Visual}
+use Rattle.reorder.specs.Order.{is_odd}
+use Rattle.session.specs.Edges.{edge_at, edge_caret_at, line_at, step_at, unit_at}
+use Rattle.session.specs.declared.carets.Caret.{Caret}
+use Rattle.session.specs.declared.edges.Direction.{Direction}
+use Rattle.session.specs.declared.edges.Direction.TheVariants.{Left, Right}
+use Rattle.session.specs.declared.edges.Edge.{Edge}
+use Rattle.session.specs.declared.units.CaretUnit.{CaretUnit}
+
+-- the columns of the left and the right end of a unit
+abbrev pub left_of : CaretUnit → ℕ
+left_of unit = if is_odd unit.level then unit.trailing else unit.leading
+
+abbrev pub right_of : CaretUnit → ℕ
+right_of unit = if is_odd unit.level then unit.leading else unit.trailing
+
+-- a line of a text, and the position at which it starts
+module _ (kept : List Layout) (line : Visual) (start : ℕ) where
+  -- whether a unit covers a column, has its two ends around it, and is the unit of each column between these ends
+  pub record Covers (column : ℕ) (unit : CaretUnit) : Type 0 where
+    pub found : unit_at kept line start column ≡ Some unit
+    pub left : left_of unit ≤ column
+    pub right : column < right_of unit
+    pub within : right_of unit ≤ line.columns
+    pub whole : (c : ℕ) → left_of unit ≤ c → c < right_of unit → unit_at kept line start c ≡ Some unit
+
+  -- whether the units of a line tile its columns: each column is in the columns of exactly one unit
+  abbrev pub UnitsTile : Type 0
+  UnitsTile = (column : ℕ) → column < line.columns → (unit : CaretUnit) × Covers column unit
+
+  -- whether a unit begins or ends at a column; on a line without columns, column 0 is the only boundary
+  abbrev pub IsBoundary : ℕ → Type 0
+  IsBoundary column =
+      ((c : ℕ) × (unit : CaretUnit) × (unit_at kept line start c ≡ Some unit) × ((left_of unit ≡ column) ⊎ (right_of unit ≡ column)))
+      ⊎ ((line.columns ≡ 0) × (column ≡ 0))
+
+-- whether column `to` is further in a direction than column `from`
+abbrev pub IsFurther : Direction → ℕ → ℕ → Type 0
+IsFurther Right from to = from < to
+IsFurther Left from to = to < from
+
+-- an edge with its caret, and the line that the caret is on with its start
+pub record IsOn (rules : Rules) (kept : List Layout) (edge : Edge) (caret : Caret) (line : Visual) (start : ℕ) : Type 0 where
+  pub drawn : edge_caret_at rules kept edge ≡ Some caret
+  pub read : line_at kept caret.line ≡ Some (line, start)
+
+-- the other direction
+abbrev pub back : Direction → Direction
+back Left = Right
+back Right = Left
+
+-- the edge after some steps in one direction
+abbrev pub after_steps : Rules → List Layout → Direction → ℕ → Edge → Option Edge
+after_steps rules kept direction zero edge = Some edge
+after_steps rules kept direction (suc count) edge = option_and_then (after_steps rules kept direction count) (step_at rules kept edge direction)
+
+-- steps from a caret on a line that starts at the position `start`
+module _ (rules : Rules) (kept : List Layout) (line : Visual) (start : ℕ) (direction : Direction) (caret : Caret) where
+  -- A step leads to the nearest boundary in its direction: the edge returned is at that boundary, and on the same line. Without an edge,
+  -- there is no boundary in that direction.
+  pub record StepsTo (next : Edge) : Type 0 where
+    pub to : Caret
+    pub drawn : edge_caret_at rules kept next ≡ Some to
+    pub line_stays : to.line ≡ caret.line
+    pub further : IsFurther direction caret.column to.column
+    pub boundary : IsBoundary kept line start to.column
+    pub nearest : (c : ℕ) → IsBoundary kept line start c → IsFurther direction caret.column c → IsFurther direction to.column c ⊎ (c ≡ to.column)
+
+  abbrev pub IsStep : Option Edge → Type 0
+  IsStep (Some next) = StepsTo next
+  IsStep None = (c : ℕ) → IsBoundary kept line start c → IsFurther direction caret.column c → ⊥
+
+-- Repeated steps from the edge of a caret meet a column: after some of them the caret is there, on the same line.
+pub record Meets (rules : Rules) (kept : List Layout) (direction : Direction) (edge : Edge) (caret : Caret) (column : ℕ) : Type 0 where
+  pub count : ℕ
+  pub last : Edge
+  pub to : Caret
+  pub steps : after_steps rules kept direction count edge ≡ Some last
+  pub drawn : edge_caret_at rules kept last ≡ Some to
+  pub line_stays : to.line ≡ caret.line
+  pub there : to.column ≡ column
+
+-- from a boundary, a step and a step back return to the same column
+abbrev pub Returns : Rules → List Layout → Visual → ℕ → Direction → Edge → Caret → Type 0
+Returns rules kept line start direction edge caret = IsBoundary kept line start caret.column → (next : Edge) → step_at rules kept edge direction ≡ Some next
+    → (again : Edge) × (step_at rules kept next (back direction) ≡ Some again)
+    × (to : Caret) × (edge_caret_at rules kept again ≡ Some to) × (to.column ≡ caret.column)
+
+-- whether an edge is at the last boundary of line n up to a column
+pub record IsLastTo (rules : Rules) (kept : List Layout) (n : ℕ) (line : Visual) (start column : ℕ) (edge : Edge) : Type 0 where
+  pub to : Caret
+  pub drawn : edge_caret_at rules kept edge ≡ Some to
+  pub on_line : to.line ≡ n
+  pub boundary : IsBoundary kept line start to.column
+  pub within : to.column ≤ column
+  pub last : (c : ℕ) → IsBoundary kept line start c → c ≤ column → c ≤ to.column
+
+-- Whether the units of each line tile its columns, and the edge at a column is at the last boundary up to it. From each edge, a step leads to
+-- the nearest boundary, repeated steps meet all boundaries in their direction, and a step back returns.
+pub record StepsAreNearest (rules : Rules) (kept : List Layout) : Type 0 where
+  pub tile : (n : ℕ) (line : Visual) (start : ℕ) → line_at kept n ≡ Some (line, start) → UnitsTile kept line start
+  pub at : (n : ℕ) (line : Visual) (start : ℕ) → line_at kept n ≡ Some (line, start)
+      → (column : ℕ) → (edge : Edge) × (edge_at rules kept n column ≡ Some edge) × IsLastTo rules kept n line start column edge
+  pub steps : (edge : Edge) (caret : Caret) (line : Visual) (start : ℕ) → IsOn rules kept edge caret line start
+      → (direction : Direction) → IsStep rules kept line start direction caret (step_at rules kept edge direction)
+  pub meet : (edge : Edge) (caret : Caret) (line : Visual) (start : ℕ) → IsOn rules kept edge caret line start
+      → (direction : Direction) (c : ℕ) → IsBoundary kept line start c → IsFurther direction caret.column c → Meets rules kept direction edge caret c
+  pub return : (edge : Edge) (caret : Caret) (line : Visual) (start : ℕ) → IsOn rules kept edge caret line start
+      → (direction : Direction) → Returns rules kept line start direction edge caret

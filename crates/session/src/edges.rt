@@ -1,0 +1,360 @@
+//! The two edges of a position, and steps from edge to edge on a line.
+ghost use Rattle.std.specs.Prelude.{◌≡◌, ◌^◌, ◌+◌, ◌<◌, ◌≤◌, length, IfOk, IfSome, OnErr};
+ghost use Rattle.lines.specs.Engine.{rules_of};
+ghost use Rattle.session.specs.Edges.{after, before, caret_beside, caret_of, column_on, edge_at};
+ghost use Rattle.session.specs.Edges.{edge_caret_at};
+ghost use Rattle.session.specs.Edges.{edge_on, end_of, is_next, last_edge, left_edge, line_at, line_edges};
+ghost use Rattle.session.specs.Edges.{right_edge, step_at, unit_at};
+ghost use Rattle.session.specs.Kept.{lines_in};
+ghost use Rattle.session.specs.Places.{place_in};
+ghost use Rattle.session.specs.Sessions.{text_at};
+
+use crate::carets::{Caret, is_odd, line_end};
+use crate::clusters::Cluster;
+use crate::hits::logical;
+use crate::kept::Kept;
+use crate::session::Session;
+use crate::units::{CaretUnit, column_after, column_before, unit_of};
+use lines::VisualLine;
+use std::alloc::AllocError;
+use store::ParagraphStore;
+
+/// The side of a position, seen in logical order.
+#[derive(Clone, Copy, Debug, PartialEq, Eq)]
+pub enum Side {
+    /// The leading edge of the character at the position.
+    Before,
+    /// The trailing edge of the character before the position.
+    After,
+}
+
+/// One of the two edges of a position, between which the direction or the line may change. A text is edited
+/// at `pos` either way.
+#[derive(Clone, Copy, Debug, PartialEq, Eq)]
+pub struct Edge {
+    pub pos: usize,
+    pub side: Side,
+}
+
+/// A direction on the screen.
+#[derive(Clone, Copy, Debug, PartialEq, Eq)]
+pub enum Direction {
+    Left,
+    Right,
+}
+
+/// The edges of a line where Home and End lead to, in logical order.
+#[derive(Clone, Copy, Debug, PartialEq, Eq)]
+pub struct LineEdges {
+    pub first: Edge,
+    pub last: Edge,
+}
+
+fn before(pos: usize) -> Edge
+    ensures { result ≡ before pos }
+{
+    Edge {
+        pos,
+        side: Side::Before,
+    }
+}
+
+fn after(pos: usize) -> Edge
+    ensures { result ≡ after pos }
+{
+    Edge {
+        pos,
+        side: Side::After,
+    }
+}
+
+// Returns the edge at the left end of a unit, on a line that starts at the position `start`.
+fn left_edge(start: usize, unit: CaretUnit) -> Edge
+    requires start { start + unit.start < 2 ^ 64 }
+    requires end { start + unit.end < 2 ^ 64 }
+    ensures { result ≡ left_edge start unit }
+{
+    if is_odd(unit.level) {
+        after(start + unit.end)
+    } else {
+        before(start + unit.start)
+    }
+}
+
+// Returns the edge at the right end of a unit, on a line that starts at the position `start`.
+fn right_edge(start: usize, unit: CaretUnit) -> Edge
+    requires start { start + unit.start < 2 ^ 64 }
+    requires end { start + unit.end < 2 ^ 64 }
+    ensures { result ≡ right_edge start unit }
+{
+    if is_odd(unit.level) {
+        before(start + unit.start)
+    } else {
+        after(start + unit.end)
+    }
+}
+
+// Returns the column of the edge on a side of character `k` of a line that starts at the position `start`.
+fn column_on(side: Side, line: &VisualLine<'_>, start: usize, cluster: Cluster, k: usize) -> usize
+    requires { k + 1 < 2 ^ 63 }
+    ensures { result ≡ column_on side line.now start cluster k }
+{
+    match side {
+        Side::Before => column_before(line, start, cluster, k),
+        Side::After => column_after(line, start, cluster, k),
+    }
+}
+
+// Returns the caret on a side of character `k` of line `n`, which starts at the position `start`, or at the
+// line's end if the character is not shown.
+fn caret_beside(
+    side: Side,
+    n: usize,
+    line: &VisualLine<'_>,
+    start: usize,
+    k: usize,
+    cluster: Cluster,
+) -> Caret
+    ensures { result ≡ caret_beside side n line.now start k cluster }
+{
+    match line.levels().get(k) {
+        Some(level) => Caret {
+            line: n,
+            column: column_on(side, line, start, cluster, k),
+            level: *level,
+        },
+        None => line_end(line, n),
+    }
+}
+
+impl<S: ParagraphStore<Kept>> Session<S> {
+    // Returns line `n` and the position at which it starts.
+    fn line_at(&self, n: usize) -> Option<(VisualLine<'_>, usize)>
+        ensures found { result ≡ line_at self.now.kept n }
+        ensures within { IfSome result (λ found. n < length (lines_in self.now.kept)) }
+        ensures fits { IfSome result (λ found. found.1 < 2 ^ 33) }
+    {
+        Some((self.line(n)?, self.line_start(n)?))
+    }
+
+    // Returns the unit that covers a column of a line, which starts at the position `start`.
+    fn unit_at(
+        &self,
+        line: &VisualLine<'_>,
+        start: usize,
+        column: usize,
+    ) -> Result<Option<CaretUnit>, AllocError>
+        requires { start < 2 ^ 33 }
+        ensures ok { IfOk result (λ unit. unit ≡ unit_at self.now.kept line.now start column) }
+        ensures start { IfOk result (λ unit. IfSome unit (λ unit. unit.start < 2 ^ 32)) }
+        ensures end { IfOk result (λ unit. IfSome unit (λ unit. unit.end < 2 ^ 63)) }
+        ensures memory { OnErr result (0 < length (text_at self.now)) }
+    {
+        let Some(place) = line.covering(column) else {
+            return Ok(None);
+        };
+        let k = logical(line, place);
+        match self.cluster(start + k)? {
+            Some(cluster) => Ok(Some(unit_of(line, start, cluster, k))),
+            None => Ok(None),
+        }
+    }
+
+    // Returns the caret on a side of the character at a position of the text.
+    fn caret_of(&self, side: Side, pos: usize) -> Result<Option<Caret>, AllocError>
+        requires { pos < length (text_at self.now) }
+        ensures { IfOk result (λ caret. caret
+            ≡ caret_of self.now.kept side pos (place_in self.now.kept pos)) }
+    {
+        let Some(place) = self.place(pos) else {
+            return Ok(None);
+        };
+        let Some(line) = self.line(place.line) else {
+            return Ok(None);
+        };
+        match self.cluster(pos)? {
+            Some(cluster) => Ok(Some(caret_beside(
+                side,
+                place.line,
+                &line,
+                pos - place.offset,
+                place.offset,
+                cluster,
+            ))),
+            None => Ok(None),
+        }
+    }
+
+    /// Returns where to draw a caret at an edge, or `None` past the end of the text and for the edge after
+    /// position 0.
+    ///
+    /// The edge `Before` a position is on the line of the character there, and the edge `After` it on the
+    /// line of the character before the position. If a caret unit (see `step`) begins or ends with this
+    /// character, the caret is at this end of the unit. Else it is at the character's own edge, and at a
+    /// character that is not shown, at the end of the line in the base direction. The level is that of the
+    /// character whose edge it is. At the end of the text, the edge `Before` is that of `caret`.
+    ///
+    /// Costs the length of the line and of the character's cluster (see `cluster`).
+    pub fn edge_caret(&self, edge: Edge) -> Result<Option<Caret>, AllocError>
+        ensures ok { IfOk result (λ caret. caret
+            ≡ edge_caret_at (rules_of self.now.engine) self.now.kept edge) }
+        ensures memory { OnErr result (0 < length (text_at self.now)) }
+    {
+        match edge.side {
+            Side::Before => {
+                if edge.pos >= self.char_count() {
+                    return Ok(self.caret(edge.pos));
+                }
+                self.caret_of(Side::Before, edge.pos)
+            }
+            Side::After => {
+                if edge.pos == 0 || edge.pos > self.char_count() {
+                    return Ok(None);
+                }
+                self.caret_of(Side::After, edge.pos - 1)
+            }
+        }
+    }
+
+    /// Moves a caret by one step on its line. Returns the edge where the caret stops, or `None` at the end of
+    /// the line in that direction, and where `edge_caret` is `None`.
+    ///
+    /// A step leads over one caret unit: a grapheme cluster, or the part of one that is in one level run if
+    /// the cluster has several. The returned edge is one of this unit.
+    ///
+    /// Costs as `edge_caret`.
+    pub fn step(&self, edge: Edge, direction: Direction) -> Result<Option<Edge>, AllocError>
+        ensures ok { IfOk result (λ next. next
+            ≡ step_at (rules_of self.now.engine) self.now.kept edge direction) }
+        ensures memory { OnErr result (0 < length (text_at self.now)) }
+    {
+        let Some(caret) = self.edge_caret(edge)? else {
+            return Ok(None);
+        };
+        let Some((line, start)) = self.line_at(caret.line) else {
+            return Ok(None);
+        };
+        match direction {
+            Direction::Right => match self.unit_at(&line, start, caret.column)? {
+                Some(unit) => Ok(Some(right_edge(start, unit))),
+                None => Ok(None),
+            },
+            Direction::Left => {
+                if caret.column == 0 {
+                    return Ok(None);
+                }
+                match self.unit_at(&line, start, caret.column - 1)? {
+                    Some(unit) => Ok(Some(left_edge(start, unit))),
+                    None => Ok(None),
+                }
+            }
+        }
+    }
+
+    // Returns the edge at a column of a line.
+    fn edge_on(
+        &self,
+        line: &VisualLine<'_>,
+        start: usize,
+        column: usize,
+    ) -> Result<Edge, AllocError>
+        requires { start < 2 ^ 33 }
+        ensures ok { IfOk result (λ edge. edge ≡ edge_on self.now.kept line.now start column) }
+        ensures memory { OnErr result (0 < length (text_at self.now)) }
+    {
+        if let Some(unit) = self.unit_at(line, start, column)? {
+            return Ok(left_edge(start, unit));
+        }
+        let columns = line.columns_left(line.vtol().len());
+        match self.unit_at(line, start, columns.saturating_sub(1))? {
+            Some(unit) => Ok(right_edge(start, unit)),
+            None => Ok(before(start)),
+        }
+    }
+
+    // Returns whether line `n` would be the next one: it is the line after the last, and a new paragraph
+    // would start at the end of the text.
+    fn is_next(&self, n: usize) -> bool
+        ensures { result ≡ is_next (rules_of self.now.engine) self.now.kept n }
+    {
+        n == self.line_count() && self.is_closed()
+    }
+
+    // Returns the position at which line `n` ends.
+    fn line_end(&self, n: usize) -> usize
+        requires { n < length (lines_in self.now.kept) }
+        ensures { result ≡ end_of self.now.kept n }
+    {
+        // The contract of `line_count` bounds the number of lines.
+        let _lines = self.line_count();
+        match self.line_start(n + 1) {
+            Some(next) => next,
+            None => self.char_count(),
+        }
+    }
+
+    // Returns the last edge of a line from `start` up to `end`, of which `shown` characters are shown.
+    fn last_edge(&self, start: usize, end: usize, shown: usize) -> Edge
+        requires { start + shown < 2 ^ 64 }
+        ensures { result ≡ last_edge (rules_of self.now.engine) (text_at self.now) start end shown }
+    {
+        let separators = self.separator_len(
+            end.saturating_sub(2).max(start),
+            end.saturating_sub(1),
+        );
+        if separators > 0 {
+            return before(end.saturating_sub(separators));
+        }
+        if end == self.char_count() {
+            return before(end);
+        }
+        if shown < end.saturating_sub(start) {
+            return before(start + shown);
+        }
+        after(end)
+    }
+
+    /// Returns the edge at a column of line `n`: the left end of the caret unit that covers the column, or to
+    /// the right of the text its right end. So columns 0 and `usize::MAX` are the ends of the line on the
+    /// screen. Returns `None` past the line of the end of the text.
+    ///
+    /// Costs as `edge_caret`.
+    pub fn edge_at(&self, n: usize, column: usize) -> Result<Option<Edge>, AllocError>
+        ensures ok { IfOk result (λ edge. edge
+            ≡ edge_at (rules_of self.now.engine) self.now.kept n column) }
+        ensures memory { OnErr result (0 < length (text_at self.now)) }
+    {
+        if self.is_next(n) {
+            return Ok(Some(before(self.char_count())));
+        }
+        match self.line_at(n) {
+            Some((line, start)) => Ok(Some(self.edge_on(&line, start, column)?)),
+            None => Ok(None),
+        }
+    }
+
+    /// Returns the first and the last edge of line `n` in logical order, for Home and End, or `None` past the
+    /// line of the end of the text.
+    ///
+    /// The first edge is before the line's start. The last one is before the separator that ends the line (CR
+    /// LF is one separator), before the end of the text on its last line, before the first space that is not
+    /// shown, or else after the line's last character.
+    ///
+    /// Costs as `place`. Allocates nothing.
+    pub fn line_edges(&self, n: usize) -> Option<LineEdges>
+        ensures { result ≡ line_edges (rules_of self.now.engine) self.now.kept n }
+    {
+        if self.is_next(n) {
+            let next = before(self.char_count());
+            return Some(LineEdges {
+                first: next,
+                last: next,
+            });
+        }
+        let (line, start) = self.line_at(n)?;
+        Some(LineEdges {
+            first: before(start),
+            last: self.last_edge(start, self.line_end(n), line.levels().len()),
+        })
+    }
+}
