@@ -1,5 +1,5 @@
 -- The command of each line of an edit script.
-use Rattle.std.specs.Prelude.{◌≡◌, ◌<◌, ℕ, zero, suc, ◌+◌, ◌*◌, ◌-◌, ◌==◌, nat_lt, nat_le, ◌&&◌, ◌||◌, Bool, List, [], ◌∷◌, length, fold, take, drop, take_while, slice_index, codes, Option, Some, None, is_some, true, option_map, if◌then◌else◌}
+use Rattle.std.specs.Prelude.{◌≡◌, ◌<◌, ℕ, zero, suc, ◌+◌, ◌*◌, ◌-◌, ◌==◌, nat_lt, nat_le, ◌&&◌, ◌||◌, Bool, List, [], ◌∷◌, length, fold, take, drop, take_while, slice_index, codes, Option, Some, None, is_some, false, true, option_map, if◌then◌else◌}
 use Rattle.std.specs.Char.{digit_value, is_digit}
 use Rattle.std.specs.Cmp.Lexicographic.{pointwise}
 use Rattle.std.specs.List.{after_first, before_first, list_all, position_or_len}
@@ -125,7 +125,7 @@ edit_command_in line =
     command_by (stripped (codes "show") line) (stripped (codes "insert ") line) (stripped (codes "delete ") line) (stripped (codes "width ") line)
 
 -- `lines FIRST COUNT`, `caret POS`, `hit LINE COLUMN`, `cluster POS`, `word POS`, `size` and `text POS COUNT`
-abbrev pub both_of : Option ℕ → Option ℕ → Option (ℕ × ℕ)
+abbrev pub both_of : {A B : Type 0} → Option A → Option B → Option (A × B)
 both_of (Some a) (Some b) = Some (a, b)
 both_of (Some a) None = None
 both_of None b = None
@@ -133,6 +133,35 @@ both_of None b = None
 abbrev pub both_in : Option (List ℕ × List ℕ) → Option (ℕ × ℕ)
 both_in None = None
 both_in (Some (a, b)) = both_of (number_in a) (number_in b)
+
+-- three numbers
+abbrev pub three_in : Option (List ℕ × List ℕ) → Option (ℕ × (ℕ × ℕ))
+three_in None = None
+three_in (Some (a, rest)) = both_of (number_in a) (both_in (parted rest))
+
+-- which of two words a text is: `false` for the first one, `true` for the other one
+abbrev pub choice_in : List ℕ → List ℕ → List ℕ → Option Bool
+choice_in one other text = if pointwise (◌==◌) text one then Some false else (if pointwise (◌==◌) text other then Some true else None)
+
+-- whether a side is `after`, and whether a direction is `right`
+abbrev pub side_in : List ℕ → Option Bool
+side_in text = choice_in (codes "before") (codes "after") text
+
+abbrev pub direction_in : List ℕ → Option Bool
+direction_in text = choice_in (codes "left") (codes "right") text
+
+-- `POS SIDE`, `SIDE DIRECTION` and `POS SIDE DIRECTION`
+abbrev pub edge_in : Option (List ℕ × List ℕ) → Option (ℕ × Bool)
+edge_in None = None
+edge_in (Some (pos, side)) = both_of (number_in pos) (side_in side)
+
+abbrev pub turn_in : Option (List ℕ × List ℕ) → Option (Bool × Bool)
+turn_in None = None
+turn_in (Some (side, direction)) = both_of (side_in side) (direction_in direction)
+
+abbrev pub step_in : Option (List ℕ × List ℕ) → Option (ℕ × (Bool × Bool))
+step_in None = None
+step_in (Some (pos, rest)) = both_of (number_in pos) (turn_in (parted rest))
 
 -- the query that two numbers, one number or nothing after its word make
 abbrev pub with_two : (ℕ → ℕ → Query) → List ℕ → Option Query
@@ -149,13 +178,24 @@ abbrev pub by_word : Option (List ℕ) → (List ℕ → Option Query) → Optio
 by_word (Some rest) query other = query rest
 by_word None query other = other
 
+-- `edge POS SIDE`, `step POS SIDE DIRECTION`, `at LINE COLUMN`, `ends LINE`, `spans LINE FROM TO`, `runs LINE` and `clusters LINE`
+unfoldable pub edge_query_in : List ℕ → Option Query
+edge_query_in line =
+    by_word (stripped (codes "edge ") line) (λ rest. option_map (λ edge. ask.Edge edge.0 edge.1) (edge_in (parted rest)))
+    (by_word (stripped (codes "step ") line) (λ rest. option_map (λ step. ask.Step step.0 (step.1).0 (step.1).1) (step_in (parted rest)))
+    (by_word (stripped (codes "at ") line) (with_two ask.At)
+    (by_word (stripped (codes "ends ") line) (with_one ask.Ends)
+    (by_word (stripped (codes "spans ") line) (λ rest. option_map (λ n. ask.Spans n.0 (n.1).0 (n.1).1) (three_in (parted rest)))
+    (by_word (stripped (codes "runs ") line) (with_one ask.Runs)
+    (by_word (stripped (codes "clusters ") line) (with_one ask.Clusters) None))))))
+
 -- `byte POS`, `utf16 POS`, `frombyte BYTE` and `fromutf16 UNIT`
 unfoldable pub offset_query_in : List ℕ → Option Query
 offset_query_in line =
     by_word (stripped (codes "byte ") line) (with_one ask.Byte)
     (by_word (stripped (codes "utf16 ") line) (with_one ask.Utf16)
     (by_word (stripped (codes "frombyte ") line) (with_one ask.FromByte)
-    (by_word (stripped (codes "fromutf16 ") line) (with_one ask.FromUtf16) None)))
+    (by_word (stripped (codes "fromutf16 ") line) (with_one ask.FromUtf16) (edge_query_in line))))
 
 unfoldable pub query_in : List ℕ → Option Query
 query_in line =

@@ -9,8 +9,9 @@ ghost use Rattle.script_commands.specs.Parsed.{command_of};
 ghost use Rattle.script_commands.specs.Commands.{LacksInserted, LacksInsertedIn, LacksText};
 ghost use Rattle.script_commands.specs.Commands.{Ask, SetWidth, are_digits, both_in, braced, deletion_in};
 ghost use Rattle.script_commands.specs.Commands.{command_in, edit_command_in, escaped, insertion_in};
-ghost use Rattle.script_commands.specs.Commands.{number_by, number_in, offset_query_in, parted, query_in};
-ghost use Rattle.script_commands.specs.Commands.{stripped, unescaped, written};
+ghost use Rattle.script_commands.specs.Commands.{choice_in, edge_in, edge_query_in, number_by, number_in};
+ghost use Rattle.script_commands.specs.Commands.{offset_query_in, parted, query_in, step_in, stripped};
+ghost use Rattle.script_commands.specs.Commands.{three_in, turn_in, unescaped, written};
 
 use std::alloc::AllocError;
 
@@ -40,12 +41,29 @@ pub enum Query {
     FromByte(usize),
     /// The position of a UTF-16 code unit.
     FromUtf16(usize),
+    /// The screen column at which to draw the caret at an edge. The fields are the position, and whether the
+    /// edge is after it.
+    Edge(usize, bool),
+    /// The edge that is one step away. The fields are the position, whether the edge is after it, and whether
+    /// the step is to the right.
+    Step(usize, bool, bool),
+    /// The edge at a place on the screen. The fields are the line and the screen column.
+    At(usize, usize),
+    /// The first and the last edge of a line.
+    Ends(usize),
+    /// The screen columns that a range of characters covers in a line. The fields are the line, the position
+    /// of the first character and the position after the last one.
+    Spans(usize, usize, usize),
+    /// The level runs of a line.
+    Runs(usize),
+    /// The ends of the grapheme clusters of a line.
+    Clusters(usize),
 }
 
 /// A command, which is one line of a script.
 #[derive(Clone, Copy, Debug, PartialEq, Eq)]
 pub enum Command {
-    /// Inserts a text before the character at a position. The text is passed separately from the command.
+    /// Inserts text before the character at a position. The text is passed separately from the command.
     Insert(usize),
     /// Deletes characters. The fields are the position of the first character and the number of characters.
     Delete(usize, usize),
@@ -86,6 +104,28 @@ const UTF16: [char; 6] = ['u', 't', 'f', '1', '6', ' '];
 const FROM_BYTE: [char; 9] = ['f', 'r', 'o', 'm', 'b', 'y', 't', 'e', ' '];
 
 const FROM_UTF16: [char; 10] = ['f', 'r', 'o', 'm', 'u', 't', 'f', '1', '6', ' '];
+
+const EDGE: [char; 5] = ['e', 'd', 'g', 'e', ' '];
+
+const STEP: [char; 5] = ['s', 't', 'e', 'p', ' '];
+
+const AT: [char; 3] = ['a', 't', ' '];
+
+const ENDS: [char; 5] = ['e', 'n', 'd', 's', ' '];
+
+const SPANS: [char; 6] = ['s', 'p', 'a', 'n', 's', ' '];
+
+const RUNS: [char; 5] = ['r', 'u', 'n', 's', ' '];
+
+const CLUSTERS: [char; 9] = ['c', 'l', 'u', 's', 't', 'e', 'r', 's', ' '];
+
+const BEFORE: [char; 6] = ['b', 'e', 'f', 'o', 'r', 'e'];
+
+const AFTER: [char; 5] = ['a', 'f', 't', 'e', 'r'];
+
+const LEFT: [char; 4] = ['l', 'e', 'f', 't'];
+
+const RIGHT: [char; 5] = ['r', 'i', 'g', 'h', 't'];
 
 /// Parses a line, which may be a query only if `queries` is true. Returns `None` if the line is not valid.
 /// Stores the text of an insert in `inserted`.
@@ -160,7 +200,39 @@ fn parse_offset_query(line: &[char]) -> Option<Query>
     if let Some(rest) = after(&FROM_BYTE, line) {
         return Some(Query::FromByte(number(rest)?));
     }
-    Some(Query::FromUtf16(number(after(&FROM_UTF16, line)?)?))
+    if let Some(rest) = after(&FROM_UTF16, line) {
+        return Some(Query::FromUtf16(number(rest)?));
+    }
+    parse_edge_query(line)
+}
+
+#[tactic(auto, unfolding(crate::specs::Commands::edge_query_in))]
+fn parse_edge_query(line: &[char]) -> Option<Query>
+    ensures { result ≡ edge_query_in line.now }
+{
+    if let Some(rest) = after(&EDGE, line) {
+        let (pos, is_after) = edge(rest)?;
+        return Some(Query::Edge(pos, is_after));
+    }
+    if let Some(rest) = after(&STEP, line) {
+        let (pos, (is_after, is_right)) = step(rest)?;
+        return Some(Query::Step(pos, is_after, is_right));
+    }
+    if let Some(rest) = after(&AT, line) {
+        let (n, column) = both(rest)?;
+        return Some(Query::At(n, column));
+    }
+    if let Some(rest) = after(&ENDS, line) {
+        return Some(Query::Ends(number(rest)?));
+    }
+    if let Some(rest) = after(&SPANS, line) {
+        let (n, (from, to)) = three(rest)?;
+        return Some(Query::Spans(n, from, to));
+    }
+    if let Some(rest) = after(&RUNS, line) {
+        return Some(Query::Runs(number(rest)?));
+    }
+    Some(Query::Clusters(number(after(&CLUSTERS, line)?)?))
 }
 
 // Parses two numbers with a space between them.
@@ -169,6 +241,54 @@ fn both(text: &[char]) -> Option<(usize, usize)>
 {
     let (one, other) = words(text)?;
     Some((number(one)?, number(other)?))
+}
+
+// Parses three numbers with a space between them.
+fn three(text: &[char]) -> Option<(usize, (usize, usize))>
+    ensures { result ≡ three_in (parted text.now) }
+{
+    let (first, rest) = words(text)?;
+    Some((number(first)?, both(rest)?))
+}
+
+// Parses a position and a side. Returns `true` for the side `after`.
+fn edge(text: &[char]) -> Option<(usize, bool)>
+    ensures { result ≡ edge_in (parted text.now) }
+{
+    let (pos, side) = words(text)?;
+    Some((number(pos)?, choice(&BEFORE, &AFTER, side)?))
+}
+
+// Parses a side and a direction. Returns `true` for `after` and for `right`.
+fn turn(text: &[char]) -> Option<(bool, bool)>
+    ensures { result ≡ turn_in (parted text.now) }
+{
+    let (side, direction) = words(text)?;
+    Some((
+        choice(&BEFORE, &AFTER, side)?,
+        choice(&LEFT, &RIGHT, direction)?,
+    ))
+}
+
+// Parses a position, a side and a direction.
+fn step(text: &[char]) -> Option<(usize, (bool, bool))>
+    ensures { result ≡ step_in (parted text.now) }
+{
+    let (pos, rest) = words(text)?;
+    Some((number(pos)?, turn(rest)?))
+}
+
+// Returns `false` for the first of two words, `true` for the other one, and `None` for other texts.
+fn choice(one: &[char], other: &[char], text: &[char]) -> Option<bool>
+    ensures { result ≡ choice_in one.now other.now text.now }
+{
+    if text == one {
+        Some(false)
+    } else if text == other {
+        Some(true)
+    } else {
+        None
+    }
 }
 
 // Parses a line that is not a query.

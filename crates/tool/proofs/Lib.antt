@@ -1,4 +1,6 @@
 pub mod QueryLemmas
+pub mod ListingLemmas
+pub mod EdgeLemmas
 pub mod CommandLemmas
 pub mod ScriptLemmas
 pub mod ScriptStepLemmas

@@ -7,17 +7,29 @@ use Rattle.lines.specs.Bytes.{line_bytes}
 use Rattle.lines.specs.Columns.{covering, padding_of}
 use Rattle.lines.specs.Layouts.{Layout, Rules}
 use Rattle.reorder.specs.Order.{is_odd}
+use Rattle.reorder.specs.Runs.{runs_of}
+use Rattle.reorder.specs.declared.runs.Run.{Run}
+use Rattle.lines.specs.Spans.{spans_of}
 use Rattle.lines.specs.Visual.{Visual}
 use Rattle.lines.specs.Writing.{StoppedIn}
 use Rattle.lines.specs.declared.print.Print.{Print}
+use Rattle.lines.specs.declared.spans.Span.{Span}
 use Rattle.session.specs.Carets.{caret_at}
-use Rattle.session.specs.Clusters.{cluster_at}
+use Rattle.session.specs.Clusters.{cluster_at, line_clusters}
+use Rattle.session.specs.Edges.{edge_at, edge_caret_at, line_edges, step_at}
 use Rattle.session.specs.Hits.{hit_at}
 use Rattle.session.specs.Kept.{lines_in, text_of}
 use Rattle.session.specs.Offsets.{offset_of, position_of}
+use Rattle.session.specs.Places.{line_starts}
 use Rattle.session.specs.Reading.{utf8_part}
 use Rattle.session.specs.Words.{word_at}
 use Rattle.session.specs.declared.carets.Caret.{Caret}
+use Rattle.session.specs.declared.edges.Direction.{Direction}
+use Rattle.session.specs.declared.edges.Direction.TheVariants.{Left, Right}
+use Rattle.session.specs.declared.edges.Edge.{Edge}
+use Rattle.session.specs.declared.edges.LineEdges.{LineEdges}
+use Rattle.session.specs.declared.edges.Side.{Side}
+use Rattle.session.specs.declared.edges.Side.TheVariants.{Before, After}
 use Rattle.session.specs.declared.hits.Hit.{Hit}
 use Rattle.session.specs.declared.offsets.Encoding.{Encoding}
 use Rattle.session.specs.declared.offsets.Encoding.TheVariants.{Utf16, Utf8}
@@ -26,9 +38,13 @@ use Rattle.text_run.specs.declared.faults.RunFault.TheVariants as f
 use Rattle.script_commands.specs.declared.commands.Query.{Query}
 use Rattle.script_commands.specs.declared.commands.Query.TheVariants as ask
 
+-- numbers, with a space before each
+abbrev pub listed : List ℕ → List ℕ
+listed numbers = flat_map (λ n. codes " " ++ decimal n) numbers
+
 -- the reply that consists of `=`, each of these numbers after a space, and a newline
 abbrev pub told : List ℕ → List ℕ
-told numbers = codes "=" ++ flat_map (λ n. codes " " ++ decimal n) numbers ++ codes "\n"
+told numbers = codes "=" ++ listed numbers ++ codes "\n"
 
 -- the reply to a query that is out of range
 abbrev pub out_of_range : List ℕ
@@ -37,6 +53,40 @@ out_of_range = codes "! range\n"
 abbrev pub told_of : Option (List ℕ) → List ℕ
 told_of (Some numbers) = told numbers
 told_of None = out_of_range
+
+-- the front of a reply that has several items: `=` and their number
+abbrev pub told_count : ℕ → List ℕ
+told_count count = codes "= " ++ decimal count
+
+-- the reply that consists of this front, the numbers of each item after spaces, and a newline
+abbrev pub told_each : {A : Type 0} → (A → List ℕ) → List A → List ℕ
+told_each numbers items = told_count (length items) ++ flat_map (λ item. listed (numbers item)) items ++ codes "\n"
+
+-- a side as a word, and an edge: its position and its side, with a space before each
+abbrev pub side_text : Side → List ℕ
+side_text Before = codes "before"
+side_text After = codes "after"
+
+abbrev pub edge_text : Edge → List ℕ
+edge_text edge = codes " " ++ decimal edge.pos ++ codes " " ++ side_text edge.side
+
+-- the reply of one edge, and the reply of two
+abbrev pub told_edge : Edge → List ℕ
+told_edge edge = codes "=" ++ edge_text edge ++ codes "\n"
+
+abbrev pub told_edges : Edge → Edge → List ℕ
+told_edges first last = codes "=" ++ edge_text first ++ edge_text last ++ codes "\n"
+
+-- the reply to `step` at an edge from which no step leads in that direction
+abbrev pub told_end : List ℕ
+told_end = codes "= end\n"
+
+-- the edge and the direction of a query
+abbrev pub edge_of : ℕ → Bool → Edge
+edge_of pos is_after = record { pos = pos; side = if is_after then After else Before }
+
+abbrev pub direction_of : Bool → Direction
+direction_of is_right = if is_right then Right else Left
 
 -- The number of columns of the screen to the left of a line's shown part. For a line that does not exist yet,
 -- the number depends on the base level.
@@ -58,6 +108,13 @@ is_odd_at line None = false
 
 abbrev pub leftmost : Visual → Hit → Hit
 leftmost line hit = record { pos = hit.pos; trailing = is_odd_at line (covering line 0) }
+
+-- the columns of a span, `left` columns to the right, and the start, the length and the level of a run
+abbrev pub span_numbers : ℕ → Span → List ℕ
+span_numbers left span = (left + span.left) ∷ (left + span.right) ∷ []
+
+abbrev pub run_numbers : Run → List ℕ
+run_numbers run = run.start ∷ run.len ∷ run.level ∷ []
 
 -- ---- queries about a text laid out at a width
 
@@ -81,6 +138,30 @@ module _ (print : Print) (width : ℕ) (kept : List Layout) where
   abbrev pub hit_text : ℕ → ℕ → List ℕ
   hit_text n column = told_of (option_map (λ hit. hit.pos ∷ (if hit.trailing then 1 else 0) ∷ []) (screen_hit n column))
 
+  -- the reply to `edge`: a line, a column of the screen and a level
+  abbrev pub edge_caret_text : Rules → Edge → List ℕ
+  edge_caret_text rules edge = told_of (option_map caret_numbers (edge_caret_at rules kept edge))
+
+  -- The reply to `at`: the edge at a column of the screen. The columns of the padding count as the first column of the shown part.
+  abbrev pub edge_reply : Option Edge → List ℕ
+  edge_reply (Some edge) = told_edge edge
+  edge_reply None = out_of_range
+
+  abbrev pub left_on : Option Visual → ℕ
+  left_on (Some line) = screen_left print width line
+  left_on None = 0
+
+  abbrev pub at_text : Rules → ℕ → ℕ → List ℕ
+  at_text rules n column = edge_reply (edge_at rules kept n (column - left_on (slice_get (lines_in kept) n)))
+
+  -- the reply to `spans`: the columns of the screen that the characters from position `start` up to `end` cover in line n
+  abbrev pub spans_on : ℕ → ℕ → Option ℕ → Option Visual → List ℕ
+  spans_on start end (Some at) (Some line) = told_each (span_numbers (screen_left print width line)) (spans_of line (start - at) (end - at))
+  spans_on start end at line = out_of_range
+
+  abbrev pub spans_text : ℕ → ℕ → ℕ → List ℕ
+  spans_text n start end = spans_on start end (slice_get (line_starts kept) n) (slice_get (lines_in kept) n)
+
   -- the reply to `lines`: the number of lines that follow, and the lines
   abbrev pub lines_text : ℕ → ℕ → List ℕ
   lines_text first count =
@@ -93,6 +174,39 @@ module _ (kept : List Layout) where
 
   abbrev pub word_text : ℕ → List ℕ
   word_text pos = told_of (option_map (λ word. word.start ∷ word.end ∷ (if word.has_letter then 1 else 0) ∷ []) (word_at kept pos))
+
+  -- the reply to `step`
+  abbrev pub step_by : Option Caret → Option Edge → List ℕ
+  step_by None next = out_of_range
+  step_by (Some caret) (Some next) = told_edge next
+  step_by (Some caret) None = told_end
+
+  abbrev pub step_text : Rules → Edge → Direction → List ℕ
+  step_text rules edge direction = step_by (edge_caret_at rules kept edge) (step_at rules kept edge direction)
+
+  -- the reply to `ends`
+  abbrev pub ends_by : Option LineEdges → List ℕ
+  ends_by (Some edges) = told_edges edges.first edges.last
+  ends_by None = out_of_range
+
+  abbrev pub ends_text : Rules → ℕ → List ℕ
+  ends_text rules n = ends_by (line_edges rules kept n)
+
+  -- the reply to `runs`, which counts from the start of the line
+  abbrev pub runs_by : Option Visual → List ℕ
+  runs_by (Some line) = told_each run_numbers (runs_of line.levels)
+  runs_by None = out_of_range
+
+  abbrev pub runs_text : ℕ → List ℕ
+  runs_text n = runs_by (slice_get (lines_in kept) n)
+
+  -- the reply to `clusters`: where each cluster ends, counted from the start of the line
+  abbrev pub clusters_by : Option (List ℕ) → List ℕ
+  clusters_by (Some ends) = told_each (λ end. end ∷ []) ends
+  clusters_by None = out_of_range
+
+  abbrev pub clusters_text : ℕ → List ℕ
+  clusters_text n = clusters_by (line_clusters kept n)
 
   abbrev pub size_text : List ℕ
   size_text = told (length (text_of kept) ∷ length (lines_in kept) ∷ length kept ∷ [])
@@ -122,11 +236,23 @@ query_text rules print width kept (ask.Byte pos) = offset_text kept Utf8 pos
 query_text rules print width kept (ask.Utf16 pos) = offset_text kept Utf16 pos
 query_text rules print width kept (ask.FromByte byte) = position_text kept Utf8 byte
 query_text rules print width kept (ask.FromUtf16 unit) = position_text kept Utf16 unit
+query_text rules print width kept (ask.Edge pos is_after) = edge_caret_text print width kept rules (edge_of pos is_after)
+query_text rules print width kept (ask.Step pos is_after is_right) = step_text kept rules (edge_of pos is_after) (direction_of is_right)
+query_text rules print width kept (ask.At n column) = at_text print width kept rules n column
+query_text rules print width kept (ask.Ends n) = ends_text kept rules n
+query_text rules print width kept (ask.Spans n start end) = spans_text print width kept n start end
+query_text rules print width kept (ask.Runs n) = runs_text kept n
+query_text rules print width kept (ask.Clusters n) = clusters_text kept n
 
--- whether a query allocates: only `cluster` and `word` do, for a character that exists
+-- whether a query may allocate: `cluster` and `word` for a character that exists, `edge`, `step`, `at` and `clusters` in a text
+-- that is not empty
 abbrev pub AsksMemory : List ℕ → Query → Type 0
 AsksMemory text (ask.Cluster pos) = pos < length text
 AsksMemory text (ask.Word pos) = pos < length text
+AsksMemory text (ask.Edge pos is_after) = 0 < length text
+AsksMemory text (ask.Step pos is_after is_right) = 0 < length text
+AsksMemory text (ask.At n column) = 0 < length text
+AsksMemory text (ask.Clusters n) = 0 < length text
 AsksMemory text query = ⊥
 
 -- a reply was not written completely: a write failed, or an allocation failed and nothing was written

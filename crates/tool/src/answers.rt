@@ -3,14 +3,15 @@ ghost use Rattle.std.specs.Prelude.{◌≡◌, ◌+◌, ◌*◌, ◌++◌, ◌�
 ghost use Rattle.std.specs.Fmt.{decimal};
 ghost use Rattle.arrayvec.specs.ArrayVec.{array_vec_len};
 ghost use Rattle.lines.specs.Writing.{PassedOn};
-ghost use Rattle.tool.specs.Queries.{out_of_range, told};
+ghost use Rattle.tool.specs.Queries.{edge_text, listed, out_of_range, side_text, told, told_count};
+ghost use Rattle.tool.specs.Queries.{told_edge, told_edges, told_end};
 ghost use Rattle.tool.specs.Reading.{answer_text, Stops};
 ghost use Rattle.tool.specs.ScriptRun.{damage_text, refusal_text};
 
 use arrayvec::ArrayVec;
 use device::{Sink, write_all};
 use itoa::Buffer;
-use session::{Damage, EditFault};
+use session::{Damage, Edge, EditFault, Side};
 use text_run::RunFault;
 
 /// The maximum length of a reply in bytes: three numbers of 20 digits, and 5 bytes before, between and after
@@ -42,6 +43,61 @@ pub fn told(numbers: &[usize]) -> Answer
         push_number(&mut answer, *number);
     }
     push(&mut answer, b"\n");
+    answer
+}
+
+/// Returns numbers, at most three, with a space before each.
+pub fn listed(numbers: &[usize]) -> Answer
+    requires { length numbers.now ≤ 3 }
+    ensures { result.items ≡ listed numbers.now }
+{
+    let mut answer = Answer::new();
+    for number in numbers {
+        push(&mut answer, b" ");
+        push_number(&mut answer, *number);
+    }
+    answer
+}
+
+/// Returns the front of a reply that has items after their number.
+pub fn told_count(count: usize) -> Answer
+    ensures { result.items ≡ told_count count }
+{
+    let mut answer = Answer::new();
+    push(&mut answer, b"= ");
+    push_number(&mut answer, count);
+    answer
+}
+
+/// Returns the reply of an edge.
+pub fn told_edge(edge: Edge) -> Answer
+    ensures { result.items ≡ told_edge edge }
+{
+    let mut answer = Answer::new();
+    push(&mut answer, b"=");
+    push_edge(&mut answer, edge);
+    push(&mut answer, b"\n");
+    answer
+}
+
+/// Returns the reply of the first and the last edge of a line.
+pub fn told_edges(first: Edge, last: Edge) -> Answer
+    ensures { result.items ≡ told_edges first last }
+{
+    let mut answer = Answer::new();
+    push(&mut answer, b"=");
+    push_edge(&mut answer, first);
+    push_edge(&mut answer, last);
+    push(&mut answer, b"\n");
+    answer
+}
+
+/// Returns the reply to a step from an end of a line.
+pub fn told_end() -> Answer
+    ensures { result.items ≡ told_end }
+{
+    let mut answer = Answer::new();
+    push(&mut answer, b"= end\n");
     answer
 }
 
@@ -95,6 +151,28 @@ fn push_number(answer: &mut Answer, number: usize)
 {
     let mut buffer = Buffer::new();
     push(answer, buffer.format(number).as_bytes());
+}
+
+// Appends the position and the side of an edge, with a space before each.
+fn push_edge(answer: &mut Answer, edge: Edge)
+    requires { array_vec_len answer.old + 28 ≤ 65 }
+    ensures items { answer.new.items ≡ answer.old.items ++ edge_text edge }
+    ensures len { array_vec_len answer.new ≤ array_vec_len answer.old + 28 }
+{
+    push(answer, b" ");
+    push_number(answer, edge.pos);
+    push(answer, b" ");
+    push(answer, side_text(edge.side).as_bytes());
+}
+
+fn side_text(side: Side) -> &'static str
+    ensures value { result.now ≡ side_text side }
+    ensures short { length result.now ≤ 6 }
+{
+    match side {
+        Side::Before => "before",
+        Side::After => "after",
+    }
 }
 
 // Appends bytes to a reply, which must have capacity for them.

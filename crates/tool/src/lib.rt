@@ -12,6 +12,7 @@
 #![tactic(auto)]
 
 mod answers;
+mod listings;
 mod program;
 mod queries;
 mod script;

@@ -1,20 +1,24 @@
 //! The queries that a script makes about the current text, and the replies to them.
-ghost use Rattle.std.specs.Prelude.{◌≡◌, ◌^◌, ◌<◌, ◌≤◌, IfOk, IfErr, OnErr, length, slice_index};
-ghost use Rattle.std.specs.Prelude.{◌∷◌, [], option_map};
+ghost use Rattle.std.specs.Prelude.{◌≡◌, false, ◌^◌, ◌-◌, ◌<◌, ◌≤◌, IfOk, IfErr, OnErr, length, slice_get};
+ghost use Rattle.std.specs.Prelude.{slice_index, ◌∷◌, [], option_map, true, IfSome};
 ghost use Rattle.lines.specs.Engine.{rules_of};
 ghost use Rattle.reorder.specs.Order.{is_odd};
 ghost use Rattle.lines.specs.Writing.{PassedOn};
-ghost use Rattle.session.specs.Kept.{text_of};
-ghost use Rattle.tool.specs.Queries.{caret_text, cluster_text, hit_text, lines_text, part_text};
-ghost use Rattle.tool.specs.Queries.{query_text, size_text, told_of, word_text};
-ghost use Rattle.tool.specs.Queries.{empty_left, is_odd_at, screen_hit, screen_left, AnswersNot};
+ghost use Rattle.session.specs.Edges.{edge_caret_at};
+ghost use Rattle.session.specs.Kept.{lines_in, text_of};
+ghost use Rattle.tool.specs.Queries.{at_text, caret_text, cluster_text, clusters_text, edge_caret_text};
+ghost use Rattle.tool.specs.Queries.{ends_text, hit_text, lines_text, part_text, query_text, runs_text};
+ghost use Rattle.tool.specs.Queries.{size_text, spans_text, step_text, told, told_of, word_text};
+ghost use Rattle.tool.specs.Queries.{caret_numbers, direction_of, edge_of, empty_left, is_odd_at, left_on};
+ghost use Rattle.tool.specs.Queries.{screen_hit, screen_left, AnswersNot};
 ghost use Rattle.tool.specs.Reading.{Stops};
 
-use crate::answers::{Answer, out_of_range, told, write_bytes};
+use crate::answers::{Answer, out_of_range, told, told_edge, told_edges, told_end, write_bytes};
+use crate::listings::{write_ends, write_runs, write_spans};
 use device::Sink;
-use lines::{Print, VisualLine};
+use lines::{Print, VisualLine, lines_are_ordered, runs_have_all_columns};
 use script_commands::Query;
-use session::{Hit, Kept, RangeFault, Session};
+use session::{Caret, Direction, Edge, Hit, Kept, RangeFault, Session, Side};
 use std::alloc::AllocError;
 use store::ParagraphStore;
 use text_run::RunFault;
@@ -43,18 +47,26 @@ fn empty_left(level: u8, width: u16, print: &Print) -> usize
     }
 }
 
-fn caret_answer<S: ParagraphStore<Kept>>(session: &Session<S>, print: &Print, pos: usize) -> Answer
-    ensures { result.items ≡ caret_text print.now session.now.width session.now.kept
-        (rules_of session.now.engine) pos }
+// Returns the reply of a caret.
+fn told_caret<S: ParagraphStore<Kept>>(session: &Session<S>, print: &Print, caret: Caret) -> Answer
+    requires { caret.column < 2 ^ 64 - 2 ^ 32 }
+    ensures { result.items ≡ told (caret_numbers print.now session.now.width session.now.kept caret) }
 {
-    let Some(caret) = session.caret(pos) else {
-        return out_of_range();
-    };
     let left = match session.line(caret.line) {
         Some(line) => screen_left(&line, session.width(), print),
         None => empty_left(caret.level, session.width(), print),
     };
     told(&[caret.line, left + caret.column, caret.level as usize])
+}
+
+fn caret_answer<S: ParagraphStore<Kept>>(session: &Session<S>, print: &Print, pos: usize) -> Answer
+    ensures { result.items ≡ caret_text print.now session.now.width session.now.kept
+        (rules_of session.now.engine) pos }
+{
+    match session.caret(pos) {
+        Some(caret) => told_caret(session, print, caret),
+        None => out_of_range(),
+    }
 }
 
 // Returns whether the character at a visual position of a line has an odd level.
@@ -158,6 +170,140 @@ fn position_answer(found: Option<(usize, usize)>) -> Answer
     }
 }
 
+// Returns an edge of a position: the one after it if `is_after` is true.
+fn edge_of(pos: usize, is_after: bool) -> Edge
+    ensures { result ≡ edge_of pos is_after }
+{
+    Edge {
+        pos,
+        side: if is_after { Side::After } else { Side::Before },
+    }
+}
+
+fn direction_of(is_right: bool) -> Direction
+    ensures { result ≡ direction_of is_right }
+{
+    if is_right {
+        Direction::Right
+    } else {
+        Direction::Left
+    }
+}
+
+// Returns the caret at an edge of a position: the edge of a character, so not the one before the end.
+fn edge_caret<S: ParagraphStore<Kept>>(
+    session: &Session<S>,
+    pos: usize,
+    is_after: bool,
+) -> Result<Option<Caret>, AllocError>
+    requires { is_after ≡ false → pos < length (text_of session.now.kept) }
+    ensures ok { IfOk result (λ caret. caret
+        ≡ edge_caret_at (rules_of session.now.engine) session.now.kept (edge_of pos is_after)) }
+    ensures fits { IfOk result (λ caret. IfSome caret (λ caret. caret.column < 2 ^ 64 - 2 ^ 32)) }
+    ensures memory { OnErr result (0 < length (text_of session.now.kept)) }
+{
+    // By these theorems, the columns of a line are those of its characters.
+    lines_are_ordered();
+    runs_have_all_columns();
+    // The contract of `width` shows that the session is laid out.
+    let _width = session.width();
+    let Some(caret) = session.edge_caret(edge_of(pos, is_after))? else {
+        return Ok(None);
+    };
+    match session.line(caret.line) {
+        Some(line) => {
+            // The contracts of these calls bound the caret's column.
+            let _left = line.columns_left(line.vtol().len());
+            let _columns = columns_of(&line);
+            let _runs = line.runs();
+            Ok(Some(caret))
+        }
+        None => unreachable!(),
+    }
+}
+
+// Returns the width of a line in columns.
+fn columns_of(line: &VisualLine<'_>) -> usize
+    ensures value { result ≡ line.now.columns }
+    ensures fits { result < 2 ^ 32 }
+{
+    line.columns() as usize
+}
+
+fn edge_caret_answer<S: ParagraphStore<Kept>>(
+    session: &Session<S>,
+    print: &Print,
+    pos: usize,
+    is_after: bool,
+) -> Result<Answer, AllocError>
+    ensures ok { IfOk result (λ answer. answer.items ≡ edge_caret_text print.now session.now.width
+        session.now.kept (rules_of session.now.engine) (edge_of pos is_after)) }
+    ensures memory { OnErr result (0 < length (text_of session.now.kept)) }
+{
+    if !is_after && pos >= session.char_count() {
+        return Ok(caret_answer(session, print, pos));
+    }
+    match edge_caret(session, pos, is_after)? {
+        Some(caret) => Ok(told_caret(session, print, caret)),
+        None => Ok(out_of_range()),
+    }
+}
+
+fn step_answer<S: ParagraphStore<Kept>>(
+    session: &Session<S>,
+    edge: Edge,
+    direction: Direction,
+) -> Result<Answer, AllocError>
+    ensures ok { IfOk result (λ answer. answer.items
+        ≡ step_text session.now.kept (rules_of session.now.engine) edge direction) }
+    ensures memory { OnErr result (0 < length (text_of session.now.kept)) }
+{
+    if session.edge_caret(edge)?.is_none() {
+        return Ok(out_of_range());
+    }
+    match session.step(edge, direction)? {
+        Some(next) => Ok(told_edge(next)),
+        None => Ok(told_end()),
+    }
+}
+
+// Returns the number of screen columns to the left of the shown part of line `n`, or 0 if there is no such
+// line.
+fn left_on<S: ParagraphStore<Kept>>(session: &Session<S>, print: &Print, n: usize) -> usize
+    ensures { result ≡ left_on print.now session.now.width session.now.kept
+        (slice_get (lines_in session.now.kept) n) }
+{
+    match session.line(n) {
+        Some(line) => screen_left(&line, session.width(), print),
+        None => 0,
+    }
+}
+
+fn at_answer<S: ParagraphStore<Kept>>(
+    session: &Session<S>,
+    print: &Print,
+    n: usize,
+    column: usize,
+) -> Result<Answer, AllocError>
+    ensures ok { IfOk result (λ answer. answer.items
+        ≡ at_text print.now session.now.width session.now.kept (rules_of session.now.engine) n column) }
+    ensures memory { OnErr result (0 < length (text_of session.now.kept)) }
+{
+    match session.edge_at(n, column.saturating_sub(left_on(session, print, n)))? {
+        Some(edge) => Ok(told_edge(edge)),
+        None => Ok(out_of_range()),
+    }
+}
+
+fn ends_answer<S: ParagraphStore<Kept>>(session: &Session<S>, n: usize) -> Answer
+    ensures { result.items ≡ ends_text session.now.kept (rules_of session.now.engine) n }
+{
+    match session.line_edges(n) {
+        Some(edges) => told_edges(edges.first, edges.last),
+        None => out_of_range(),
+    }
+}
+
 fn size_answer<S: ParagraphStore<Kept>>(session: &Session<S>) -> Answer
     ensures { result.items ≡ size_text session.now.kept }
 {
@@ -223,8 +369,80 @@ fn write_part<W: Sink, S: ParagraphStore<Kept>>(
     write_bytes(writer, part, b"\n")
 }
 
+// Writes the columns of the screen that a range of characters covers in a line. `written` is the number of
+// bytes already written.
+fn write_selection<W: Sink, S: ParagraphStore<Kept>>(
+    session: &Session<S>,
+    writer: &mut W,
+    written: u64,
+    print: &Print,
+    n: usize,
+    start: usize,
+    end: usize,
+) -> Result<u64, RunFault>
+    requires { written ≤ (W.state writer.old).passed }
+    ensures ok { IfOk result (PassedOn (spans_text print.now session.now.width session.now.kept n start end)
+        written (W.state writer.old) (W.state writer.new)) }
+    ensures err { IfErr result (Stops (spans_text print.now session.now.width session.now.kept n start end)
+        written (W.state writer.old) (W.state writer.new)) }
+    ensures counted { IfOk result (λ n. n ≤ (W.state writer.new).passed) }
+{
+    let Some(at) = session.line_start(n) else {
+        return write_bytes(writer, written, &out_of_range());
+    };
+    let Some(line) = session.line(n) else {
+        return write_bytes(writer, written, &out_of_range());
+    };
+    let left = screen_left(&line, session.width(), print);
+    let (start, end) = (start.saturating_sub(at), end.saturating_sub(at));
+    write_spans(writer, written, left, &line, start, end)
+}
+
+// Writes the level runs of a line. `written` is the number of bytes already written.
+fn write_line_runs<W: Sink, S: ParagraphStore<Kept>>(
+    session: &Session<S>,
+    writer: &mut W,
+    written: u64,
+    n: usize,
+) -> Result<u64, RunFault>
+    requires { written ≤ (W.state writer.old).passed }
+    ensures ok { IfOk result (PassedOn (runs_text session.now.kept n) written
+        (W.state writer.old) (W.state writer.new)) }
+    ensures err { IfErr result (Stops (runs_text session.now.kept n) written
+        (W.state writer.old) (W.state writer.new)) }
+    ensures counted { IfOk result (λ n. n ≤ (W.state writer.new).passed) }
+{
+    match session.line(n) {
+        Some(line) => write_runs(writer, written, &line),
+        None => write_bytes(writer, written, &out_of_range()),
+    }
+}
+
+// Writes where the grapheme clusters of a line end. `written` is the number of bytes already written.
+fn write_line_clusters<W: Sink, S: ParagraphStore<Kept>>(
+    session: &Session<S>,
+    writer: &mut W,
+    written: u64,
+    n: usize,
+) -> Result<u64, RunFault>
+    requires { written ≤ (W.state writer.old).passed }
+    ensures ok { IfOk result (PassedOn (clusters_text session.now.kept n) written
+        (W.state writer.old) (W.state writer.new)) }
+    ensures err { IfErr result (AnswersNot (clusters_text session.now.kept n) (text_of session.now.kept)
+        (Query.Clusters n) written (W.state writer.old) (W.state writer.new)) }
+    ensures counted { IfOk result (λ n. n ≤ (W.state writer.new).passed) }
+{
+    // The contract of `width` shows that the session is laid out.
+    let _width = session.width();
+    match session.line_clusters(n) {
+        Ok(Some(ends)) => write_ends(writer, written, &ends),
+        Ok(None) => write_bytes(writer, written, &out_of_range()),
+        Err(_) => Err(RunFault::Memory),
+    }
+}
+
 /// Writes the reply to a query. `written` is the number of bytes already written, and the returned total
-/// includes it. Allocates only if the query is for a grapheme cluster or a word.
+/// includes it. Allocates only if the query is for an edge, grapheme clusters or a word.
 pub fn write_query<W: Sink, S: ParagraphStore<Kept>>(
     session: &Session<S>,
     writer: &mut W,
@@ -246,6 +464,11 @@ pub fn write_query<W: Sink, S: ParagraphStore<Kept>>(
             return write_lines(session, writer, written, print, first, count);
         }
         Query::Text(pos, count) => return write_part(session, writer, written, pos, count),
+        Query::Spans(n, start, end) => {
+            return write_selection(session, writer, written, print, n, start, end);
+        }
+        Query::Runs(n) => return write_line_runs(session, writer, written, n),
+        Query::Clusters(n) => return write_line_clusters(session, writer, written, n),
         Query::Caret(pos) => caret_answer(session, print, pos),
         Query::Hit(n, column) => hit_answer(session, print, n, column),
         Query::Size => size_answer(session),
@@ -253,6 +476,21 @@ pub fn write_query<W: Sink, S: ParagraphStore<Kept>>(
         Query::Utf16(pos) => offset_answer(session.utf16_of(pos)),
         Query::FromByte(byte) => position_answer(session.position_of_byte(byte)),
         Query::FromUtf16(unit) => position_answer(session.position_of_utf16(unit)),
+        Query::Ends(n) => ends_answer(session, n),
+        Query::Edge(pos, is_after) => match edge_caret_answer(session, print, pos, is_after) {
+            Ok(answer) => answer,
+            Err(_) => return Err(RunFault::Memory),
+        },
+        Query::Step(pos, is_after, is_right) => {
+            match step_answer(session, edge_of(pos, is_after), direction_of(is_right)) {
+                Ok(answer) => answer,
+                Err(_) => return Err(RunFault::Memory),
+            }
+        }
+        Query::At(n, column) => match at_answer(session, print, n, column) {
+            Ok(answer) => answer,
+            Err(_) => return Err(RunFault::Memory),
+        },
         Query::Cluster(pos) => match cluster_answer(session, pos) {
             Ok(answer) => answer,
             Err(_) => return Err(RunFault::Memory),
