@@ -4,7 +4,7 @@
 #                   make demo TEXT=FILE OPTIONS="--width 60 --basedir" prints your own text.
 #   make quick      Compiles the command without proving it, bin/fribidi-unproved, in about a minute.
 #   make program    Proves and builds the command, bin/fribidi.
-#   make c          Proves and builds the C library, bin/libhordguli.a and bin/libhordguli.so.0 (CC, CXX, CFLAGS, LDFLAGS).
+#   make c          Proves and builds the C library, bin/libhordguli.a and bin/libhordguli.so.1 (CC, CXX, CFLAGS, LDFLAGS).
 #   make fribidi    Proves and builds FriBidi's interface, bin/libhordguli_fribidi.so, for LD_PRELOAD.
 #   make ucd        Copies the seven Unicode table files into ucd/: from Debian's package unicode-data, which it installs,
 #                   or from another folder by UNICODE=FOLDER. crates/ucd/src/version.rt names the Unicode version.
@@ -25,6 +25,7 @@
 #   make dist       Builds hordguli-VERSION-linux-x86_64.tar.gz from the same files (DIST=dist).
 #   make test-packages  Tests the packages in new Debian 12 and 13 systems (debootstrap, as root): four minutes.
 #   make test-reproducible  Compiles and builds all packages in two folders, and compares them byte by byte.
+#   make test-threads  Runs the C library's test of threads under ThreadSanitizer and helgrind, after make c: a minute.
 #   make test-hosts Runs examples/many on three hosts on the loopback address, and kills one during a run.
 #   make release    Checks the version, runs CI, builds and tests all packages, and writes them to dist/.
 #   make bench      Runs all benchmarks of bench/, which compare with Debian's fribidi, with ICU and with Rust crates.
@@ -35,7 +36,7 @@ TABLES = DerivedBidiClass BidiBrackets BidiMirroring LineBreak DerivedGeneralCat
 OPTIONS = --width 44 --basedir
 
 .PHONY: all program quick ucd demo check tmux parallel test attack bench-program conformance-program conformance bench c fribidi fribidi-compare \
-	callers install uninstall deb dist test-packages test-reproducible test-hosts release
+	callers install uninstall deb dist test-packages test-reproducible test-threads test-hosts release
 
 DIST = dist
 
@@ -150,6 +151,9 @@ test-packages: export DIST := $(DIST)
 
 test-reproducible:
 	@tests/packages/reproducible
+
+test-threads: c ucd
+	tests/c/thread_checks
 
 test-hosts: parallel ucd
 	@tests/examples/many_hosts

@@ -45,6 +45,14 @@ uint32_t hordguli_core_position_of_byte(hordguli_session *session, size_t byte, 
 uint32_t hordguli_core_position_of_utf16(hordguli_session *session, size_t unit, hordguli_position *position);
 uint32_t hordguli_core_spans(hordguli_session *session, size_t line, size_t from, size_t to, hordguli_span *spans,
                              size_t capacity, size_t *count);
+uint32_t hordguli_core_runs(hordguli_session *session, size_t line, hordguli_run *runs, size_t capacity, size_t *count);
+uint32_t hordguli_core_edge_caret(hordguli_session *session, size_t pos, uint32_t side, hordguli_caret *caret);
+uint32_t hordguli_core_step(hordguli_session *session, size_t pos, uint32_t side, uint32_t direction,
+                            hordguli_edge *next, uint32_t *moved);
+uint32_t hordguli_core_edge_at(hordguli_session *session, size_t line, size_t column, hordguli_edge *edge);
+uint32_t hordguli_core_line_edges(hordguli_session *session, size_t line, hordguli_edge *first, hordguli_edge *last);
+uint32_t hordguli_core_line_clusters(hordguli_session *session, size_t line, size_t *ends, size_t capacity,
+                                     size_t *count);
 
 /* Bits of `wanted`, which select the requested arrays. The other arrays have length 0 and are ignored. */
 #define HORDGULI_CORE_CHARACTERS UINT32_C(1)
@@ -61,6 +69,8 @@ uint32_t hordguli_core_lines_utf8(hordguli_session *session, size_t first, size_
                                   size_t room, size_t *length);
 uint32_t hordguli_core_text(hordguli_session *session, size_t pos, size_t count, uint8_t *bytes, size_t room,
                             size_t *length);
+uint32_t hordguli_core_text_utf32(hordguli_session *session, size_t pos, size_t count, uint32_t *characters,
+                                  size_t capacity, size_t *length);
 uint32_t hordguli_core_utf8_length(hordguli_session *session, size_t pos, size_t count, size_t *length);
 
 /* Bits of `wanted`, as above. */
@@ -76,6 +86,23 @@ uint32_t hordguli_core_levels(hordguli_tables *tables, uint32_t direction, const
                               uint8_t *levels, size_t room);
 uint32_t hordguli_core_marks(hordguli_tables *tables, uint32_t options, const uint32_t *characters, size_t count,
                              uint8_t *marks, size_t room);
+
+/* Bits of `wanted`, as above. `levels` has as many elements as `characters`. */
+#define HORDGULI_CORE_ROW_VISUAL UINT32_C(1)
+#define HORDGULI_CORE_ROW_LEVELS UINT32_C(2)
+#define HORDGULI_CORE_ROW_LTOV UINT32_C(4)
+#define HORDGULI_CORE_ROW_VTOL UINT32_C(8)
+uint32_t hordguli_core_row(hordguli_tables *tables, uint32_t options, uint32_t base, const uint32_t *characters,
+                           size_t count, const uint8_t *levels, size_t levels_count, uint32_t wanted, uint32_t *visual,
+                           size_t visual_room, uint8_t *row_levels, size_t row_levels_room, uint32_t *ltov,
+                           size_t ltov_room, uint32_t *vtol, size_t vtol_room);
+uint32_t hordguli_core_row_runs(hordguli_tables *tables, uint32_t base, const uint32_t *characters, size_t count,
+                                const uint8_t *levels, size_t levels_count, hordguli_run *runs, size_t room,
+                                size_t *run_count);
+
+/* If `room` is less than `count`, returns NO_ROOM after CLOSED. */
+uint32_t hordguli_core_properties(hordguli_tables *tables, const uint32_t *characters, size_t count,
+                                  hordguli_character *records, size_t room);
 
 uint32_t hordguli_core_count_utf8(const uint8_t *bytes, size_t length, size_t *count);
 uint32_t hordguli_core_valid_utf8(const uint8_t *bytes, size_t length, size_t *valid);

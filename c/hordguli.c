@@ -36,6 +36,7 @@ static size_t times(size_t count, size_t size) { return count > SIZE_MAX / size 
 /* The crate needs a non-NULL pointer even for an empty array. It does not read or write there. */
 #define BYTES(pointer) ((const uint8_t *)((pointer) == NULL ? (const void *)"" : (const void *)(pointer)))
 #define ROOM(type, pointer, none) ((pointer) == NULL ? (none) : (type *)(pointer))
+#define OR(pointer, other) ((pointer) == NULL ? &(other) : (pointer))
 #define LENGTH(pointer, count) ((pointer) == NULL ? 0 : (count))
 
 /* ---- Constants ---- */
@@ -107,29 +108,33 @@ PUBLIC void hordguli_session_close(hordguli_session *session) {
 
 PUBLIC hordguli_status hordguli_insert(hordguli_session *session, size_t pos, const char *text, size_t length,
                                        hordguli_damage *damage) {
-    if (session == NULL || damage == NULL || LACKS(text, length)) return HORDGULI_NULL;
-    if (OVERLAP(AT(session), AT(damage), ARRAY(text, length))) return HORDGULI_OVERLAP;
-    return (hordguli_status)hordguli_core_insert(session, pos, BYTES(text), length, damage);
+    hordguli_damage unused;
+    if (session == NULL || LACKS(text, length)) return HORDGULI_NULL;
+    if (OVERLAP(AT(session), ARRAY(damage, 1), ARRAY(text, length))) return HORDGULI_OVERLAP;
+    return (hordguli_status)hordguli_core_insert(session, pos, BYTES(text), length, OR(damage, unused));
 }
 
 PUBLIC hordguli_status hordguli_delete(hordguli_session *session, size_t pos, size_t count, hordguli_damage *damage) {
-    if (session == NULL || damage == NULL) return HORDGULI_NULL;
-    if (OVERLAP(AT(session), AT(damage))) return HORDGULI_OVERLAP;
-    return (hordguli_status)hordguli_core_delete(session, pos, count, damage);
+    hordguli_damage unused;
+    if (session == NULL) return HORDGULI_NULL;
+    if (OVERLAP(AT(session), ARRAY(damage, 1))) return HORDGULI_OVERLAP;
+    return (hordguli_status)hordguli_core_delete(session, pos, count, OR(damage, unused));
 }
 
 PUBLIC hordguli_status hordguli_replace(hordguli_session *session, size_t pos, size_t count, const char *text,
                                         size_t length, hordguli_damage *damage) {
-    if (session == NULL || damage == NULL || LACKS(text, length)) return HORDGULI_NULL;
-    if (OVERLAP(AT(session), AT(damage), ARRAY(text, length))) return HORDGULI_OVERLAP;
-    return (hordguli_status)hordguli_core_replace(session, pos, count, BYTES(text), length, damage);
+    hordguli_damage unused;
+    if (session == NULL || LACKS(text, length)) return HORDGULI_NULL;
+    if (OVERLAP(AT(session), ARRAY(damage, 1), ARRAY(text, length))) return HORDGULI_OVERLAP;
+    return (hordguli_status)hordguli_core_replace(session, pos, count, BYTES(text), length, OR(damage, unused));
 }
 
 PUBLIC hordguli_status hordguli_set_width(hordguli_session *session, uint32_t width, hordguli_damage *damage) {
-    if (session == NULL || damage == NULL) return HORDGULI_NULL;
-    if (OVERLAP(AT(session), AT(damage))) return HORDGULI_OVERLAP;
+    hordguli_damage unused;
+    if (session == NULL) return HORDGULI_NULL;
+    if (OVERLAP(AT(session), ARRAY(damage, 1))) return HORDGULI_OVERLAP;
     if (width == 0 || width > UINT16_MAX) return HORDGULI_WIDTH_OUT_OF_RANGE;
-    return (hordguli_status)hordguli_core_set_width(session, (uint16_t)width, damage);
+    return (hordguli_status)hordguli_core_set_width(session, (uint16_t)width, OR(damage, unused));
 }
 
 PUBLIC hordguli_status hordguli_session_counts(hordguli_session *session, hordguli_counts *counts) {
@@ -215,6 +220,50 @@ PUBLIC hordguli_status hordguli_spans(hordguli_session *session, size_t line, si
                                                 count);
 }
 
+PUBLIC hordguli_status hordguli_runs(hordguli_session *session, size_t line, size_t capacity, hordguli_run *runs,
+                                     size_t *count) {
+    hordguli_run none[1];
+    if (session == NULL || count == NULL || LACKS(runs, capacity)) return HORDGULI_NULL;
+    if (OVERLAP(AT(session), AT(count), ARRAY(runs, capacity))) return HORDGULI_OVERLAP;
+    return (hordguli_status)hordguli_core_runs(session, line, ROOM(hordguli_run, runs, none), capacity, count);
+}
+
+/* ---- Edges ---- */
+
+PUBLIC hordguli_status hordguli_edge_caret(hordguli_session *session, hordguli_edge edge, hordguli_caret *caret) {
+    if (session == NULL || caret == NULL) return HORDGULI_NULL;
+    if (OVERLAP(AT(session), AT(caret))) return HORDGULI_OVERLAP;
+    return (hordguli_status)hordguli_core_edge_caret(session, edge.pos, edge.side, caret);
+}
+
+PUBLIC hordguli_status hordguli_step(hordguli_session *session, hordguli_edge edge, uint32_t direction,
+                                     hordguli_edge *next, uint32_t *moved) {
+    if (session == NULL || next == NULL || moved == NULL) return HORDGULI_NULL;
+    if (OVERLAP(AT(session), AT(next), AT(moved))) return HORDGULI_OVERLAP;
+    return (hordguli_status)hordguli_core_step(session, edge.pos, edge.side, direction, next, moved);
+}
+
+PUBLIC hordguli_status hordguli_edge_at(hordguli_session *session, size_t line, size_t column, hordguli_edge *edge) {
+    if (session == NULL || edge == NULL) return HORDGULI_NULL;
+    if (OVERLAP(AT(session), AT(edge))) return HORDGULI_OVERLAP;
+    return (hordguli_status)hordguli_core_edge_at(session, line, column, edge);
+}
+
+PUBLIC hordguli_status hordguli_line_edges(hordguli_session *session, size_t line, hordguli_edge *first,
+                                           hordguli_edge *last) {
+    if (session == NULL || first == NULL || last == NULL) return HORDGULI_NULL;
+    if (OVERLAP(AT(session), AT(first), AT(last))) return HORDGULI_OVERLAP;
+    return (hordguli_status)hordguli_core_line_edges(session, line, first, last);
+}
+
+PUBLIC hordguli_status hordguli_line_clusters(hordguli_session *session, size_t line, size_t capacity, size_t *ends,
+                                              size_t *count) {
+    size_t none[1];
+    if (session == NULL || count == NULL || LACKS(ends, capacity)) return HORDGULI_NULL;
+    if (OVERLAP(AT(session), AT(count), ARRAY(ends, capacity))) return HORDGULI_OVERLAP;
+    return (hordguli_status)hordguli_core_line_clusters(session, line, ROOM(size_t, ends, none), capacity, count);
+}
+
 /* ---- Lines and text ---- */
 
 PUBLIC hordguli_status hordguli_line(hordguli_session *session, size_t line, hordguli_line_info *info, size_t capacity,
@@ -252,6 +301,15 @@ PUBLIC hordguli_status hordguli_text(hordguli_session *session, size_t pos, size
     if (session == NULL || length == NULL || LACKS(buffer, capacity)) return HORDGULI_NULL;
     if (OVERLAP(AT(session), AT(length), ARRAY(buffer, capacity))) return HORDGULI_OVERLAP;
     return (hordguli_status)hordguli_core_text(session, pos, count, ROOM(uint8_t, buffer, none), capacity, length);
+}
+
+PUBLIC hordguli_status hordguli_text_utf32(hordguli_session *session, size_t pos, size_t count, size_t capacity,
+                                           uint32_t *characters, size_t *length) {
+    uint32_t none[1];
+    if (session == NULL || length == NULL || LACKS(characters, capacity)) return HORDGULI_NULL;
+    if (OVERLAP(AT(session), AT(length), ARRAY(characters, capacity))) return HORDGULI_OVERLAP;
+    return (hordguli_status)hordguli_core_text_utf32(session, pos, count, ROOM(uint32_t, characters, none), capacity,
+                                                     length);
 }
 
 PUBLIC hordguli_status hordguli_utf8_length(hordguli_session *session, size_t pos, size_t count, size_t *length) {
@@ -301,6 +359,50 @@ PUBLIC hordguli_status hordguli_marks(hordguli_tables *tables, uint32_t options,
     if (OVERLAP(AT(tables), ARRAY(marks, capacity), ARRAY(characters, count))) return HORDGULI_OVERLAP;
     return (hordguli_status)hordguli_core_marks(tables, options, CHARACTERS(characters), count,
                                                 ROOM(uint8_t, marks, none), capacity);
+}
+
+PUBLIC hordguli_status hordguli_row(hordguli_tables *tables, uint32_t options, uint32_t base, size_t count,
+                                    const uint32_t *characters, const uint8_t *levels, size_t capacity,
+                                    uint32_t *visual, uint8_t *row_levels, uint32_t *ltov, uint32_t *vtol) {
+    uint32_t none[1];
+    uint8_t no_levels[1];
+    uint32_t wanted = (visual != NULL ? HORDGULI_CORE_ROW_VISUAL : 0)
+                      | (row_levels != NULL ? HORDGULI_CORE_ROW_LEVELS : 0)
+                      | (ltov != NULL ? HORDGULI_CORE_ROW_LTOV : 0) | (vtol != NULL ? HORDGULI_CORE_ROW_VTOL : 0);
+    if (tables == NULL || LACKS(characters, count) || LACKS(levels, count)) return HORDGULI_NULL;
+    if (OVERLAP(AT(tables), ARRAY(visual, capacity), ARRAY(row_levels, capacity), ARRAY(ltov, capacity),
+                ARRAY(vtol, capacity), ARRAY(characters, count))
+        || OVERLAP(AT(tables), ARRAY(visual, capacity), ARRAY(row_levels, capacity), ARRAY(ltov, capacity),
+                   ARRAY(vtol, capacity), ARRAY(levels, count)))
+        return HORDGULI_OVERLAP;
+    return (hordguli_status)hordguli_core_row(
+        tables, options, base, CHARACTERS(characters), count, BYTES(levels), count, wanted,
+        ROOM(uint32_t, visual, none), LENGTH(visual, capacity), ROOM(uint8_t, row_levels, no_levels),
+        LENGTH(row_levels, capacity), ROOM(uint32_t, ltov, none), LENGTH(ltov, capacity), ROOM(uint32_t, vtol, none),
+        LENGTH(vtol, capacity));
+}
+
+PUBLIC hordguli_status hordguli_row_runs(hordguli_tables *tables, uint32_t base, size_t count,
+                                         const uint32_t *characters, const uint8_t *levels, size_t capacity,
+                                         hordguli_run *runs, size_t *run_count) {
+    hordguli_run none[1];
+    if (tables == NULL || run_count == NULL || LACKS(characters, count) || LACKS(levels, count)
+        || LACKS(runs, capacity))
+        return HORDGULI_NULL;
+    if (OVERLAP(AT(tables), AT(run_count), ARRAY(runs, capacity), ARRAY(characters, count))
+        || OVERLAP(AT(tables), AT(run_count), ARRAY(runs, capacity), ARRAY(levels, count)))
+        return HORDGULI_OVERLAP;
+    return (hordguli_status)hordguli_core_row_runs(tables, base, CHARACTERS(characters), count, BYTES(levels), count,
+                                                   ROOM(hordguli_run, runs, none), capacity, run_count);
+}
+
+PUBLIC hordguli_status hordguli_properties(hordguli_tables *tables, size_t count, const uint32_t *characters,
+                                           hordguli_character *records) {
+    hordguli_character none[1];
+    if (tables == NULL || LACKS(characters, count) || LACKS(records, count)) return HORDGULI_NULL;
+    if (OVERLAP(AT(tables), ARRAY(characters, count), ARRAY(records, count))) return HORDGULI_OVERLAP;
+    return (hordguli_status)hordguli_core_properties(tables, CHARACTERS(characters), count,
+                                                     ROOM(hordguli_character, records, none), count);
 }
 
 PUBLIC hordguli_status hordguli_count_utf8(const char *bytes, size_t length, size_t *count) {

@@ -35,7 +35,7 @@
  *
  * `Errors` lists the other statuses of a function, without `HORDGULI_`, in the order in which they are checked. The
  * first that applies is returned. NO_MEMORY comes last, unless documented otherwise. A function that does not list
- * NO_MEMORY allocates nothing. `Cost` is the running time, and also the memory if it says so, for a session of n
+ * NO_MEMORY allocates nothing. `Cost` is the running time and, where stated, the memory, for a session of n
  * paragraphs.
  *
  * POINTERS
@@ -58,7 +58,8 @@
  *     if (status == HORDGULI_NO_ROOM && (buffer = malloc(length)) != NULL)
  *         status = hordguli_text(&session, pos, count, length, buffer, &length);
  *
- * `hordguli_line` and `hordguli_paragraph` store the required number of elements in `*info`.
+ * `hordguli_spans`, `hordguli_runs`, `hordguli_row_runs` and `hordguli_text_utf32` do the same with arrays, and count
+ * elements. `hordguli_line` and `hordguli_paragraph` store the required number of elements in `*info`.
  *
  * THREADS, SIGNALS AND FORK
  *
@@ -66,10 +67,9 @@
  *     back, and the proof of the library depends on this. This is why handles are not `const`.
  *   - Different handles may be used in different threads at the same time. Sessions and tables share only memory that
  *     is never written, and an atomic reference count.
- *   - Several threads may use the same tables if their calls are serialized, by a lock or by creating or joining a
- *     thread.
- *   - Use and close a session in the thread that opened it. Nothing in a session is known to depend on the thread, but
- *     the proof does not cover other threads.
+ *   - The same handle may be used in different threads, one after another. Hand it over by a lock, by a queue, or by
+ *     creating or joining a thread. So a worker may lay out a long text and pass its session on, and another thread may
+ *     close it. Nothing in the library depends on the thread: it has no global and no thread-local variables.
  *   - Do not call the library from a signal handler that can interrupt the library or malloc.
  *   - After `fork`, the child has its own handles. It must not use a handle that another thread was using during the
  *     fork.
@@ -268,7 +268,8 @@ void hordguli_tables_close(hordguli_tables *tables);
 
 /* What an edit replaced: `old_lines` lines from `first_line` on became `new_lines` lines, and likewise for paragraphs.
  * All other lines are unchanged, except that the lines that follow are renumbered. An edit replaces all paragraphs that
- * contain or touch its range, even if it inserts and deletes nothing. */
+ * contain or touch its range, even if it inserts and deletes nothing. A caller that draws everything anew may pass NULL
+ * as `damage`. */
 typedef struct hordguli_damage {
     size_t first_line;
     size_t old_lines;
@@ -482,6 +483,116 @@ typedef struct hordguli_span {
 hordguli_status hordguli_spans(hordguli_session *session, size_t line, size_t from, size_t to, size_t capacity,
                                hordguli_span *spans, size_t *count);
 
+/* The `length` characters of a line from position `start` on, all at one level. `start` counts from the start of the
+ * line. The characters are read from left to right if the level is even, else from right to left. */
+typedef struct hordguli_run {
+    size_t start;
+    size_t length;
+    uint32_t level;
+    uint32_t zero;  /* always 0 */
+} hordguli_run;
+
+/* Stores the directional runs of a line's shown part, from left to right, for shaping text: the longest ranges of
+ * characters at one level after L1. They do not depend on HORDGULI_REORDER_NSM, which moves marks only inside runs. The
+ * number of runs is stored in `*count`, and the runs in an array of `capacity` elements (see BUFFERS). Fails with
+ * OUT_OF_RANGE if the line does not exist. For the characters of a run, in logical order:
+ *
+ *     status = hordguli_line_start(&session, line, &start);
+ *     if (!status) status = hordguli_text_utf32(&session, start + run.start, run.length, 80, characters, &length);
+ *
+ * Errors: NULL, OVERLAP, CLOSED, OUT_OF_RANGE, NO_ROOM.
+ * Cost: O(log n), plus O(length of the line) times its highest level. */
+hordguli_status hordguli_runs(hordguli_session *session, size_t line, size_t capacity, hordguli_run *runs,
+                              size_t *count);
+
+/* ---- Edges ----
+ *
+ * A position has two edges: the leading edge of the character at it, and the trailing edge of the character before it.
+ * Where the direction changes or a line wraps, the two are apart on the screen. An editor keeps one of them as its
+ * caret; an edit goes to `pos` either way. For example, in `abc `, three Hebrew letters and ` def`, before 4 is at
+ * column 7, right of the first letter, and after 4 at column 4, right of the space.
+ *
+ * A caret moves over one grapheme cluster at a time, or over the part of it that is in one level run if the cluster
+ * has several: over one caret unit. A boundary is a column where a caret unit begins or ends. */
+
+/* The leading edge of the character at `pos`. */
+#define HORDGULI_BEFORE UINT32_C(0)
+/* The trailing edge of the character at `pos - 1`. */
+#define HORDGULI_AFTER UINT32_C(1)
+
+/* Directions on the screen. */
+#define HORDGULI_LEFT UINT32_C(0)
+#define HORDGULI_RIGHT UINT32_C(1)
+
+typedef struct hordguli_edge {
+    size_t pos;
+    uint32_t side;  /* HORDGULI_BEFORE or HORDGULI_AFTER */
+    uint32_t zero;  /* always 0 in results, and ignored in arguments */
+} hordguli_edge;
+
+/* Stores in `*caret` where to draw the caret at an edge. The edge before a position is on the line of the character at
+ * it, and the edge after a position on the line of the character before it:
+ *   - If a caret unit begins (or ends) with that character: at the start (or end) of the unit.
+ *   - At another shown character: at its leading edge, which is the left one if its level is even, or its trailing edge.
+ *   - At a character that is not shown, and before the end of the text: as in `hordguli_caret_at`.
+ *
+ * `level` is that of the character whose edge it is. Fails with OUT_OF_RANGE if the position is past the end of the
+ * text, and for the edge after position 0.
+ *
+ * Errors: NULL, OVERLAP, UNKNOWN_OPTION, CLOSED, OUT_OF_RANGE, NO_MEMORY.
+ * Cost: as `hordguli_cluster_at`, plus O(length of the line). */
+hordguli_status hordguli_edge_caret(hordguli_session *session, hordguli_edge edge, hordguli_caret *caret);
+
+/* Moves a caret to the nearest boundary to the left or right on its line. Stores the edge there in `*next`, and 1 in
+ * `*moved`. The stored edge is one of the character that was passed. At the end of the line, stores 0 in `*moved`, and
+ * leaves `*next` unchanged; `hordguli_edge_at` then gives the end of the next line. For the key Right:
+ *
+ *     status = hordguli_step(&session, caret, HORDGULI_RIGHT, &caret, &moved);
+ *     if (!status && !moved && line + 1 < lines) status = hordguli_edge_at(&session, line + 1, 0, &caret);
+ *
+ * Each step changes the column. Repeated, steps meet every boundary of the line once.
+ *
+ * Errors: NULL, OVERLAP, UNKNOWN_OPTION, CLOSED, OUT_OF_RANGE, NO_MEMORY.
+ * Cost: as `hordguli_edge_caret`. */
+hordguli_status hordguli_step(hordguli_session *session, hordguli_edge edge, uint32_t direction, hordguli_edge *next,
+                              uint32_t *moved);
+
+/* Stores in `*edge` the edge at a column of a line, for mouse clicks and for moves to another line. Column 0 is the left
+ * edge of the shown part, right of padding.
+ *   - In the shown part: the left end of the caret unit that covers the column.
+ *   - Right of the shown part: its right end. So columns 0 and SIZE_MAX are the two ends of the line on the screen.
+ *   - In a line of width 0: before its start.
+ *   - In the line where a new paragraph would start (see `hordguli_place_of`): before the end of the text.
+ *
+ * Fails with OUT_OF_RANGE for later lines.
+ * Errors: NULL, OVERLAP, CLOSED, OUT_OF_RANGE, NO_MEMORY.
+ * Cost: as `hordguli_edge_caret`. */
+hordguli_status hordguli_edge_at(hordguli_session *session, size_t line, size_t column, hordguli_edge *edge);
+
+/* Stores the first and the last edge of a line in logical order, for the keys Home and End. The first edge is before the
+ * start of the line. The last one is
+ *   - before the separator that ends the line, if there is one (bidi class B, or line class BK, CR, LF or NL). CR LF is
+ *     one separator;
+ *   - else, on the last line of the text, before the end of the text;
+ *   - else before the first space that is not shown;
+ *   - else after the last character of the line.
+ *
+ * In the line where a new paragraph would start, both are before the end of the text. Fails with OUT_OF_RANGE for later
+ * lines.
+ * Errors: NULL, OVERLAP, CLOSED, OUT_OF_RANGE.
+ * Cost: O(log n). */
+hordguli_status hordguli_line_edges(hordguli_session *session, size_t line, hordguli_edge *first, hordguli_edge *last);
+
+/* Stores where the grapheme clusters of a line end, counted from the start of the line, in an array of `capacity`
+ * elements, and their number in `*count` (see BUFFERS). The last one is the length of the line, also where a cluster
+ * goes on in the next line. Fails with OUT_OF_RANGE if the line does not exist.
+ *
+ * NO_MEMORY comes before NO_ROOM.
+ * Errors: NULL, OVERLAP, CLOSED, OUT_OF_RANGE, NO_MEMORY, NO_ROOM.
+ * Cost: as `hordguli_cluster_at`, plus O(length of the line). */
+hordguli_status hordguli_line_clusters(hordguli_session *session, size_t line, size_t capacity, size_t *ends,
+                                       size_t *count);
+
 /* ---- Lines and text ---- */
 
 typedef struct hordguli_line_info {
@@ -529,6 +640,13 @@ hordguli_status hordguli_lines_utf8(hordguli_session *session, size_t first, siz
 hordguli_status hordguli_text(hordguli_session *session, size_t pos, size_t count, size_t capacity, char *buffer,
                               size_t *length);
 
+/* Stores `count` characters, starting at `pos`, in an array of `capacity` elements (see BUFFERS), in logical order and
+ * not mirrored, as a shaper needs them. `*length` is `count`.
+ * Errors: NULL, OVERLAP, CLOSED, OUT_OF_RANGE, NO_ROOM.
+ * Cost: O(log n) per paragraph, plus O(count). */
+hordguli_status hordguli_text_utf32(hordguli_session *session, size_t pos, size_t count, size_t capacity,
+                                    uint32_t *characters, size_t *length);
+
 /* Stores in `*length` how many bytes of UTF-8 the `count` characters that start at `pos` need.
  * Errors: NULL, OVERLAP, CLOSED, OUT_OF_RANGE.
  * Cost: O(log n) per paragraph, plus O(count). */
@@ -546,10 +664,12 @@ hordguli_status hordguli_count_utf8(const char *bytes, size_t length, size_t *co
 hordguli_status hordguli_valid_utf8(const char *bytes, size_t length, size_t *valid);
 
 typedef struct hordguli_paragraph_info {
-    size_t length;  /* characters, including the separator */
+    size_t length;      /* characters, including the separator */
     size_t lines;
-    uint32_t base;  /* base level, 0 or 1 */
-    uint32_t zero;  /* always 0 */
+    uint32_t base;      /* base level, 0 or 1 */
+    uint32_t zero;      /* always 0 */
+    size_t start;       /* position of its first character */
+    size_t first_line;  /* index of its first line */
 } hordguli_paragraph_info;
 
 /* Stores information about a paragraph in `*info`, and `info->length` elements in each array, in logical order. Each
@@ -570,10 +690,8 @@ hordguli_status hordguli_paragraph(hordguli_session *session, size_t paragraph, 
  *
  * To lay out text with these functions, a caller has to:
  *   - split the text into paragraphs (UAX #9, P1);
- *   - choose where lines end, by break marks and widths;
- *   - reset the levels of separators and of white space at the end of each line (L1);
- *   - reorder each line by its levels (L2);
- *   - mirror characters at odd levels (L4). */
+ *   - choose where rows end, by break marks and the widths of characters (`hordguli_properties`);
+ *   - put each row into visual order (`hordguli_row`). */
 
 /* Stores in `*base` the base level of a paragraph, 0 or 1.
  * Errors: NULL, OVERLAP, UNKNOWN_OPTION, CLOSED, NOT_A_CHARACTER, NO_MEMORY.
@@ -592,6 +710,142 @@ hordguli_status hordguli_levels(hordguli_tables *tables, uint32_t direction, con
  * Cost: time and memory proportional to `count`. */
 hordguli_status hordguli_marks(hordguli_tables *tables, uint32_t options, const uint32_t *characters, size_t count,
                                size_t capacity, uint8_t *marks);
+
+/* Puts a row of `count` characters into visual order. The caller chose where the row starts and ends. `base` is the
+ * base level of its paragraph (`hordguli_base`), and `levels` are the levels of the row's characters in the whole
+ * paragraph (`hordguli_levels`). `options` is 0 or HORDGULI_REORDER_NSM. Stores `count` elements in each array. Each
+ * array has `capacity` elements. NULL arrays are skipped. Positions count from the start of the row.
+ *   visual      characters in visual order, mirrored (UAX #9, L4)
+ *   row_levels  level of each character after L1, in logical order
+ *   ltov        visual position of each logical position
+ *   vtol        logical position of each visual position
+ *
+ * L1 applies to the row as to a line: separators, and white space before them and at the end of the row, get the level
+ * `base`. All characters are shown, those at the end too. For example, a terminal that shows a paragraph in rows of 80
+ * characters:
+ *
+ *     status = hordguli_base(&tables, HORDGULI_WEAK_LTR, characters, count, &base);
+ *     if (!status) status = hordguli_levels(&tables, HORDGULI_WEAK_LTR, characters, count, count, levels);
+ *     for (size_t at = 0; !status && at < count; at += length) {
+ *         length = count - at < 80 ? count - at : 80;
+ *         status = hordguli_row(&tables, 0, base, length, characters + at, levels + at, 80, visual, NULL, NULL, NULL);
+ *     }
+ *
+ * OUT_OF_RANGE means that `base` is above 1, a level is above 126, or `count` is above UINT32_MAX.
+ * Errors: NULL, OVERLAP, UNKNOWN_OPTION, CLOSED, NO_ROOM, NOT_A_CHARACTER, OUT_OF_RANGE, NO_MEMORY.
+ * Cost: memory proportional to `count`, and time proportional to `count` times the highest level of the row. */
+hordguli_status hordguli_row(hordguli_tables *tables, uint32_t options, uint32_t base, size_t count,
+                             const uint32_t *characters, const uint8_t *levels, size_t capacity, uint32_t *visual,
+                             uint8_t *row_levels, uint32_t *ltov, uint32_t *vtol);
+
+/* Stores the directional runs of a row, from left to right, for shaping text (see `hordguli_runs`). Positions count
+ * from the start of the row. `base`, `characters` and `levels` are as in `hordguli_row`. The number of runs is stored
+ * in `*run_count`, and the runs in an array of `capacity` elements (see BUFFERS). NO_MEMORY comes before NO_ROOM,
+ * because the levels after L1 are gathered first.
+ * Errors: NULL, OVERLAP, CLOSED, NOT_A_CHARACTER, OUT_OF_RANGE, NO_MEMORY, NO_ROOM.
+ * Cost: as `hordguli_row`. */
+hordguli_status hordguli_row_runs(hordguli_tables *tables, uint32_t base, size_t count, const uint32_t *characters,
+                                  const uint8_t *levels, size_t capacity, hordguli_run *runs, size_t *run_count);
+
+/* ---- Properties of characters ---- */
+
+/* Bidi classes (UAX #9), by their short names. */
+#define HORDGULI_BIDI_CLASS_L 0
+#define HORDGULI_BIDI_CLASS_R 1
+#define HORDGULI_BIDI_CLASS_AL 2
+#define HORDGULI_BIDI_CLASS_EN 3
+#define HORDGULI_BIDI_CLASS_ES 4
+#define HORDGULI_BIDI_CLASS_ET 5
+#define HORDGULI_BIDI_CLASS_AN 6
+#define HORDGULI_BIDI_CLASS_CS 7
+#define HORDGULI_BIDI_CLASS_NSM 8
+#define HORDGULI_BIDI_CLASS_BN 9
+#define HORDGULI_BIDI_CLASS_B 10
+#define HORDGULI_BIDI_CLASS_S 11
+#define HORDGULI_BIDI_CLASS_WS 12
+#define HORDGULI_BIDI_CLASS_ON 13
+#define HORDGULI_BIDI_CLASS_LRE 14
+#define HORDGULI_BIDI_CLASS_LRO 15
+#define HORDGULI_BIDI_CLASS_RLE 16
+#define HORDGULI_BIDI_CLASS_RLO 17
+#define HORDGULI_BIDI_CLASS_PDF 18
+#define HORDGULI_BIDI_CLASS_LRI 19
+#define HORDGULI_BIDI_CLASS_RLI 20
+#define HORDGULI_BIDI_CLASS_FSI 21
+#define HORDGULI_BIDI_CLASS_PDI 22
+
+/* Line breaking classes (UAX #14), by their short names. */
+#define HORDGULI_LINE_CLASS_BK 0
+#define HORDGULI_LINE_CLASS_CM 1
+#define HORDGULI_LINE_CLASS_CR 2
+#define HORDGULI_LINE_CLASS_GL 3
+#define HORDGULI_LINE_CLASS_LF 4
+#define HORDGULI_LINE_CLASS_NL 5
+#define HORDGULI_LINE_CLASS_SP 6
+#define HORDGULI_LINE_CLASS_WJ 7
+#define HORDGULI_LINE_CLASS_ZW 8
+#define HORDGULI_LINE_CLASS_ZWJ 9
+#define HORDGULI_LINE_CLASS_B2 10
+#define HORDGULI_LINE_CLASS_BA 11
+#define HORDGULI_LINE_CLASS_BB 12
+#define HORDGULI_LINE_CLASS_CB 13
+#define HORDGULI_LINE_CLASS_HY 14
+#define HORDGULI_LINE_CLASS_CL 15
+#define HORDGULI_LINE_CLASS_CP 16
+#define HORDGULI_LINE_CLASS_EX 17
+#define HORDGULI_LINE_CLASS_IN 18
+#define HORDGULI_LINE_CLASS_NS 19
+#define HORDGULI_LINE_CLASS_OP 20
+#define HORDGULI_LINE_CLASS_QU 21
+#define HORDGULI_LINE_CLASS_IS 22
+#define HORDGULI_LINE_CLASS_NU 23
+#define HORDGULI_LINE_CLASS_PO 24
+#define HORDGULI_LINE_CLASS_PR 25
+#define HORDGULI_LINE_CLASS_SY 26
+#define HORDGULI_LINE_CLASS_AI 27
+#define HORDGULI_LINE_CLASS_AL 28
+#define HORDGULI_LINE_CLASS_CJ 29
+#define HORDGULI_LINE_CLASS_EB 30
+#define HORDGULI_LINE_CLASS_EM 31
+#define HORDGULI_LINE_CLASS_H2 32
+#define HORDGULI_LINE_CLASS_H3 33
+#define HORDGULI_LINE_CLASS_HL 34
+#define HORDGULI_LINE_CLASS_ID 35
+#define HORDGULI_LINE_CLASS_JL 36
+#define HORDGULI_LINE_CLASS_JT 37
+#define HORDGULI_LINE_CLASS_JV 38
+#define HORDGULI_LINE_CLASS_RI 39
+#define HORDGULI_LINE_CLASS_SA 40
+#define HORDGULI_LINE_CLASS_SG 41
+#define HORDGULI_LINE_CLASS_XX 42
+
+/* Flags: a mark (general category Mn or Mc); a wide character (East Asian width F, W or H). */
+#define HORDGULI_MARK UINT32_C(1)
+#define HORDGULI_WIDE UINT32_C(2)
+
+/* Brackets (UAX #9, BD14 and BD15). */
+#define HORDGULI_BRACKET_NONE 0
+#define HORDGULI_BRACKET_OPEN 1
+#define HORDGULI_BRACKET_CLOSE 2
+
+/* The properties of a character. */
+typedef struct hordguli_character {
+    uint32_t mirror;     /* its mirror (UAX #9, L4), or 0 */
+    uint32_t pair;       /* the other bracket of its pair, or 0 */
+    uint32_t flags;      /* HORDGULI_MARK and HORDGULI_WIDE */
+    uint8_t bidi_class;  /* HORDGULI_BIDI_CLASS_.. */
+    uint8_t line_class;  /* HORDGULI_LINE_CLASS_.. */
+    uint8_t columns;     /* its width, 0 to 3; 0 for a tab and other control characters */
+    uint8_t bracket;     /* HORDGULI_BRACKET_.. */
+} hordguli_character;
+
+/* Stores the properties of `count` characters in `records`, an array of `count` elements. All properties are from the
+ * tables, except the columns (see COLUMNS). A character that no table names has bidi class L, line breaking class XX,
+ * and no mirror, bracket or flags.
+ * Errors: NULL, OVERLAP, CLOSED, NOT_A_CHARACTER.
+ * Cost: O(count). */
+hordguli_status hordguli_properties(hordguli_tables *tables, size_t count, const uint32_t *characters,
+                                    hordguli_character *records);
 
 #ifdef __cplusplus
 }

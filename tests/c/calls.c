@@ -187,7 +187,6 @@ static void changed(void) {
     /* refused edits change nothing */
     IS(hordguli_insert(NULL, 0, "a", 1, &damage), NULL);
     IS(hordguli_insert(&session, 0, NULL, 1, &damage), NULL);
-    IS(hordguli_insert(&session, 0, "a", 1, NULL), NULL);
     IS(hordguli_insert(&session, 0, (const char *)&damage, 1, &damage), OVERLAP);
     IS(hordguli_insert(&session, 0, (const char *)&session, 1, &damage), OVERLAP);
     IS(hordguli_insert(&session, 0, "a", SIZE_MAX, &damage), OVERLAP);
@@ -197,20 +196,17 @@ static void changed(void) {
     IS(hordguli_insert(&session, SIZE_MAX, "a", 1, &damage), OUT_OF_RANGE);
     IS(hordguli_insert(&session, 0, "\xC3", 1, &damage), NOT_UTF8);
     IS(hordguli_delete(NULL, 0, 1, &damage), NULL);
-    IS(hordguli_delete(&session, 0, 1, NULL), NULL);
     IS(hordguli_delete(&session, 0, 1, (hordguli_damage *)&session), OVERLAP);
     IS(hordguli_delete(&no_session, 0, 1, &damage), CLOSED);
     IS(hordguli_delete(&session, 18, 1, &damage), OUT_OF_RANGE);
     IS(hordguli_delete(&session, 1, SIZE_MAX, &damage), OUT_OF_RANGE);
     IS(hordguli_replace(NULL, 0, 1, "a", 1, &damage), NULL);
     IS(hordguli_replace(&session, 0, 1, NULL, 1, &damage), NULL);
-    IS(hordguli_replace(&session, 0, 1, "a", 1, NULL), NULL);
     IS(hordguli_replace(&session, 0, 1, (const char *)&damage + 3, 1, &damage), OVERLAP);
     IS(hordguli_replace(&no_session, 0, 1, "a", 1, &damage), CLOSED);
     IS(hordguli_replace(&session, 17, 2, "a", 1, &damage), OUT_OF_RANGE);
     IS(hordguli_replace(&session, 0, 1, "\x80", 1, &damage), NOT_UTF8);
     IS(hordguli_set_width(NULL, 80, &damage), NULL);
-    IS(hordguli_set_width(&session, 80, NULL), NULL);
     IS(hordguli_set_width(&session, 80, (hordguli_damage *)&session), OVERLAP);
     IS(hordguli_set_width(&no_session, 80, &damage), CLOSED);
     IS(hordguli_set_width(&session, 0, &damage), WIDTH_OUT_OF_RANGE);
@@ -236,6 +232,38 @@ static void changed(void) {
     counted(18, 5, 3, 4);
     OK(hordguli_set_width(&session, 80, &damage));
     damaged(&damage, 0, 5, 3, 0, 3, 3);
+}
+
+/* `damage` may be NULL. The errors and the edits are the same. */
+static void changed_without_damage(void) {
+    IS(hordguli_insert(NULL, 0, "a", 1, NULL), NULL);
+    IS(hordguli_insert(&session, 0, NULL, 1, NULL), NULL);
+    IS(hordguli_insert(&session, 0, (const char *)&session, 1, NULL), OVERLAP);
+    IS(hordguli_insert(&session, 0, "\xC3", 1, NULL), NOT_UTF8);
+    IS(hordguli_insert(&no_session, 0, "a", 1, NULL), CLOSED);
+    IS(hordguli_insert(&session, 19, "a", 1, NULL), OUT_OF_RANGE);
+    IS(hordguli_delete(NULL, 0, 1, NULL), NULL);
+    IS(hordguli_delete(&no_session, 0, 1, NULL), CLOSED);
+    IS(hordguli_delete(&session, 18, 1, NULL), OUT_OF_RANGE);
+    IS(hordguli_replace(NULL, 0, 1, "a", 1, NULL), NULL);
+    IS(hordguli_replace(&session, 0, 1, NULL, 1, NULL), NULL);
+    IS(hordguli_replace(&session, 0, 1, "\x80", 1, NULL), NOT_UTF8);
+    IS(hordguli_replace(&no_session, 0, 1, "a", 1, NULL), CLOSED);
+    IS(hordguli_replace(&session, 17, 2, "a", 1, NULL), OUT_OF_RANGE);
+    IS(hordguli_set_width(NULL, 80, NULL), NULL);
+    IS(hordguli_set_width(&session, 0, NULL), WIDTH_OUT_OF_RANGE);
+    IS(hordguli_set_width(&no_session, 80, NULL), CLOSED);
+    counted(18, 3, 3, 80);
+    OK(hordguli_insert(&session, 9, "a\nb", 3, NULL));
+    counted(21, 4, 4, 80);
+    OK(hordguli_delete(&session, 9, 3, NULL));
+    counted(18, 3, 3, 80);
+    OK(hordguli_replace(&session, 16, 1, "a", 1, NULL));
+    OK(hordguli_replace(&session, 16, 1, " ", 1, NULL));
+    OK(hordguli_set_width(&session, 4, NULL));
+    counted(18, 5, 3, 4);
+    OK(hordguli_set_width(&session, 80, NULL));
+    counted(18, 3, 3, 80);
 }
 
 static void counts(void) {
@@ -266,6 +294,7 @@ static void places(void) {
     hordguli_position position = {7, 7};
     size_t offset = 77;
     hordguli_span spans[3] = {{7, 7}, {7, 7}, {7, 7}};
+    hordguli_run runs[3] = {{7, 7, 7, 7}, {7, 7, 7, 7}, {7, 7, 7, 7}};
     size_t count = 77;
     IS(hordguli_line_start(NULL, 0, &start), NULL);
     IS(hordguli_line_start(&session, 0, NULL), NULL);
@@ -326,6 +355,13 @@ static void places(void) {
     IS(hordguli_spans(&no_session, 0, 0, 9, 3, spans, &count), CLOSED);
     IS(hordguli_spans(&session, 3, 0, 9, 3, spans, &count), OUT_OF_RANGE);
     HOLDS(count == 77 && spans[0].left == 7);
+    IS(hordguli_runs(NULL, 0, 3, runs, &count), NULL);
+    IS(hordguli_runs(&session, 0, 3, NULL, &count), NULL);
+    IS(hordguli_runs(&session, 0, 3, runs, NULL), NULL);
+    IS(hordguli_runs(&session, 0, 3, runs, (size_t *)runs), OVERLAP);
+    IS(hordguli_runs(&no_session, 0, 3, runs, &count), CLOSED);
+    IS(hordguli_runs(&session, 3, 3, runs, &count), OUT_OF_RANGE);
+    HOLDS(count == 77 && runs[0].start == 7);
     HOLDS(start == 77 && place.line == 7 && caret.line == 7 && hit.pos == 7 && cluster.start == 7);
     OK(hordguli_line_start(&session, 2, &start));
     HOLDS(start == 15);
@@ -357,6 +393,16 @@ static void places(void) {
     HOLDS(count == 0);
     OK(hordguli_spans(&session, 2, 0, 9, 3, spans, &count)); /* before the line */
     HOLDS(count == 0);
+    OK(hordguli_runs(&session, 0, 3, runs, &count)); /* letters and a space, then right-to-left letters */
+    HOLDS(count == 2 && runs[0].start == 0 && runs[0].length == 4 && runs[0].level == 0 && runs[0].zero == 0);
+    HOLDS(runs[1].start == 4 && runs[1].length == 3 && runs[1].level == 1 && runs[1].zero == 0 && runs[2].start == 7);
+    OK(hordguli_runs(&session, 1, 2, runs, &count)); /* a number, to the left of what precedes it */
+    HOLDS(count == 2 && runs[0].start == 4 && runs[0].length == 2 && runs[0].level == 2 && runs[0].zero == 0);
+    HOLDS(runs[1].start == 0 && runs[1].length == 4 && runs[1].level == 1 && runs[1].zero == 0);
+    IS(hordguli_runs(&session, 2, 0, runs, &count), NO_ROOM);
+    HOLDS(count == 1 && runs[0].start == 4);
+    IS(hordguli_runs(&session, 1, 0, NULL, &count), NO_ROOM);
+    HOLDS(count == 2);
     OK(hordguli_word_at(&session, 5, &word)); /* these letters */
     HOLDS(word.start == 4 && word.end == 7 && word.kind == 1 && word.zero == 0);
     OK(hordguli_word_at(&session, 3, &word)); /* the space before them */
@@ -369,6 +415,411 @@ static void places(void) {
     HOLDS(hit.pos == 17 && hit.trailing == 1);
     OK(hordguli_cluster_at(&session, 17, &cluster));
     HOLDS(cluster.start == 17 && cluster.end == 18);
+}
+
+/* ---- Edges ---- */
+
+#define BEFORE HORDGULI_BEFORE
+#define AFTER HORDGULI_AFTER
+#define LEFT HORDGULI_LEFT
+#define RIGHT HORDGULI_RIGHT
+
+static hordguli_edge edge(size_t pos, uint32_t side) { return (hordguli_edge){pos, side, 77}; }
+
+static void edge_statuses(void) {
+    hordguli_edge found = {7, 7, 7}, other = {7, 7, 7};
+    hordguli_caret caret = {7, 7, 7, 7};
+    uint32_t moved = 7;
+    size_t ends[8] = {7, 7, 7, 7, 7, 7, 7, 7}, count = 7;
+    IS(hordguli_edge_caret(NULL, edge(0, BEFORE), &caret), NULL);
+    IS(hordguli_edge_caret(&session, edge(0, BEFORE), NULL), NULL);
+    IS(hordguli_edge_caret(&session, edge(0, 2), (hordguli_caret *)&session), OVERLAP);
+    IS(hordguli_edge_caret(&no_session, edge(0, 2), &caret), UNKNOWN_OPTION);
+    IS(hordguli_edge_caret(&session, edge(0, UINT32_MAX), &caret), UNKNOWN_OPTION);
+    IS(hordguli_edge_caret(&no_session, edge(19, BEFORE), &caret), CLOSED);
+    IS(hordguli_edge_caret(&session, edge(19, BEFORE), &caret), OUT_OF_RANGE);
+    IS(hordguli_edge_caret(&session, edge(19, AFTER), &caret), OUT_OF_RANGE);
+    IS(hordguli_edge_caret(&session, edge(SIZE_MAX, AFTER), &caret), OUT_OF_RANGE);
+    IS(hordguli_edge_caret(&session, edge(0, AFTER), &caret), OUT_OF_RANGE);
+    IS(hordguli_step(NULL, edge(0, BEFORE), LEFT, &found, &moved), NULL);
+    IS(hordguli_step(&session, edge(0, BEFORE), LEFT, NULL, &moved), NULL);
+    IS(hordguli_step(&session, edge(0, BEFORE), LEFT, &found, NULL), NULL);
+    IS(hordguli_step(&session, edge(0, 2), LEFT, (hordguli_edge *)&session, &moved), OVERLAP);
+    IS(hordguli_step(&session, edge(0, 2), LEFT, &found, (uint32_t *)&session), OVERLAP);
+    IS(hordguli_step(&session, edge(0, 2), LEFT, &found, &found.zero), OVERLAP);
+    IS(hordguli_step(&no_session, edge(0, 2), LEFT, &found, &moved), UNKNOWN_OPTION);
+    IS(hordguli_step(&no_session, edge(0, BEFORE), 2, &found, &moved), UNKNOWN_OPTION);
+    IS(hordguli_step(&session, edge(0, BEFORE), UINT32_MAX, &found, &moved), UNKNOWN_OPTION);
+    IS(hordguli_step(&no_session, edge(19, BEFORE), LEFT, &found, &moved), CLOSED);
+    IS(hordguli_step(&session, edge(19, BEFORE), LEFT, &found, &moved), OUT_OF_RANGE);
+    IS(hordguli_step(&session, edge(19, AFTER), RIGHT, &found, &moved), OUT_OF_RANGE);
+    IS(hordguli_step(&session, edge(0, AFTER), RIGHT, &found, &moved), OUT_OF_RANGE);
+    IS(hordguli_edge_at(NULL, 0, 0, &found), NULL);
+    IS(hordguli_edge_at(&session, 0, 0, NULL), NULL);
+    IS(hordguli_edge_at(&session, 3, 0, (hordguli_edge *)&session), OVERLAP);
+    IS(hordguli_edge_at(&no_session, 3, 0, &found), CLOSED);
+    IS(hordguli_edge_at(&session, 3, 0, &found), OUT_OF_RANGE);
+    IS(hordguli_edge_at(&session, SIZE_MAX, SIZE_MAX, &found), OUT_OF_RANGE);
+    IS(hordguli_line_edges(NULL, 0, &found, &other), NULL);
+    IS(hordguli_line_edges(&session, 0, NULL, &other), NULL);
+    IS(hordguli_line_edges(&session, 0, &found, NULL), NULL);
+    IS(hordguli_line_edges(&session, 3, &found, &found), OVERLAP);
+    IS(hordguli_line_edges(&session, 3, (hordguli_edge *)&session, &other), OVERLAP);
+    IS(hordguli_line_edges(&session, 3, &found, (hordguli_edge *)&session), OVERLAP);
+    IS(hordguli_line_edges(&no_session, 3, &found, &other), CLOSED);
+    IS(hordguli_line_edges(&session, 3, &found, &other), OUT_OF_RANGE);
+    IS(hordguli_line_clusters(NULL, 0, 8, ends, &count), NULL);
+    IS(hordguli_line_clusters(&session, 0, 8, NULL, &count), NULL);
+    IS(hordguli_line_clusters(&session, 0, 8, ends, NULL), NULL);
+    IS(hordguli_line_clusters(&session, 3, 8, ends, &ends[7]), OVERLAP);
+    IS(hordguli_line_clusters(&session, 3, 8, ends, (size_t *)&session), OVERLAP);
+    IS(hordguli_line_clusters(&session, 3, 1, (size_t *)&session, &count), OVERLAP);
+    IS(hordguli_line_clusters(&session, 3, SIZE_MAX, ends, &count), OVERLAP);
+    IS(hordguli_line_clusters(&no_session, 3, 8, ends, &count), CLOSED);
+    IS(hordguli_line_clusters(&session, 3, 8, ends, &count), OUT_OF_RANGE);
+    HOLDS(found.pos == 7 && found.side == 7 && found.zero == 7 && other.pos == 7 && other.side == 7 && other.zero == 7);
+    HOLDS(caret.line == 7 && caret.column == 7 && caret.level == 7 && caret.zero == 7 && moved == 7);
+    HOLDS(count == 7 && ends[0] == 7);
+    IS(hordguli_line_clusters(&session, 0, 7, ends, &count), NO_ROOM);
+    HOLDS(count == 8 && ends[0] == 7);
+    count = 7;
+    IS(hordguli_line_clusters(&session, 0, 0, NULL, &count), NO_ROOM);
+    HOLDS(count == 8);
+    OK(hordguli_line_clusters(&session, 1, 8, ends, &count));
+    HOLDS(count == 7 && ends[0] == 1 && ends[6] == 7 && ends[7] == 7);
+    /* a step that does not move leaves `next` unchanged; a step may write to its own argument */
+    OK(hordguli_step(&session, edge(18, AFTER), RIGHT, &found, &moved));
+    HOLDS(moved == 0 && found.pos == 7 && found.side == 7 && found.zero == 7);
+    found = edge(17, BEFORE);
+    OK(hordguli_step(&session, found, RIGHT, &found, &moved));
+    HOLDS(moved == 1 && found.pos == 18 && found.side == AFTER && found.zero == 0);
+}
+
+/* The session that rows of the next function are about. */
+static hordguli_session shown = HORDGULI_SESSION_INIT;
+
+static void show(const char *content, uint32_t options, uint32_t width) {
+    hordguli_session_close(&shown);
+    OK(hordguli_session_open(&shown, &tables, options, width, content, strlen(content)));
+}
+
+static void is_edge(int line, const hordguli_edge *found, size_t pos, uint32_t side) {
+    holds(found->pos == pos && found->side == side && found->zero == 0, __FILE__, line, "the edge");
+}
+
+static void caret_is(int at, size_t pos, uint32_t side, size_t line, size_t column, uint32_t level) {
+    hordguli_caret caret = {7, 7, 7, 7};
+    holds(hordguli_edge_caret(&shown, edge(pos, side), &caret) == HORDGULI_OK, __FILE__, at, "an edge has a caret");
+    holds(caret.line == line && caret.column == column, __FILE__, at, "the place of the caret");
+    holds(caret.level == level && caret.zero == 0, __FILE__, at, "the level of the caret");
+}
+
+/* The stops of a caret, in the form `3 B` or `3 A`. */
+typedef struct stop {
+    size_t pos;
+    char side; /* 0 ends a list */
+    size_t column;
+} stop;
+
+/* Each step from the first stop leads to the next one. From the last one, there is no step in this direction. */
+static void steps_are(int at, uint32_t direction, const stop *stops) {
+    hordguli_edge from = edge(stops[0].pos, stops[0].side == 'A' ? AFTER : BEFORE);
+    hordguli_caret caret = {7, 7, 7, 7}, last;
+    uint32_t moved;
+    for (size_t k = 0; stops[k].side != 0; k++) {
+        last = caret;
+        if (k > 0) {
+            holds(hordguli_step(&shown, from, direction, &from, &moved) == HORDGULI_OK && moved == 1, __FILE__, at, "a step");
+            is_edge(at, &from, stops[k].pos, stops[k].side == 'A' ? AFTER : BEFORE);
+        }
+        holds(hordguli_edge_caret(&shown, from, &caret) == HORDGULI_OK, __FILE__, at, "a stop has a caret");
+        holds(caret.column == stops[k].column, __FILE__, at, "the column of a stop");
+        holds(k == 0 || caret.line == last.line, __FILE__, at, "a step stays on its line");
+    }
+    moved = 7;
+    holds(hordguli_step(&shown, from, direction, &from, &moved) == HORDGULI_OK && moved == 0, __FILE__, at, "the last stop");
+}
+
+static void at_is(int at, size_t line, size_t column, size_t pos, uint32_t side) {
+    hordguli_edge found = {7, 7, 7};
+    holds(hordguli_edge_at(&shown, line, column, &found) == HORDGULI_OK, __FILE__, at, "a column has an edge");
+    is_edge(at, &found, pos, side);
+}
+
+static void ends_are(int at, size_t line, size_t first, size_t last, uint32_t side) {
+    hordguli_edge found[2] = {{7, 7, 7}, {7, 7, 7}};
+    holds(hordguli_line_edges(&shown, line, &found[0], &found[1]) == HORDGULI_OK, __FILE__, at, "a line has two edges");
+    is_edge(at, &found[0], first, BEFORE);
+    is_edge(at, &found[1], last, side);
+}
+
+static void clusters_are(int at, size_t line, size_t count, const size_t *wanted) {
+    size_t ends[12] = {0}, found = 77;
+    holds(hordguli_line_clusters(&shown, line, 12, ends, &found) == HORDGULI_OK, __FILE__, at, "a line has clusters");
+    holds(found == count && memcmp(ends, wanted, count * sizeof *ends) == 0, __FILE__, at, "the ends of clusters");
+}
+
+#define CARET(...) caret_is(__LINE__, __VA_ARGS__)
+#define STEPS(direction, ...) steps_are(__LINE__, direction, (const stop[]){__VA_ARGS__, {0, 0, 0}})
+#define EDGE_AT(...) at_is(__LINE__, __VA_ARGS__)
+#define ENDS(...) ends_are(__LINE__, __VA_ARGS__)
+#define CLUSTERS(line, ...)                                                                                            \
+    clusters_are(__LINE__, line, sizeof((const size_t[]){__VA_ARGS__}) / sizeof(size_t), (const size_t[]){__VA_ARGS__})
+
+static void edges_where_the_direction_changes(void) {
+    show("abc \u05d0\u05d1\u05d2 def", 0, 80);
+    CARET(4, BEFORE, 0, 7, 1);
+    CARET(4, AFTER, 0, 4, 0);
+    CARET(5, BEFORE, 0, 6, 1);
+    CARET(5, AFTER, 0, 6, 1);
+    CARET(7, BEFORE, 0, 7, 0);
+    CARET(7, AFTER, 0, 4, 1);
+    CARET(0, BEFORE, 0, 0, 0);
+    CARET(11, BEFORE, 0, 11, 0);
+    CARET(11, AFTER, 0, 11, 0);
+    STEPS(RIGHT, {0, 'B', 0}, {1, 'A', 1}, {2, 'A', 2}, {3, 'A', 3}, {4, 'A', 4}, {6, 'B', 5}, {5, 'B', 6}, {4, 'B', 7},
+          {8, 'A', 8}, {9, 'A', 9}, {10, 'A', 10}, {11, 'A', 11});
+    STEPS(RIGHT, {3, 'B', 3}, {4, 'A', 4}, {6, 'B', 5}, {5, 'B', 6}, {4, 'B', 7}, {8, 'A', 8}, {9, 'A', 9}, {10, 'A', 10},
+          {11, 'A', 11});
+    STEPS(LEFT, {8, 'A', 8}, {7, 'B', 7}, {5, 'A', 6}, {6, 'A', 5}, {7, 'A', 4}, {3, 'B', 3}, {2, 'B', 2}, {1, 'B', 1},
+          {0, 'B', 0});
+    EDGE_AT(0, 0, 0, BEFORE);
+    EDGE_AT(0, 4, 7, AFTER);
+    EDGE_AT(0, 6, 5, AFTER);
+    EDGE_AT(0, 7, 7, BEFORE);
+    EDGE_AT(0, 11, 11, AFTER);
+    EDGE_AT(0, SIZE_MAX, 11, AFTER);
+    ENDS(0, 0, 11, BEFORE);
+    CLUSTERS(0, 1, 2, 3, 4, 5, 6, 7, 8, 9, 10, 11);
+    /* a number, at level 2, among letters at level 1 */
+    show("\u05d0\u05d1 12 \u05d2\u05d3", 0, 80);
+    STEPS(RIGHT, {8, 'A', 0}, {7, 'B', 1}, {6, 'B', 2}, {5, 'B', 3}, {4, 'A', 4}, {5, 'A', 5}, {2, 'B', 6}, {1, 'B', 7},
+          {0, 'B', 8});
+    STEPS(LEFT, {0, 'B', 8}, {1, 'A', 7}, {2, 'A', 6}, {3, 'A', 5}, {4, 'B', 4}, {3, 'B', 3}, {6, 'A', 2}, {7, 'A', 1},
+          {8, 'A', 0});
+    CARET(3, BEFORE, 0, 3, 2);
+    CARET(3, AFTER, 0, 5, 1);
+    CARET(5, BEFORE, 0, 3, 1);
+    CARET(5, AFTER, 0, 5, 2);
+    CARET(8, BEFORE, 0, 0, 1);
+    EDGE_AT(0, 0, 8, AFTER);
+    EDGE_AT(0, SIZE_MAX, 0, BEFORE);
+    ENDS(0, 0, 8, BEFORE);
+}
+
+static void edges_of_clusters(void) {
+    /* a letter and its mark, which is written after it on the screen */
+    show("\u05d0\u05b8\u05d1", HORDGULI_REORDER_NSM, 80);
+    CARET(0, BEFORE, 0, 2, 1);
+    CARET(1, BEFORE, 0, 2, 1);
+    CARET(1, AFTER, 0, 1, 1);
+    CARET(2, BEFORE, 0, 1, 1);
+    CARET(2, AFTER, 0, 1, 1);
+    STEPS(LEFT, {0, 'B', 2}, {2, 'A', 1}, {3, 'A', 0});
+    STEPS(RIGHT, {3, 'A', 0}, {2, 'B', 1}, {0, 'B', 2});
+    CLUSTERS(0, 2, 3);
+    /* or before it */
+    show("\u05d0\u05b8\u05d1", 0, 80);
+    CARET(1, BEFORE, 0, 1, 1);
+    CARET(1, AFTER, 0, 1, 1);
+    STEPS(LEFT, {0, 'B', 2}, {2, 'A', 1}, {3, 'A', 0});
+    /* a cluster of a number sign, at level 2, and a letter, at level 1 */
+    show("a\u0600\u05d0", HORDGULI_RTL, 80);
+    STEPS(RIGHT, {3, 'A', 0}, {2, 'B', 1}, {1, 'A', 2}, {2, 'A', 3});
+    STEPS(LEFT, {2, 'A', 3}, {1, 'B', 2}, {0, 'B', 1}, {3, 'A', 0});
+    CARET(1, AFTER, 0, 2, 2);
+    CARET(2, AFTER, 0, 3, 2);
+    EDGE_AT(0, 2, 1, BEFORE);
+    EDGE_AT(0, SIZE_MAX, 2, AFTER);
+    CLUSTERS(0, 1, 3);
+    /* a cluster of a letter, at level 1, and a vowel sign, at level 2 */
+    show("\u05d0\u0903", 0, 80);
+    CARET(0, BEFORE, 0, 2, 1);
+    CARET(1, AFTER, 0, 1, 1);
+    CARET(1, BEFORE, 0, 0, 2);
+    CARET(2, AFTER, 0, 1, 2);
+    STEPS(RIGHT, {1, 'B', 0}, {2, 'A', 1}, {0, 'B', 2});
+    STEPS(LEFT, {0, 'B', 2}, {1, 'A', 1}, {1, 'B', 0});
+    CLUSTERS(0, 2);
+    /* a cluster of a number sign and a space that is not shown */
+    show("\u0600 ", 0, 80);
+    CARET(1, AFTER, 0, 1, 2);
+    CARET(2, AFTER, 0, 1, 0);
+    STEPS(RIGHT, {0, 'B', 0}, {1, 'A', 1});
+    STEPS(LEFT, {2, 'A', 1}, {0, 'B', 0});
+    EDGE_AT(0, 1, 1, AFTER);
+    CLUSTERS(0, 2);
+    /* a final joiner, which L1 resets to level 0 */
+    show("abc \u05d0\u200d", 0, 80);
+    CARET(5, BEFORE, 0, 5, 0);
+    CARET(5, AFTER, 0, 4, 1);
+    CARET(6, AFTER, 0, 4, 0);
+    CARET(6, BEFORE, 0, 5, 0);
+    STEPS(RIGHT, {3, 'B', 3}, {4, 'A', 4}, {4, 'B', 5});
+    STEPS(LEFT, {5, 'B', 5}, {6, 'A', 4}, {3, 'B', 3}, {2, 'B', 2}, {1, 'B', 1}, {0, 'B', 0});
+    /* a family of three at an odd level: each person covers two columns */
+    show("\u05d0\U0001f468\u200d\U0001f469\u200d\U0001f467", 0, 80);
+    CARET(1, BEFORE, 0, 6, 1);
+    CARET(1, AFTER, 0, 6, 1);
+    CARET(2, AFTER, 0, 4, 1);
+    CARET(3, BEFORE, 0, 4, 1);
+    CARET(5, BEFORE, 0, 2, 1);
+    CARET(6, AFTER, 0, 0, 1);
+    STEPS(RIGHT, {6, 'A', 0}, {1, 'B', 6}, {0, 'B', 7});
+    STEPS(LEFT, {0, 'B', 7}, {1, 'A', 6}, {6, 'A', 0});
+    STEPS(LEFT, {3, 'B', 4}, {6, 'A', 0}); /* from inside the family */
+    STEPS(RIGHT, {3, 'B', 4}, {1, 'B', 6}, {0, 'B', 7});
+    for (size_t column = 0; column < 6; column++) EDGE_AT(0, column, 6, AFTER);
+    EDGE_AT(0, 6, 1, AFTER);
+    EDGE_AT(0, 7, 0, BEFORE);
+    CLUSTERS(0, 1, 6);
+    /* wide characters, also in an override */
+    show("\u6f22\u5b57", 0, 80);
+    STEPS(RIGHT, {0, 'B', 0}, {1, 'A', 2}, {2, 'A', 4});
+    STEPS(LEFT, {2, 'A', 4}, {1, 'B', 2}, {0, 'B', 0});
+    EDGE_AT(0, 1, 0, BEFORE);
+    EDGE_AT(0, 2, 1, BEFORE);
+    EDGE_AT(0, 3, 1, BEFORE);
+    EDGE_AT(0, 4, 2, AFTER);
+    show("\u202e\u6f22\u5b57", 0, 80);
+    STEPS(RIGHT, {3, 'A', 0}, {2, 'B', 2}, {1, 'B', 4});
+    STEPS(LEFT, {1, 'B', 4}, {2, 'A', 2}, {3, 'A', 0});
+    CARET(0, BEFORE, 0, 0, 0);
+    CARET(1, AFTER, 0, 0, 0);
+    CARET(3, BEFORE, 0, 4, 0);
+    EDGE_AT(0, 1, 3, AFTER);
+    EDGE_AT(0, 4, 1, BEFORE);
+    CLUSTERS(0, 1, 2, 3);
+    /* a cluster of a space and a mark, between which a line ends */
+    show("a \u0903b", 0, 1);
+    CARET(2, AFTER, 0, 1, 0);
+    CARET(2, BEFORE, 1, 0, 0);
+    STEPS(RIGHT, {2, 'B', 0}, {3, 'A', 1});
+    CLUSTERS(0, 1, 2);
+    CLUSTERS(1, 1);
+    CLUSTERS(2, 1);
+}
+
+static void edges_of_lines(void) {
+    hordguli_edge found[2];
+    hordguli_caret caret;
+    hordguli_line_info info;
+    size_t count;
+    /* a line that ends inside a word */
+    show("abcdef", 0, 4);
+    CARET(4, AFTER, 0, 4, 0);
+    CARET(4, BEFORE, 1, 0, 0);
+    STEPS(RIGHT, {3, 'B', 3}, {4, 'A', 4});
+    STEPS(RIGHT, {4, 'B', 0}, {5, 'A', 1}, {6, 'A', 2});
+    STEPS(LEFT, {6, 'A', 2}, {5, 'B', 1}, {4, 'B', 0});
+    EDGE_AT(0, SIZE_MAX, 4, AFTER);
+    EDGE_AT(1, 0, 4, BEFORE);
+    ENDS(0, 0, 4, AFTER);
+    ENDS(1, 4, 6, BEFORE);
+    /* the same in an RTL paragraph, where the second line is padded; columns count from the shown part */
+    show("\u05d0\u05d1\u05d2\u05d3\u05d4\u05d5", 0, 4);
+    OK(hordguli_line(&shown, 1, &info, 0, NULL, NULL, NULL, NULL, NULL));
+    HOLDS(info.padding == 2);
+    CARET(4, AFTER, 0, 0, 1);
+    CARET(4, BEFORE, 1, 2, 1);
+    STEPS(LEFT, {4, 'B', 2}, {5, 'A', 1}, {6, 'A', 0});
+    EDGE_AT(0, 0, 4, AFTER);
+    EDGE_AT(1, 0, 6, AFTER);
+    EDGE_AT(1, 2, 4, BEFORE);
+    ENDS(0, 0, 4, AFTER);
+    ENDS(1, 4, 6, BEFORE);
+    /* spaces that are not shown */
+    show("ab  cd  ", 0, 3);
+    CARET(2, AFTER, 0, 2, 0);
+    CARET(2, BEFORE, 0, 2, 0);
+    CARET(3, AFTER, 0, 2, 0);
+    CARET(4, AFTER, 0, 2, 0);
+    CARET(4, BEFORE, 1, 0, 0);
+    CARET(8, BEFORE, 1, 2, 0);
+    CARET(8, AFTER, 1, 2, 0);
+    STEPS(RIGHT, {1, 'B', 1}, {2, 'A', 2});
+    STEPS(LEFT, {4, 'A', 2}, {1, 'B', 1}, {0, 'B', 0});
+    EDGE_AT(0, SIZE_MAX, 2, AFTER);
+    ENDS(0, 0, 2, BEFORE);
+    ENDS(1, 4, 8, BEFORE);
+    show("\u05d0\u05d1  \u05d2\u05d3", 0, 3);
+    CARET(2, AFTER, 0, 0, 1);
+    CARET(3, BEFORE, 0, 0, 1);
+    CARET(4, AFTER, 0, 0, 1);
+    CARET(4, BEFORE, 1, 2, 1);
+    STEPS(RIGHT, {4, 'A', 0}, {1, 'B', 1}, {0, 'B', 2});
+    EDGE_AT(0, 0, 2, AFTER);
+    ENDS(0, 0, 2, BEFORE);
+    /* empty lines */
+    show("a\n\nb", 0, 80);
+    CARET(1, BEFORE, 0, 1, 0);
+    CARET(2, AFTER, 0, 1, 0);
+    CARET(2, BEFORE, 1, 0, 0);
+    CARET(3, AFTER, 1, 0, 0);
+    CARET(3, BEFORE, 2, 0, 0);
+    STEPS(RIGHT, {2, 'B', 0});
+    STEPS(LEFT, {2, 'B', 0});
+    STEPS(LEFT, {3, 'A', 0});
+    EDGE_AT(1, 0, 2, BEFORE);
+    EDGE_AT(1, 5, 2, BEFORE);
+    ENDS(0, 0, 1, BEFORE);
+    ENDS(1, 2, 2, BEFORE);
+    ENDS(2, 3, 4, BEFORE);
+    /* the line after a final separator: CR LF is one separator */
+    show("a\r\n", 0, 80);
+    CARET(2, AFTER, 0, 1, 0);
+    CARET(3, AFTER, 0, 1, 0);
+    CARET(3, BEFORE, 1, 0, 0);
+    STEPS(RIGHT, {3, 'B', 0});
+    STEPS(LEFT, {3, 'B', 0});
+    EDGE_AT(0, SIZE_MAX, 1, AFTER);
+    EDGE_AT(1, 0, 3, BEFORE);
+    EDGE_AT(1, SIZE_MAX, 3, BEFORE);
+    ENDS(0, 0, 1, BEFORE);
+    ENDS(1, 3, 3, BEFORE);
+    CLUSTERS(0, 1, 3);
+    IS(hordguli_edge_at(&shown, 2, 0, &found[0]), OUT_OF_RANGE);
+    IS(hordguli_line_edges(&shown, 2, &found[0], &found[1]), OUT_OF_RANGE);
+    IS(hordguli_line_clusters(&shown, 1, 0, NULL, &count), OUT_OF_RANGE);
+    /* separators that end a line and not a paragraph, and one that is shown */
+    show("a\u2028b\vc \f", 0, 80);
+    ENDS(0, 0, 1, BEFORE);
+    ENDS(1, 2, 3, BEFORE);
+    ENDS(2, 4, 6, BEFORE);
+    CARET(2, AFTER, 0, 1, 0);
+    CARET(7, BEFORE, 2, 1, 0);
+    IS(hordguli_edge_at(&shown, 3, 0, &found[0]), OUT_OF_RANGE);
+    show("\u05d0\x1c", 0, 80);
+    ENDS(0, 0, 1, BEFORE);
+    CARET(1, BEFORE, 0, 0, 1);
+    CARET(2, BEFORE, 1, 0, 0);
+    EDGE_AT(1, 9, 2, BEFORE);
+    /* empty text */
+    for (uint32_t options = 0; options < 4; options++) {
+        show("", options, 80);
+        CARET(0, BEFORE, 0, 0, options % 2);
+        STEPS(RIGHT, {0, 'B', 0});
+        STEPS(LEFT, {0, 'B', 0});
+        EDGE_AT(0, 0, 0, BEFORE);
+        EDGE_AT(0, SIZE_MAX, 0, BEFORE);
+        ENDS(0, 0, 0, BEFORE);
+        IS(hordguli_edge_caret(&shown, edge(0, AFTER), &caret), OUT_OF_RANGE);
+        IS(hordguli_edge_at(&shown, 1, 0, &found[0]), OUT_OF_RANGE);
+        IS(hordguli_line_edges(&shown, 1, &found[0], &found[1]), OUT_OF_RANGE);
+        IS(hordguli_line_clusters(&shown, 0, 0, NULL, &count), OUT_OF_RANGE);
+    }
+    /* RLM alone covers no column */
+    show("\u200f", 0, 80);
+    CARET(0, BEFORE, 0, 0, 1);
+    CARET(1, AFTER, 0, 0, 1);
+    CARET(1, BEFORE, 0, 0, 1);
+    STEPS(RIGHT, {0, 'B', 0});
+    STEPS(LEFT, {1, 'A', 0});
+    EDGE_AT(0, 0, 0, BEFORE);
+    EDGE_AT(0, SIZE_MAX, 0, BEFORE);
+    ENDS(0, 0, 1, BEFORE);
+    CLUSTERS(0, 1);
+    hordguli_session_close(&shown);
 }
 
 /* ---- Lines, paragraphs and text ---- */
@@ -509,8 +960,35 @@ static void text_of_ranges(void) {
     HOLDS(length == 0);
 }
 
+static void characters_of_ranges(void) {
+    uint32_t characters[18], seven = 7;
+    size_t length = 77;
+    static const uint32_t wanted[] = {' ', 0x5D0, 0x5D1, 0x5D2, '\n', '(', 0x5D0, ')', ' '};
+    characters[0] = characters[9] = 7;
+    IS(hordguli_text_utf32(NULL, 0, 1, 18, characters, &length), NULL);
+    IS(hordguli_text_utf32(&session, 0, 1, 18, NULL, &length), NULL);
+    IS(hordguli_text_utf32(&session, 0, 1, 18, characters, NULL), NULL);
+    IS(hordguli_text_utf32(&session, 0, 1, 2, (uint32_t *)&length, &length), OVERLAP);
+    IS(hordguli_text_utf32(&session, 0, 1, SIZE_MAX, characters, &length), OVERLAP);
+    IS(hordguli_text_utf32(&no_session, 0, 1, 18, characters, &length), CLOSED);
+    IS(hordguli_text_utf32(&session, 0, 19, 18, characters, &length), OUT_OF_RANGE);
+    IS(hordguli_text_utf32(&session, 2, SIZE_MAX - 1, 18, characters, &length), OUT_OF_RANGE);
+    IS(hordguli_text_utf32(&session, 19, 0, 18, characters, &length), OUT_OF_RANGE);
+    HOLDS(length == 77 && characters[0] == 7);
+    IS(hordguli_text_utf32(&session, 3, 9, 8, characters, &length), NO_ROOM);
+    HOLDS(length == 9 && characters[0] == 7);
+    OK(hordguli_text_utf32(&session, 3, 9, 9, characters, &length)); /* unmirrored, across two paragraphs */
+    HOLDS(length == 9 && memcmp(characters, wanted, sizeof wanted) == 0);
+    OK(hordguli_text_utf32(&session, 17, 1, 1, &seven, &length));
+    HOLDS(length == 1 && seven == 'y');
+    OK(hordguli_text_utf32(&session, 0, 18, 18, characters, &length));
+    HOLDS(length == 18 && characters[0] == 'a' && characters[17] == 'y');
+    OK(hordguli_text_utf32(&session, 18, 0, 0, NULL, &length));
+    HOLDS(length == 0);
+}
+
 static void paragraphs(void) {
-    hordguli_paragraph_info info = {7, 7, 7, 7};
+    hordguli_paragraph_info info = {7, 7, 7, 7, 7, 7};
     uint8_t levels[8], marks[8];
     static const uint8_t wanted_levels[] = {1, 1, 1, 1, 2, 2, 1}, wanted_marks[] = {0, 0, 0, 1, 0, 0, 2};
     IS(hordguli_paragraph(NULL, 1, &info, 8, levels, marks), NULL);
@@ -520,12 +998,14 @@ static void paragraphs(void) {
     IS(hordguli_paragraph(&session, 1, &info, 8, NULL, (uint8_t *)&session), OVERLAP);
     IS(hordguli_paragraph(&no_session, 1, &info, 8, levels, marks), CLOSED);
     IS(hordguli_paragraph(&session, 3, &info, 8, levels, marks), OUT_OF_RANGE);
-    HOLDS(info.length == 7);
+    HOLDS(info.length == 7 && info.start == 7 && info.first_line == 7);
     OK(hordguli_paragraph(&session, 0, &info, 0, NULL, NULL));
     HOLDS(info.length == 8 && info.lines == 1 && info.base == 0 && info.zero == 0);
+    HOLDS(info.start == 0 && info.first_line == 0);
     levels[0] = marks[0] = 77;
     IS(hordguli_paragraph(&session, 1, &info, 6, levels, marks), NO_ROOM);
-    HOLDS(info.length == 7 && info.base == 1 && levels[0] == 77 && marks[0] == 77);
+    HOLDS(info.length == 7 && info.base == 1 && info.start == 8 && info.first_line == 1);
+    HOLDS(levels[0] == 77 && marks[0] == 77);
     OK(hordguli_paragraph(&session, 1, &info, 7, levels, marks));
     HOLDS(memcmp(levels, wanted_levels, 7) == 0 && memcmp(marks, wanted_marks, 7) == 0);
     memset(marks, 77, sizeof marks);
@@ -600,6 +1080,144 @@ static void without_session(void) {
     OK(hordguli_marks(&tables, 0, NULL, 0, 0, NULL));
 }
 
+static void properties(void) {
+    static const uint32_t characters[] = {'a', '(', ')', '<', 0x5D0, 0x5B8, 0x4E00, 0x3008, '\t', 0x378};
+    static const hordguli_character wanted[] = {
+        {0, 0, 0, HORDGULI_BIDI_CLASS_L, HORDGULI_LINE_CLASS_AL, 1, HORDGULI_BRACKET_NONE},
+        {')', ')', 0, HORDGULI_BIDI_CLASS_ON, HORDGULI_LINE_CLASS_OP, 1, HORDGULI_BRACKET_OPEN},
+        {'(', '(', 0, HORDGULI_BIDI_CLASS_ON, HORDGULI_LINE_CLASS_CP, 1, HORDGULI_BRACKET_CLOSE},
+        {'>', 0, 0, HORDGULI_BIDI_CLASS_ON, HORDGULI_LINE_CLASS_AL, 1, HORDGULI_BRACKET_NONE},
+        {0, 0, 0, HORDGULI_BIDI_CLASS_R, HORDGULI_LINE_CLASS_HL, 1, HORDGULI_BRACKET_NONE},
+        {0, 0, HORDGULI_MARK, HORDGULI_BIDI_CLASS_NSM, HORDGULI_LINE_CLASS_CM, 0, HORDGULI_BRACKET_NONE},
+        {0, 0, HORDGULI_WIDE, HORDGULI_BIDI_CLASS_L, HORDGULI_LINE_CLASS_ID, 2, HORDGULI_BRACKET_NONE},
+        {0x3009, 0x3009, HORDGULI_WIDE, HORDGULI_BIDI_CLASS_ON, HORDGULI_LINE_CLASS_OP, 2, HORDGULI_BRACKET_OPEN},
+        {0, 0, 0, HORDGULI_BIDI_CLASS_S, HORDGULI_LINE_CLASS_BA, 0, HORDGULI_BRACKET_NONE},
+        {0, 0, 0, HORDGULI_BIDI_CLASS_L, HORDGULI_LINE_CLASS_XX, 1, HORDGULI_BRACKET_NONE},
+    };
+    hordguli_character records[11];
+    uint32_t both[8] = {'a', 'b'};
+    static const uint32_t no_character[] = {'a', 0xDFFF};
+    memset(records, 7, sizeof records);
+    IS(hordguli_properties(NULL, 10, characters, records), NULL);
+    IS(hordguli_properties(&tables, 10, NULL, records), NULL);
+    IS(hordguli_properties(&tables, 10, characters, NULL), NULL);
+    IS(hordguli_properties(&tables, 2, both, (hordguli_character *)both), OVERLAP);
+    IS(hordguli_properties(&tables, 1, characters, (hordguli_character *)&tables), OVERLAP);
+    IS(hordguli_properties(&tables, SIZE_MAX / 2, characters, records), OVERLAP);
+    IS(hordguli_properties(&no_tables, 10, characters, records), CLOSED);
+    IS(hordguli_properties(&tables, 2, no_character, records), NOT_A_CHARACTER);
+    HOLDS(records[0].mirror == 0x07070707 && records[0].columns == 7);
+    OK(hordguli_properties(&tables, 10, characters, records));
+    HOLDS(memcmp(records, wanted, sizeof wanted) == 0 && records[10].flags == 0x07070707);
+    OK(hordguli_properties(&tables, 0, NULL, NULL));
+}
+
+/* The levels of a row before L1, its characters, and what `hordguli_row` stores. Levels and positions are digits. */
+typedef struct row {
+    const char *name;
+    uint32_t base, options;
+    const char *levels, *row_levels, *ltov, *vtol;
+    uint32_t characters[8], visual[8];
+} row;
+
+/* Returns whether digit k is a number. */
+static int is_digit(const char *digits, size_t k, size_t number) { return (size_t)(digits[k] - '0') == number; }
+
+static void is_row(const row *r) {
+    size_t count = strlen(r->levels);
+    uint8_t levels[8], row_levels[8];
+    uint32_t visual[8], ltov[8], vtol[8];
+    for (size_t k = 0; k < count; k++) levels[k] = (uint8_t)(r->levels[k] - '0');
+    OK(hordguli_row(&tables, r->options, r->base, count, r->characters, levels, count, visual, row_levels, ltov, vtol));
+    for (size_t k = 0; k < count; k++)
+        holds(visual[k] == r->visual[k] && is_digit(r->row_levels, k, row_levels[k]) && is_digit(r->ltov, k, ltov[k])
+                  && is_digit(r->vtol, k, vtol[k]),
+              __FILE__, __LINE__, r->name);
+}
+
+static void rows(void) {
+    static const row all[] = {
+        {"all of a right-to-left paragraph", 1, 0, "11122", "11122", "43201", "34210", {0x5D0, 0x5D1, ' ', 'a', 'b'},
+         {'a', 'b', ' ', 0x5D1, 0x5D0}},
+        {"a space at the end of a row", 0, 0, "0011", "0010", "0123", "0123", {'a', ' ', 0x5D0, ' '},
+         {'a', ' ', 0x5D0, ' '}},
+        {"the same space inside a row", 0, 0, "00111", "00111", "01432", "01432", {'a', ' ', 0x5D0, ' ', 0x5D1},
+         {'a', ' ', 0x5D1, ' ', 0x5D0}},
+        {"spaces before a tab", 0, 0, "1111", "1001", "0123", "0123", {0x5D0, ' ', '\t', 0x5D1},
+         {0x5D0, ' ', '\t', 0x5D1}},
+        {"spaces alone", 0, 0, "11", "00", "01", "01", {' ', ' '}, {' ', ' '}},
+        {"brackets at an odd level of a left-to-right paragraph", 0, 0, "001111", "001111", "015432", "015432",
+         {'a', ' ', 0x5D0, '(', 0x5D1, ')'}, {'a', ' ', '(', 0x5D1, ')', 0x5D0}},
+        {"brackets at an even level of a right-to-left paragraph", 1, 0, "1222", "1222", "3012", "1230",
+         {0x5D0, '(', 'a', ')'}, {'(', 'a', ')', 0x5D0}},
+        {"a row that starts with an isolate initiator", 0, 0, "012", "012", "021", "021", {0x2067, 0x5D0, 'b'},
+         {0x2067, 'b', 0x5D0}},
+        {"a row that ends with an isolate initiator", 0, 0, "111", "100", "012", "012", {0x5D0, ' ', 0x2068},
+         {0x5D0, ' ', 0x2068}},
+        {"the end of an isolate", 0, 0, "100", "100", "012", "012", {0x5D1, 0x2069, 'c'}, {0x5D1, 0x2069, 'c'}},
+        {"a row inside an embedding", 0, 0, "322", "322", "012", "012", {0x5D1, 'c', 'd'}, {0x5D1, 'c', 'd'}},
+        {"a row that starts inside a run of spaces", 0, 0, "11", "11", "10", "10", {' ', 0x5D1}, {0x5D1, ' '}},
+        {"a row that ends inside a cluster", 0, 0, "11", "10", "01", "01", {0x5D0, 0x200D}, {0x5D0, 0x200D}},
+        {"a row that starts inside a cluster", 1, 0, "111", "111", "210", "210", {0x200D, 0x5D0, 0x5D1},
+         {0x5D1, 0x5D0, 0x200D}},
+        {"a mark by default", 1, 0, "111", "111", "210", "210", {0x5D0, 0x5B8, 0x5D1}, {0x5D1, 0x5B8, 0x5D0}},
+        {"a mark with L3", 1, HORDGULI_REORDER_NSM, "111", "111", "120", "201", {0x5D0, 0x5B8, 0x5D1},
+         {0x5D1, 0x5D0, 0x5B8}},
+        {"a mark whose base is in the row before", 1, HORDGULI_REORDER_NSM, "11", "11", "10", "10", {0x5B8, 0x5D1},
+         {0x5D1, 0x5B8}},
+    };
+    static const uint32_t characters[] = {'a', 0x5D0, ' '}, no_character[] = {'a', 0xD800, ' '};
+    static const uint8_t levels[] = {0, 1, 1}, too_high[] = {0, 127, 1};
+    uint32_t visual[4] = {7, 7, 7, 7}, vtol[4] = {7, 7, 7, 7}, both[4] = {'a', 'b', 'c', 'd'};
+    hordguli_run runs[4] = {{7, 7, 7, 7}, {7, 7, 7, 7}, {7, 7, 7, 7}, {7, 7, 7, 7}};
+    size_t count = 77;
+    for (size_t k = 0; k < sizeof all / sizeof *all; k++) is_row(&all[k]);
+    IS(hordguli_row(NULL, 0, 0, 3, characters, levels, 4, visual, NULL, NULL, NULL), NULL);
+    IS(hordguli_row(&tables, 0, 0, 3, NULL, levels, 4, visual, NULL, NULL, NULL), NULL);
+    IS(hordguli_row(&tables, 0, 0, 3, characters, NULL, 4, visual, NULL, NULL, NULL), NULL);
+    IS(hordguli_row(&tables, 0, 0, 3, both, levels, 4, both, NULL, NULL, NULL), OVERLAP);
+    IS(hordguli_row(&tables, 0, 0, 3, characters, (uint8_t *)both, 4, NULL, NULL, NULL, both), OVERLAP);
+    IS(hordguli_row(&tables, 0, 0, 3, characters, levels, 4, visual, NULL, visual + 3, NULL), OVERLAP);
+    for (uint32_t bit = 0; bit < 32; bit += bit == 2 ? 2 : 1) /* all but HORDGULI_REORDER_NSM */
+        IS(hordguli_row(&tables, UINT32_C(1) << bit, 0, 3, characters, levels, 4, visual, NULL, NULL, NULL),
+           UNKNOWN_OPTION);
+    IS(hordguli_row(&no_tables, 0, 0, 3, characters, levels, 4, visual, NULL, NULL, NULL), CLOSED);
+    IS(hordguli_row(&tables, 0, 0, 3, characters, levels, 2, visual, NULL, NULL, NULL), NO_ROOM);
+    IS(hordguli_row(&tables, 0, 0, 3, no_character, levels, 4, visual, NULL, NULL, NULL), NOT_A_CHARACTER);
+    IS(hordguli_row(&tables, 0, 2, 3, characters, levels, 4, visual, NULL, NULL, NULL), OUT_OF_RANGE);
+    IS(hordguli_row(&tables, 0, 0, 3, characters, too_high, 4, visual, NULL, NULL, NULL), OUT_OF_RANGE);
+    HOLDS(visual[0] == 7);
+    OK(hordguli_row(&tables, 0, 0, 3, characters, levels, 3, visual, NULL, NULL, NULL)); /* exactly large enough */
+    HOLDS(visual[0] == 'a' && visual[1] == 0x5D0 && visual[2] == ' ' && visual[3] == 7);
+    OK(hordguli_row(&tables, 0, 1, 3, characters, levels, 4, NULL, NULL, NULL, vtol));
+    HOLDS(vtol[0] == 0 && vtol[1] == 2 && vtol[2] == 1 && vtol[3] == 7);
+    OK(hordguli_row(&tables, 0, 0, 3, characters, levels, 0, NULL, NULL, NULL, NULL));
+    OK(hordguli_row(&tables, 0, 0, 3, (const uint32_t *)both, (const uint8_t *)both, 4, visual, NULL, NULL, NULL));
+    OK(hordguli_row(&tables, 0, 0, 0, NULL, NULL, 0, NULL, NULL, NULL, NULL));
+
+    IS(hordguli_row_runs(NULL, 0, 3, characters, levels, 4, runs, &count), NULL);
+    IS(hordguli_row_runs(&tables, 0, 3, NULL, levels, 4, runs, &count), NULL);
+    IS(hordguli_row_runs(&tables, 0, 3, characters, NULL, 4, runs, &count), NULL);
+    IS(hordguli_row_runs(&tables, 0, 3, characters, levels, 4, NULL, &count), NULL);
+    IS(hordguli_row_runs(&tables, 0, 3, characters, levels, 4, runs, NULL), NULL);
+    IS(hordguli_row_runs(&tables, 0, 3, characters, levels, 4, runs, (size_t *)runs), OVERLAP);
+    IS(hordguli_row_runs(&no_tables, 0, 3, characters, levels, 4, runs, &count), CLOSED);
+    IS(hordguli_row_runs(&tables, 0, 3, no_character, levels, 4, runs, &count), NOT_A_CHARACTER);
+    IS(hordguli_row_runs(&tables, 2, 3, characters, levels, 4, runs, &count), OUT_OF_RANGE);
+    IS(hordguli_row_runs(&tables, 0, 3, characters, too_high, 4, runs, &count), OUT_OF_RANGE);
+    HOLDS(count == 77 && runs[0].start == 7);
+    IS(hordguli_row_runs(&tables, 0, 3, characters, levels, 2, runs, &count), NO_ROOM);
+    HOLDS(count == 3 && runs[0].start == 7);
+    OK(hordguli_row_runs(&tables, 0, 3, characters, levels, 3, runs, &count)); /* the space at the end is at level 0 */
+    HOLDS(count == 3 && runs[0].start == 0 && runs[0].length == 1 && runs[0].level == 0 && runs[0].zero == 0);
+    HOLDS(runs[1].start == 1 && runs[1].length == 1 && runs[1].level == 1 && runs[2].start == 2 && runs[2].level == 0);
+    HOLDS(runs[3].start == 7);
+    OK(hordguli_row_runs(&tables, 1, 3, characters, levels, 3, runs, &count)); /* and here at level 1 */
+    HOLDS(count == 2 && runs[0].start == 0 && runs[1].start == 1 && runs[1].length == 2 && runs[1].level == 1);
+    OK(hordguli_row_runs(&tables, 0, 0, NULL, NULL, 0, NULL, &count));
+    HOLDS(count == 0);
+}
+
 /* After a final separator, the end of the text is on a line that does not exist yet. */
 static void end_of_text(void) {
     hordguli_damage damage;
@@ -626,12 +1244,20 @@ int main(int count, char **words) {
     opened();
     counts();
     changed();
+    changed_without_damage();
     places();
+    edge_statuses();
+    edges_where_the_direction_changes();
+    edges_of_clusters();
+    edges_of_lines();
     lines();
     printed();
     text_of_ranges();
+    characters_of_ranges();
     paragraphs();
     without_session();
+    properties();
+    rows();
     end_of_text();
     too_long();
     /* a session outlives the tables that it was opened on */

@@ -33,18 +33,6 @@ static int next(void) {
     }
 }
 
-static size_t encoded(char *into) {
-    size_t at = 0;
-    for (size_t k = 0; k < length; k++) {
-        uint32_t c = text[k];
-        int more = c < 0x80 ? 0 : c < 0x800 ? 1 : c < 0x10000 ? 2 : 3;
-        static const unsigned char first[] = {0, 0xC0, 0xE0, 0xF0};
-        into[at++] = (char)(first[more] | c >> 6 * more);
-        while (more-- > 0) into[at++] = (char)(0x80 | (c >> 6 * more & 63));
-    }
-    return at;
-}
-
 static void marks_of(hordguli_tables *tables) {
     static uint8_t marks[MOST];
     while (next()) {
@@ -108,7 +96,7 @@ static void lines_of(hordguli_tables *tables, uint32_t direction) {
         hordguli_counts counts;
         size_t shown = length;
         uint32_t base;
-        check(hordguli_replace(&session, 0, before, bytes, encoded(bytes), &damage));
+        check(hordguli_replace(&session, 0, before, bytes, encoded(text, length, bytes), &damage));
         before = length;
         check(hordguli_session_counts(&session, &counts));
         if (counts.lines == 1) {

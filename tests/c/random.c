@@ -33,8 +33,10 @@ static void same_lines(hordguli_session *kept, hordguli_session *anew, const hor
     hordguli_session *both[2] = {kept, anew};
     for (size_t line = 0; line < counts->lines; line++) {
         hordguli_line_info infos[2];
-        size_t starts[2], shown;
+        static hordguli_run runs[2][MOST * 4];
+        size_t starts[2], shown, run_counts[2];
         for (int k = 0; k < 2; k++) {
+            OK(hordguli_runs(both[k], line, MOST * 4, runs[k], &run_counts[k]));
             OK(hordguli_line(both[k], line, &infos[k], BYTES, characters[k], levels[k], ltov[k], vtol[k], columns[k]));
             OK(hordguli_line_start(both[k], line, &starts[k]));
         }
@@ -45,19 +47,55 @@ static void same_lines(hordguli_session *kept, hordguli_session *anew, const hor
         HOLDS(memcmp(ltov[0], ltov[1], shown * sizeof **ltov) == 0);
         HOLDS(memcmp(vtol[0], vtol[1], shown * sizeof **vtol) == 0);
         HOLDS(memcmp(columns[0], columns[1], shown * sizeof **columns) == 0);
+        HOLDS(run_counts[0] == run_counts[1] && memcmp(runs[0], runs[1], run_counts[0] * sizeof **runs) == 0);
         for (size_t k = 0; k < shown; k++) {
             if (vtol[0][ltov[0][k]] == k) continue;
             HOLDS(!"the maps are inverse");
             break;
         }
     }
-    for (size_t paragraph = 0; paragraph < counts->paragraphs; paragraph++) {
+    for (size_t paragraph = 0, start = 0, line = 0; paragraph < counts->paragraphs; paragraph++) {
         hordguli_paragraph_info infos[2];
         for (int k = 0; k < 2; k++)
             OK(hordguli_paragraph(both[k], paragraph, &infos[k], BYTES, levels[k], (uint8_t *)columns[k]));
         HOLDS(memcmp(&infos[0], &infos[1], sizeof infos[0]) == 0);
+        HOLDS(infos[0].start == start && infos[0].first_line == line);
+        start += infos[0].length;
+        line += infos[0].lines;
         HOLDS(memcmp(levels[0], levels[1], infos[0].length) == 0);
         HOLDS(memcmp(columns[0], columns[1], infos[0].length) == 0);
+    }
+}
+
+/* Lines whose characters are all shown are rows of their paragraphs. */
+static void lines_are_rows(hordguli_session *session, hordguli_tables *tables, const hordguli_counts *counts,
+                           uint32_t options) {
+    static uint32_t text[BYTES], characters[2][BYTES], ltov[2][BYTES], vtol[2][BYTES];
+    static uint8_t all_levels[BYTES], levels[2][BYTES];
+    static hordguli_run runs[2][MOST * 4];
+    size_t start = 0, line = 0;
+    for (size_t paragraph = 0; paragraph < counts->paragraphs; paragraph++) {
+        hordguli_paragraph_info of;
+        OK(hordguli_paragraph(session, paragraph, &of, BYTES, all_levels, NULL));
+        for (size_t end = line + of.lines; line < end; line++) {
+            hordguli_line_info info;
+            size_t run_counts[2], count, at;
+            OK(hordguli_line(session, line, &info, BYTES, characters[0], levels[0], ltov[0], vtol[0], NULL));
+            OK(hordguli_runs(session, line, MOST * 4, runs[0], &run_counts[0]));
+            count = info.shown;
+            at = info.start - start;
+            OK(hordguli_text_utf32(session, info.start, count, BYTES, text, &count));
+            if (info.length != count) continue;
+            OK(hordguli_row(tables, options & HORDGULI_REORDER_NSM, of.base, count, text, all_levels + at, BYTES,
+                            characters[1], levels[1], ltov[1], vtol[1]));
+            OK(hordguli_row_runs(tables, of.base, count, text, all_levels + at, MOST * 4, runs[1], &run_counts[1]));
+            HOLDS(memcmp(characters[0], characters[1], count * sizeof **characters) == 0);
+            HOLDS(memcmp(levels[0], levels[1], count) == 0);
+            HOLDS(memcmp(ltov[0], ltov[1], count * sizeof **ltov) == 0);
+            HOLDS(memcmp(vtol[0], vtol[1], count * sizeof **vtol) == 0);
+            HOLDS(run_counts[0] == run_counts[1] && memcmp(runs[0], runs[1], run_counts[0] * sizeof **runs) == 0);
+        }
+        start += of.length;
     }
 }
 
@@ -110,41 +148,6 @@ static void same_places(hordguli_session *kept, hordguli_session *anew, const ho
 static uint32_t text[MOST * 4];
 static size_t length;
 
-static size_t encoded(const uint32_t *from, size_t count, char *into) {
-    size_t at = 0;
-    for (size_t k = 0; k < count; k++) {
-        uint32_t c = from[k];
-        if (c < 0x80) {
-            into[at++] = (char)c;
-        } else if (c < 0x800) {
-            into[at++] = (char)(0xC0 | c >> 6);
-            into[at++] = (char)(0x80 | (c & 63));
-        } else if (c < 0x10000) {
-            into[at++] = (char)(0xE0 | c >> 12);
-            into[at++] = (char)(0x80 | (c >> 6 & 63));
-            into[at++] = (char)(0x80 | (c & 63));
-        } else {
-            into[at++] = (char)(0xF0 | c >> 18);
-            into[at++] = (char)(0x80 | (c >> 12 & 63));
-            into[at++] = (char)(0x80 | (c >> 6 & 63));
-            into[at++] = (char)(0x80 | (c & 63));
-        }
-    }
-    return at;
-}
-
-static size_t decoded(const char *bytes, uint32_t *into) {
-    size_t count = 0;
-    for (const unsigned char *at = (const unsigned char *)bytes; *at != 0; at++) {
-        if (*at < 0x80) into[count++] = *at;
-        else if (*at < 0xC0) into[count - 1] = into[count - 1] << 6 | (*at & 63);
-        else if (*at < 0xE0) into[count++] = *at & 31;
-        else if (*at < 0xF0) into[count++] = *at & 15;
-        else into[count++] = *at & 7;
-    }
-    return count;
-}
-
 int main(int count, char **words) {
     hordguli_tables tables = HORDGULI_TABLES_INIT;
     hordguli_session kept = HORDGULI_SESSION_INIT;
@@ -158,6 +161,7 @@ int main(int count, char **words) {
         hordguli_counts counts, others;
         hordguli_damage damage;
         static char bytes[MOST * 16], got[MOST * 16];
+        static uint32_t got_characters[MOST * 4];
         size_t pos = below(length + 1), taken = 0, size, got_size, old_lines = 0, old_paragraphs = 0;
         uint32_t piece[64];
         size_t piece_length = 0;
@@ -199,6 +203,8 @@ int main(int count, char **words) {
         HOLDS(old_paragraphs - damage.old_paragraphs + damage.new_paragraphs == counts.paragraphs);
         OK(hordguli_text(&kept, 0, length, sizeof got, got, &got_size));
         HOLDS(got_size == size && memcmp(got, bytes, size) == 0);
+        OK(hordguli_text_utf32(&kept, 0, length, MOST * 4, got_characters, &got_size));
+        HOLDS(got_size == length && memcmp(got_characters, text, length * sizeof *text) == 0);
         OK(hordguli_utf8_length(&kept, 0, length, &got_size));
         HOLDS(got_size == size);
         OK(hordguli_count_utf8(bytes, size, &got_size));
@@ -206,6 +212,7 @@ int main(int count, char **words) {
         same_pages(&kept, &anew, &counts, HORDGULI_PRINT_DEFAULT);
         same_pages(&kept, &anew, &counts, (uint32_t)below(128));
         same_lines(&kept, &anew, &counts);
+        lines_are_rows(&kept, &tables, &counts, options);
         same_places(&kept, &anew, &counts);
         hordguli_session_close(&anew);
         if (failed > 20) break;

@@ -65,17 +65,28 @@ static const char *folder;
 static hordguli_tables tables = HORDGULI_TABLES_INIT;
 static hordguli_session session = HORDGULI_SESSION_INIT;
 static const uint32_t characters[] = {0x5D0, '(', 'a', ')', 0x2067, '1', 0x2069, ' ', 0x4E00};
-static uint8_t found_levels[9], found_marks[9];
+static const uint8_t levels_before[] = {1, 1, 2, 1, 1, 2, 1, 1, 2};
+static uint8_t found_levels[9], found_marks[9], found_row[9];
+static uint32_t found_visual[9];
+static hordguli_run found_runs[9];
 static uint32_t found_base;
 static hordguli_cluster found_cluster;
 static hordguli_word found_word;
+static const hordguli_edge edge = {3, HORDGULI_AFTER, 0};
+static hordguli_edge found_edge;
+static hordguli_caret found_caret;
+static uint32_t found_moved;
+static size_t found_ends[100];
 static hordguli_damage damage;
 static char found_bytes[BYTES];
 static size_t found_length;
 static uint32_t found_characters[100];
 static hordguli_line_info found_info;
 
-enum { OPEN_TABLES, OPEN, INSERT, REPLACE, WIDTH, CLUSTER, WORD, DELETE, BASE, LEVELS, MARKS, LINES, TEXT, PAGE, STEPS };
+enum {
+    OPEN_TABLES, OPEN, INSERT, REPLACE, WIDTH, CLUSTER, WORD, CARET, STEP, EDGE, CLUSTERS, DELETE, BASE, LEVELS, MARKS, ROW,
+    ROW_RUNS, LINES, TEXT, PAGE, STEPS
+};
 
 static const char start[] = "ab \u05d0\u05d1 12\nx\n";
 
@@ -88,10 +99,18 @@ static hordguli_status step(int k) {
         case WIDTH: return hordguli_set_width(&session, 2, &damage);
         case CLUSTER: return hordguli_cluster_at(&session, 2, &found_cluster);
         case WORD: return hordguli_word_at(&session, 2, &found_word);
+        case CARET: return hordguli_edge_caret(&session, edge, &found_caret);
+        case STEP: return hordguli_step(&session, edge, HORDGULI_LEFT, &found_edge, &found_moved);
+        case EDGE: return hordguli_edge_at(&session, 1, 1, &found_edge);
+        case CLUSTERS: return hordguli_line_clusters(&session, 1, 100, found_ends, &found_length);
         case DELETE: return hordguli_delete(&session, 2, 4, &damage);
         case BASE: return hordguli_base(&tables, 0, characters, 9, &found_base);
         case LEVELS: return hordguli_levels(&tables, 0, characters, 9, 9, found_levels);
         case MARKS: return hordguli_marks(&tables, 0, characters, 9, 9, found_marks);
+        case ROW:
+            return hordguli_row(&tables, 0, 1, 9, characters, levels_before, 9, found_visual, found_row, NULL, NULL);
+        case ROW_RUNS:
+            return hordguli_row_runs(&tables, 1, 9, characters, levels_before, 9, found_runs, &found_length);
         case LINES: return hordguli_lines_utf8(&session, 0, 2, 127, BYTES, found_bytes, &found_length);
         case TEXT: return hordguli_text(&session, 0, 5, BYTES, found_bytes, &found_length);
         default: return hordguli_line(&session, 1, &found_info, 100, found_characters, NULL, NULL, NULL, NULL);
@@ -118,9 +137,13 @@ int main(int count, char **words) {
             damage = no_damage;
             memset(found_levels, 77, sizeof found_levels);
             memset(found_marks, 77, sizeof found_marks);
+            memset(found_row, 77, sizeof found_row);
+            found_visual[0] = 77;
+            found_runs[0].level = 77;
             found_base = 77;
             found_length = 77;
             found_bytes[0] = '?';
+            found_edge.pos = found_caret.line = found_moved = found_ends[0] = 77;
             status = step(k);
             HOLDS(status == HORDGULI_OK || status == HORDGULI_NO_MEMORY);
             if (status == HORDGULI_OK) continue;
@@ -128,6 +151,8 @@ int main(int count, char **words) {
             HOLDS(asked >= refused_at && live == held);
             HOLDS(memcmp(&damage, &no_damage, sizeof damage) == 0 && found_base == 77);
             HOLDS(found_levels[0] == 77 && found_marks[0] == 77 && found_length == 77 && found_bytes[0] == '?');
+            HOLDS(found_row[0] == 77 && found_visual[0] == 77 && found_runs[0].level == 77);
+            HOLDS(found_edge.pos == 77 && found_caret.line == 77 && found_moved == 77 && found_ends[0] == 77);
             HOLDS(k != OPEN_TABLES || tables.at == NULL);
             HOLDS(k != OPEN || session.at == NULL);
             if (session.at != NULL) {

@@ -50,7 +50,11 @@ static void constants_have_their_numbers(void) {
     NUMBER(NOBREAK, 4), NUMBER(REORDER_NSM, 8), NUMBER(WHOLE_NUMBERS, 16);
     NUMBER(PRINT_VISUAL, 1), NUMBER(PRINT_BASEDIR, 2), NUMBER(PRINT_LTOV, 4), NUMBER(PRINT_VTOL, 8);
     NUMBER(PRINT_LEVELS, 16), NUMBER(PRINT_PADDED, 32), NUMBER(PRINT_MIRRORED, 64), NUMBER(PRINT_DEFAULT, 97);
+    NUMBER(BEFORE, 0), NUMBER(AFTER, 1), NUMBER(LEFT, 0), NUMBER(RIGHT, 1);
     NUMBER(BREAK_NEVER, 0), NUMBER(BREAK_MAY, 1), NUMBER(BREAK_MUST, 2);
+    NUMBER(MARK, 1), NUMBER(WIDE, 2), NUMBER(BRACKET_NONE, 0), NUMBER(BRACKET_OPEN, 1), NUMBER(BRACKET_CLOSE, 2);
+    NUMBER(BIDI_CLASS_L, 0), NUMBER(BIDI_CLASS_B, 10), NUMBER(BIDI_CLASS_PDI, 22);
+    NUMBER(LINE_CLASS_BK, 0), NUMBER(LINE_CLASS_B2, 10), NUMBER(LINE_CLASS_XX, 42);
     NUMBER(TABLE_FILES, 7);
     NUMBER(BIDI_CLASS, 0), NUMBER(BIDI_BRACKETS, 1), NUMBER(BIDI_MIRRORING, 2), NUMBER(LINE_BREAK, 3);
     NUMBER(GENERAL_CATEGORY, 4), NUMBER(EAST_ASIAN_WIDTH, 5), NUMBER(EMOJI_DATA, 6);
@@ -111,6 +115,26 @@ SIZE(hit, WORDS(1) + 8);
 FIELD(cluster, start, WORDS(0), size_t);
 FIELD(cluster, end, WORDS(1), size_t);
 SIZE(cluster, WORDS(2));
+FIELD(run, start, WORDS(0), size_t);
+FIELD(run, length, WORDS(1), size_t);
+FIELD(run, level, WORDS(2), uint32_t);
+FIELD(run, zero, WORDS(2) + 4, uint32_t);
+SIZE(run, WORDS(2) + 8);
+FIELD(word, start, WORDS(0), size_t);
+FIELD(word, end, WORDS(1), size_t);
+FIELD(word, kind, WORDS(2), uint32_t);
+FIELD(word, zero, WORDS(2) + 4, uint32_t);
+SIZE(word, WORDS(2) + 8);
+FIELD(position, pos, WORDS(0), size_t);
+FIELD(position, rest, WORDS(1), size_t);
+SIZE(position, WORDS(2));
+FIELD(span, left, WORDS(0), size_t);
+FIELD(span, right, WORDS(1), size_t);
+SIZE(span, WORDS(2));
+FIELD(edge, pos, WORDS(0), size_t);
+FIELD(edge, side, WORDS(1), uint32_t);
+FIELD(edge, zero, WORDS(1) + 4, uint32_t);
+SIZE(edge, WORDS(1) + 8);
 FIELD(line_info, start, WORDS(0), size_t);
 FIELD(line_info, length, WORDS(1), size_t);
 FIELD(line_info, shown, WORDS(2), size_t);
@@ -119,11 +143,21 @@ FIELD(line_info, padding, WORDS(4), size_t);
 FIELD(line_info, base, WORDS(5), uint32_t);
 FIELD(line_info, first, WORDS(5) + 4, uint32_t);
 SIZE(line_info, WORDS(5) + 8);
+FIELD(character, mirror, 0, uint32_t);
+FIELD(character, pair, 4, uint32_t);
+FIELD(character, flags, 8, uint32_t);
+FIELD(character, bidi_class, 12, uint8_t);
+FIELD(character, line_class, 13, uint8_t);
+FIELD(character, columns, 14, uint8_t);
+FIELD(character, bracket, 15, uint8_t);
+SIZE(character, 16);
 FIELD(paragraph_info, length, WORDS(0), size_t);
 FIELD(paragraph_info, lines, WORDS(1), size_t);
 FIELD(paragraph_info, base, WORDS(2), uint32_t);
 FIELD(paragraph_info, zero, WORDS(2) + 4, uint32_t);
-SIZE(paragraph_info, WORDS(2) + 8);
+FIELD(paragraph_info, start, WORDS(2) + 8, size_t);
+FIELD(paragraph_info, first_line, WORDS(3) + 8, size_t);
+SIZE(paragraph_info, WORDS(4) + 8);
 
 /* A paragraph of two lines; a right-to-left paragraph of two lines, the second with two marks of width 0 and a number;
  * and a paragraph of one line. */
@@ -307,9 +341,48 @@ static void places_have_each_value_in_its_field(void) {
     hordguli_session_close(&session);
 }
 
+static void is_edge(const hordguli_edge *edge, size_t pos, uint32_t side) {
+    HOLDS(edge->pos == pos), HOLDS(edge->side == side), HOLDS(edge->zero == 0);
+}
+
+static void edges_have_each_value_in_their_field(void) {
+    hordguli_session session = HORDGULI_SESSION_INIT;
+    hordguli_edge edge = {27, 1, 77}, first = {77, 77, 77}, last = {77, 77, 77};
+    hordguli_caret caret = {77, 77, 77, 77};
+    uint32_t moved = 77;
+    size_t ends[8] = {0}, count = 77;
+    static const size_t cluster_ends[7] = {2, 4, 5, 6, 7, 8, 9};
+    reopen(&session, mixed, 8);
+    /* after the space, which is at an odd level; the number before it is at an even one */
+    OK(hordguli_edge_caret(&session, edge, &caret));
+    HOLDS(caret.line == 3), HOLDS(caret.column == 2), HOLDS(caret.level == 1), HOLDS(caret.zero == 0);
+    OK(hordguli_step(&session, edge, 0, &first, &moved));
+    HOLDS(moved == 1), is_edge(&first, 28, 0);
+    OK(hordguli_step(&session, edge, 1, &first, &moved));
+    HOLDS(moved == 1), is_edge(&first, 26, 0);
+    edge.side = 0;
+    OK(hordguli_edge_caret(&session, edge, &caret));
+    HOLDS(caret.line == 3), HOLDS(caret.column == 0), HOLDS(caret.level == 2), HOLDS(caret.zero == 0);
+    OK(hordguli_step(&session, edge, 0, &first, &moved));
+    HOLDS(moved == 0), is_edge(&first, 26, 0);
+    OK(hordguli_step(&session, edge, 1, &first, &moved));
+    HOLDS(moved == 1), is_edge(&first, 28, 1);
+    OK(hordguli_edge_at(&session, 3, 4, &edge));
+    is_edge(&edge, 25, 1);
+    OK(hordguli_line_edges(&session, 3, &first, &last));
+    is_edge(&first, 21, 0), is_edge(&last, 29, 0);
+    OK(hordguli_line_edges(&session, 0, &first, &last));
+    is_edge(&first, 0, 0), is_edge(&last, 7, 0);
+    OK(hordguli_line_clusters(&session, 3, 8, ends, &count));
+    HOLDS(count == 7), HOLDS(memcmp(ends, cluster_ends, sizeof cluster_ends) == 0), HOLDS(ends[7] == 0);
+    hordguli_session_close(&session);
+}
+
 static void lines_have_each_value_in_its_field(void) {
     hordguli_session session = HORDGULI_SESSION_INIT;
     hordguli_line_info info = {77, 77, 77, 77, 77, 77, 77};
+    hordguli_run runs[2] = {{77, 77, 77, 77}, {77, 77, 77, 77}};
+    size_t count = 77;
     uint32_t characters[9] = {0}, ltov[9] = {0}, vtol[9] = {0};
     uint8_t levels[9] = {0};
     size_t columns[9] = {0};
@@ -326,6 +399,10 @@ static void lines_have_each_value_in_its_field(void) {
     HOLDS(memcmp(ltov, to_visual, sizeof to_visual) == 0);
     HOLDS(memcmp(vtol, to_logical, sizeof to_logical) == 0);
     HOLDS(memcmp(columns, widths, sizeof widths) == 0);
+    OK(hordguli_runs(&session, 3, 2, runs, &count));
+    HOLDS(count == 2), HOLDS(runs[0].start == 6), HOLDS(runs[0].length == 2), HOLDS(runs[0].level == 2);
+    HOLDS(runs[1].start == 0), HOLDS(runs[1].length == 6), HOLDS(runs[1].level == 1);
+    HOLDS(runs[0].zero == 0), HOLDS(runs[1].zero == 0);
     OK(hordguli_line(&session, 4, &info, 0, NULL, NULL, NULL, NULL, NULL));
     HOLDS(info.start == 30), HOLDS(info.length == 4), HOLDS(info.shown == 4), HOLDS(info.columns == 4);
     HOLDS(info.padding == 0), HOLDS(info.base == 0), HOLDS(info.first == 1);
@@ -334,13 +411,14 @@ static void lines_have_each_value_in_its_field(void) {
 
 static void paragraphs_have_each_value_in_its_field(void) {
     hordguli_session session = HORDGULI_SESSION_INIT;
-    hordguli_paragraph_info info = {77, 77, 77, 77};
+    hordguli_paragraph_info info = {77, 77, 77, 77, 77, 77};
     uint8_t levels[17] = {0}, marks[17] = {0};
     static const uint8_t all_levels[16] = {1, 1, 1, 1, 1, 1, 1, 1, 1, 1, 1, 1, 1, 2, 2, 1};
     static const uint8_t all_marks[16] = {0, 0, 0, 0, 0, 0, 1, 0, 0, 0, 0, 0, 1, 0, 0, 2};
     reopen(&session, mixed, 8);
     OK(hordguli_paragraph(&session, 1, &info, 17, levels, marks));
     HOLDS(info.length == 16), HOLDS(info.lines == 2), HOLDS(info.base == 1), HOLDS(info.zero == 0);
+    HOLDS(info.start == 14), HOLDS(info.first_line == 2);
     HOLDS(memcmp(levels, all_levels, sizeof all_levels) == 0);
     HOLDS(memcmp(marks, all_marks, sizeof all_marks) == 0);
     hordguli_session_close(&session);
@@ -353,13 +431,18 @@ static void parameters_are_not_exchanged(void) {
     size_t length = 77;
     uint32_t base = 77;
     uint8_t found[4] = {77, 77, 77, 77};
-    static const uint32_t characters[] = {'a', ' ', 0x5D0, 'b'};
+    uint32_t both[4] = {77, 77, 77, 77}, maps[2][4] = {{77, 77, 77, 77}, {77, 77, 77, 77}};
+    hordguli_run runs[4] = {{77, 77, 77, 77}};
+    static const uint32_t characters[] = {'a', ' ', 0x5D0, 'b'}, row[] = {'(', 0x5D0, '1', ' '};
+    static const uint8_t row_levels[] = {1, 1, 2, 1};
     static const char printed[] = "12 \u05d5\u05b0\u05d4\u05b0\u05d3\nlast\n";
     reopen(&session, mixed, 8);
     OK(hordguli_lines_utf8(&session, 3, 2, 1, sizeof bytes, bytes, &length));
     HOLDS(length == sizeof printed - 1 && memcmp(bytes, printed, length) == 0);
     OK(hordguli_text(&session, 8, 6, sizeof bytes, bytes, &length));
     HOLDS(length == 6 && memcmp(bytes, "three\n", 6) == 0);
+    OK(hordguli_text_utf32(&session, 2, 3, 4, both, &length));
+    HOLDS(length == 3 && both[0] == 'e' && both[1] == ' ' && both[2] == 't' && both[3] == 77);
     OK(hordguli_utf8_length(&session, 12, 3, &length));
     HOLDS(length == 4);
     OK(hordguli_valid_utf8("\u05d0a\xd7\u05d1", 6, &length));
@@ -372,6 +455,17 @@ static void parameters_are_not_exchanged(void) {
     HOLDS(found[0] == 2 && found[1] == 1 && found[2] == 1 && found[3] == 77);
     OK(hordguli_marks(&tables, 16, characters, 3, 4, found));
     HOLDS(found[0] == 0 && found[1] == 1 && found[2] == 2 && found[3] == 77);
+    OK(hordguli_row(&tables, 8, 0, 4, row, row_levels, 4, both, found, maps[0], maps[1]));
+    HOLDS(both[0] == '1' && both[1] == 0x5D0 && both[2] == ')' && both[3] == ' ');
+    HOLDS(found[0] == 1 && found[1] == 1 && found[2] == 2 && found[3] == 0);
+    HOLDS(maps[0][0] == 2 && maps[0][1] == 1 && maps[0][2] == 0 && maps[0][3] == 3);
+    HOLDS(maps[1][0] == 2 && maps[1][1] == 1 && maps[1][2] == 0 && maps[1][3] == 3);
+    OK(hordguli_row(&tables, 0, 1, 3, (const uint32_t[]){0x5D0, '1', '2'}, (const uint8_t[]){1, 2, 2}, 4, both, found,
+                    maps[0], maps[1]));
+    HOLDS(maps[0][0] == 2 && maps[0][1] == 0 && maps[0][2] == 1 && maps[0][3] == 3);
+    HOLDS(maps[1][0] == 1 && maps[1][1] == 2 && maps[1][2] == 0 && maps[1][3] == 3);
+    OK(hordguli_row_runs(&tables, 0, 3, row, row_levels, 4, runs, &length));
+    HOLDS(length == 2 && runs[0].start == 2 && runs[0].length == 1 && runs[1].start == 0 && runs[1].length == 2);
     hordguli_session_close(&session);
     /* options 2 and width 3 */
     OK(hordguli_session_open(&session, &tables, 2, 3, "\u05d0 \u05d1 \u05d2 \u05d3", 11));
@@ -393,6 +487,7 @@ typedef struct memory {
     uint64_t out[8];
     uint64_t arrays[5][ELEMENTS];
     uint32_t characters[ELEMENTS];
+    uint8_t levels[ELEMENTS];
 } memory;
 
 static memory own, before;
@@ -404,7 +499,8 @@ typedef struct arguments {
     const hordguli_bytes *files;
     hordguli_table_fault *fault;
     const char *folder;
-    uint32_t flags; /* options, print flags or a direction */
+    uint32_t flags; /* options, print flags, a base direction or a side */
+    uint32_t direction; /* left or right */
     uint32_t width;
     const char *text;
     size_t length;
@@ -413,8 +509,10 @@ typedef struct arguments {
     size_t column;
     size_t capacity;
     const uint32_t *characters;
-    void *out;       /* the output parameter */
-    void *arrays[5]; /* the arrays that are written */
+    uint32_t base;
+    const uint8_t *levels; /* of the characters */
+    void *out;             /* the output parameter */
+    void *arrays[5];       /* the arrays that are written */
 } arguments;
 
 /* The parts of a call's arguments that a `way` determines, as bits. Two ways can be combined if they have no bit in
@@ -437,7 +535,10 @@ enum {
     FOLDER = 1 << 14,
     FILES_IS = 1 << 15,
     FILE_0 = 1 << 16,
-    FILES = 127 << 16
+    FILES = 127 << 16,
+    LEVELS = 1 << 23,
+    BASE = 1 << 24,
+    DIRECTION = 1 << 25
 };
 
 typedef struct call call;
@@ -500,6 +601,7 @@ WAY(null_folder, a->folder = NULL)
 WAY(null_text, a->text = NULL; a->length = which)
 WAY(null_characters, a->characters = NULL)
 WAY(null_array, a->arrays[which] = NULL)
+WAY(null_levels, a->levels = NULL)
 WAY(closed_tables, a->tables = &own.no_tables)
 WAY(closed_session, a->session = &own.no_session)
 WAY(open_tables, a->tables = &own.tables)
@@ -517,13 +619,16 @@ WAY(long_text, a->length = which == 0 ? (size_t)PTRDIFF_MAX + 1 : SIZE_MAX)
 WAY(long_null_text, a->text = NULL; a->length = SIZE_MAX)
 WAY(characters_at_out, a->characters = a->out)
 WAY(characters_at_tables, a->characters = (const uint32_t *)a->tables)
+WAY(levels_at_tables, a->levels = (const uint8_t *)a->tables)
 WAY(many_characters, a->count = which == 0 ? (size_t)PTRDIFF_MAX / 4 + 1 : which == 1 ? SIZE_MAX / 4 + 2 : SIZE_MAX)
 WAY(many_null_characters, a->characters = NULL; a->count = SIZE_MAX)
 WAY(array_at_session, a->arrays[which] = a->session)
 WAY(array_at_tables, a->arrays[which] = a->tables)
 WAY(array_at_out, a->arrays[which] = a->out)
 WAY(array_at_characters, a->arrays[which] = (void *)(uintptr_t)a->characters)
+WAY(array_at_levels, a->arrays[which] = (void *)(uintptr_t)a->levels)
 WAY(array_at_other, a->arrays[which / 5] = a->arrays[which % 5 == which / 5 ? (which + 1) % 5 : which % 5])
+WAY(array_at_other_of_4, a->arrays[which / 4] = a->arrays[which % 4 == which / 4 ? (which + 1) % 4 : which % 4])
 WAY(array_at_first, a->arrays[1] = (char *)a->arrays[0] + a->capacity - 1)
 WAY(long_arrays, a->capacity = which == 0 ? (size_t)PTRDIFF_MAX + 1 : SIZE_MAX)
 /* the size of one array in bytes exceeds SIZE_MAX, and wraps around to 4 or 8 */
@@ -540,6 +645,8 @@ WAY(tables_in_files, a->tables = (hordguli_tables *)(uintptr_t)(a->files + which
 
 /* values */
 WAY(unknown_option, a->flags |= UINT32_C(1) << which)
+WAY(unknown_direction, a->direction |= UINT32_C(1) << which)
+WAY(after_nothing, a->at = 0; a->flags = HORDGULI_AFTER)
 WAY(width_0, a->width = 0)
 WAY(width_above, a->width = which == 0 ? 65536 : which == 1 ? 65536 + 80 : UINT32_MAX)
 WAY(at_past_end, a->at = which == 0 ? c->end : SIZE_MAX; a->count = 0)
@@ -559,6 +666,8 @@ WAY(many_letters_not_utf8, a->text = letters; a->length = CHARACTERS + 2)
 WAY(joined_paragraph, a->session = &own.long_session; a->at = HALF; a->count = 1)
 WAY(not_a_character, static const uint32_t wrong[] = {0xD800, 0xDFFF, 0x110000, UINT32_MAX};
     own.characters[which % 2 == 0 ? 0 : c->count - 1] = wrong[which / 2])
+WAY(level_above, own.levels[which % 2 == 0 ? 0 : c->count - 1] = which / 2 == 0 ? 127 : 255)
+WAY(base_above, a->base = which == 0 ? 2 : UINT32_MAX)
 WAY(one_too_few, a->capacity = c->needed - 1)
 WAY(no_elements, a->capacity = 0)
 WAY(no_elements_null, a->capacity = 0; a->arrays[0] = NULL)
@@ -578,15 +687,32 @@ WAY(no_folder, missing = 0; a->folder = which == 0 ? "no such folder" : "")
 
 #define END {NULL, 0, NULL, 0, 0}
 
-/* A session and an output parameter */
-static const way of_session[] = {
-    {"NULL", SESSION | SESSION_IS, null_session, 0, 0},
-    {"NULL", OUT | OUT_IS, null_out, 0, 0},
-    {"OVERLAP", OUT | SESSION_IS, out_at_session, 0, 0},
-    {"OVERLAP", SESSION | OUT_IS, session_in_out, 0, 0},
-    {"CLOSED", SESSION, closed_session, 0, 0},
+/* A session and an output parameter, which may be NULL in an edit */
+#define OF_EDITED_SESSION                                      \
+    {"NULL", SESSION | SESSION_IS, null_session, 0, 0},        \
+    {"OVERLAP", OUT | SESSION_IS, out_at_session, 0, 0},       \
+    {"OVERLAP", SESSION | OUT_IS, session_in_out, 0, 0},       \
+    {"CLOSED", SESSION, closed_session, 0, 0},                 \
+    END
+static const way of_edited_session[] = {OF_EDITED_SESSION};
+static const way of_session[] = {{"NULL", OUT | OUT_IS, null_out, 0, 0}, OF_EDITED_SESSION};
+
+/* A second output parameter */
+static const way of_second_out[] = {
+    {"NULL", ARRAYS, null_array, 0, 0},
+    {"OVERLAP", ARRAYS | OUT_IS, array_at_out, 0, 0},
+    {"OVERLAP", ARRAYS | SESSION_IS, array_at_session, 0, 0},
     END,
 };
+
+/* An edge, and a direction */
+#define OF_EDGE                                        \
+    {"UNKNOWN_OPTION", FLAGS, unknown_option, 1, 31},  \
+    {"OUT_OF_RANGE", AT, at_past_end_alone, 0, 1},     \
+    {"OUT_OF_RANGE", AT | FLAGS, after_nothing, 0, 0}, \
+    END
+static const way of_edge[] = {OF_EDGE};
+static const way of_step[] = {{"UNKNOWN_OPTION", DIRECTION, unknown_direction, 1, 31}, OF_EDGE};
 
 static const way of_at[] = {{"OUT_OF_RANGE", AT, at_past_end_alone, 0, 1},
     END};
@@ -737,6 +863,42 @@ static const way of_elements[] = {
     END,
 };
 
+static const way of_records[] = {
+    {"NULL", ARRAYS, null_array, 0, 0},
+    {"OVERLAP", ARRAYS | TABLES_IS, array_at_tables, 0, 0},
+    {"OVERLAP", ARRAYS | NUMBERS | COUNT, array_at_characters, 0, 0},
+    END,
+};
+
+/* The level of each character of a row, and the base level */
+static const way of_row_levels[] = {
+    {"NULL", LEVELS, null_levels, 0, 0},
+    {"OVERLAP", LEVELS | TABLES_IS, levels_at_tables, 0, 0},
+    {"OUT_OF_RANGE", LEVELS | COUNT, level_above, 0, 3},
+    {"OUT_OF_RANGE", BASE, base_above, 0, 1},
+    END,
+};
+
+static const way of_row[] = {
+    {"OVERLAP", ARRAYS | TABLES_IS, array_at_tables, 0, 3},
+    {"OVERLAP", ARRAYS | NUMBERS | COUNT, array_at_characters, 0, 3},
+    {"OVERLAP", ARRAYS | LEVELS, array_at_levels, 0, 3},
+    {"OVERLAP", ARRAYS, array_at_other_of_4, 0, 15},
+    {"OVERLAP", CAPACITY, long_arrays, 0, 1},
+    {"OVERLAP", CAPACITY | ARRAYS, wrapping_array, 0, 0},
+    {"OVERLAP", CAPACITY | ARRAYS, wrapping_array, 2, 3},
+    {"NO_ROOM", CAPACITY, one_too_few, 0, 0},
+    {"NO_ROOM", CAPACITY | ARRAYS, one_too_few_in_one_array, 0, 3},
+    {"NO_ROOM", CAPACITY | ARRAYS, no_elements, 0, 0},
+    END,
+};
+
+static const way of_row_options[] = {
+    {"UNKNOWN_OPTION", FLAGS, unknown_option, 0, 2},
+    {"UNKNOWN_OPTION", FLAGS, unknown_option, 4, 31},
+    END,
+};
+
 static const way of_direction[] = {{"UNKNOWN_OPTION", FLAGS, unknown_option, 2, 31},
     END};
 
@@ -815,9 +977,16 @@ MAKE(utf16_of, a->session, a->at, a->out)
 MAKE(position_of_byte, a->session, a->at, a->out)
 MAKE(position_of_utf16, a->session, a->at, a->out)
 MAKE(spans, a->session, a->at, a->column, a->count, a->capacity, a->arrays[0], a->out)
+MAKE(runs, a->session, a->at, a->capacity, a->arrays[0], a->out)
+MAKE(edge_caret, a->session, (hordguli_edge){a->at, a->flags, 7}, a->out)
+MAKE(step, a->session, (hordguli_edge){a->at, a->flags, 7}, a->direction, a->out, a->arrays[0])
+MAKE(edge_at, a->session, a->at, a->column, a->out)
+MAKE(line_edges, a->session, a->at, a->out, a->arrays[0])
+MAKE(line_clusters, a->session, a->at, a->capacity, a->arrays[0], a->out)
 MAKE(line, a->session, a->at, a->out, a->capacity, a->arrays[0], a->arrays[1], a->arrays[2], a->arrays[3], a->arrays[4])
 MAKE(lines_utf8, a->session, a->at, a->count, a->flags, a->capacity, a->arrays[0], a->out)
 MAKE(text, a->session, a->at, a->count, a->capacity, a->arrays[0], a->out)
+MAKE(text_utf32, a->session, a->at, a->count, a->capacity, a->arrays[0], a->out)
 MAKE(utf8_length, a->session, a->at, a->count, a->out)
 MAKE(count_utf8, a->text, a->length, a->out)
 MAKE(valid_utf8, a->text, a->length, a->out)
@@ -825,14 +994,21 @@ MAKE(paragraph, a->session, a->at, a->out, a->capacity, a->arrays[0], a->arrays[
 MAKE(base, a->tables, a->flags, a->characters, a->count, a->out)
 MAKE(levels, a->tables, a->flags, a->characters, a->count, a->capacity, a->arrays[0])
 MAKE(marks, a->tables, a->flags, a->characters, a->count, a->capacity, a->arrays[0])
+MAKE(row, a->tables, a->flags, a->base, a->count, a->characters, a->levels, a->capacity, a->arrays[0], a->arrays[1],
+     a->arrays[2], a->arrays[3])
+MAKE(row_runs, a->tables, a->base, a->count, a->characters, a->levels, a->capacity, a->arrays[0], a->out)
+MAKE(properties, a->tables, a->count, a->characters, a->arrays[0])
 
 /* For a handle and an output parameter to overlap, neither may be NULL. */
 #define NOT_BOTH "NULL + OVERLAP"
+/* If the session is the only pointer that must not be NULL, NULL and CLOSED cannot both apply to a call. */
+#define NOT_BOTH_OF_SESSION NOT_BOTH ", NULL + CLOSED"
 #define ORDER_OF_FILE(k) "NULL (file " #k "), OVERLAP (file " #k "), "
 
 #define CALL(name, ...) {#name, make_##name, __VA_ARGS__}
 #define INSERTING "NULL, OVERLAP, NOT_UTF8, CLOSED, OUT_OF_RANGE, TEXT_TOO_LONG, PARAGRAPH_TOO_LONG, NO_MEMORY"
 #define READING "NULL, OVERLAP, CLOSED, OUT_OF_RANGE"
+#define ON_EDGE "NULL, OVERLAP, UNKNOWN_OPTION, CLOSED, OUT_OF_RANGE, NO_MEMORY"
 #define COMPUTING "NULL, OVERLAP, UNKNOWN_OPTION, CLOSED, NO_ROOM, NOT_A_CHARACTER, NO_MEMORY"
 
 /* The session has 18 characters, 3 lines and 3 paragraphs. */
@@ -845,16 +1021,17 @@ static const call calls[] = {
          "NULL, OVERLAP, WIDTH_OUT_OF_RANGE (above 65,535), UNKNOWN_OPTION, NOT_UTF8, ALREADY_OPEN (the session), "
          "CLOSED (the tables), WIDTH_OUT_OF_RANGE (0), TEXT_TOO_LONG, PARAGRAPH_TOO_LONG, NO_MEMORY",
          .ways = {of_open}, .never = "WIDTH_OUT_OF_RANGE (above 65,535) + WIDTH_OUT_OF_RANGE (0)"),
-    CALL(insert, INSERTING, .ways = {of_session, of_inserted_text, of_at}, .out_size = sizeof(hordguli_damage), .at = 2,
-         .end = 19),
-    /* A deletion makes no paragraph too long if the session is closed or the range is past the end. */
+    CALL(insert, INSERTING, .ways = {of_edited_session, of_inserted_text, of_at}, .out_size = sizeof(hordguli_damage),
+         .at = 2, .end = 19),
+    /* A deletion makes no paragraph too long if there is no open session or the range is past the end. */
     CALL(delete, "NULL, OVERLAP, CLOSED, OUT_OF_RANGE, PARAGRAPH_TOO_LONG, NO_MEMORY",
-         .ways = {of_session, of_range, of_delete}, .out_size = sizeof(hordguli_damage), .at = 2, .count = 3, .end = 19,
-         .never = NOT_BOTH ", CLOSED + PARAGRAPH_TOO_LONG, OUT_OF_RANGE + PARAGRAPH_TOO_LONG"),
-    CALL(replace, INSERTING, .ways = {of_session, of_inserted_text, of_range}, .out_size = sizeof(hordguli_damage),
-         .at = 2, .count = 3, .end = 19),
-    CALL(set_width, "NULL, OVERLAP, WIDTH_OUT_OF_RANGE, CLOSED, NO_MEMORY", .never = NOT_BOTH,
-         .ways = {of_session, of_set_width}, .out_size = sizeof(hordguli_damage)),
+         .ways = {of_edited_session, of_range, of_delete}, .out_size = sizeof(hordguli_damage), .at = 2, .count = 3,
+         .end = 19, .never = NOT_BOTH_OF_SESSION
+             ", NULL + PARAGRAPH_TOO_LONG, CLOSED + PARAGRAPH_TOO_LONG, OUT_OF_RANGE + PARAGRAPH_TOO_LONG"),
+    CALL(replace, INSERTING, .ways = {of_edited_session, of_inserted_text, of_range},
+         .out_size = sizeof(hordguli_damage), .at = 2, .count = 3, .end = 19),
+    CALL(set_width, "NULL, OVERLAP, WIDTH_OUT_OF_RANGE, CLOSED, NO_MEMORY", .never = NOT_BOTH_OF_SESSION,
+         .ways = {of_edited_session, of_set_width}, .out_size = sizeof(hordguli_damage)),
     CALL(session_counts, "NULL, OVERLAP, CLOSED", .never = NOT_BOTH, .ways = {of_session},
          .out_size = sizeof(hordguli_counts)),
     CALL(session_work, "NULL, OVERLAP, CLOSED", .never = NOT_BOTH, .ways = {of_session},
@@ -881,6 +1058,18 @@ static const call calls[] = {
          .out_size = sizeof(hordguli_position), .at = 17, .end = 99),
     CALL(spans, READING ", NO_ROOM", .ways = {of_session, of_at, of_buffer}, .out_size = sizeof(size_t), .at = 0,
          .count = 5, .end = 3, .needed = 2),
+    CALL(runs, READING ", NO_ROOM", .ways = {of_session, of_at, of_buffer}, .out_size = sizeof(size_t), .at = 1,
+         .end = 3, .needed = 2),
+    CALL(edge_caret, ON_EDGE, .never = NOT_BOTH, .ways = {of_session, of_edge}, .out_size = sizeof(hordguli_caret),
+         .at = 18, .end = 19, .flags = 1),
+    CALL(step, ON_EDGE, .ways = {of_session, of_second_out, of_step}, .out_size = sizeof(hordguli_edge), .at = 17,
+         .end = 19, .flags = 1),
+    CALL(edge_at, READING ", NO_MEMORY", .never = NOT_BOTH, .ways = {of_session, of_at},
+         .out_size = sizeof(hordguli_edge), .at = 2, .end = 3),
+    CALL(line_edges, READING, .ways = {of_session, of_second_out, of_at}, .out_size = sizeof(hordguli_edge), .at = 2,
+         .end = 3),
+    CALL(line_clusters, READING ", NO_MEMORY, NO_ROOM", .ways = {of_session, of_at, of_buffer},
+         .out_size = sizeof(size_t), .at = 1, .end = 3, .needed = 7),
     CALL(line, READING ", NO_ROOM", .ways = {of_session, of_at, of_line}, .out_size = sizeof(hordguli_line_info),
          .at = 1, .end = 3, .needed = 6),
     CALL(lines_utf8, "NULL, OVERLAP, UNKNOWN_OPTION, CLOSED, OUT_OF_RANGE, NO_MEMORY, NO_ROOM",
@@ -888,6 +1077,8 @@ static const call calls[] = {
          .end = 4, .needed = 12, .flags = 65),
     CALL(text, READING ", NO_MEMORY, NO_ROOM", .ways = {of_session, of_range, of_buffer}, .out_size = sizeof(size_t),
          .at = 3, .count = 4, .end = 19, .needed = 7),
+    CALL(text_utf32, READING ", NO_ROOM", .ways = {of_session, of_range, of_buffer}, .out_size = sizeof(size_t),
+         .at = 3, .count = 4, .end = 19, .needed = 4),
     CALL(utf8_length, READING, .never = NOT_BOTH, .ways = {of_session, of_range}, .out_size = sizeof(size_t), .at = 3,
          .count = 4, .end = 19),
     CALL(count_utf8, "NULL, OVERLAP, NOT_UTF8", .ways = {of_count_utf8}, .out_size = sizeof(size_t)),
@@ -898,6 +1089,12 @@ static const call calls[] = {
          .ways = {of_characters, of_base, of_direction}, .out_size = sizeof(uint32_t), .count = 5),
     CALL(levels, COMPUTING, .ways = {of_characters, of_elements, of_direction}, .count = 5, .needed = 5),
     CALL(marks, COMPUTING, .ways = {of_characters, of_elements, of_marks}, .count = 5, .needed = 5),
+    CALL(row, "NULL, OVERLAP, UNKNOWN_OPTION, CLOSED, NO_ROOM, NOT_A_CHARACTER, OUT_OF_RANGE, NO_MEMORY",
+         .ways = {of_characters, of_row_levels, of_row, of_row_options}, .count = 5, .needed = 5),
+    CALL(row_runs, "NULL, OVERLAP, CLOSED, NOT_A_CHARACTER, OUT_OF_RANGE, NO_MEMORY, NO_ROOM",
+         .ways = {of_characters, of_row_levels, of_base, of_elements}, .out_size = sizeof(size_t), .count = 5,
+         .needed = 4),
+    CALL(properties, "NULL, OVERLAP, CLOSED, NOT_A_CHARACTER", .ways = {of_characters, of_records}, .count = 5),
 };
 
 enum { CALLS = sizeof calls / sizeof *calls, MOST = 24 };
@@ -978,6 +1175,7 @@ static arguments good_arguments(const call *c, int is_new) {
     arguments a;
     int opens_tables = strncmp(c->name, "tables_", 7) == 0, opens_session = strcmp(c->name, "session_open") == 0;
     static const uint32_t characters[ELEMENTS] = {'a', ' ', 0x5D0, '1', ')', 'b'};
+    static const uint8_t levels[ELEMENTS] = {0, 0, 1, 2, 0, 0};
     if (is_new) {
         hordguli_tables_close(&own.no_tables);
         hordguli_session_close(&own.no_session);
@@ -991,6 +1189,7 @@ static arguments good_arguments(const call *c, int is_new) {
     memset(own.out, UNUSED, sizeof own.out);
     memset(own.arrays, UNUSED, sizeof own.arrays);
     memcpy(own.characters, characters, sizeof own.characters);
+    memcpy(own.levels, levels, sizeof own.levels);
     memset(&a, 0, sizeof a);
     a.tables = opens_tables ? &own.no_tables : &own.tables;
     a.session = opens_session ? &own.no_session : &own.session;
@@ -998,6 +1197,7 @@ static arguments good_arguments(const call *c, int is_new) {
     a.fault = &own.fault;
     a.folder = folder;
     a.flags = c->flags;
+    a.direction = HORDGULI_RIGHT;
     a.width = 7;
     a.text = "d\u05d3";
     a.length = 3;
@@ -1006,6 +1206,7 @@ static arguments good_arguments(const call *c, int is_new) {
     a.column = 1;
     a.capacity = ELEMENTS;
     a.characters = own.characters;
+    a.levels = own.levels;
     a.out = own.out;
     for (size_t k = 0; k < 5; k++) a.arrays[k] = own.arrays[k];
     return a;
@@ -1032,7 +1233,8 @@ static int is_set_as_promised(const call *c, hordguli_status status) {
 #ifdef WRAPPED
 /* Whether a call allocates before it finds an error. */
 static int allocates_first(const call *c, hordguli_status error) {
-    if (error == HORDGULI_NO_ROOM) return c->make == make_lines_utf8 || c->make == make_text;
+    if (error == HORDGULI_NO_ROOM)
+        return c->make == make_lines_utf8 || c->make == make_text || c->make == make_row_runs || c->make == make_line_clusters;
     return error == HORDGULI_TABLE_FAULT || error == HORDGULI_UNREAD_FILE;
 }
 #endif
@@ -1207,6 +1409,7 @@ int main(int count, char **arguments) {
     damage_has_each_value_in_its_field();
     counts_and_work_have_each_value_in_their_field();
     places_have_each_value_in_its_field();
+    edges_have_each_value_in_their_field();
     lines_have_each_value_in_its_field();
     paragraphs_have_each_value_in_its_field();
     parameters_are_not_exchanged();

@@ -45,4 +45,30 @@ static inline void *sure(void *block) {
     return block;
 }
 
+/* Writes characters as UTF-8, and returns the number of bytes. */
+static inline size_t encoded(const uint32_t *from, size_t count, char *into) {
+    size_t at = 0;
+    for (size_t k = 0; k < count; k++) {
+        uint32_t c = from[k];
+        int more = c < 0x80 ? 0 : c < 0x800 ? 1 : c < 0x10000 ? 2 : 3;
+        static const unsigned char first[] = {0, 0xC0, 0xE0, 0xF0};
+        into[at++] = (char)(first[more] | c >> 6 * more);
+        while (more-- > 0) into[at++] = (char)(0x80 | (c >> 6 * more & 63));
+    }
+    return at;
+}
+
+/* Reads characters from valid UTF-8 that ends with a NUL, and returns their number. */
+static inline size_t decoded(const char *bytes, uint32_t *into) {
+    size_t count = 0;
+    for (const unsigned char *at = (const unsigned char *)bytes; *at != 0; at++) {
+        if (*at < 0x80) into[count++] = *at;
+        else if (*at < 0xC0) into[count - 1] = into[count - 1] << 6 | (*at & 63);
+        else if (*at < 0xE0) into[count++] = *at & 31;
+        else if (*at < 0xF0) into[count++] = *at & 15;
+        else into[count++] = *at & 7;
+    }
+    return count;
+}
+
 #endif

@@ -1,11 +1,13 @@
 /* Makes the same edits on several threads at the same time, each in a session of its own. All sessions must end with the
- * same lines. Half of them are opened on tables that the threads share, under a lock. Usage: threads FOLDER THREADS
- * CHANGES. */
+ * same lines. Half of them are opened on tables that the threads share, under a lock. Then the threads hand sessions over
+ * to each other: each edit of a session is made by whichever thread is free, and the last one closes the session. Usage:
+ * threads FOLDER THREADS CHANGES. */
 #include "test.h"
 
 #include <pthread.h>
+#include <sched.h>
 
-enum { MOST_THREADS = 16, BYTES = 1 << 16 };
+enum { MOST_THREADS = 16, BYTES = 1 << 16, SESSIONS = 24, SEED = 12345 };
 
 static const char *folder;
 static long changes;
@@ -16,7 +18,7 @@ typedef struct work {
     hordguli_status status;
 } work;
 
-static work works[MOST_THREADS];
+static work works[MOST_THREADS], handers[MOST_THREADS];
 
 /* Tables that are opened on one thread and closed on another. */
 static hordguli_tables shared = HORDGULI_TABLES_INIT;
@@ -30,14 +32,33 @@ static hordguli_status open_on_shared(hordguli_session *session) {
     return status;
 }
 
+/* Makes edit `k` of a session, given the state of its random numbers. */
+static hordguli_status edit(hordguli_session *session, uint64_t *mixed, long k) {
+    static const char *const pieces[] = {"word ", "\u05e9\u05dc\u05d5\u05dd ", "12 ", "\n"};
+    hordguli_damage damage;
+    hordguli_counts counts;
+    hordguli_status status = hordguli_session_counts(session, &counts);
+    if (status != HORDGULI_OK) return status;
+    *mixed = *mixed * 6364136223846793005u + 1442695040888963407u;
+    if (counts.characters > 1000) return hordguli_delete(session, 0, 500, &damage);
+    return hordguli_insert(session, (size_t)(*mixed >> 33) % (counts.characters + 1), pieces[k % 4], strlen(pieces[k % 4]),
+                           &damage);
+}
+
+/* Writes all lines of a session. */
+static hordguli_status print(hordguli_session *session, work *at) {
+    hordguli_counts counts;
+    hordguli_status status = hordguli_session_counts(session, &counts);
+    if (status != HORDGULI_OK) return status;
+    return hordguli_lines_utf8(session, 0, counts.lines, 127, BYTES, at->bytes, &at->length);
+}
+
 /* Runs one thread. Every other thread uses the shared tables. */
 static void *run(void *given) {
     work *at = given;
     hordguli_tables tables = HORDGULI_TABLES_INIT;
     hordguli_session session = HORDGULI_SESSION_INIT;
-    hordguli_damage damage;
-    hordguli_counts counts;
-    uint64_t mixed = 12345;
+    uint64_t mixed = SEED;
     if ((at - works) % 2 == 0) {
         at->status = open_on_shared(&session);
     } else {
@@ -45,22 +66,73 @@ static void *run(void *given) {
         if (at->status == HORDGULI_OK) at->status = hordguli_session_open(&session, &tables, 0, 30, "a\n", 2);
         hordguli_tables_close(&tables);
     }
-    for (long k = 0; k < changes && at->status == HORDGULI_OK; k++) {
-        static const char *const pieces[] = {"word ", "\u05e9\u05dc\u05d5\u05dd ", "12 ", "\n"};
-        size_t pos;
-        mixed = mixed * 6364136223846793005u + 1442695040888963407u;
-        at->status = hordguli_session_counts(&session, &counts);
-        if (at->status != HORDGULI_OK) break;
-        pos = (size_t)(mixed >> 33) % (counts.characters + 1);
-        if (counts.characters > 1000)
-            at->status = hordguli_delete(&session, 0, 500, &damage);
-        else
-            at->status = hordguli_insert(&session, pos, pieces[k % 4], strlen(pieces[k % 4]), &damage);
-    }
-    if (at->status == HORDGULI_OK) at->status = hordguli_session_counts(&session, &counts);
-    if (at->status == HORDGULI_OK)
-        at->status = hordguli_lines_utf8(&session, 0, counts.lines, 127, BYTES, at->bytes, &at->length);
+    for (long k = 0; k < changes && at->status == HORDGULI_OK; k++) at->status = edit(&session, &mixed, k);
+    if (at->status == HORDGULI_OK) at->status = print(&session, at);
     hordguli_session_close(&session);
+    return NULL;
+}
+
+/* A session that goes from thread to thread. */
+typedef struct handed {
+    hordguli_session session;
+    uint64_t mixed;
+    long made;
+    int same;
+    struct handed *next;
+} handed;
+
+/* The sessions that wait for their next edit, and the number of those that are not closed. */
+static handed sessions[SESSIONS];
+static handed *first, **last = &first;
+static long unclosed;
+
+/* Takes the session that has waited longest, if there is one. Returns 0 once all sessions are closed. */
+static int take(handed **taken) {
+    int more;
+    pthread_mutex_lock(&lock);
+    more = unclosed > 0;
+    *taken = first;
+    if (first != NULL && (first = first->next) == NULL) last = &first;
+    pthread_mutex_unlock(&lock);
+    return more;
+}
+
+static void put(handed *item) {
+    pthread_mutex_lock(&lock);
+    item->next = NULL;
+    *last = item;
+    last = &item->next;
+    pthread_mutex_unlock(&lock);
+}
+
+/* Reads the lines of a session after its last edit, and closes it. */
+static void end(handed *item, work *at) {
+    item->same = print(&item->session, at) == HORDGULI_OK && at->length == works[0].length
+                 && memcmp(at->bytes, works[0].bytes, at->length) == 0;
+    hordguli_session_close(&item->session);
+    pthread_mutex_lock(&lock);
+    unclosed--;
+    pthread_mutex_unlock(&lock);
+}
+
+/* Makes one edit after another, each in the next session that waits. Opens the session before its first edit. */
+static void *hand_over(void *given) {
+    work *at = given;
+    handed *item;
+    while (take(&item)) {
+        hordguli_status status = HORDGULI_OK;
+        if (item == NULL) {
+            sched_yield();
+            continue;
+        }
+        if (item->made == 0) status = open_on_shared(&item->session);
+        if (status == HORDGULI_OK) status = edit(&item->session, &item->mixed, item->made);
+        if (status != HORDGULI_OK) at->status = status;
+        if (++item->made == changes)
+            end(item, at);
+        else
+            put(item);
+    }
     return NULL;
 }
 
@@ -85,6 +157,14 @@ int main(int count, char **words) {
         HOLDS(works[k].status == HORDGULI_OK && works[k].length > 100);
         HOLDS(works[k].length == works[0].length && memcmp(works[k].bytes, works[0].bytes, works[0].length) == 0);
     }
+    unclosed = SESSIONS;
+    for (long k = 0; k < SESSIONS; k++) {
+        sessions[k] = (handed){HORDGULI_SESSION_INIT, SEED, 0, 0, NULL};
+        put(&sessions[k]);
+    }
+    for (long k = 0; k < number; k++) HOLDS(pthread_create(&threads[k], NULL, hand_over, &handers[k]) == 0);
+    for (long k = 0; k < number; k++) HOLDS(pthread_join(threads[k], NULL) == 0 && handers[k].status == HORDGULI_OK);
+    for (long k = 0; k < SESSIONS; k++) HOLDS(sessions[k].same);
     hordguli_tables_close(&shared);
     return finish("threads");
 }

@@ -1,3 +1,6 @@
+mod PartLemmas
+mod RowLemmas
+mod RunLemmas
 mod SessionSteps
 mod SpanLemmas
 mod TablesSteps

@@ -6,6 +6,7 @@ pub mod Options
 pub mod Paragraphs
 pub mod Calls
 pub mod TablesCalls
+pub mod Edges
 pub mod Edits
 pub mod Opening
 pub mod Places
@@ -13,4 +14,7 @@ pub mod Arrays
 pub mod Lines
 pub mod Texts
 pub mod Spans
+pub mod Runs
+pub mod Properties
+pub mod Rows
 pub mod Offsets

@@ -64,8 +64,16 @@ abbrev pub ShowsLine : ℕ → ℕ → Option ℕ → Option Visual → Status �
 ShowsLine wanted width (Some start) (Some line) status old new = (new.0 ≡ line_out width start line) × PutsLine wanted line status old.1 new.1
 ShowsLine wanted width start line status old new = (status ≡ is.OutOfRange) × (new ≡ old)
 
-abbrev pub paragraph_out : Layout → ParagraphOut
-paragraph_out laid = record { length = length laid.text; lines = length laid.lines; base = laid.base; zero = 0 }
+-- the information about a paragraph whose first character is at `start` and whose first line has number `first_line`
+abbrev pub paragraph_out : ℕ → ℕ → Layout → ParagraphOut
+paragraph_out start first_line laid = record {
+  length = length laid.text;
+  lines = length laid.lines;
+  base = laid.base;
+  zero = 0;
+  start = start;
+  first_line = first_line;
+}
 
 pub record ParagraphArrays : Type 0 where
   pub levels : List ℕ
@@ -86,6 +94,8 @@ abbrev pub PutsParagraph : ℕ → Layout → Status → ParagraphArrays → Par
 PutsParagraph wanted laid status old new =
     MatchBool (paragraph_fits wanted laid old) ((status ≡ is.Ok) × (new ≡ paragraph_put wanted laid old)) ((status ≡ is.NoRoom) × (new ≡ old))
 
-abbrev pub ShowsParagraph : ℕ → Option Layout → Status → ParagraphOut × ParagraphArrays → ParagraphOut × ParagraphArrays → Type 0
-ShowsParagraph wanted (Some laid) status old new = (new.0 ≡ paragraph_out laid) × PutsParagraph wanted laid status old.1 new.1
-ShowsParagraph wanted None status old new = (status ≡ is.OutOfRange) × (new ≡ old)
+-- the information about a paragraph and the paragraph's lists are stored, or there is no such paragraph
+abbrev pub ShowsParagraph : ℕ → Option ℕ → Option ℕ → Option Layout → Status → ParagraphOut × ParagraphArrays → ParagraphOut × ParagraphArrays → Type 0
+ShowsParagraph wanted (Some start) (Some first_line) (Some laid) status old new =
+    (new.0 ≡ paragraph_out start first_line laid) × PutsParagraph wanted laid status old.1 new.1
+ShowsParagraph wanted start first_line laid status old new = (status ≡ is.OutOfRange) × (new ≡ old)

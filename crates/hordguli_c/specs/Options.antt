@@ -21,6 +21,10 @@ direction_of bits = if nat_lt bits 4 then Some (base_of bits) else None
 abbrev pub tailoring_of : ℕ → Option Bool
 tailoring_of bits = if bits == 0 then Some false else if bits == 16 then Some true else None
 
+-- whether L3 is applied to a row, or `None` if another bit is set
+abbrev pub row_options_of : ℕ → Option Bool
+row_options_of bits = if bits == 0 then Some false else if bits == 8 then Some true else None
+
 -- the options of a session, or `None` if an unknown bit is set
 abbrev pub options_of : ℕ → Option Options
 options_of bits =

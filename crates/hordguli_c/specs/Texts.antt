@@ -1,5 +1,6 @@
--- Text that is stored as bytes.
+-- Text that is stored as bytes or as characters.
 use Rattle.std.specs.Prelude.{◌≡◌, ℕ, ◌+◌, ◌<◌, ◌≤◌, List, length}
+use Rattle.std.specs.List.{slice_range}
 use Rattle.lines.specs.declared.print.Print.{Print}
 use Rattle.session.specs.Kept.{lines_in}
 use Rattle.session.specs.Printing.{lines_page}
@@ -31,3 +32,9 @@ PutsLines first count print status state = PutsRange (length (lines_in state.kep
 -- characters are stored as UTF-8
 abbrev pub PutsText : ℕ → ℕ → Status → SessionState → List ℕ × ℕ → List ℕ × ℕ → Type 0
 PutsText pos count status state = PutsRange (length (text_at state)) pos count (utf8_part state.kept pos count) status
+
+-- the characters of a range of the text are stored
+abbrev pub PutsCharacters : ℕ → ℕ → Status → SessionState → List ℕ × ℕ → List ℕ × ℕ → Type 0
+PutsCharacters pos count status state old new =
+    Given (pos + count ≤ length (text_at state)) is.OutOfRange status (new ≡ old)
+    (PutsItems (slice_range (text_at state) pos (pos + count)) status old new)

@@ -11,8 +11,8 @@ use breaks::Mark;
 use lines::VisualLine;
 use std::alloc::{AllocError, Global};
 
-// Returns whether all numbers are Unicode scalar values.
-fn are_characters(numbers: &[u32]) -> bool
+/// Returns whether all numbers are Unicode scalar values.
+pub fn are_characters(numbers: &[u32]) -> bool
     ensures yes { IsTrue result → All IsScalar numbers.now }
     ensures no { IsFalse result → ¬ All IsScalar numbers.now }
 {
@@ -24,8 +24,8 @@ fn are_characters(numbers: &[u32]) -> bool
     true
 }
 
-// Converts numbers to characters.
-fn collect_characters(alloc: Global, numbers: &[u32]) -> Result<Vec<char>, AllocError>
+/// Converts numbers to characters.
+pub fn collect_characters(alloc: Global, numbers: &[u32]) -> Result<Vec<char>, AllocError>
     requires { All IsScalar numbers.now }
     ensures text { IfOk result (λ text. text.items ≡ numbers.now) }
     ensures memory { OnErr result (0 < length numbers.now) }
@@ -136,7 +136,8 @@ pub fn put_places_if(wanted: bool, list: &[u32], array: &mut [u32])
     }
 }
 
-fn put_each_character(list: &[char], array: &mut [u32])
+/// Copies characters to an array of the same length.
+pub fn put_each_character(list: &[char], array: &mut [u32])
     requires { length array.old ≡ length list.now }
     ensures { array.new ≡ list.now }
 {

@@ -1,5 +1,6 @@
 //! The function that stores information about a paragraph of a session.
 ghost use Rattle.std.specs.Prelude.{◌≡◌, length, map, slice_get, true};
+ghost use Rattle.session.specs.Places.{first_line_at, paragraph_starts};
 ghost use Rattle.hordguli_c.specs.Arrays.{has_room, put_if};
 ghost use Rattle.hordguli_c.specs.Calls.{Asks};
 ghost use Rattle.hordguli_c.specs.Statuses.{Returns};
@@ -21,16 +22,20 @@ pub struct ParagraphOut {
     pub lines: usize,
     pub base: u32,
     pub zero: u32,
+    pub start: usize,
+    pub first_line: usize,
 }
 
-fn paragraph_out(laid: &Laid) -> ParagraphOut
-    ensures { result ≡ paragraph_out laid.now }
+fn paragraph_out(laid: &Laid, start: usize, first_line: usize) -> ParagraphOut
+    ensures { result ≡ paragraph_out start first_line laid.now }
 {
     ParagraphOut {
         length: laid.text().len(),
         lines: laid.line_count(),
         base: u32::from(laid.base()),
         zero: 0,
+        start,
+        first_line,
     }
 }
 
@@ -59,17 +64,22 @@ fn show_paragraph(
     levels: &mut [u8],
     marks: &mut [u8],
 ) -> Status
-    ensures { ShowsParagraph wanted (slice_get session.now.kept index) result
+    ensures { ShowsParagraph wanted (slice_get (paragraph_starts session.now.kept) index)
+        (first_line_at session.now.kept index) (slice_get session.now.kept index) result
         (out.old, record { levels = levels.old; marks = marks.old })
         (out.new, record { levels = levels.new; marks = marks.new }) }
 {
-    match session.paragraph(index) {
-        Some(laid) => {
-            *out = paragraph_out(laid);
-            put_paragraph(laid, wanted, levels, marks)
-        }
-        None => Status::OutOfRange,
-    }
+    let Some(start) = session.paragraph_start(index) else {
+        return Status::OutOfRange;
+    };
+    let Some(first_line) = session.paragraph_first_line(index) else {
+        return Status::OutOfRange;
+    };
+    let Some(laid) = session.paragraph(index) else {
+        return Status::OutOfRange;
+    };
+    *out = paragraph_out(laid, start, first_line);
+    put_paragraph(laid, wanted, levels, marks)
 }
 
 /// Stores information about a paragraph, and the arrays that `wanted` selects.
@@ -85,7 +95,8 @@ pub extern "C" fn hordguli_core_paragraph(
 ) -> u32
     ensures unchanged { session.new.held ≡ session.old.held }
     ensures paragraph { Returns (λ status. Asks (λ status state.
-        ShowsParagraph wanted (slice_get state.kept index) status) status session.old.held
+        ShowsParagraph wanted (slice_get (paragraph_starts state.kept) index)
+        (first_line_at state.kept index) (slice_get state.kept index) status) status session.old.held
         (out.old, record { levels = levels.old; marks = marks.old })
         (out.new, record { levels = levels.new; marks = marks.new })) result }
 {

@@ -2,6 +2,7 @@
 #![tactic(auto)]
 
 mod arrays;
+mod edge_calls;
 mod edit_calls;
 mod layout_calls;
 mod line_calls;
@@ -9,7 +10,10 @@ mod offset_calls;
 mod options;
 mod paragraph_calls;
 mod place_calls;
+mod property_calls;
 mod raw_box;
+mod row_calls;
+mod run_calls;
 mod session_calls;
 mod session_handle;
 mod span_calls;

@@ -6,6 +6,7 @@ ghost use Rattle.hordguli_c.specs.Options.{
   has_bit,
   options_of,
   print_of,
+  row_options_of,
   tailoring_of,
 };
 
@@ -74,6 +75,19 @@ pub fn tailoring_of(bits: u32) -> Option<bool>
     if bits == 0 {
         Some(false)
     } else if bits == WHOLE_NUMBERS {
+        Some(true)
+    } else {
+        None
+    }
+}
+
+/// Returns whether L3 is applied to a row, or `None` if any other bit is set.
+pub fn row_options_of(bits: u32) -> Option<bool>
+    ensures { result ≡ row_options_of bits }
+{
+    if bits == 0 {
+        Some(false)
+    } else if bits == REORDER_NSM {
         Some(true)
     } else {
         None

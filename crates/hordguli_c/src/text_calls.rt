@@ -1,5 +1,6 @@
-//! Functions that write lines and characters as bytes.
+//! Functions that store lines and characters.
 ghost use Rattle.std.specs.Prelude.{◌≡◌, ◌+◌, ◌≤◌, chars, length, IfErr, IfOk};
+ghost use Rattle.std.specs.List.{slice_range};
 ghost use Rattle.std.specs.Str.Lossy.{utf8_valid_len};
 ghost use Rattle.session.specs.Kept.{lines_in};
 ghost use Rattle.session.specs.Printing.{lines_page};
@@ -9,9 +10,10 @@ ghost use Rattle.hordguli_c.specs.Calls.{Asks, AsksBy, Gives, OfText};
 ghost use Rattle.hordguli_c.specs.Statuses.{Returns};
 ghost use Rattle.hordguli_c.specs.Options.{print_of};
 ghost use Rattle.hordguli_c.specs.Arrays.{PutsItems};
-ghost use Rattle.hordguli_c.specs.Texts.{PutsLines, PutsText, RangeNot};
+ghost use Rattle.hordguli_c.specs.Texts.{PutsCharacters, PutsLines, PutsText, RangeNot};
 ghost use Rattle.hordguli_c.specs.declared.status.Status.TheVariants.{Ok};
 
+use crate::arrays::put_each_character;
 use crate::options::print_of;
 use crate::session_handle::{SessionHandle, SessionObject};
 use crate::status::{Status, number_of};
@@ -152,6 +154,68 @@ pub extern "C" fn hordguli_core_text(
     match session.swap(alloc, None) {
         Some(object) => {
             let status = put_text(alloc, &object, pos, count, array, len);
+            session.swap(alloc, Some(object));
+            number_of(status)
+        }
+        None => number_of(Status::Closed),
+    }
+}
+
+// Copies the characters from a position on to an array, as many as it has elements.
+fn put_each_part(session: &SessionObject, pos: usize, array: &mut [u32])
+    requires { pos + length array.old ≤ length (text_at session.now) }
+    ensures { array.new ≡ slice_range (text_at session.now) pos (pos + length array.old) }
+{
+    // The contract of `char_count` bounds the number of characters.
+    let _chars = session.char_count();
+    let mut done = 0;
+    while done < array.len() {
+        let Some(part) = session.text(pos + done, array.len() - done) else {
+            unreachable!()
+        };
+        put_each_character(part, &mut array[done..done + part.len()]);
+        done += part.len();
+    }
+}
+
+fn put_text_utf32(
+    session: &SessionObject,
+    pos: usize,
+    count: usize,
+    array: &mut [u32],
+    len: &mut usize,
+) -> Status
+    ensures { PutsCharacters pos count result session.now (array.old, len.old) (array.new, len.new) }
+{
+    let chars = session.char_count();
+    if pos > chars || count > chars - pos {
+        return Status::OutOfRange;
+    }
+    *len = count;
+    if array.len() < count {
+        return Status::NoRoom;
+    }
+    put_each_part(session, pos, &mut array[..count]);
+    Status::Ok
+}
+
+/// Copies characters to an array, if they fit.
+#[unsafe(no_mangle)]
+pub extern "C" fn hordguli_core_text_utf32(
+    alloc: Global,
+    session: &mut SessionHandle,
+    pos: usize,
+    count: usize,
+    array: &mut [u32],
+    len: &mut usize,
+) -> u32
+    ensures unchanged { session.new.held ≡ session.old.held }
+    ensures text { Returns (λ status. Asks (PutsCharacters pos count) status session.old.held
+        (array.old, len.old) (array.new, len.new)) result }
+{
+    match session.swap(alloc, None) {
+        Some(object) => {
+            let status = put_text_utf32(&object, pos, count, array, len);
             session.swap(alloc, Some(object));
             number_of(status)
         }

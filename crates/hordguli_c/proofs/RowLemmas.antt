@@ -1,0 +1,43 @@
+-- A row is a line of its paragraph of which all characters are shown.
+use Rattle.std.proofs.Common.{◌≡◌, ℕ, suc, List, [], ◌∷◌, length, map, refl, sym, ap, ap₂, ◌∙◌, arith}
+use Rattle.std.specs.List.{slice_range}
+use Rattle.std.proofs.lemmas.List.{length-map, take_all}
+use Rattle.ucd.specs.Tables.{class_of}
+use Rattle.ucd.specs.declared.bidi_class.BidiClass.{BidiClass}
+use Rattle.ucd.specs.declared.tables.Tables.{Tables}
+use Rattle.reorder.specs.Mirroring.{visual_chars}
+use Rattle.reorder.specs.Order.{ltov_of, vtol_of}
+use Rattle.reorder.specs.Spaces.{line_levels}
+use Rattle.lines.specs.Filling.{shown}
+use Rattle.lines.specs.Visual.{Line, line_between}
+use Rattle.lines.specs.declared.char_info.CharInfo.{CharInfo}
+use Rattle.lines.specs.declared.options.Options.{Options}
+use Rattle.hordguli_c.specs.Rows.{row_levels, row_of, Row}
+
+length-line_levels : (base : ℕ) (classes : List BidiClass) (levels : List ℕ) → length levels ≡ length classes
+    → length (line_levels base classes levels) ≡ length classes
+length-line_levels base [] [] same = refl
+length-line_levels base [] (level ∷ levels) same = refl
+length-line_levels base (class ∷ classes) [] same = absurd (omega (arith, same))
+length-line_levels base (class ∷ classes) (level ∷ levels) same = ap suc (length-line_levels base classes levels (omega (arith, same)))
+
+abbrev row_in_line : Line → Row
+row_in_line line = record { levels = line.levels; ltov = line.ltov; vtol = line.vtol; chars = line.chars }
+
+pub row_is_line : (tables : Tables) (options : Options) (base : ℕ) (text levels : List ℕ) (infos : List CharInfo) (s e : ℕ)
+    → length (shown (slice_range infos s e)) ≡ length (slice_range text s e) → length (slice_range levels s e) ≡ length (slice_range text s e)
+    → row_in_line (line_between tables options base text levels infos s e)
+    ≡ row_of tables options.reordernsm base (slice_range text s e) (slice_range levels s e)
+unfolding row_levels
+row_is_line tables options base text levels infos s e all same =
+    let row = slice_range text s e in
+    let n = length (shown (slice_range infos s e)) in
+    let classes = map (class_of tables) row in
+    let own = line_levels base classes (slice_range levels s e) in
+    let size = length-line_levels base classes (slice_range levels s e) (same ∙ sym (length-map row (class_of tables))) in
+    ap₂ (λ (ls : List ℕ) (front : List ℕ). record {
+      levels = ls;
+      ltov = ltov_of options.reordernsm classes ls;
+      vtol = vtol_of options.reordernsm classes ls;
+      chars = visual_chars tables ls front (vtol_of options.reordernsm classes ls);
+    }) (take_all n own (omega (arith, all, size, length-map row (class_of tables)))) (take_all n row (omega (arith, all)))

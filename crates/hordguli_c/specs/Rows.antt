@@ -1,0 +1,123 @@
+-- Rows that a caller broke. The levels of a row are those of its paragraph, before L1. All characters of a row are shown,
+-- those at its end too.
+use Rattle.std.specs.Prelude.{◌≡◌, ℕ, ◌<◌, ◌≤◌, ◌⊎◌, ◌&&◌, true, Bool, List, length, map, All}
+use Rattle.std.specs.Char.{IsScalar}
+use Rattle.ucd.specs.Tables.{class_of}
+use Rattle.ucd.specs.Within.{AreWithin}
+use Rattle.ucd.specs.declared.tables.Tables.{Tables}
+use Rattle.reorder.specs.Mirroring.{visual_chars}
+use Rattle.reorder.specs.Order.{ltov_of, vtol_of}
+use Rattle.reorder.specs.Spaces.{line_levels}
+use Rattle.hordguli_c.specs.Arrays.{has_room, put_if, PutsItems}
+use Rattle.hordguli_c.specs.Calls.{Given, OrNoMemory}
+use Rattle.hordguli_c.specs.Options.{has_bit}
+use Rattle.hordguli_c.specs.Runs.{runs_out}
+use Rattle.hordguli_c.specs.declared.row_calls.LaidRow.{LaidRow}
+use Rattle.hordguli_c.specs.declared.run_calls.RunOut.{RunOut}
+use Rattle.hordguli_c.specs.declared.status.Status.{Status}
+use Rattle.hordguli_c.specs.declared.status.Status.TheVariants as is
+
+-- the base level of a paragraph, and levels of characters before L1: explicit levels are at most 125 (UAX #9, BD2), and
+-- I1 and I2 add at most 1 to each. Positions in a row have 32 bits.
+pub record IsRow (base : ℕ) (text levels : List ℕ) : Type 0 where
+  pub base_is : base ≤ 1
+  pub levels_are : All (λ level. level ≤ 126) levels
+  pub same : length levels ≡ length text
+  pub few : length text ≤ 4294967295
+
+-- a row in visual order: the levels after L1 in logical order, the position maps, and the characters in visual order,
+-- mirrored
+pub record Row : Type 0 where
+  pub levels : List ℕ
+  pub ltov : List ℕ
+  pub vtol : List ℕ
+  pub chars : List ℕ
+
+-- L1, as if the row were a line, so that also the white space at its end is reset
+unfoldable pub row_levels : Tables → ℕ → List ℕ → List ℕ → List ℕ
+row_levels tables base text levels = line_levels base (map (class_of tables) text) levels
+
+-- L2, L3 if requested, and L4, from the levels after L1
+abbrev pub row_by : Tables → Bool → List ℕ → List ℕ → Row
+row_by tables reordernsm text levels =
+    let vtol = vtol_of reordernsm (map (class_of tables) text) levels in
+    record {
+      levels = levels;
+      ltov = ltov_of reordernsm (map (class_of tables) text) levels;
+      vtol = vtol;
+      chars = visual_chars tables levels text vtol;
+    }
+
+abbrev pub row_of : Tables → Bool → ℕ → List ℕ → List ℕ → Row
+row_of tables reordernsm base text levels = row_by tables reordernsm text (row_levels tables base text levels)
+
+-- what `LaidRow` holds: the levels after L1 and the maps, of a length
+pub record IsSized (row : LaidRow) : Type 0 where
+  pub levels_len : length row.levels.items ≡ length row.text.items
+  pub ltov_len : length row.ltov.items ≡ length row.text.items
+  pub vtol_len : length row.vtol.items ≡ length row.text.items
+  pub within : AreWithin (length row.text.items) row.vtol.items
+
+abbrev pub row_in : Tables → LaidRow → Row
+row_in tables row = record {
+  levels = row.levels.items;
+  ltov = row.ltov.items;
+  vtol = row.vtol.items;
+  chars = visual_chars tables row.levels.items row.text.items row.vtol.items;
+}
+
+pub record IsLaid (tables : Tables) (reordernsm : Bool) (base : ℕ) (text levels : List ℕ) (row : LaidRow) : Type 0 where
+  pub text_is : row.text.items ≡ text
+  pub row_is : row_in tables row ≡ row_of tables reordernsm base text levels
+  pub sized : IsSized row
+
+pub record RowArrays : Type 0 where
+  pub visual : List ℕ
+  pub levels : List ℕ
+  pub ltov : List ℕ
+  pub vtol : List ℕ
+
+-- the arrays after the requested lists of a row were copied to them
+abbrev pub row_put : ℕ → Row → RowArrays → RowArrays
+row_put wanted row arrays = record {
+  visual = put_if (has_bit wanted 1) row.chars arrays.visual;
+  levels = put_if (has_bit wanted 2) row.levels arrays.levels;
+  ltov = put_if (has_bit wanted 4) row.ltov arrays.ltov;
+  vtol = put_if (has_bit wanted 8) row.vtol arrays.vtol;
+}
+
+-- whether `len` elements fit in each requested array
+abbrev pub row_fits : ℕ → ℕ → RowArrays → Bool
+row_fits wanted len arrays =
+    has_room (has_bit wanted 1) len (length arrays.visual)
+    && has_room (has_bit wanted 2) len (length arrays.levels)
+    && has_room (has_bit wanted 4) len (length arrays.ltov)
+    && has_room (has_bit wanted 8) len (length arrays.vtol)
+
+-- A call on a row succeeds only if all numbers are characters, and the base level and all levels are in range. It may
+-- allocate if there is at least one character.
+abbrev pub OfRow : ℕ → List ℕ → List ℕ → Status → Type 0 → Type 0 → Type 0
+OfRow base text levels status unchanged done =
+    Given (All IsScalar text) is.NotACharacter status unchanged
+    (Given (IsRow base text levels) is.OutOfRange status unchanged
+    (OrNoMemory (0 < length text) status unchanged done))
+
+-- the reason why a row is refused: one number is not a scalar value, the base level or a level is out of range, or an
+-- allocation failed
+abbrev pub RowNot : ℕ → List ℕ → List ℕ → Status → Type 0
+RowNot base text levels status =
+    ((¬ All IsScalar text) × (status ≡ is.NotACharacter))
+    ⊎ ((All IsScalar text × (¬ IsRow base text levels) × (status ≡ is.OutOfRange))
+    ⊎ (All IsScalar text × IsRow base text levels × (status ≡ is.NoMemory) × (0 < length text)))
+
+-- the requested arrays of a row are written
+abbrev pub PutsRow : ℕ → ℕ → List ℕ → List ℕ → Bool → Status → Tables → RowArrays → RowArrays → Type 0
+PutsRow wanted base text levels reordernsm status tables old new =
+    Given (row_fits wanted (length text) old ≡ true) is.NoRoom status (new ≡ old)
+    (OfRow base text levels status (new ≡ old)
+    ((status ≡ is.Ok) × (new ≡ row_put wanted (row_of tables reordernsm base text levels) old)))
+
+-- the runs of a row are stored
+abbrev pub PutsRowRuns : ℕ → List ℕ → List ℕ → Status → Tables → List RunOut × ℕ → List RunOut × ℕ → Type 0
+PutsRowRuns base text levels status tables old new =
+    OfRow base text levels status (new ≡ old) (PutsItems (runs_out (row_levels tables base text levels)) status old new)

@@ -1,0 +1,675 @@
+/* Tests carets, steps, selections, words and offsets. Usage: edges FOLDER TEXTS SESSIONS, where FOLDER has the table files.
+ *
+ * - Lays out TEXTS random texts, and compares each call with a reference implementation: the definition in the header,
+ *   computed from the levels, the order and the widths of `hordguli_line` and from the grapheme clusters.
+ * - Opens SESSIONS sessions and edits them. Each call must then return what it returns in a new session on the same
+ *   text. */
+#include "test.h"
+
+/* The most characters of a text, and of a line with their bytes */
+enum { MOST = 120, BYTES = MOST * 4 };
+
+#define OK(call) HOLDS((call) == HORDGULI_OK)
+
+static hordguli_tables tables = HORDGULI_TABLES_INIT;
+
+/* ---- Random texts ---- */
+
+/* Letters, digits and spaces of both directions, separators, brackets, isolates, embeddings, marks, wide characters, and
+ * clusters of several characters, some of them at two levels. */
+static const char *const pieces[] = {
+    "a", "bc ", "Word", " ", "  ", "1", "2,3", "(", ")", "-", ".", "'", "_", "\n", "\r\n", "\r", "\t", "\v", "\f",
+    "\x1c", "\xC2\x85", "\u2028", "\u2029", "\u05d0", "\u05d1\u05b8", "\u05e9\u05dc\u05d5\u05dd ",
+    "\u0627\u0644\u0641 ", "\u0628", "\u0661", "\u0300", "\u05b8", "\u0600", "\u06dd", "\u070f", "\u0903", "\u0e33",
+    "\u0915\u094d\u0937", "\u200d", "\u200c", "\u200b", "\u200f", "\u200e", "\u00ad", "\u00a0", "\ufe0f",
+    "\U0001f468\u200d\U0001f469\u200d\U0001f467", "\U0001f44d\U0001f3fd", "\U0001f1e9\U0001f1ea", "\U0001f1e9",
+    "\u2066", "\u2067", "\u2068", "\u2069", "\u202a", "\u202b", "\u202d", "\u202e", "\u202c", "\u6f22\u5b57",
+    "\u30ab\u30bf", "\uac00", "\u1112\u1161\u11ab", "\u3002", "e\u0301", "\u20dd", "\u302a", "\U000110bd",
+};
+enum { PIECES = sizeof pieces / sizeof *pieces };
+
+static uint32_t text[MOST];
+static size_t length;
+static char bytes[BYTES];
+
+/* Fills an array with a random text of at most `most` characters, and returns its length. Most texts use few pieces, so
+ * that these meet in many ways. */
+static size_t random_text(uint32_t *into, size_t most) {
+    size_t kinds = 1 + below(below(3) == 0 ? 30 : 6), wanted = below(most), count = 0;
+    const char *some[30];
+    for (size_t k = 0; k < kinds; k++) some[k] = pieces[below(PIECES)];
+    while (count < wanted) {
+        uint32_t piece[16];
+        size_t more = decoded(some[below(kinds)], piece);
+        if (count + more > most) break;
+        memcpy(into + count, piece, more * sizeof *piece);
+        count += more;
+    }
+    return count;
+}
+
+static uint32_t random_width(void) { return 1 + (uint32_t)below(below(3) == 0 ? 80 : 12); }
+
+/* ---- The layout, as the reference implementation has it ---- */
+
+/* A character, by its position in the text */
+typedef struct character {
+    size_t line;
+    int is_shown;
+    uint32_t level;
+    size_t run;          /* of its line */
+    size_t left, right;  /* columns, if it is shown */
+    size_t cluster, end; /* the positions where its cluster starts and ends */
+    size_t unit;         /* the index of the unit that has it, or NONE */
+} character;
+
+/* What a caret moves over */
+typedef struct unit {
+    size_t line, start, end; /* positions */
+    size_t left, right;      /* columns */
+    uint32_t level;
+} unit;
+
+enum { NONE = MOST + 1 };
+
+static character characters[MOST];
+static hordguli_line_info lines[MOST];
+static size_t line_count;
+static unit units[MOST];
+static size_t unit_count;
+static uint32_t options;
+
+static int is_separator(uint32_t c) {
+    return c == 0xA || c == 0xD || (c >= 0x1C && c <= 0x1E) || c == 0x85 || c == 0x2029;
+}
+
+/* Bidi class B, or line breaking class BK, CR, LF or NL */
+static int ends_line(uint32_t c) { return is_separator(c) || c == 0xB || c == 0xC || c == 0x2028; }
+
+static int starts_next_line(void) { return length == 0 || is_separator(text[length - 1]); }
+
+static void read_layout(hordguli_session *session) {
+    hordguli_counts counts;
+    OK(hordguli_session_counts(session, &counts));
+    line_count = counts.lines;
+    for (size_t line = 0; line < line_count; line++) {
+        hordguli_line_info *info = &lines[line];
+        uint8_t levels[MOST];
+        uint32_t vtol[MOST];
+        size_t widths[MOST], column = 0;
+        OK(hordguli_line(session, line, info, MOST, NULL, levels, NULL, vtol, widths));
+        for (size_t k = 0; k < info->length; k++) {
+            character *c = &characters[info->start + k];
+            c->line = line;
+            c->is_shown = k < info->shown;
+            c->level = c->is_shown ? levels[k] : info->base;
+            c->run = k == 0 ? 0 : c[-1].run + (c->level != c[-1].level);
+        }
+        for (size_t k = 0; k < info->shown; k++) {
+            character *c = &characters[info->start + vtol[k]];
+            c->left = column;
+            c->right = column += widths[k];
+        }
+        HOLDS(column == info->columns);
+    }
+    for (size_t pos = 0; pos < length;) {
+        hordguli_cluster cluster = {0, 0};
+        if (!OK(hordguli_cluster_at(session, pos, &cluster)) || !HOLDS(cluster.start == pos && cluster.end > pos)) exit(1);
+        for (; pos < cluster.end; pos++) characters[pos].cluster = cluster.start, characters[pos].end = cluster.end;
+    }
+}
+
+static int takes_columns(size_t pos) { return characters[pos].is_shown && characters[pos].right > characters[pos].left; }
+
+/* Whether two characters are in the same cluster, on the same line */
+static int are_together(size_t a, size_t b) {
+    return characters[a].cluster == characters[b].cluster && characters[a].line == characters[b].line;
+}
+
+/* Whether a unit begins at a character. It does if the character takes columns, unless an earlier such character of its
+ * cluster is in the same level run. */
+static int begins_unit(size_t pos) {
+    if (!takes_columns(pos)) return 0;
+    for (size_t k = 0; k < pos; k++)
+        if (takes_columns(k) && are_together(k, pos) && characters[k].run == characters[pos].run) return 0;
+    return 1;
+}
+
+/* A unit ends where the next one of its cluster begins, or with what is shown of the cluster. */
+static size_t end_of_unit(size_t start) {
+    size_t pos = start + 1;
+    while (pos < length && are_together(start, pos) && characters[pos].is_shown && !begins_unit(pos)) pos++;
+    return pos;
+}
+
+static void find_units(void) {
+    unit_count = 0;
+    for (size_t pos = 0; pos < length; pos++) characters[pos].unit = NONE;
+    for (size_t pos = 0; pos < length; pos++) {
+        unit *u = &units[unit_count];
+        size_t columns = 0;
+        if (!begins_unit(pos)) continue;
+        *u = (unit){characters[pos].line, pos, end_of_unit(pos), SIZE_MAX, 0, characters[pos].level};
+        for (size_t k = u->start; k < u->end; k++) {
+            character *c = &characters[k];
+            c->unit = unit_count;
+            if (!takes_columns(k)) continue;
+            if (c->left < u->left) u->left = c->left;
+            if (c->right > u->right) u->right = c->right;
+            columns += c->right - c->left;
+            HOLDS(c->level == u->level);
+        }
+        HOLDS(u->right - u->left == columns);
+        unit_count++;
+    }
+}
+
+/* Returns the unit of a line that covers a column, or NULL. */
+static const unit *covering(size_t line, size_t column) {
+    for (const unit *u = units; u < units + unit_count; u++)
+        if (u->line == line && u->left <= column && column < u->right) return u;
+    return NULL;
+}
+
+/* Each column of a line is in one unit. */
+static void units_tile_lines(void) {
+    for (size_t line = 0; line < line_count; line++) {
+        size_t columns = 0;
+        for (const unit *u = units; u < units + unit_count; u++) columns += u->line == line ? u->right - u->left : 0;
+        HOLDS(columns == lines[line].columns);
+        for (size_t column = 0; column < columns; column++) HOLDS(covering(line, column) != NULL);
+    }
+}
+
+/* ---- The definitions ---- */
+
+static hordguli_edge before(size_t pos) { return (hordguli_edge){pos, HORDGULI_BEFORE, 0}; }
+static hordguli_edge after(size_t pos) { return (hordguli_edge){pos, HORDGULI_AFTER, 0}; }
+
+/* The edges at the left and the right end of a unit: at an even level, its left end comes first. */
+static hordguli_edge left_edge(const unit *u) { return u->level % 2 == 0 ? before(u->start) : after(u->end); }
+static hordguli_edge right_edge(const unit *u) { return u->level % 2 == 0 ? after(u->end) : before(u->start); }
+
+/* The end of a line in its paragraph's direction */
+static hordguli_caret line_end(size_t line) {
+    const hordguli_line_info *info = &lines[line];
+    return (hordguli_caret){line, info->base == 0 ? info->columns : 0, info->base, 0};
+}
+
+/* The caret before (`is_after` 0) or after the character at `pos` */
+static hordguli_caret caret_beside(size_t pos, int is_after) {
+    const character *c = &characters[pos];
+    const unit *u = c->unit == NONE ? NULL : &units[c->unit];
+    size_t left = c->left, right = c->right;
+    if (!c->is_shown) return line_end(c->line);
+    if (u != NULL && (is_after ? pos + 1 == u->end : pos == u->start)) {
+        left = u->left, right = u->right;
+        return (hordguli_caret){c->line, is_after == (u->level % 2 == 0) ? right : left, c->level, 0};
+    }
+    return (hordguli_caret){c->line, is_after == (c->level % 2 == 0) ? right : left, c->level, 0};
+}
+
+/* Returns 0 if there is no such edge. */
+static int reference_caret(hordguli_edge edge, hordguli_caret *caret) {
+    if (edge.pos > length || (edge.side == HORDGULI_AFTER && edge.pos == 0)) return 0;
+    if (edge.side == HORDGULI_AFTER) *caret = caret_beside(edge.pos - 1, 1);
+    else if (edge.pos < length) *caret = caret_beside(edge.pos, 0);
+    else if (starts_next_line()) *caret = (hordguli_caret){line_count, 0, options & 1, 0};
+    else *caret = line_end(line_count - 1);
+    return 1;
+}
+
+/* The nearest end of a unit to the left or right of a column, as the edge there of the unit that is passed. Returns 0 if
+ * there is none. */
+static int reference_step(size_t line, size_t column, uint32_t direction, hordguli_edge *next) {
+    const unit *nearest = NULL;
+    for (const unit *u = units; u < units + unit_count; u++) {
+        if (u->line != line) continue;
+        if (direction == HORDGULI_RIGHT && u->right > column && (nearest == NULL || u->right < nearest->right)) nearest = u;
+        if (direction == HORDGULI_LEFT && u->left < column && (nearest == NULL || u->left > nearest->left)) nearest = u;
+    }
+    if (nearest != NULL) *next = direction == HORDGULI_RIGHT ? right_edge(nearest) : left_edge(nearest);
+    return nearest != NULL;
+}
+
+/* Returns 0 if there is no such line. */
+static int reference_edge_at(size_t line, size_t column, hordguli_edge *edge) {
+    const unit *u;
+    if (line == line_count && starts_next_line()) return *edge = before(length), 1;
+    if (line >= line_count) return 0;
+    if ((u = covering(line, column)) != NULL) return *edge = left_edge(u), 1;
+    if (lines[line].columns > 0) return *edge = right_edge(covering(line, lines[line].columns - 1)), 1;
+    return *edge = before(lines[line].start), 1;
+}
+
+static int reference_line_edges(size_t line, hordguli_edge *first, hordguli_edge *last) {
+    size_t start, end, shown;
+    if (line == line_count && starts_next_line()) return *first = *last = before(length), 1;
+    if (line >= line_count) return 0;
+    start = lines[line].start, end = start + lines[line].length, shown = start + lines[line].shown;
+    *first = before(start);
+    if (end - start >= 2 && text[end - 2] == '\r' && text[end - 1] == '\n') *last = before(end - 2);
+    else if (ends_line(text[end - 1])) *last = before(end - 1);
+    else if (line == line_count - 1) *last = before(length);
+    else if (shown < end) *last = before(shown);
+    else *last = after(end);
+    return 1;
+}
+
+static size_t reference_clusters(size_t line, size_t ends[MOST]) {
+    size_t count = 0, start = lines[line].start, line_length = lines[line].length;
+    for (size_t k = 1; k <= line_length; k++)
+        if (k == line_length || characters[start + k].cluster == start + k) ends[count++] = k;
+    return count;
+}
+
+static size_t reference_spans(size_t line, size_t from, size_t to, hordguli_span spans[MOST]) {
+    size_t count = 0;
+    for (size_t column = 0; column < lines[line].columns; column++) {
+        int is_covered = 0;
+        for (size_t pos = from; pos < to && pos < length; pos++)
+            is_covered |= characters[pos].line == line && takes_columns(pos) && characters[pos].left <= column
+                          && column < characters[pos].right;
+        if (!is_covered) continue;
+        if (count > 0 && spans[count - 1].right == column) spans[count - 1].right++;
+        else spans[count++] = (hordguli_span){column, column + 1};
+    }
+    return count;
+}
+
+/* ---- Each call beside its definition ---- */
+
+static int is_edge(hordguli_edge found, hordguli_edge wanted) {
+    return found.pos == wanted.pos && found.side == wanted.side && found.zero == 0;
+}
+
+/* No call returns the edge after a character that ends a line. */
+static void is_inside_line(hordguli_edge edge) {
+    HOLDS(edge.side == HORDGULI_BEFORE || (edge.pos > 0 && !ends_line(text[edge.pos - 1])));
+}
+
+static hordguli_caret caret_of(hordguli_session *session, hordguli_edge edge) {
+    hordguli_caret caret = {0, 0, 0, 0};
+    OK(hordguli_edge_caret(session, edge, &caret));
+    return caret;
+}
+
+/* Whether a column of a line is a boundary */
+static int is_boundary(size_t line, size_t column) {
+    if (line == line_count || lines[line].columns == 0) return column == 0;
+    for (const unit *u = units; u < units + unit_count; u++)
+        if (u->line == line && (u->left == column || u->right == column)) return 1;
+    return 0;
+}
+
+static void step_is_right(hordguli_session *session, hordguli_edge edge, hordguli_caret from, uint32_t direction) {
+    hordguli_edge next = {7, 7, 7}, back = {7, 7, 7}, wanted;
+    uint32_t moved = 7, moved_back = 7;
+    hordguli_caret to;
+    OK(hordguli_step(session, edge, direction, &next, &moved));
+    if (!HOLDS(moved == (uint32_t)reference_step(from.line, from.column, direction, &wanted))) return;
+    if (moved == 0) {
+        HOLDS(next.pos == 7 && next.side == 7 && next.zero == 7);
+        return;
+    }
+    HOLDS(is_edge(next, wanted));
+    is_inside_line(next);
+    to = caret_of(session, next);
+    HOLDS(to.line == from.line && is_boundary(to.line, to.column));
+    HOLDS(direction == HORDGULI_RIGHT ? to.column > from.column : to.column < from.column);
+    if (!is_boundary(from.line, from.column)) return;
+    OK(hordguli_step(session, next, 1 - direction, &back, &moved_back));
+    HOLDS(moved_back == 1 && caret_of(session, back).column == from.column);
+}
+
+static void carets_and_steps_are_right(hordguli_session *session) {
+    for (size_t k = 0; k < 2 * (length + 2); k++) {
+        hordguli_edge edge = {k / 2, k % 2, (uint32_t)below(3)}, next;
+        hordguli_caret caret = {7, 7, 7, 7}, wanted;
+        uint32_t moved;
+        if (!reference_caret(edge, &wanted)) {
+            HOLDS(hordguli_edge_caret(session, edge, &caret) == HORDGULI_OUT_OF_RANGE);
+            HOLDS(hordguli_step(session, edge, HORDGULI_LEFT, &next, &moved) == HORDGULI_OUT_OF_RANGE);
+            continue;
+        }
+        OK(hordguli_edge_caret(session, edge, &caret));
+        HOLDS(memcmp(&caret, &wanted, sizeof caret) == 0);
+        if (edge.side == HORDGULI_BEFORE) {
+            OK(hordguli_caret_at(session, edge.pos, &caret));
+            HOLDS(memcmp(&caret, &wanted, sizeof caret) == 0);
+        }
+        step_is_right(session, edge, wanted, HORDGULI_LEFT);
+        step_is_right(session, edge, wanted, HORDGULI_RIGHT);
+    }
+}
+
+/* From one end of a line, repeated steps meet each boundary once. */
+static void steps_meet_each_boundary(hordguli_session *session, size_t line, uint32_t direction) {
+    size_t columns = line < line_count ? lines[line].columns : 0, met = 0, boundaries = 0;
+    hordguli_edge edge;
+    hordguli_caret caret, last = {0, 0, 0, 0};
+    uint32_t moved = 1;
+    for (size_t column = 0; column <= columns; column++) boundaries += (size_t)is_boundary(line, column);
+    OK(hordguli_edge_at(session, line, direction == HORDGULI_RIGHT ? 0 : SIZE_MAX, &edge));
+    for (; moved == 1 && met <= boundaries; met++) {
+        caret = caret_of(session, edge);
+        HOLDS(caret.line == line && is_boundary(line, caret.column));
+        HOLDS(met > 0 || caret.column == (direction == HORDGULI_RIGHT ? 0 : columns));
+        HOLDS(met == 0 || (direction == HORDGULI_RIGHT ? caret.column > last.column : caret.column < last.column));
+        last = caret;
+        OK(hordguli_step(session, edge, direction, &edge, &moved));
+    }
+    HOLDS(met == boundaries && last.column == (direction == HORDGULI_RIGHT ? columns : 0));
+}
+
+static void lines_are_right(hordguli_session *session) {
+    for (size_t line = 0; line <= line_count + 1; line++) {
+        hordguli_edge found[2], wanted[2];
+        size_t columns = line < line_count ? lines[line].columns : 0, ends[2][MOST], count = 77;
+        for (size_t k = 0; k <= columns + 2; k++) {
+            size_t column = k == columns + 2 ? SIZE_MAX : k;
+            int is_there = reference_edge_at(line, column, &wanted[0]);
+            hordguli_status status = hordguli_edge_at(session, line, column, &found[0]);
+            if (!HOLDS(status == (is_there ? HORDGULI_OK : HORDGULI_OUT_OF_RANGE)) || !is_there) continue;
+            HOLDS(is_edge(found[0], wanted[0]));
+            is_inside_line(found[0]);
+        }
+        if (!reference_line_edges(line, &wanted[0], &wanted[1])) {
+            HOLDS(hordguli_line_edges(session, line, &found[0], &found[1]) == HORDGULI_OUT_OF_RANGE);
+        } else if (OK(hordguli_line_edges(session, line, &found[0], &found[1]))) {
+            HOLDS(is_edge(found[0], wanted[0]) && is_edge(found[1], wanted[1]));
+            is_inside_line(found[1]);
+            steps_meet_each_boundary(session, line, HORDGULI_RIGHT);
+            steps_meet_each_boundary(session, line, HORDGULI_LEFT);
+        }
+        if (line >= line_count) {
+            HOLDS(hordguli_line_clusters(session, line, MOST, ends[0], &count) == HORDGULI_OUT_OF_RANGE && count == 77);
+            continue;
+        }
+        OK(hordguli_line_clusters(session, line, MOST, ends[0], &count));
+        HOLDS(count == reference_clusters(line, ends[1]) && memcmp(ends[0], ends[1], count * sizeof **ends) == 0);
+        for (int times = 0; times < 3; times++) {
+            hordguli_span spans[2][MOST];
+            size_t from = times == 0 ? 0 : below(length + 1), to = times == 0 ? SIZE_MAX : below(length + 2);
+            OK(hordguli_spans(session, line, from, to, MOST, spans[0], &count));
+            HOLDS(count == reference_spans(line, from, to, spans[1])
+                  && memcmp(spans[0], spans[1], count * sizeof **spans) == 0);
+        }
+    }
+}
+
+/* ---- Words ---- */
+
+/* Returns what UAX #29 has for a character: a Letter, a Digit, Katakana, a Space, an Ideograph or other character that
+ * joins nothing, an Extending or format character, a Newline, a carriage Return or a line Feed; or '?' for others. */
+static char word_class(uint32_t c) {
+    if (c == '\r') return 'R';
+    if (c == '\n') return 'F';
+    if (c == 0xB || c == 0xC || c == 0x85 || c == 0x2028 || c == 0x2029) return 'N';
+    if (c == ' ') return 'S';
+    if ((c >= '0' && c <= '9') || c == 0x661) return 'D';
+    if ((c >= 'A' && c <= 'Z') || (c >= 'a' && c <= 'z')) return 'L';
+    if ((c >= 0x5D0 && c <= 0x5EA) || (c >= 0x627 && c <= 0x644)) return 'L';
+    if (c == 0x6F22 || c == 0x5B57 || c == '(' || c == ')' || c == '-' || c == 0x3002) return 'I';
+    if (c == 0x30AB || c == 0x30BF) return 'K';
+    if (c == 0x300 || c == 0x301 || c == 0x5B8 || c == 0x903 || c == 0x94D || c == 0x200C || c == 0x200D || c == 0xFE0F
+        || c == 0x20DD || c == 0x302A || c == 0x1F3FD || c == 0x200E || c == 0x200F || c == 0xAD
+        || (c >= 0x202A && c <= 0x202E) || (c >= 0x2066 && c <= 0x2069))
+        return 'E';
+    return '?';
+}
+
+/* Returns whether there is a word boundary between two characters: 1, 0, or -1 if that depends on others. */
+static int word_boundary(uint32_t a, uint32_t b) {
+    char left = word_class(a), right = word_class(b);
+    if (left == 'R' && right == 'F') return 0;                                 /* WB3 */
+    if (strchr("RFN", left) != NULL || strchr("RFN", right) != NULL) return 1; /* WB3a, WB3b */
+    if (right == 'E') return 0;                                                /* WB4 */
+    if (left == '?' || right == '?' || left == 'E') return -1;
+    if (left == right && left != 'I') return 0;                                /* WB3d, WB5, WB8, WB13 */
+    return strchr("LD", left) == NULL || strchr("LD", right) == NULL;          /* WB9, WB10, WB999 */
+}
+
+static int starts_paragraph(size_t pos) {
+    return pos == 0 || (is_separator(text[pos - 1]) && !(text[pos - 1] == '\r' && pos < length && text[pos] == '\n'));
+}
+
+static void words_are_right(hordguli_session *session) {
+    hordguli_word word = {0, 0, 0, 0}, same;
+    for (size_t pos = 0; pos < length; pos = word.end) {
+        int has_letter = 0, may_have = 0;
+        if (!OK(hordguli_word_at(session, pos, &word)) || !HOLDS(word.start == pos && word.end > pos && word.end <= length))
+            return;
+        HOLDS(word.kind <= 1 && word.zero == 0);
+        for (size_t k = pos; k < word.end; k++) {
+            OK(hordguli_word_at(session, k, &same));
+            HOLDS(memcmp(&word, &same, sizeof word) == 0);
+            HOLDS(k == pos || !starts_paragraph(k));
+            if (k > 0 && !starts_paragraph(k)) {
+                int boundary = word_boundary(text[k - 1], text[k]);
+                HOLDS(boundary == -1 || boundary == (k == pos));
+            }
+            has_letter |= strchr("LDK", word_class(text[k])) != NULL || text[k] == 0x6F22 || text[k] == 0x5B57;
+            may_have |= word_class(text[k]) == '?' || word_class(text[k]) == 'E'; /* a vowel sign, say */
+        }
+        HOLDS(may_have || word.kind == (uint32_t)has_letter);
+        HOLDS(!has_letter || word.kind == 1);
+    }
+    HOLDS(hordguli_word_at(session, length, &word) == HORDGULI_OUT_OF_RANGE);
+}
+
+/* ---- Offsets ---- */
+
+static void offsets_are_right(hordguli_session *session) {
+    size_t byte = 0, code_unit = 0, found = 0;
+    hordguli_position position;
+    for (size_t pos = 0; pos <= length; pos++) {
+        uint32_t c = pos < length ? text[pos] : 0;
+        size_t byte_length = c < 0x80 ? 1 : c < 0x800 ? 2 : c < 0x10000 ? 3 : 4, code_units = c < 0x10000 ? 1 : 2;
+        OK(hordguli_byte_of(session, pos, &found));
+        HOLDS(found == byte);
+        OK(hordguli_utf16_of(session, pos, &found));
+        HOLDS(found == code_unit);
+        for (size_t rest = 0; rest < byte_length; rest++) {
+            OK(hordguli_position_of_byte(session, byte + rest, &position));
+            HOLDS(position.pos == pos && position.rest == rest);
+        }
+        for (size_t rest = 0; rest < code_units; rest++) {
+            OK(hordguli_position_of_utf16(session, code_unit + rest, &position));
+            HOLDS(position.pos == pos && position.rest == rest);
+        }
+        byte += byte_length;
+        code_unit += code_units;
+    }
+    HOLDS(hordguli_byte_of(session, length + 1, &found) == HORDGULI_OUT_OF_RANGE);
+    HOLDS(hordguli_utf16_of(session, length + 1, &found) == HORDGULI_OUT_OF_RANGE);
+    HOLDS(hordguli_position_of_byte(session, byte, &position) == HORDGULI_OUT_OF_RANGE);
+    HOLDS(hordguli_position_of_utf16(session, code_unit, &position) == HORDGULI_OUT_OF_RANGE);
+}
+
+static void texts_are_right(long count) {
+    for (long k = 0; k < count && failed < 20; k++) {
+        hordguli_session session = HORDGULI_SESSION_INIT;
+        long failed_before = failed;
+        uint32_t width = random_width();
+        options = (uint32_t)below(32);
+        length = random_text(text, below(8) == 0 ? MOST : 25);
+        if (!OK(hordguli_session_open(&session, &tables, options, width, bytes, encoded(text, length, bytes)))) return;
+        read_layout(&session);
+        find_units();
+        units_tile_lines();
+        carets_and_steps_are_right(&session);
+        lines_are_right(&session);
+        words_are_right(&session);
+        offsets_are_right(&session);
+        hordguli_session_close(&session);
+        if (failed == failed_before) continue;
+        fprintf(stderr, "options %u, width %u:", (unsigned)options, (unsigned)width);
+        for (size_t pos = 0; pos < length; pos++) fprintf(stderr, " %04X", (unsigned)text[pos]);
+        fprintf(stderr, "\n");
+    }
+}
+
+/* ---- Sessions beside new ones ---- */
+
+/* What the calls have returned: for each, its name, its arguments, its status and its results. */
+typedef struct answer {
+    const char *call;
+    size_t arguments[3], results[4];
+} answer;
+
+enum { ANSWERS = 1 << 15 };
+
+static answer answers[2][ANSWERS];
+static size_t answer_count;
+
+static answer *add(answer *to, const char *call, size_t a, size_t b, size_t c) {
+    answer *next = &to[answer_count];
+    if (answer_count + 1 < ANSWERS) answer_count++;
+    *next = (answer){call, {a, b, c}, {0, 0, 0, 0}};
+    return next;
+}
+
+/* Adds the elements that a call has stored. */
+static void add_elements(answer *to, const size_t *elements, size_t count) {
+    for (size_t k = 0; k < count; k++) add(to, "an element", k, 0, 0)->results[0] = elements[k];
+}
+
+static void ask_position(hordguli_session *session, size_t pos, answer *to) {
+    hordguli_cluster cluster = {0, 0};
+    hordguli_word word = {0, 0, 0, 0};
+    answer *a;
+    for (uint32_t side = 0; side < 2; side++) {
+        hordguli_caret caret = {0, 0, 0, 0};
+        a = add(to, "edge_caret", pos, side, 0);
+        a->results[0] = (size_t)hordguli_edge_caret(session, (hordguli_edge){pos, side, 0}, &caret);
+        a->results[1] = caret.line, a->results[2] = caret.column, a->results[3] = caret.level;
+        for (uint32_t direction = 0; direction < 2; direction++) {
+            hordguli_edge next = {0, 0, 0};
+            uint32_t moved = 0;
+            a = add(to, "step", pos, side, direction);
+            a->results[0] = (size_t)hordguli_step(session, (hordguli_edge){pos, side, 0}, direction, &next, &moved);
+            a->results[1] = next.pos, a->results[2] = next.side, a->results[3] = moved;
+        }
+    }
+    a = add(to, "cluster_at", pos, 0, 0);
+    a->results[0] = (size_t)hordguli_cluster_at(session, pos, &cluster);
+    a->results[1] = cluster.start, a->results[2] = cluster.end;
+    a = add(to, "word_at", pos, 0, 0);
+    a->results[0] = (size_t)hordguli_word_at(session, pos, &word);
+    a->results[1] = word.start, a->results[2] = word.end, a->results[3] = word.kind;
+    a = add(to, "byte_of", pos, 0, 0);
+    a->results[0] = (size_t)hordguli_byte_of(session, pos, &a->results[1]);
+    a = add(to, "utf16_of", pos, 0, 0);
+    a->results[0] = (size_t)hordguli_utf16_of(session, pos, &a->results[1]);
+}
+
+static void ask_line(hordguli_session *session, size_t line, size_t from, size_t span, answer *to) {
+    hordguli_line_info info = {0, 0, 0, 0, 0, 0, 0};
+    hordguli_edge edges[2] = {{0, 0, 0}, {0, 0, 0}};
+    hordguli_span spans[MOST];
+    size_t ends[MOST], count = 0;
+    answer *a;
+    hordguli_line(session, line, &info, 0, NULL, NULL, NULL, NULL, NULL);
+    for (size_t k = 0; k <= info.columns + 1; k++) {
+        hordguli_edge edge = {0, 0, 0};
+        a = add(to, "edge_at", line, k > info.columns ? SIZE_MAX : k, 0);
+        a->results[0] = (size_t)hordguli_edge_at(session, line, a->arguments[1], &edge);
+        a->results[1] = edge.pos, a->results[2] = edge.side;
+    }
+    add(to, "line_edges", line, 0, 0)->results[0] = (size_t)hordguli_line_edges(session, line, &edges[0], &edges[1]);
+    for (int k = 0; k < 2; k++) add_elements(to, (const size_t[]){edges[k].pos, edges[k].side}, 2);
+    add(to, "line_clusters", line, 0, 0)->results[0] = (size_t)hordguli_line_clusters(session, line, MOST, ends, &count);
+    add_elements(to, ends, count);
+    count = 0;
+    a = add(to, "spans", line, from, from + span);
+    a->results[0] = (size_t)hordguli_spans(session, line, from, from + span, MOST, spans, &count);
+    for (size_t k = 0; k < count; k++) add_elements(to, (const size_t[]){spans[k].left, spans[k].right}, 2);
+}
+
+static void ask_offset(hordguli_session *session, size_t offset, answer *to) {
+    hordguli_position position = {0, 0};
+    answer *a = add(to, "position_of_byte", offset, 0, 0);
+    a->results[0] = (size_t)hordguli_position_of_byte(session, offset, &position);
+    a->results[1] = position.pos, a->results[2] = position.rest;
+    a = add(to, "position_of_utf16", offset, 0, 0);
+    a->results[0] = (size_t)hordguli_position_of_utf16(session, offset, &position);
+    a->results[1] = position.pos, a->results[2] = position.rest;
+}
+
+/* Makes all calls with all positions, lines and offsets of the text, and one past each. */
+static void ask(hordguli_session *session, size_t from, size_t span, size_t byte_count, answer *to) {
+    hordguli_counts counts;
+    OK(hordguli_session_counts(session, &counts));
+    answer_count = 0;
+    for (size_t pos = 0; pos <= counts.characters + 1; pos++) ask_position(session, pos, to);
+    for (size_t line = 0; line <= counts.lines + 1; line++) ask_line(session, line, from, span, to);
+    for (size_t offset = 0; offset <= byte_count + 1; offset++) ask_offset(session, offset, to);
+}
+
+static void answers_are_equal(hordguli_session *kept, hordguli_session *anew, size_t byte_count) {
+    size_t from = below(length + 1), span = below(length + 1), count;
+    ask(kept, from, span, byte_count, answers[0]);
+    count = answer_count;
+    ask(anew, from, span, byte_count, answers[1]);
+    if (!HOLDS(count == answer_count && count + 1 < ANSWERS)) return;
+    for (size_t k = 0; k < count; k++) {
+        const answer *a = &answers[0][k], *b = &answers[1][k];
+        if (HOLDS(memcmp(a->results, b->results, sizeof a->results) == 0)) continue;
+        fprintf(stderr, "hordguli_%s, %zu %zu %zu\n", a->call, a->arguments[0], a->arguments[1], a->arguments[2]);
+        return;
+    }
+}
+
+/* Makes a random edit, in the session and in `text`. Half of the edits have no damage. */
+static void edit(hordguli_session *session, uint32_t *width) {
+    hordguli_damage damage, *out = below(2) == 0 ? NULL : &damage;
+    uint32_t piece[10];
+    size_t pos = below(length + 1), removed = 0, added = 0, size;
+    char piece_bytes[sizeof piece];
+    if (below(6) == 0) {
+        *width = random_width();
+        OK(hordguli_set_width(session, *width, out));
+        return;
+    }
+    if (below(2) == 0) removed = below(length - pos < 12 ? length - pos + 1 : 12);
+    if ((removed == 0 || below(2) == 0) && length - removed + 10 <= MOST) added = random_text(piece, 10);
+    size = encoded(piece, added, piece_bytes);
+    if (added == 0) OK(hordguli_delete(session, pos, removed, out));
+    else if (removed == 0) OK(hordguli_insert(session, pos, piece_bytes, size, out));
+    else OK(hordguli_replace(session, pos, removed, piece_bytes, size, out));
+    memmove(text + pos + added, text + pos + removed, (length - pos - removed) * sizeof *text);
+    memcpy(text + pos, piece, added * sizeof *text);
+    length += added - removed;
+}
+
+static void sessions_equal_new_ones(long count) {
+    for (long k = 0; k < count && failed < 20; k++) {
+        hordguli_session kept = HORDGULI_SESSION_INIT, anew = HORDGULI_SESSION_INIT;
+        long failed_before = failed;
+        uint32_t width = random_width();
+        size_t edits = 1 + below(8), size;
+        options = (uint32_t)below(32);
+        length = random_text(text, below(8) == 0 ? MOST / 2 : 20);
+        if (!OK(hordguli_session_open(&kept, &tables, options, width, bytes, encoded(text, length, bytes)))) return;
+        for (size_t times = 0; times < edits; times++) edit(&kept, &width);
+        size = encoded(text, length, bytes);
+        if (!OK(hordguli_session_open(&anew, &tables, options, width, bytes, size))) return;
+        answers_are_equal(&kept, &anew, size);
+        hordguli_session_close(&anew);
+        hordguli_session_close(&kept);
+        if (failed == failed_before) continue;
+        fprintf(stderr, "options %u, width %u, after %zu edits:", (unsigned)options, (unsigned)width, edits);
+        for (size_t pos = 0; pos < length; pos++) fprintf(stderr, " %04X", (unsigned)text[pos]);
+        fprintf(stderr, "\n");
+    }
+}
+
+int main(int count, char **words) {
+    if (count != 4) return 2;
+    if (!OK(hordguli_tables_open_folder(&tables, words[1], NULL))) return finish("edges");
+    texts_are_right(atol(words[2]));
+    sessions_equal_new_ones(atol(words[3]));
+    hordguli_tables_close(&tables);
+    return finish("edges");
+}

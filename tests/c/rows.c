@@ -1,0 +1,133 @@
+/* Compares `hordguli_row` and `hordguli_row_runs` with plain versions of L1 to L4 (UAX #9), for random rows of random
+ * paragraphs. Usage: rows FOLDER ROWS, where FOLDER has the table files. */
+#include "test.h"
+
+enum { MOST = 60, LETTERS = 42 };
+
+#define OK(call) HOLDS((call) == HORDGULI_OK)
+
+/* Letters, digits, marks, spaces, separators, brackets, and controls of embeddings and isolates. */
+static const uint32_t letters[LETTERS] = {
+    'a', 'b', ' ', ' ', '1', '2', ',', '$', '(', ')', '[', ']', '<', '\t', 0x5D0, 0x5D1, 0x5B0, 0x5B8, 0x627, 0x628,
+    0x661, 0x64B, 0x300, 0x200D, 0x2066, 0x2067, 0x2068, 0x2069, 0x202A, 0x202B, 0x202D, 0x202E, 0x202C, 0x4E00,
+    0x3008, 0x3009, 0x1F468, 0x1F469, 0xAD, 0x200B, 0x2028, 0x200F,
+};
+
+static hordguli_tables tables = HORDGULI_TABLES_INIT;
+
+/* What a row should be. */
+typedef struct row {
+    uint8_t levels[MOST];
+    uint32_t visual[MOST], ltov[MOST], vtol[MOST];
+    hordguli_run runs[MOST];
+    size_t run_count;
+} row;
+
+static int is_blank(unsigned bidi_class) {
+    return bidi_class == HORDGULI_BIDI_CLASS_WS || bidi_class == HORDGULI_BIDI_CLASS_BN
+           || (bidi_class >= HORDGULI_BIDI_CLASS_LRE && bidi_class <= HORDGULI_BIDI_CLASS_PDI);
+}
+
+static void reverse(uint32_t *items, size_t from, size_t to) {
+    for (; from + 1 < to; from++, to--) {
+        uint32_t item = items[from];
+        items[from] = items[to - 1];
+        items[to - 1] = item;
+    }
+}
+
+/* L1: a blank is reset if only blanks are between it and a separator or the end of the row. */
+static void reset(row *r, const hordguli_character *records, const uint8_t *levels, uint32_t base, size_t count) {
+    for (size_t k = 0; k < count; k++) {
+        size_t to = k;
+        while (to < count && is_blank(records[to].bidi_class)) to++;
+        r->levels[k] = to == count || records[to].bidi_class == HORDGULI_BIDI_CLASS_S
+                               || records[to].bidi_class == HORDGULI_BIDI_CLASS_B
+                           ? (uint8_t)base
+                           : levels[k];
+    }
+}
+
+/* L2, and L3 if it is requested. */
+static void order(row *r, const hordguli_character *records, uint32_t options, size_t count) {
+    for (size_t k = 0; k < count; k++) r->vtol[k] = (uint32_t)k;
+    for (unsigned level = 126; level > 0; level--) {
+        for (size_t from = 0, to; from < count; from = to + 1) {
+            for (to = from; to < count && r->levels[to] >= level;) to++;
+            /* each character of the interval is in it after the intervals of higher levels were reversed */
+            reverse(r->vtol, from, to);
+        }
+    }
+    for (size_t from = 0, to; (options & HORDGULI_REORDER_NSM) != 0 && from < count; from = to) {
+        to = from + 1; /* in visual order, marks precede their base: from the last one to the base */
+        while (to < count && r->levels[r->vtol[from]] % 2 == 1
+               && records[r->vtol[to - 1]].bidi_class == HORDGULI_BIDI_CLASS_NSM && r->vtol[to] + 1 == r->vtol[to - 1]
+               && r->levels[r->vtol[to]] == r->levels[r->vtol[from]])
+            to++;
+        if (records[r->vtol[to - 1]].bidi_class != HORDGULI_BIDI_CLASS_NSM) reverse(r->vtol, from, to);
+    }
+}
+
+/* The runs, from the visual order without L3. */
+static void find_runs(row *r, size_t count) {
+    r->run_count = 0;
+    for (size_t at = 0; at < count;) {
+        hordguli_run run = {r->vtol[at], 1, r->levels[r->vtol[at]], 0};
+        uint32_t step = run.level % 2 == 1 ? UINT32_MAX : 1;
+        for (at++; at < count && r->vtol[at] == r->vtol[at - 1] + step && r->levels[r->vtol[at]] == run.level; at++) {
+            run.length++;
+            if (r->vtol[at] < run.start) run.start = r->vtol[at];
+        }
+        r->runs[r->run_count++] = run;
+    }
+}
+
+static void plain_row(row *r, uint32_t options, uint32_t base, const uint32_t *characters, const uint8_t *levels,
+                      size_t count) {
+    hordguli_character records[MOST];
+    OK(hordguli_properties(&tables, count, characters, records));
+    reset(r, records, levels, base, count);
+    order(r, records, 0, count);
+    find_runs(r, count);
+    order(r, records, options, count);
+    for (size_t k = 0; k < count; k++) {
+        size_t place = r->vtol[k];
+        r->ltov[place] = (uint32_t)k;
+        r->visual[k] = r->levels[place] % 2 == 1 && records[place].mirror != 0 ? records[place].mirror
+                                                                               : characters[place];
+    }
+}
+
+static void same_row(uint32_t options, uint32_t base, const uint32_t *characters, const uint8_t *levels, size_t count) {
+    row wanted, got;
+    plain_row(&wanted, options, base, characters, levels, count);
+    OK(hordguli_row(&tables, options, base, count, characters, levels, count, got.visual, got.levels, got.ltov,
+                    got.vtol));
+    OK(hordguli_row_runs(&tables, base, count, characters, levels, MOST, got.runs, &got.run_count));
+    HOLDS(memcmp(got.levels, wanted.levels, count) == 0);
+    HOLDS(memcmp(got.vtol, wanted.vtol, count * sizeof *got.vtol) == 0);
+    HOLDS(memcmp(got.ltov, wanted.ltov, count * sizeof *got.ltov) == 0);
+    HOLDS(memcmp(got.visual, wanted.visual, count * sizeof *got.visual) == 0);
+    HOLDS(got.run_count == wanted.run_count);
+    HOLDS(got.run_count != wanted.run_count || memcmp(got.runs, wanted.runs, got.run_count * sizeof *got.runs) == 0);
+}
+
+int main(int count, char **words) {
+    if (count != 3) return 2;
+    if (!OK(hordguli_tables_open_folder(&tables, words[1], NULL))) return finish("rows");
+    for (long rows = atol(words[2]); rows > 0 && failed <= 20; rows--) {
+        uint32_t characters[MOST], base = 77, direction = (uint32_t)below(4);
+        uint8_t levels[MOST];
+        size_t length = below(MOST + 1), kinds = 1 + below(LETTERS), from = below(length + 1);
+        size_t to = from + below(length - from + 1);
+        for (size_t k = 0; k < length; k++)
+            characters[k] = letters[below(2) == 0 ? below(LETTERS) : ((size_t)rows + below(kinds)) % LETTERS];
+        OK(hordguli_base(&tables, direction, characters, length, &base));
+        OK(hordguli_levels(&tables, direction, characters, length, length, levels));
+        if (below(20) == 0) /* levels of no paragraph */
+            for (size_t k = 0; k < length; k++) levels[k] = (uint8_t)below(127);
+        same_row(below(2) == 0 ? 0 : HORDGULI_REORDER_NSM, base, characters + from, levels + from, to - from);
+    }
+    hordguli_tables_close(&tables);
+    return finish("rows");
+}
