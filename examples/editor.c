@@ -4,10 +4,11 @@
  *         -DUCDDIR=\"$(pkg-config --variable=ucddir hordguli)\"
  *
  * It knows nothing about directions, line breaks or columns. A session as wide as the window holds the text. Keys edit
- * the session, and the damage says which lines to redraw. The session also finds carets, hits and clusters.
+ * the session, and the damage says which lines to redraw. The session also moves the caret, and finds words, grapheme
+ * clusters and the columns of a selection.
  *
- * Keys: arrows, Home and End (the left and the right end of a line), Page Up and Page Down, Backspace, Delete, Ctrl-S
- * (save) and Ctrl-Q (quit). */
+ * Keys: arrows, Home and End, Page Up and Page Down, with Ctrl for words and with Shift to select; Backspace, Delete,
+ * Ctrl-S (save) and Ctrl-Q (quit). */
 #define _XOPEN_SOURCE 700
 #define _DEFAULT_SOURCE
 #include <errno.h>
@@ -20,8 +21,11 @@
 #include <termios.h>
 #include <unistd.h>
 
+enum { MOST = 1048576 }; /* characters of a paragraph */
+
 static hordguli_session session = HORDGULI_SESSION_INIT;
-static size_t pos, top;              /* the caret's position, and the first line on the screen */
+static hordguli_edge caret, anchor;  /* where the caret is, and where the selection started */
+static size_t top;                   /* the first line on the screen */
 static size_t height = 1, width = 1; /* the size of the text area, which is above a status row */
 static char *stale;                  /* for each row, whether it must be drawn */
 static unsigned long drawn;          /* how many lines were drawn for the last key */
@@ -55,64 +59,57 @@ static hordguli_counts counts(void) {
     return found;
 }
 
-static hordguli_line_info info_of(size_t line) {
-    hordguli_line_info info;
-    check(hordguli_line(&session, line, &info, 0, NULL, NULL, NULL, NULL, NULL));
-    return info;
+/* Returns whether a call has succeeded, and notes why not. It is no error to go past an end of the text. */
+static int succeeds(hordguli_status status) {
+    if (status != HORDGULI_OK && status != HORDGULI_OUT_OF_RANGE) note = hordguli_status_text(status);
+    return status == HORDGULI_OK;
 }
 
-/* ---- Places: columns are screen columns, which include the padding on the left of some lines ---- */
+/* ---- The caret ---- */
 
-static hordguli_caret caret_at(size_t at) {
-    hordguli_caret caret;
-    check(hordguli_caret_at(&session, at, &caret));
-    if (caret.line < counts().lines)
-        caret.column += info_of(caret.line).padding;
-    else if (caret.level % 2 == 1)
-        caret.column = width;
-    return caret;
+/* Returns the screen column where a line starts. */
+static size_t left_of(size_t line) {
+    hordguli_line_info info = {0};
+    succeeds(hordguli_line(&session, line, &info, 0, NULL, NULL, NULL, NULL, NULL));
+    return info.padding;
 }
 
-/* Finds the position at a column of a line. Returns 0 if there is no such line. */
-static int position_at(size_t line, size_t column, size_t *found) {
-    hordguli_counts all = counts();
-    hordguli_hit hit;
-    hordguli_cluster cluster;
-    if (line >= all.lines) {
-        *found = all.characters;
-        return caret_at(all.characters).line == line;
-    }
-    hordguli_line_info info = info_of(line);
-    check(hordguli_hit_at(&session, line, column < info.padding ? 0 : column - info.padding, &hit));
-    /* the end of a right-to-left letter is on its left */
-    if (column < info.padding && info.columns > 0) hit.trailing = caret_at(hit.pos).level % 2;
-    if (hordguli_cluster_at(&session, hit.pos, &cluster) != HORDGULI_OK) {
-        *found = hit.pos;
-        return 1;
-    }
-    *found = hit.trailing && caret_at(cluster.end).line == line ? cluster.end : cluster.start;
-    return 1;
+/* Returns the line and the screen column of the caret. */
+static hordguli_caret caret_place(void) {
+    hordguli_caret place;
+    check(hordguli_edge_caret(&session, caret, &place));
+    place.column += left_of(place.line);
+    return place;
 }
 
-/* Moves the caret to the next place to the right or left on the screen, on this line or an adjacent one. */
-static void sideways(int step) {
-    hordguli_caret from = caret_at(pos);
-    size_t to;
-    for (size_t k = step > 0 ? from.column : from.column - 1; k <= width; k += (size_t)step) {
-        hordguli_caret there;
-        if (!position_at(from.line, k, &to)) break;
-        there = caret_at(to);
-        if (there.line == from.line && (step > 0 ? there.column > from.column : there.column < from.column)) {
-            pos = to;
-            return;
-        }
-    }
-    if (step > 0 ? position_at(from.line + 1, 0, &to) : from.line > 0 && position_at(from.line - 1, width, &to)) pos = to;
-}
-
+/* Moves the caret to a screen column of a line, if there is such a line. */
 static void go(size_t line, size_t column) {
-    size_t to;
-    if (position_at(line, column, &to)) pos = to;
+    size_t left = left_of(line);
+    succeeds(hordguli_edge_at(&session, line, column > left ? column - left : 0, &caret));
+}
+
+/* Moves the caret to the left or right, at the end of a line to the previous or next one. */
+static void sideways(uint32_t direction) {
+    size_t line = caret_place().line;
+    uint32_t moved = 1;
+    succeeds(hordguli_step(&session, caret, direction, &caret, &moved));
+    if (!moved && direction == HORDGULI_RIGHT) go(line + 1, 0);
+    else if (!moved && line > 0) go(line - 1, SIZE_MAX);
+}
+
+/* Moves the caret to the start of this or the previous word, or to the end of this or the next one. */
+static void by_word(uint32_t direction) {
+    size_t is_back = direction == HORDGULI_LEFT;
+    hordguli_word word = {0};
+    while (!word.kind && succeeds(hordguli_word_at(&session, caret.pos - is_back, &word)))
+        caret.pos = is_back ? word.start : word.end;
+    caret.side = word.kind && !is_back ? HORDGULI_AFTER : HORDGULI_BEFORE;
+}
+
+/* Returns the selected characters. */
+static hordguli_cluster selected(void) {
+    size_t a = caret.pos, b = anchor.pos;
+    return (hordguli_cluster){a < b ? a : b, a < b ? b : a};
 }
 
 /* ---- The screen ---- */
@@ -158,91 +155,90 @@ static void scroll_to(size_t line) {
     }
 }
 
-/* Removes control characters, which a terminal would execute. They have width 0. */
-static size_t without_controls(char *bytes, size_t length) {
-    size_t kept = 0;
-    for (size_t k = 0; k < length; k++) {
+/* Draws a line, with its selection in reverse video. Leaves out control characters, which a terminal would execute. */
+static void draw_line(size_t row, size_t line) {
+    static size_t columns[MOST];
+    static hordguli_span spans[MOST];
+    static char bytes[4 * MOST + 1];
+    hordguli_line_info info;
+    uint32_t print = HORDGULI_PRINT_VISUAL | HORDGULI_PRINT_MIRRORED;
+    size_t length, count, column = 0, character = 0, span = 0;
+    check(hordguli_line(&session, line, &info, MOST, NULL, NULL, NULL, NULL, columns));
+    check(hordguli_lines_utf8(&session, line, 1, print, sizeof bytes, bytes, &length));
+    check(hordguli_spans(&session, line, selected().start, selected().end, MOST, spans, &count));
+    printf("\33[%zu;%zuH", row + 1, info.padding + 1);
+    for (size_t k = 0; k + 1 < length; k++) {
         unsigned char byte = (unsigned char)bytes[k];
+        if ((byte & 0xC0) != 0x80) { /* a character's first byte */
+            if (span < count && column == spans[span].right) printf("\33[m"), span++;
+            if (span < count && column == spans[span].left) printf("\33[7m");
+            column += columns[character++];
+        }
         if (byte == 0xC2 && (unsigned char)bytes[k + 1] < 0xA0) k++; /* U+0080 to U+009F */
-        else if (byte >= ' ' && byte != 0x7F) bytes[kept++] = bytes[k];
+        else if (byte >= ' ' && byte != 0x7F) putchar(byte);
     }
-    return kept;
-}
-
-static void draw_line(size_t line) {
-    static char *bytes;
-    static size_t room;
-    size_t length;
-    while (hordguli_lines_utf8(&session, line, 1, HORDGULI_PRINT_DEFAULT, room, bytes, &length) == HORDGULI_NO_ROOM) {
-        bytes = sure(realloc(bytes, length));
-        room = length;
-    }
-    fwrite(bytes, 1, without_controls(bytes, length), stdout);
+    printf("\33[m");
     drawn++;
 }
 
 static void draw(void) {
-    hordguli_caret caret = caret_at(pos);
+    static int is_selected;
+    hordguli_caret place = caret_place();
     hordguli_counts all = counts();
     char told[200];
-    scroll_to(caret.line);
+    scroll_to(place.line);
+    if (is_selected || caret.pos != anchor.pos) memset(stale, 1, height);
+    is_selected = caret.pos != anchor.pos;
     for (size_t row = 0; row < height; row++) {
         if (!stale[row]) continue;
         printf("\33[%zu;1H\33[K", row + 1);
-        if (top + row < all.lines) draw_line(top + row);
+        if (top + row < all.lines) draw_line(row, top + row);
         stale[row] = 0;
     }
-    snprintf(told, sizeof told, "%s: %zu of %zu. %s", path, pos, all.characters, note);
+    snprintf(told, sizeof told, "%s: %zu of %zu. %s", path, caret.pos, all.characters, note);
     printf("\33[%zu;1H\33[K%.*s", height + 1, (int)width - 1, told);
-    printf("\33[%zu;%zuH", caret.line - top + 1, caret.column + 1 < width ? caret.column + 1 : width);
+    printf("\33[%zu;%zuH", place.line - top + 1, place.column + 1 < width ? place.column + 1 : width);
     fflush(stdout);
 }
 
 /* Reads the size of the window. */
 static void measure(void) {
     struct winsize size;
-    hordguli_damage damage;
     resized = 0;
     if (ioctl(STDOUT_FILENO, TIOCGWINSZ, &size) != 0 || size.ws_row == 0 || size.ws_col == 0) leave("no window");
     height = size.ws_row > 1 ? size.ws_row - 1u : 1;
     width = size.ws_col;
     stale = sure(realloc(stale, height));
-    if (session.at != NULL) check(hordguli_set_width(&session, (uint32_t)width, &damage));
+    if (session.at != NULL) check(hordguli_set_width(&session, (uint32_t)width, NULL));
     memset(stale, 1, height);
     printf("\33[1;%zur\33[2J", height); /* the scrolling region: all rows but the last */
 }
 
 /* ---- Changes ---- */
 
-static void insert(const char *text, size_t length) {
+/* Replaces characters, and moves the caret after the new text, or before what follows it. */
+static void replace(hordguli_cluster old, const char *text, size_t length, uint32_t side) {
     hordguli_damage damage;
     size_t count;
-    hordguli_status status = hordguli_count_utf8(text, length, &count);
-    if (status == HORDGULI_OK) status = hordguli_insert(&session, pos, text, length, &damage);
-    note = status == HORDGULI_OK ? "" : hordguli_status_text(status);
-    if (status != HORDGULI_OK) return;
+    note = "";
+    if (!succeeds(hordguli_count_utf8(text, length, &count))) return;
+    if (!succeeds(hordguli_replace(&session, old.start, old.end - old.start, text, length, &damage))) return;
     damaged(&damage);
-    pos += count;
+    caret = anchor = (hordguli_edge){old.start + count, side, 0};
 }
 
-/* Deletes the grapheme cluster that contains a character. */
+/* Deletes the selection, or else the grapheme cluster that contains a character. */
 static void take_out(size_t at) {
-    hordguli_cluster cluster;
-    hordguli_damage damage;
-    hordguli_status status = hordguli_cluster_at(&session, at, &cluster);
-    if (status == HORDGULI_OUT_OF_RANGE) return;
-    if (status == HORDGULI_OK) status = hordguli_delete(&session, cluster.start, cluster.end - cluster.start, &damage);
-    note = status == HORDGULI_OK ? "" : hordguli_status_text(status);
-    if (status != HORDGULI_OK) return;
-    damaged(&damage);
-    pos = cluster.start;
+    hordguli_cluster old = selected();
+    if (old.start == old.end && !succeeds(hordguli_cluster_at(&session, at, &old))) return;
+    replace(old, NULL, 0, HORDGULI_BEFORE);
 }
 
 static void save(void) {
     size_t all = counts().characters, length;
     char *bytes;
     FILE *file;
-    check(hordguli_utf8_length(&session, 0, all, &length));
+    check(hordguli_byte_of(&session, all, &length));
     bytes = sure(malloc(length + 1));
     check(hordguli_text(&session, 0, all, length, bytes, &length));
     file = fopen(path, "wb");
@@ -265,26 +261,29 @@ static int next_byte(void) {
     }
 }
 
-/* Executes an escape sequence: `[` or `O`, an optional number, and the key's letter. A number and `~` count as a letter. */
+/* Executes an escape sequence: `[` or `O`, an optional number, `;` and a digit if Shift (1) or Ctrl (4) is pressed, and the
+ * key's letter. A number and `~` count as a letter. */
 static void escape(void) {
-    hordguli_caret caret = caret_at(pos);
-    size_t all = counts().lines;
-    int key, number = 0;
+    size_t line = caret_place().line, column = caret_place().column, all = counts().lines;
+    hordguli_edge first, last;
+    int key, number = 0, modifiers = 0;
     next_byte();
-    while ((key = next_byte()) >= '0' && key <= ';') number = key == ';' ? number : number * 10 % 1000 + key - '0';
+    while ((key = next_byte()) >= '0' && key <= '9') number = number * 10 % 1000 + key - '0';
+    if (key == ';') modifiers = next_byte() - '1', key = next_byte();
     if (key == '~') key = number == 1 || number == 7 ? 'H' : number == 4 || number == 8 ? 'F' : number;
+    check(hordguli_line_edges(&session, line, &first, &last));
     switch (key) {
-        case 'A': if (caret.line > 0) go(caret.line - 1, caret.column); break;
-        case 'B': go(caret.line + 1, caret.column); break;
-        case 'C': sideways(1); break;
-        case 'D': sideways(-1); break;
-        case 'H': go(caret.line, 0); break;
-        case 'F': go(caret.line, width); break;
-        case 3: take_out(pos); break;
-        case 5: go(caret.line > height ? caret.line - height : 0, caret.column); break;
-        case 6: go(caret.line + height < all ? caret.line + height : all - (all > 0), caret.column); break;
-        default: break;
+        case 'A': if (line > 0) go(line - 1, column); break;
+        case 'B': go(line + 1, column); break;
+        case 'C': (modifiers & 4 ? by_word : sideways)(HORDGULI_RIGHT); break;
+        case 'D': (modifiers & 4 ? by_word : sideways)(HORDGULI_LEFT); break;
+        case 'H': caret = first; break;
+        case 'F': caret = last; break;
+        case 3: take_out(caret.pos); break;
+        case 5: go(line > height ? line - height : 0, column); break;
+        case 6: go(line + height < all ? line + height : all - (all > 0), column); break;
     }
+    if ((modifiers & 1) == 0) anchor = caret;
 }
 
 /* Executes a key and stores its name in `name`. Returns 0 to quit. */
@@ -302,16 +301,16 @@ static int obey(int byte, char *name) {
     } else if (byte == 0x1B) {
         escape();
     } else if (byte == 0x7F || byte == 8) {
-        if (pos > 0) take_out(pos - 1);
+        take_out(caret.pos - 1);
     } else if (byte == '\r' || byte == '\n') {
-        insert("\n", 1);
+        replace(selected(), "\n", 1, HORDGULI_BEFORE);
         strcpy(name, "enter");
     } else if (byte == '\t') {
-        insert("    ", 4);
+        replace(selected(), "    ", 4, HORDGULI_AFTER);
     } else if (byte >= ' ') {
         for (name[0] = (char)byte; more > 0; more--) name[length++] = (char)next_byte();
         name[length] = '\0';
-        insert(name, length);
+        replace(selected(), name, length, HORDGULI_AFTER);
     }
     return 1;
 }
