@@ -1,0 +1,87 @@
+/* Tests the snippets of "Writing an editor" in docs/reference.md, which tests/docs/run writes to snippets.h. Usage:
+ * editor FOLDER, where FOLDER has the table files. */
+#include <hordguli.h>
+#include <stdio.h>
+#include <string.h>
+
+#include "snippets.h"
+
+static int failed;
+
+static void holds(int is_so, int at, const char *what) {
+    if (!is_so) printf("editor.c:%d: does not hold: %s\n", at, what);
+    failed |= !is_so;
+}
+#define HOLDS(condition) holds((condition), __LINE__, #condition)
+#define OK(call) HOLDS((call) == HORDGULI_OK)
+
+static int is_at(size_t line, size_t column) {
+    size_t found[2] = {77, 77};
+    return locate_caret(&found[0], &found[1]) == HORDGULI_OK && found[0] == line && found[1] == column;
+}
+
+static int is_edge(size_t pos, uint32_t side) { return caret.pos == pos && caret.side == side; }
+
+static char highlighted[100];
+
+static void highlight(size_t left, size_t right) {
+    sprintf(highlighted + strlen(highlighted), "%zu-%zu ", left, right);
+}
+
+int main(int count, char **words) {
+    /* a line in which the direction changes, and a padded one */
+    static const char text[] = "abc \u05d0\u05d1\u05d2 def\n\u05d0\u05d1 \u05d2\n";
+    static const size_t stops[] = {1, 2, 3, 4, 5, 6, 7, 8, 9, 10, 11};
+    hordguli_tables tables = HORDGULI_TABLES_INIT;
+    if (count != 2) return 2;
+    OK(hordguli_tables_open_folder(&tables, words[1], NULL));
+    OK(hordguli_session_open(&session, &tables, 0, 20, text, strlen(text)));
+    HOLDS(is_at(0, 0));
+    for (size_t k = 0; k < sizeof stops / sizeof *stops; k++) {
+        OK(press_arrow(HORDGULI_RIGHT));
+        HOLDS(is_at(0, stops[k]));
+    }
+    OK(press_arrow(HORDGULI_RIGHT));
+    HOLDS(is_at(1, 16) && is_edge(16, HORDGULI_AFTER));
+    for (int k = 0; k < 4; k++) OK(press_arrow(HORDGULI_RIGHT));
+    HOLDS(is_at(1, 20));
+    OK(press_arrow(HORDGULI_RIGHT));
+    HOLDS(is_at(2, 0) && is_edge(17, HORDGULI_BEFORE));
+    HOLDS(press_arrow(HORDGULI_RIGHT) == HORDGULI_OUT_OF_RANGE);
+    OK(press_arrow(HORDGULI_LEFT));
+    HOLDS(is_at(1, 20));
+    for (int k = 0; k < 5 + 11; k++) OK(press_arrow(HORDGULI_LEFT));
+    HOLDS(is_at(0, 0));
+    HOLDS(press_arrow(HORDGULI_LEFT) == HORDGULI_OUT_OF_RANGE);
+    OK(click(1, 3)); /* in the padding */
+    HOLDS(is_at(1, 16));
+    OK(click(1, 18));
+    HOLDS(is_at(1, 18));
+    OK(press_home_or_end(0));
+    HOLDS(is_at(1, 20) && is_edge(12, HORDGULI_BEFORE));
+    OK(press_home_or_end(1));
+    HOLDS(is_at(1, 16) && is_edge(16, HORDGULI_BEFORE));
+    HOLDS(click(3, 0) == HORDGULI_OUT_OF_RANGE);
+    OK(click(0, 2));
+    anchor = caret;
+    OK(go_to_end_of_word());
+    HOLDS(is_edge(3, HORDGULI_AFTER));
+    OK(go_to_end_of_word());
+    HOLDS(is_edge(7, HORDGULI_AFTER) && is_at(0, 4));
+    OK(draw_selection(0, highlight));
+    HOLDS(strcmp(highlighted, "2-7 ") == 0);
+    caret.pos = 5;
+    highlighted[0] = '\0';
+    OK(draw_selection(0, highlight));
+    HOLDS(strcmp(highlighted, "2-4 6-7 ") == 0);
+    OK(type("\u05d3x", 3));
+    HOLDS(is_edge(7, HORDGULI_AFTER) && anchor.pos == 7);
+    OK(type("\n", 1));
+    HOLDS(is_edge(8, HORDGULI_BEFORE) && caret.side == HORDGULI_BEFORE);
+    OK(click(3, 0));
+    HOLDS(go_to_end_of_word() == HORDGULI_OUT_OF_RANGE);
+    HOLDS(is_edge(20, HORDGULI_BEFORE));
+    hordguli_session_close(&session);
+    hordguli_tables_close(&tables);
+    return failed;
+}
