@@ -1,4 +1,4 @@
-/* Tests each function through FriBidi's header, also with unusual arguments. Link it with the library. Compiled with -DREFUSES,
+/* Tests each function through FriBidi's header, including with unusual arguments. Link it with the library. Compiled with -DREFUSES,
  * and linked with --wrap for malloc, realloc and free, it also makes allocations fail, from each one on in turn. */
 #include <fribidi.h>
 #include <stdint.h>

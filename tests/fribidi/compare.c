@@ -180,7 +180,7 @@ int main(int argc, char **argv) {
         input one;
         memset(&one, 0, sizeof one);
         draw(&one);
-        if (!separator_inside(&one)) { /* our levels must be the annex's, which reference.h finds */
+        if (!separator_inside(&one)) { /* our levels must equal those of reference.h, by UAX #9 */
             int annex[MOST], same = 1;
             plain_levels(&one, 0, annex);
             for (int k = 0; k < one.length; k++) same = same && annex[k] == one.levels[k];

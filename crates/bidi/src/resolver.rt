@@ -306,7 +306,7 @@ impl Resolver {
         Ok(level)
     }
 
-    // Finds the levels of a paragraph with a given base level, whatever its characters are.
+    // Finds the levels of a paragraph with a given base level, without the fast path for level 0.
     fn resolve_raised(
         &mut self,
         tables: &Tables,

@@ -23,8 +23,8 @@ decide _ _ _ = May
 abbrev pub marks_by_row : Bool → List Mark
 marks_by_row whole_numbers = map (λ row. row.mark) (rows whole_numbers)
 
--- the bases after a position, a base that begins with c and then NU or nothing, and the results of all
--- conditions on them
+-- the bases after a position: a base that begins with c, then a base of class NU or nothing; then the results of all
+-- conditions on these bases
 abbrev pub bases_after : Character → Bool → List Base
 bases_after c true = alone c ∷ base NU ∷ []
 bases_after c false = alone c ∷ []

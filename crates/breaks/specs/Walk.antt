@@ -127,7 +127,8 @@ abbrev pub plain : List Base → List Base
 plain [] = []
 plain (b ∷ bases) = record { first = record b.first { is_future_pictograph = false }; attached = narrow class.CM ∷ [] } ∷ bases
 
--- the result of each condition on the bases before a position, with LB8a and LB30b for pictographs false
+-- the result of each rule's condition on the bases before a position; the conditions of LB8a, and of LB30b for
+-- pictographs, count as false
 abbrev pub answers : Bool → List Base → List Bool
 answers whole_numbers bases = map (λ row. row.before (plain bases)) (rows whole_numbers)
 

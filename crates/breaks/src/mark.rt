@@ -52,7 +52,7 @@ pub fn marks(
     Ok(marks)
 }
 
-/// Replaces the contents of a list with the same marks, given properties that have already been looked up.
+/// Replaces the contents of a list with what `marks` returns, given the properties of the characters.
 ///
 /// Allocates only if the list's capacity is less than the number of characters.
 pub fn marks_into(

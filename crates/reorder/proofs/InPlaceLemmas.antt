@@ -81,7 +81,7 @@ get_or_first xs start = sym (get_or-drop start xs 0 0 ∙ ap (λ n. get_or xs n 
 
 -- ---- the scan for one level
 
--- an interval of n set flags at the front is reversed if the flag after it is not set
+-- if the first n flags are set and the next one is not, the first n items are reversed
 interval : (test : ℕ → Bool) (levels run xs : List ℕ) (n : ℕ) → length levels ≡ length xs → n ≤ length levels
     → ((k : ℕ) → k < n → test (get_or levels k 0) ≡ true) → (n < length levels → test (get_or levels n 0) ≡ false)
     → reverse_flagged (map test levels) run xs ≡ reverse (take n xs) ++ run ++ reverse_flagged (map test (drop n levels)) [] (drop n xs)

@@ -60,7 +60,7 @@ module _ (levels : List ℕ) where
     pub high : AreAtLeast level start first
     pub leftmost : (k : ℕ) → start ≤ k → k < length levels → AreAtLeast level start k → k ≢ first → IsLeft first k
 
-  -- Of the characters before `end`, back to the last one below the level, `first` is the leftmost.
+  -- `first` is the leftmost of the characters directly before `end` that are at the level or higher.
   pub record IsLeftmostBack (level end first : ℕ) : Type 0 where
     pub before : first < end
     pub high : AreAtLeast level first (end - 1)

@@ -49,8 +49,8 @@ module _ (levels : List ℕ) where
 unfoldable pub order_of : List ℕ → List ℕ
 order_of levels = order_by levels (lowest_odd levels)
 
--- a list with each maximal interval of items that pass a test reversed together with the item after it; `run` is the
--- current interval, reversed
+-- reverses each maximal interval of items that pass a test, together with the item after it; `run` is the current
+-- interval, reversed
 abbrev pub reverse_with_next : (ℕ → Bool) → List ℕ → List ℕ → List ℕ
 reverse_with_next test run [] = run
 reverse_with_next test run (i ∷ items) = if test i then reverse_with_next test (i ∷ run) items else i ∷ (run ++ reverse_with_next test [] items)

@@ -178,8 +178,8 @@ module _ {V : Type 0} (form : Form V) where
     fault_for cause.Memory (inr (named, again)) = absurd (let no : ⊥ = cc in no)
     fault_for why fault = (omega arith, subst (λ n. IsFirstFault form lines n why) {x = k} (omega arith) (record { in_range = within; fault = fault; earlier = held.good }))
 
-    -- a line whose entry names no character that already has a value is not faulty, so memory can run out at
-    -- it
+    -- if no character of a line's entry has a value yet, the line is not faulty, so an allocation failure can be
+    -- reported for it
     not_named : (e : Entry V) → reading_of form (line_at form lines k) ≡ Ok (Some e) → ¬ (IsTaken es e) → (why : Cause) → ¬ (HasFault form lines k why)
     not_named e is free why (inl err) = cc
     not_named e is free why (inr (named, (j, c, lt, before, here))) =
