@@ -122,7 +122,7 @@ module _ {V : Type 0} (form : Form V) where
 
   -- a line with an entry gives a character the entry's value if the entry covers the character, and otherwise
   -- no value
-  given_entry : (e : Entry V) (c : ℕ) → IsScalar c → given_by form (Ok (Some e)) c ≡ (if covers e c then Some e.value else None)
+  pub given_entry : (e : Entry V) (c : ℕ) → IsScalar c → given_by form (Ok (Some e)) c ≡ (if covers e c then Some e.value else None)
   given_entry e c character = rw character refl
 
   entry_given : (e : Entry V) (c : ℕ) → IsScalar c → IsTrue (covers e c) → IsSome (given_by form (Ok (Some e)) c)
@@ -132,7 +132,7 @@ module _ {V : Type 0} (form : Form V) where
   if_some true v some = refl
   if_some false v some = absurd (false≢true some)
 
-  entry_gives : (e : Entry V) (c : ℕ) → IsSome (given_by form (Ok (Some e)) c) → IsScalar c × IsTrue (covers e c)
+  pub entry_gives : (e : Entry V) (c : ℕ) → IsSome (given_by form (Ok (Some e)) c) → IsScalar c × IsTrue (covers e c)
   entry_gives e c some = and_parts (scalar c) (covers e c) (if_some (scalar c && covers e c) e.value some)
 
   module _ (lines : List (List ℕ)) (k : ℕ) (es : List (Entry V)) (held : HoldsLines form lines k es) (within : k < length lines) where

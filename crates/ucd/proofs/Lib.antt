@@ -4,6 +4,13 @@ pub mod Parts
 pub mod Ranges
 pub mod FileLines
 pub mod Setting
+pub mod ImageFaults
+pub mod ImageParts
+pub mod ImagePoints
 pub mod PageLemmas
 pub mod PagedLemmas
+pub mod ImageTables
+pub mod ImageMade
 pub mod SaidLemmas
+pub mod RisingLemmas
+pub mod NameLemmas

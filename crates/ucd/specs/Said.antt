@@ -1,5 +1,5 @@
 -- The properties that the entries of the files give each code point.
-use Rattle.std.specs.Prelude.{◌≡◌, ℕ, ◌<◌, List, length, slice_index_or}
+use Rattle.std.specs.Prelude.{ℕ}
 use Rattle.ucd.specs.Answers.{PropertyAnswers, unnamed}
 use Rattle.ucd.specs.Contents.{TableContents}
 use Rattle.ucd.specs.Entries.{value_at}
@@ -24,7 +24,3 @@ said k c =
     (put_by put_width (value_at k.widths c) (put_by put_line_class (value_at k.line_classes c)
     (put_by put_mirror (value_at k.mirrors c) (put_by put_bracket (value_at k.brackets c)
     (put_by put_bidi_class (value_at k.bidi_classes c) unnamed))))))
-
-pub record AreSaid (k : TableContents) (points : List PropertyAnswers) : Type 0 where
-  pub len : length points ≡ 1114112
-  pub each : (c : ℕ) → c < 1114112 → slice_index_or points c unnamed ≡ said k c

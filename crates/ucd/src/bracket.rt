@@ -2,9 +2,11 @@
 //! them.
 ghost use Rattle.std.specs.Prelude.{◌≡◌};
 ghost use Rattle.ucd.specs.Brackets.{character_of, opens_of, bracket_form, mirror_form};
+ghost use Rattle.ucd.specs.Images.{bracket_in, mirror_in};
 ghost use Rattle.ucd.specs.Puts.{put_bracket, put_mirror};
 
 use crate::grammar::{Property, code_point};
+use crate::image_points::Point;
 use crate::properties::Properties;
 
 /// A bracket: the other bracket of its pair, and whether it is an opening bracket (UAX #9, BD14 and BD15).
@@ -80,5 +82,44 @@ impl Property for Mirror {
 
     fn put(self, properties: Properties) -> Properties {
         properties.with_mirror()
+    }
+}
+
+impl Point for Bracket {
+    ghost decode = { bracket_in };
+
+    ghost flag = { λ a. a.has_bracket };
+
+    fn from_number(number: u32) -> Option<Bracket> {
+        let pair = char::from_u32(number / 2)?;
+        let opens = number % 2 == 1;
+        Some(Bracket { pair, opens })
+    }
+
+    fn number(self) -> u32 {
+        2 * u32::from(self.pair) + u32::from(self.opens)
+    }
+
+    fn is_flagged(properties: Properties) -> bool {
+        properties.has_bracket()
+    }
+}
+
+impl Point for Mirror {
+    ghost decode = { mirror_in };
+
+    ghost flag = { λ a. a.has_mirror };
+
+    fn from_number(number: u32) -> Option<Mirror> {
+        let mirror = char::from_u32(number)?;
+        Some(Mirror(mirror))
+    }
+
+    fn number(self) -> u32 {
+        u32::from(self.0)
+    }
+
+    fn is_flagged(properties: Properties) -> bool {
+        properties.has_mirror()
     }
 }

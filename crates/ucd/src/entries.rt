@@ -1,5 +1,5 @@
 //! Parses the files into entries, before the entries are stored in pages.
-ghost use Rattle.std.specs.Prelude.{◌≡◌, IfOk, IfErr};
+ghost use Rattle.std.specs.Prelude.{IfOk, IfErr};
 ghost use Rattle.ucd.specs.Grammar.{lines_of};
 ghost use Rattle.ucd.specs.Files.{HoldsFile};
 ghost use Rattle.ucd.specs.BidiClasses.{bidi_class_form};
@@ -18,46 +18,56 @@ use crate::fault::TableFault;
 use crate::file::{FileFault, read_file};
 use crate::grammar::Property;
 use crate::line_class::LineClass;
-use crate::pages::{put_entries, unnamed_points};
-use crate::properties::Properties;
-use crate::range_table::{ApartEntries, CODE_POINTS, RangeTable};
+use crate::range_table::RangeTable;
+use crate::rising::RisingEntries;
 use crate::tables::UcdFiles;
 use crate::width::Width;
-use std::alloc::{AllocError, Global};
+use std::alloc::Global;
 
 // Parses one file. `number` is its number in `FILE_NAMES`, starting at 1.
 fn read_table<V: Property>(
     alloc: Global,
     number: usize,
     file: &[u8],
-) -> Result<ApartEntries<V>, TableFault>
+) -> Result<RisingEntries<V>, TableFault>
     ensures ok { IfOk result (HoldsFile V.form (lines_of file.now)) }
     ensures err { IfErr result (IsFaultIn number V.form (lines_of file.now)) }
 {
+    match RisingEntries::of_file(alloc, file) {
+        Some(entries) => Ok(entries),
+        None => Err(fault_of::<V>(alloc, number, file)),
+    }
+}
+
+// Returns the first fault of a file whose entries cannot be read. If no line is faulty, memory ran out.
+fn fault_of<V: Property>(alloc: Global, number: usize, file: &[u8]) -> TableFault
+    ensures { IsFaultIn number V.form (lines_of file.now) result }
+{
     let Ok(table) = RangeTable::new(alloc) else {
-        return Err(TableFault::memory());
+        return TableFault::memory();
     };
-    match read_file(table, file) {
-        Ok(table) => Ok(table.into_entries()),
-        Err(fault) => Err(TableFault::in_file(number, fault)),
+    let read: Result<RangeTable<V>, FileFault> = read_file(table, file);
+    match read {
+        Ok(_) => TableFault::memory(),
+        Err(fault) => TableFault::in_file(number, fault),
     }
 }
 
 /// The entries of the files for bidirectional text.
 #[derive(Drop)]
 pub struct BidiEntries {
-    classes: ApartEntries<BidiClass>,
-    pub(crate) brackets: ApartEntries<Bracket>,
-    pub(crate) mirrors: ApartEntries<Mirror>,
+    pub(crate) classes: RisingEntries<BidiClass>,
+    pub(crate) brackets: RisingEntries<Bracket>,
+    pub(crate) mirrors: RisingEntries<Mirror>,
 }
 
 /// The entries of the files for line breaking.
 #[derive(Drop)]
 pub struct BreakEntries {
-    classes: ApartEntries<LineClass>,
-    categories: ApartEntries<Category>,
-    widths: ApartEntries<Width>,
-    pictographs: ApartEntries<Pictograph>,
+    pub(crate) classes: RisingEntries<LineClass>,
+    pub(crate) categories: RisingEntries<Category>,
+    pub(crate) widths: RisingEntries<Width>,
+    pub(crate) pictographs: RisingEntries<Pictograph>,
 }
 
 // Parses the three files for bidirectional text.
@@ -108,8 +118,6 @@ pub struct Entries {
 pub fn drop_entries(_entries: Entries) {}
 
 impl Entries {
-    ghost use Rattle.ucd.specs.Said.{AreSaid, contents_of};
-
     /// Parses the files.
     pub fn read(alloc: Global, files: &UcdFiles<'_>) -> Result<Entries, TableFault>
         ensures bidi_classes { IfOk result (λ e.
@@ -131,22 +139,5 @@ impl Entries {
         let bidi = read_bidi(alloc, files)?;
         let breaks = read_breaks(alloc, files)?;
         Ok(Entries { bidi, breaks })
-    }
-
-    /// Returns the properties of all code points.
-    pub fn points(&self, alloc: Global) -> Result<Vec<Properties>, AllocError>
-        ensures { IfOk result (λ points. AreSaid (contents_of self.now) points.items) }
-    {
-        let mut points = unnamed_points(alloc, CODE_POINTS)?;
-        put_entries(&mut points, self.bidi.classes.as_slice());
-        put_entries(&mut points, self.bidi.brackets.as_slice());
-        put_entries(&mut points, self.bidi.mirrors.as_slice());
-        put_entries(&mut points, self.breaks.classes.as_slice());
-        put_entries(&mut points, self.breaks.widths.as_slice());
-        // Categories are applied after pictographs, because a pictograph counts as unassigned until its
-        // category says otherwise.
-        put_entries(&mut points, self.breaks.pictographs.as_slice());
-        put_entries(&mut points, self.breaks.categories.as_slice());
-        Ok(points)
     }
 }

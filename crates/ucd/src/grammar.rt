@@ -7,6 +7,7 @@ ghost use Rattle.ucd.specs.Grammar.{both, points_of, by_points, by_fields, readi
 
 use crate::fault::Cause;
 use crate::properties::Properties;
+use memchr::memchr;
 use std::alloc::AllocError;
 
 /// The code points from `first` to `last`, and their value.
@@ -53,6 +54,20 @@ pub trait Property: Copy + Drop {
 
 /// Returns the bytes before the first `mark`, and the bytes after it if there is one.
 pub(crate) fn cut(bytes: &[u8], mark: u8) -> (&[u8], Option<&[u8]>)
+    ensures front { result.0.now ≡ before_first (is_mark mark) bytes.now }
+    ensures rest { option_map (λ rest. rest.now) result.1 ≡ rest_after mark bytes.now }
+    ensures parts { slice_split (is_mark mark) bytes.now
+        ≡ parts_of mark result.0.now (option_map (λ rest. rest.now) result.1) }
+    ensures shorter { IfSome result.1 (λ rest. length rest.now < length bytes.now) }
+{
+    match memchr(mark, bytes) {
+        Some(at) => (&bytes[..at], Some(&bytes[at + 1..])),
+        None => (bytes, None),
+    }
+}
+
+// The same, byte by byte, which is faster if the mark is among the first bytes.
+fn cut_near(bytes: &[u8], mark: u8) -> (&[u8], Option<&[u8]>)
     ensures front { result.0.now ≡ before_first (is_mark mark) bytes.now }
     ensures rest { option_map (λ rest. rest.now) result.1 ≡ rest_after mark bytes.now }
     ensures parts { slice_split (is_mark mark) bytes.now
@@ -121,12 +136,12 @@ fn both(first: Option<u32>, last: Option<u32>) -> Option<(u32, u32)>
 fn points(field: &[u8], has_ranges: bool) -> Option<(u32, u32)>
     ensures { result ≡ points_of has_ranges field.now }
 {
-    let (front, rest) = cut(field, b'.');
+    let (front, rest) = cut_near(field, b'.');
     let Some(rest) = rest else {
         let point = code_point(front);
         return both(point, point);
     };
-    let (between, last) = cut(rest, b'.');
+    let (between, last) = cut_near(rest, b'.');
     let last = last?;
     if !has_ranges || !between.is_empty() {
         return None;
@@ -157,15 +172,15 @@ fn entry_of<V: Property>(
 fn read_fields<V: Property>(content: &[u8]) -> Result<Option<Entry<V>>, Cause>
     ensures { result ≡ by_fields V.form (fields_of content.now) }
 {
-    let (field, rest) = cut(content, b';');
+    let (field, rest) = cut_near(content, b';');
     let Some(rest) = rest else {
         return Err(Cause::FieldCount);
     };
-    let (second, rest) = cut(rest, b';');
+    let (second, rest) = cut_near(rest, b';');
     let third = match rest {
         None if !V::has_third() => b"".as_slice(),
         Some(rest) if V::has_third() => {
-            let (third, more) = cut(rest, b';');
+            let (third, more) = cut_near(rest, b';');
             if more.is_some() {
                 return Err(Cause::FieldCount);
             }

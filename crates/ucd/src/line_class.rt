@@ -1,5 +1,5 @@
 //! The line breaking classes (UAX #14, section 5.1, table 1), and how LineBreak.txt names them.
-ghost use Rattle.std.specs.Prelude.{◌≡◌, ◌<◌, codes, slice_index_or};
+ghost use Rattle.std.specs.Prelude.{◌≡◌, ◌<◌, IfSome, codes, slice_index_or};
 ghost use Rattle.ucd.specs.LineClasses.{name_of, class_named, all_classes, line_class_form};
 ghost use Rattle.ucd.specs.declared.line_class.LineClass.TheVariants.{BK};
 ghost use Rattle.ucd.specs.declared.line_class.TheConstants.{LINE_CLASS_COUNT};
@@ -88,6 +88,9 @@ impl LineClass {
     pub fn from_name(name: &[u8]) -> Option<LineClass>
         ensures { result ≡ class_named name.now }
     {
+        if let Some(class) = frequent(name) {
+            return Some(class);
+        }
         ALL.iter().copied().find(|class| class.name() == name)
     }
 
@@ -103,6 +106,25 @@ impl LineClass {
         ensures { result.now ≡ name_of self }
     {
         NAMES[self as usize].as_bytes()
+    }
+}
+
+// Returns the class with this short name, if it is one of the five that most lines of LineBreak.txt name.
+fn frequent(name: &[u8]) -> Option<LineClass>
+    ensures { IfSome result (λ class. name.now ≡ name_of class) }
+{
+    if b"AL".as_slice() == name {
+        Some(LineClass::AL)
+    } else if b"CM".as_slice() == name {
+        Some(LineClass::CM)
+    } else if b"H2".as_slice() == name {
+        Some(LineClass::H2)
+    } else if b"H3".as_slice() == name {
+        Some(LineClass::H3)
+    } else if b"ID".as_slice() == name {
+        Some(LineClass::ID)
+    } else {
+        None
     }
 }
 

@@ -1,11 +1,16 @@
 //! Lookup tables for the properties of all characters.
-ghost use Rattle.std.specs.Prelude.{◌≡◌, ◌≢◌, ◌<◌, ℕ, true, false, IfOk};
+ghost use Rattle.std.specs.Prelude.{◌≡◌, ◌≢◌, ◌<◌, ℕ, true, false, IfOk, IfErr};
 ghost use Rattle.ucd.specs.Separators.{may_separate};
 ghost use Rattle.ucd.specs.declared.bidi_class.BidiClass.TheVariants.{B};
 ghost use Rattle.ucd.specs.Tables.{class_of, bracket_of, mirror_of};
 
 use crate::bracket::{Bracket, Mirror};
 use crate::entries::Entries;
+use crate::image::{check_flags, decode_brackets, decode_mirrors, decode_pages};
+use crate::image_fault::ImageFault;
+use crate::image_frame::check_frame;
+use crate::image_parts::point_bytes;
+use crate::image_write::{joined, page_bytes};
 use crate::pages::{Pages, pages_of};
 use crate::points::points_of;
 use crate::properties::Properties;
@@ -44,6 +49,8 @@ impl Model for PagedTables {
 
 impl PagedTables {
     ghost use Rattle.ucd.specs.Agreeing.{SayAlike};
+    ghost use Rattle.ucd.specs.Imaged.{IsImageOf, AreImagePagesDistinct};
+    ghost use Rattle.ucd.specs.Images.{IsImageFault};
     ghost use Rattle.ucd.specs.Properties.{properties_of};
     ghost use Rattle.ucd.specs.Said.{contents_of};
 
@@ -51,8 +58,7 @@ impl PagedTables {
     pub fn of(alloc: Global, entries: &Entries) -> Result<PagedTables, AllocError>
         ensures { IfOk result (λ tables. SayAlike tables (contents_of entries.now)) }
     {
-        let points = entries.points(alloc)?;
-        let pages = pages_of(alloc, &points)?;
+        let pages = pages_of(alloc, entries)?;
         let brackets = points_of(alloc, entries.bidi.brackets.as_slice())?;
         let mirrors = points_of(alloc, entries.bidi.mirrors.as_slice())?;
         Ok(PagedTables {
@@ -60,6 +66,35 @@ impl PagedTables {
             brackets,
             mirrors,
         })
+    }
+
+    /// Decodes an image. Its parts are checked in the order of `ImageFault`.
+    pub fn from_image(alloc: Global, bytes: &[u8]) -> Result<PagedTables, ImageFault>
+        ensures ok { IfOk result (IsImageOf bytes.now) }
+        ensures err { IfErr result (IsImageFault bytes.now) }
+    {
+        check_frame(bytes)?;
+        let pages = decode_pages(alloc, bytes)?;
+        let brackets = decode_brackets(alloc, bytes)?;
+        let mirrors = decode_mirrors(alloc, bytes)?;
+        check_flags(&pages, &brackets, &mirrors, bytes)?;
+        Ok(PagedTables {
+            pages: pages.into_pages(),
+            brackets,
+            mirrors,
+        })
+    }
+
+    /// Encodes the tables as an image, in which no two pages are equal.
+    pub fn to_image(&self, alloc: Global) -> Result<Vec<u8>, AllocError>
+        ensures image { IfOk result (λ image. IsImageOf image.items self.now) }
+        ensures distinct { IfOk result (λ image. AreImagePagesDistinct image.items) }
+    {
+        let pages = page_bytes(alloc, &self.pages)?;
+        let brackets = point_bytes(alloc, &self.brackets)?;
+        let mirrors = point_bytes(alloc, &self.mirrors)?;
+        let image = joined(alloc, &pages.index, &pages.entries, &brackets, &mirrors)?;
+        Ok(image)
     }
 
     /// Returns whether each character of class B is U+0085, U+2029 or below U+0020.

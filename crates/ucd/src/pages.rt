@@ -4,21 +4,23 @@ ghost use Rattle.std.specs.Prelude.{◌≡◌, ◌≢◌, ℕ, ◌+◌, ◌*◌,
 ghost use Rattle.std.specs.Prelude.{length, slice_index, slice_index_or};
 ghost use Rattle.std.specs.Prelude.{nat_le, nat_lt, ◌&&◌, false, true, if◌then◌else◌, IfOk, IsTrue};
 ghost use Rattle.ucd.specs.Answers.{unnamed};
-ghost use Rattle.ucd.specs.Entries.{AreApart, value_at};
+ghost use Rattle.ucd.specs.Contents.{TableContents};
 ghost use Rattle.ucd.specs.Pages.{answers_at, EndsWithPage, HasPage};
-ghost use Rattle.ucd.specs.Puts.{put_by};
+ghost use Rattle.ucd.specs.Runs.{ReachesTo};
+ghost use Rattle.ucd.specs.Said.{said, contents_of};
 ghost use Rattle.ucd.specs.Separators.{may_separate, IsUsual};
 ghost use Rattle.ucd.specs.declared.bidi_class.BidiClass.TheVariants.{B};
 
-use crate::grammar::{Entry, Property};
+use crate::entries::Entries;
 use crate::properties::Properties;
+use crate::runs::Runs;
 use std::alloc::{AllocError, Global};
 
 /// The number of code points in a page.
-const PAGE: usize = 256;
+pub const PAGE: usize = 256;
 
 /// The number of pages that all code points would need if none were shared.
-const PLACES: usize = 4_352;
+pub const PLACES: usize = 4_352;
 
 /// The pages, one after another, and the page number of each block of 256 code points.
 #[derive(Debug, Drop)]
@@ -44,88 +46,156 @@ impl Pages {
     }
 }
 
-/// Returns the properties of `len` code points that no line names.
-pub fn unnamed_points(alloc: Global, len: usize) -> Result<Vec<Properties>, AllocError>
-    ensures len { IfOk result (λ points. length points.items ≡ len) }
-    ensures each { IfOk result (λ points. (c : ℕ) → slice_index_or points.items c unnamed ≡ unnamed) }
+impl Pages {
+    /// Returns the properties of a code point.
+    pub(crate) fn at(&self, point: usize) -> Properties
+        requires { point < 1114112 }
+        ensures { result ≡ answers_at self.now.index.items self.now.entries.items point }
+    {
+        self.entries[self.index[point / PAGE] as usize * PAGE + point % PAGE]
+    }
+}
+
+/// Returns the pages of all code points. Blocks inside one run are not looked at: they have the page of the
+/// block before.
+pub fn pages_of(alloc: Global, entries: &Entries) -> Result<Pages, AllocError>
+    ensures { IfOk result (λ pages. (c : ℕ) → c < 1114112
+        → answers_at pages.index.items pages.entries.items c ≡ said (contents_of entries.now) c) }
+{
+    let mut index = Vec::with_capacity(alloc, PLACES)?;
+    let mut pages = Vec::new(alloc);
+    let mut page = unnamed_points(alloc, PAGE)?;
+    let mut runs = Runs::of(entries);
+    for place in 0..PLACES {
+        let start = place * PAGE;
+        let run = runs.run();
+        if run.start + PAGE <= start && start + PAGE <= run.end {
+            let number = index[place - 1];
+            index.push(number)?;
+            continue;
+        }
+        runs = fill(runs, start, &mut page);
+        let number = page_number(&mut pages, &page)?;
+        index.push(number)?;
+    }
+    let has_usual_separators = are_usual(&index, &pages);
+    Ok(Pages {
+        index,
+        entries: pages,
+        has_usual_separators,
+    })
+}
+
+// Returns the properties of `len` code points that no line names.
+fn unnamed_points(alloc: Global, len: usize) -> Result<Vec<Properties>, AllocError>
+    ensures { IfOk result (λ points. length points.items ≡ len) }
 {
     vec![in alloc; Properties::unnamed(); len]
 }
 
-/// Adds the values of a file's entries to the properties of their code points.
-pub fn put_entries<V: Property>(points: &mut [Properties], entries: &[Entry<V>])
-    requires points { length points.old ≡ 1114112 }
-    requires entries { AreApart entries.now }
-    ensures { (c : ℕ) → c < 1114112 → slice_index_or points.new c unnamed
-        ≡ put_by V.put (value_at entries.now c) (slice_index_or points.old c unnamed) }
+// Writes the properties of the code points from `start` on to a page. Returns the run in which the page ends.
+fn fill<'a>(runs: Runs<'a>, start: usize, page: &mut [Properties]) -> Runs<'a>
+    requires page { length page.old ≡ 256 }
+    requires start { start + 256 ≤ 1114112 }
+    requires run { (runs.run.start ≤ start) × (start ≤ runs.run.end) × (runs.run.end ≤ 1114112) }
+    ensures reaches { (k : TableContents) → ReachesTo k runs.entry start → ReachesTo k result (start + 256) }
+    ensures page { (k : TableContents) → ReachesTo k runs.entry start
+        → (i : ℕ) → i < 256 → slice_index_or page.new i unnamed ≡ said k (start + i) }
 {
-    for entry in entries {
-        put_value(
-            points,
-            entry.first as usize,
-            entry.last as usize + 1,
-            entry.value,
-        );
+    let mut runs = runs;
+    let mut point = start;
+    while point < start + PAGE {
+        runs = runs.containing(point);
+        let run = runs.run();
+        let stop = run.end.min(start + PAGE);
+        set_all(page, point - start, stop - start, run.properties);
+        point = stop;
     }
+    runs
 }
 
-// Adds a value to the properties of the code points in `first..end`.
-fn put_value<V: Property>(points: &mut [Properties], first: usize, end: usize, value: V)
-    requires { (first ≤ end) × (end ≤ length points.old) }
-    ensures { (c : ℕ) → slice_index_or points.new c unnamed ≡ (if nat_le first c && nat_lt c end
-        then V.put value (slice_index_or points.old c unnamed) else slice_index_or points.old c unnamed) }
+// Sets all properties in `first..end`.
+fn set_all(page: &mut [Properties], first: usize, end: usize, properties: Properties)
+    requires { (first ≤ end) × (end ≤ length page.old) }
+    ensures { (i : ℕ) → slice_index_or page.new i unnamed
+        ≡ (if nat_le first i && nat_lt i end then properties else slice_index_or page.old i unnamed) }
 {
-    for c in first..end {
-        points[c] = value.put(points[c]);
+    for i in first..end {
+        page[i] = properties;
     }
-}
-
-/// Returns the pages of all code points.
-pub fn pages_of(alloc: Global, points: &[Properties]) -> Result<Pages, AllocError>
-    requires { length points.now ≡ 1114112 }
-    ensures { IfOk result (λ pages. (c : ℕ) → c < 1114112
-        → answers_at pages.index.items pages.entries.items c ≡ slice_index_or points.now c unnamed) }
-{
-    let mut index = Vec::with_capacity(alloc, PLACES)?;
-    let mut entries = Vec::new(alloc);
-    for place in 0..PLACES {
-        let page = &points[place * PAGE..place * PAGE + PAGE];
-        let number = page_number(&mut entries, page)?;
-        index.push(number)?;
-    }
-    Ok(Pages {
-        index,
-        entries,
-        has_usual_separators: are_usual(points),
-    })
 }
 
 // Returns whether only U+0085, U+2029 and code points below U+0020 have class B.
-fn are_usual(points: &[Properties]) -> bool
-    requires { length points.now ≡ 1114112 }
-    ensures yes { result ≡ true → (c : ℕ) → c < length points.now
-        → IsUsual c (slice_index_or points.now c unnamed) }
-    ensures no { result ≡ false → ¬ ((c : ℕ) → c < length points.now
-        → IsUsual c (slice_index_or points.now c unnamed)) }
+fn are_usual(index: &[u16], entries: &[Properties]) -> bool
+    requires places { length index.now ≡ 4352 }
+    requires within { (p : ℕ) → p < 4352 → slice_index index.now p * 256 + 256 ≤ length entries.now }
+    ensures yes { result ≡ true
+        → (c : ℕ) → c < 1114112 → IsUsual c (answers_at index.now entries.now c) }
+    ensures no { result ≡ false
+        → ¬ ((c : ℕ) → c < 1114112 → IsUsual c (answers_at index.now entries.now c)) }
 {
-    let low = has_separator(points, 0x20, 0x85);
-    let middle = has_separator(points, 0x86, 0x2029);
-    let high = has_separator(points, 0x202a, points.len());
-    !(low | middle | high)
+    let ascii = block_has_separator(index, entries, 0, 0x20, 0x85);
+    let latin = block_has_separator(index, entries, 0, 0x86, PAGE);
+    let low = blocks_have_separator(index, entries, 1, 0x20);
+    let before = block_has_separator(index, entries, 0x20, 0, 0x29);
+    let after = block_has_separator(index, entries, 0x20, 0x2a, PAGE);
+    let high = blocks_have_separator(index, entries, 0x21, PLACES);
+    !(ascii | latin | low | before | after | high)
 }
 
-// Returns whether any code point in `first..end` has class B. Reads all of them, which is faster than leaving
-// the loop early.
-fn has_separator(points: &[Properties], first: usize, end: usize) -> bool
-    requires { (first ≤ end) × (end ≤ length points.now) }
+// Returns whether any code point of the blocks in `first..end` has class B. Does not look at a block that has
+// the page of the block before.
+fn blocks_have_separator(index: &[u16], entries: &[Properties], first: usize, end: usize) -> bool
+    requires places { length index.now ≡ 4352 }
+    requires within { (p : ℕ) → p < 4352 → slice_index index.now p * 256 + 256 ≤ length entries.now }
+    requires blocks { (first ≤ end) × (end ≤ 4352) }
+    ensures no { result ≡ false → (c : ℕ) → first * 256 ≤ c → c < end * 256
+        → (answers_at index.now entries.now c).bidi_class ≢ B }
+    ensures yes { result ≡ true → ¬ ((c : ℕ) → first * 256 ≤ c → c < end * 256
+        → (answers_at index.now entries.now c).bidi_class ≢ B) }
+{
+    let mut found = false;
+    for place in first..end {
+        if place > first && index[place] == index[place - 1] {
+            continue;
+        }
+        found |= block_has_separator(index, entries, place, 0, PAGE);
+    }
+    found
+}
+
+// Returns whether any of the code points in `first..end` of a block has class B.
+fn block_has_separator(
+    index: &[u16],
+    entries: &[Properties],
+    place: usize,
+    first: usize,
+    end: usize,
+) -> bool
+    requires places { length index.now ≡ 4352 }
+    requires within { (p : ℕ) → p < 4352 → slice_index index.now p * 256 + 256 ≤ length entries.now }
+    requires block { (place < 4352) × (first ≤ end) × (end ≤ 256) }
+    ensures no { result ≡ false → (c : ℕ) → place * 256 + first ≤ c → c < place * 256 + end
+        → (answers_at index.now entries.now c).bidi_class ≢ B }
+    ensures yes { result ≡ true → ¬ ((c : ℕ) → place * 256 + first ≤ c → c < place * 256 + end
+        → (answers_at index.now entries.now c).bidi_class ≢ B) }
+{
+    let start = index[place] as usize * PAGE;
+    has_separator(entries, start + first, start + end)
+}
+
+// Returns whether any of the entries in `first..end` has class B. Reads all of them, which is faster than
+// leaving the loop early.
+fn has_separator(entries: &[Properties], first: usize, end: usize) -> bool
+    requires { (first ≤ end) × (end ≤ length entries.now) }
     ensures no { result ≡ false → (c : ℕ) → first ≤ c → c < end
-        → (slice_index_or points.now c unnamed).bidi_class ≢ B }
+        → (slice_index_or entries.now c unnamed).bidi_class ≢ B }
     ensures yes { result ≡ true → ¬ ((c : ℕ) → first ≤ c → c < end
-        → (slice_index_or points.now c unnamed).bidi_class ≢ B) }
+        → (slice_index_or entries.now c unnamed).bidi_class ≢ B) }
 {
     let mut found = false;
     for c in first..end {
-        found |= points[c].is_separator();
+        found |= entries[c].is_separator();
     }
     found
 }
@@ -147,9 +217,9 @@ fn page_number(entries: &mut Vec<Properties>, page: &[Properties]) -> Result<u16
     Ok((end / PAGE) as u16)
 }
 
-// Returns whether two pages are equal. Compares all items without leaving the loop early, because most pages
-// are equal.
-fn are_equal(one: &[Properties], other: &[Properties]) -> bool
+/// Returns whether two pages are equal. Compares all items without leaving the loop early, because most pages
+/// are equal.
+pub(crate) fn are_equal(one: &[Properties], other: &[Properties]) -> bool
     requires { length one.now ≡ length other.now }
     ensures same { IsTrue result → one.now ≡ other.now }
     ensures all { one.now ≡ other.now → IsTrue result }

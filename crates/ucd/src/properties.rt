@@ -1,5 +1,5 @@
 //! The properties of one character in 16 bits, from a single lookup.
-ghost use Rattle.std.specs.Prelude.{◌≡◌, ◌≢◌, ◌<◌, true, false, IsTrue};
+ghost use Rattle.std.specs.Prelude.{◌≡◌, ◌≢◌, ◌<◌, ◌&&◌, true, false, IsTrue};
 ghost use Rattle.ucd.specs.declared.properties.TheConstants.{LINE_INDEX_COUNT};
 ghost use Rattle.ucd.specs.declared.bidi_class.BidiClass.TheVariants.{B};
 
@@ -38,7 +38,9 @@ impl Model for Properties {
 }
 
 impl Properties {
-    ghost use Rattle.ucd.specs.Answers.{line_index, unnamed};
+    ghost use Rattle.ucd.specs.Answers.{answers_in, line_index, unnamed};
+    ghost use Rattle.ucd.specs.ImagePages.{IsQuiet};
+    ghost use Rattle.ucd.specs.Images.{is_entry};
 
     /// Returns the properties of a character that no line names: bidi class `L`, line breaking class `XX`,
     /// and no flags.
@@ -116,6 +118,37 @@ impl Properties {
         Properties {
             bits: self.bits / 256 * 256 + 128 + self.bits % 128,
         }
+    }
+
+    /// Returns whether the bits encode properties: both classes are in range, and no mark is a future
+    /// pictograph.
+    pub(crate) fn are_bits(bits: u16) -> bool
+        ensures { result ≡ is_entry bits }
+    {
+        (bits % 32 < 23) & (bits / 1024 < 43) & (bits / 128 % 4 != 3)
+    }
+
+    /// Returns the properties that the bits encode.
+    pub(crate) fn from_bits(bits: u16) -> Properties
+        requires { IsTrue (is_entry bits) }
+        ensures { result ≡ answers_in bits }
+    {
+        Properties { bits }
+    }
+
+    /// Returns the bits that encode the properties.
+    pub(crate) fn bits(self) -> u16
+        ensures answers { answers_in result ≡ self }
+        ensures valid { (self.is_mark && self.is_future_pictograph) ≡ false → IsTrue (is_entry result) }
+    {
+        self.bits
+    }
+
+    /// Returns whether the character is neither a paragraph separator nor a bracket, and has no mirror.
+    pub(crate) fn is_quiet(self) -> bool
+        ensures { result ≡ true → IsQuiet self }
+    {
+        (self.bits % 32 != BidiClass::B as u16) & (self.bits / 32 % 4 == 0)
     }
 
     /// Returns whether both have the same bits.

@@ -78,15 +78,6 @@ impl<V: Copy> RangeTable<V> {
         })
     }
 
-    /// Returns the entries, in the order in which they were added.
-    pub fn into_entries(self) -> ApartEntries<V>
-        ensures { result ≡ self }
-    {
-        ApartEntries {
-            entries: self.entries,
-        }
-    }
-
     // Returns whether any of the entry's code points already has a value. An entry that ends before it begins
     // has no code points.
     fn meets(&self, entry: Entry<V>) -> bool
@@ -161,31 +152,8 @@ impl<V: Copy> RangeTable<V> {
     }
 }
 
-/// Entries that have no characters in common.
-#[derive(Drop)]
-pub struct ApartEntries<V> {
-    entries: Vec<Entry<V>>,
-}
+pub(crate) const FIRST_SURROGATE: u32 = 0xD800;
 
-impl<V> Model for ApartEntries<V> {
-    ghost Value = { List (Entry V) };
+pub(crate) const LAST_SURROGATE: u32 = 0xDFFF;
 
-    ghost view = { λ e. e.entries.items };
-
-    ghost invariant = { λ e. AreApart e.entries.items };
-}
-
-impl<V: Copy> ApartEntries<V> {
-    pub fn as_slice(&self) -> &[Entry<V>]
-        ensures entries { result.now ≡ self.now }
-        ensures apart { AreApart result.now }
-    {
-        &self.entries
-    }
-}
-
-const FIRST_SURROGATE: u32 = 0xD800;
-
-const LAST_SURROGATE: u32 = 0xDFFF;
-
-const LAST_CHARACTER: u32 = 0x10FFFF;
+pub(crate) const LAST_CHARACTER: u32 = 0x10FFFF;

@@ -10,6 +10,7 @@ use crate::bidi_class::BidiClass;
 use crate::bracket::Bracket;
 use crate::entries::{Entries, drop_entries};
 use crate::fault::TableFault;
+use crate::image_fault::ImageFault;
 use crate::line_class::LineClass;
 use crate::paged::PagedTables;
 use crate::properties::Properties;
@@ -47,6 +48,8 @@ impl Model for Tables {
 
 impl Tables {
     ghost use Rattle.ucd.specs.Agreeing.{SayAlike};
+    ghost use Rattle.ucd.specs.Imaged.{IsImageOf, AreImagePagesDistinct};
+    ghost use Rattle.ucd.specs.Images.{IsImageFault};
     ghost use Rattle.ucd.specs.Properties.{properties_of};
     ghost use Rattle.ucd.specs.Said.{contents_of};
 
@@ -63,6 +66,28 @@ impl Tables {
             Ok(tables) => Ok(tables),
             Err(_) => Err(TableFault::memory()),
         }
+    }
+
+    /// Decodes a compiled image of tables, as `to_image` makes them. Fails with the first fault of the image
+    /// (docs/reference.md), or if memory runs out. Linear in the length of the image.
+    pub fn from_image(alloc: Global, bytes: &[u8]) -> Result<Tables, ImageFault>
+        ensures ok { IfOk result (IsImageOf bytes.now) }
+        ensures err { IfErr result (IsImageFault bytes.now) }
+    {
+        let paged = PagedTables::from_image(alloc, bytes)?;
+        match Arc::new(alloc, paged) {
+            Ok(shared) => Ok(Tables { shared }),
+            Err(_) => Err(ImageFault::Memory),
+        }
+    }
+
+    /// Encodes the tables as an image (docs/reference.md), which `from_image` decodes. No two pages of the
+    /// image are equal. Allocates 2.3 MB, and frees all but the image.
+    pub fn to_image(&self, alloc: Global) -> Result<Vec<u8>, AllocError>
+        ensures image { IfOk result (λ image. IsImageOf image.items self.now) }
+        ensures distinct { IfOk result (λ image. AreImagePagesDistinct image.items) }
+    {
+        self.shared.to_image(alloc)
     }
 
     // Stores the entries of the files in pages.

@@ -1,21 +1,22 @@
 use Rattle.std.proofs.Common.{arith}
+use Rattle.std.proofs.lemmas.Bool.{eq-eqb, eqb-true}
 use Rattle.ucd.proofs.Cuts.{front_at, rest_at, parts_at, front_all, rest_none, parts_one}
 use Rattle.ucd.proofs.grammar.cut.Goals as goal
 
-pub returns-then-byte-mark-clause-front : goal.returns-then-byte-mark-clause-front
-returns-then-byte-mark-clause-front c = front_at _ _ _ c.loop-at.invariant (omega arith) (omega arith)
+pub returns-in-Some-clause-front : goal.returns-in-Some-clause-front
+returns-in-Some-clause-front c = front_at _ _ _ (λ k lt is. c.in-Some.ensures.0.before k (omega arith) lt (eq-eqb _ _ is)) c.in-Some.ensures.0.high (eqb-true _ _ c.in-Some.ensures.1)
 
-pub returns-then-byte-mark-clause-rest : goal.returns-then-byte-mark-clause-rest
-returns-then-byte-mark-clause-rest c = rest_at _ _ _ c.loop-at.invariant (omega arith) (omega arith)
+pub returns-in-Some-clause-rest : goal.returns-in-Some-clause-rest
+returns-in-Some-clause-rest c = rest_at _ _ _ (λ k lt is. c.in-Some.ensures.0.before k (omega arith) lt (eq-eqb _ _ is)) c.in-Some.ensures.0.high (eqb-true _ _ c.in-Some.ensures.1)
 
-pub returns-then-byte-mark-clause-parts : goal.returns-then-byte-mark-clause-parts
-returns-then-byte-mark-clause-parts c = parts_at _ _ _ c.loop-at.invariant (omega arith) (omega arith)
+pub returns-in-Some-clause-parts : goal.returns-in-Some-clause-parts
+returns-in-Some-clause-parts c = parts_at _ _ _ (λ k lt is. c.in-Some.ensures.0.before k (omega arith) lt (eq-eqb _ _ is)) c.in-Some.ensures.0.high (eqb-true _ _ c.in-Some.ensures.1)
 
-pub returns-clause-front : goal.returns-clause-front
-returns-clause-front c = front_all _ _ (λ k lt. c.loop-at.invariant k (omega arith))
+pub returns-in-None-clause-front : goal.returns-in-None-clause-front
+returns-in-None-clause-front c = front_all _ _ (λ k lt is. c.in-None.ensures k (omega arith) lt (eq-eqb _ _ is))
 
-pub returns-clause-rest : goal.returns-clause-rest
-returns-clause-rest c = rest_none _ _ (λ k lt. c.loop-at.invariant k (omega arith))
+pub returns-in-None-clause-rest : goal.returns-in-None-clause-rest
+returns-in-None-clause-rest c = rest_none _ _ (λ k lt is. c.in-None.ensures k (omega arith) lt (eq-eqb _ _ is))
 
-pub returns-clause-parts : goal.returns-clause-parts
-returns-clause-parts c = parts_one _ _ (λ k lt. c.loop-at.invariant k (omega arith))
+pub returns-in-None-clause-parts : goal.returns-in-None-clause-parts
+returns-in-None-clause-parts c = parts_one _ _ (λ k lt is. c.in-None.ensures k (omega arith) lt (eq-eqb _ _ is))

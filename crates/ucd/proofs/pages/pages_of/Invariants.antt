@@ -1,6 +1,13 @@
-use Rattle.ucd.proofs.PageLemmas.{ArePages}
+use Rattle.std.proofs.Common.{◌≡◌, ◌*◌, length}
+use Rattle.ucd.specs.Runs.{ReachesTo}
+use Rattle.ucd.specs.Said.{said, contents_of}
+use Rattle.ucd.specs.DistinctPages.{HoldsPages}
 use Rattle.ucd.proofs.pages.pages_of.Given as goal
 
--- the index and the entries hold the first `place` pages
+-- the index and the pages hold the first `place` blocks, and the run reaches the end of these blocks
 abbrev pub invariant-loop-place : goal.invariant-loop-place
-invariant-loop-place l = ArePages l.points l.index.items l.entries.items l.place
+invariant-loop-place l = record {
+  pages : HoldsPages (said (contents_of l.fn.entries)) l.index.items l.pages.items l.place;
+  reaches : ReachesTo (contents_of l.fn.entries) l.runs (l.place * 256);
+  page : length l.page.items ≡ 256;
+}

@@ -11,7 +11,7 @@ pub invariant_of-result : goal.invariant_of-result
 invariant_of-result c =
     let k = contents_of c.args.entries.now in
     let is : (x : ℕ) → x < 1114112 → answers_at c.in_ok-pages.pages.index.items c.in_ok-pages.pages.entries.items x ≡ said k x =
-    λ x lt. rw c.deref.ensures.value at (c.in_ok-pages.ensures x lt) ∙ c.in_ok-points.ensures.each x lt in
+    c.in_ok-pages.ensures in
     record {
       bracket = λ x lt. ap (λ a. a.has_bracket) (is x lt) ∙ said_bracket k x ∙ sym (ap is_some (c.in_ok-brackets.ensures x ∙ ap (λ es. value_at es x) c.as_slice.ensures.entries));
       mirror = λ x lt. ap (λ a. a.has_mirror) (is x lt) ∙ said_mirror k x ∙ sym (ap is_some (c.in_ok-mirrors.ensures x ∙ ap (λ es. value_at es x) c.as_slice-2.ensures.entries));
@@ -24,7 +24,7 @@ returns c x character =
     let k = contents_of c.args.entries.now in
     let lt : x < 1114112 = below_limit x character in
     let is : answers_at c.in_ok-pages.pages.index.items c.in_ok-pages.pages.entries.items x ≡ said k x =
-    rw c.deref.ensures.value at (c.in_ok-pages.ensures x lt) ∙ c.in_ok-points.ensures.each x lt in
+    c.in_ok-pages.ensures x lt in
     record {
       bidi_class = class_is c.in_ok-pages.pages.index.items c.in_ok-pages.pages.entries.items c.in_ok-brackets.brackets c.in_ok-mirrors.mirrors x lt ∙ ap (λ a. a.bidi_class) is ∙ said_class k x;
       bracket = bracket_is c.in_ok-pages.pages.index.items c.in_ok-pages.pages.entries.items c.in_ok-brackets.brackets

@@ -1,0 +1,42 @@
+-- Entries in rising order, and the entries of the lines of a file.
+use Rattle.std.specs.Prelude.{⊤, ℕ, ◌+◌, ◌<◌, ◌≤◌, nat_le, List, [], ◌∷◌, ◌++◌, min, max, Option, Some, None, Result, Ok, Err, IsOk, if◌then◌else◌}
+use Rattle.ucd.specs.declared.fault.Cause.{Cause}
+use Rattle.ucd.specs.declared.grammar.Entry.{Entry}
+use Rattle.ucd.specs.Grammar.{Form, reading_of}
+
+module _ {V : Type 0} where
+  -- the entries have valid ranges from `low` on, each after the one before it
+  abbrev pub AreRisingFrom : ℕ → List (Entry V) → Type 0
+  AreRisingFrom low [] = ⊤
+  AreRisingFrom low (e ∷ es) = (low ≤ e.first) × (e.first ≤ e.last) × (e.last < 1114112) × AreRisingFrom (e.last + 1) es
+
+  -- the entry, if it has code points
+  abbrev pub if_any : Entry V → List (Entry V)
+  if_any e = if nat_le e.first e.last then e ∷ [] else []
+
+  -- the entry without the code points from the surrogates on, and without those up to the surrogates
+  abbrev pub below_surrogates : Entry V → Entry V
+  below_surrogates e = record { first = e.first; last = min e.last 55295; value = e.value }
+
+  abbrev pub above_surrogates : Entry V → Entry V
+  above_surrogates e = record { first = max e.first 57344; last = e.last; value = e.value }
+
+  -- the entries for the characters of an entry
+  abbrev pub characters_of : Entry V → List (Entry V)
+  characters_of e = if_any (below_surrogates e) ++ if_any (above_surrogates e)
+
+  abbrev pub entries_by : Result (Option (Entry V)) Cause → List (Entry V)
+  entries_by (Ok (Some e)) = characters_of e
+  entries_by (Ok None) = []
+  entries_by (Err why) = []
+
+module _ {V : Type 0} (form : Form V) where
+  -- the entries of all lines, in the order of the lines
+  abbrev pub entries_in : List (List ℕ) → List (Entry V)
+  entries_in [] = []
+  entries_in (line ∷ lines) = entries_by (reading_of form line) ++ entries_in lines
+
+  -- the grammar allows each line
+  abbrev pub AreRead : List (List ℕ) → Type 0
+  AreRead [] = ⊤
+  AreRead (line ∷ lines) = IsOk (reading_of form line) × AreRead lines

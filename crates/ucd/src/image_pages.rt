@@ -1,0 +1,220 @@
+//! The pages of an image.
+ghost use Rattle.std.specs.Prelude.{◌≡◌, ◌≢◌, ℕ, ◌+◌, ◌*◌, ◌%◌, ◌<◌, ◌≤◌, true, false};
+ghost use Rattle.std.specs.Prelude.{length, slice_index, slice_index_or, IfOk, IsTrue};
+ghost use Rattle.ucd.specs.Answers.{unnamed, answers_in};
+ghost use Rattle.ucd.specs.ImagePages.{IsQuiet};
+ghost use Rattle.ucd.specs.Images.{page_number, entry_at, is_entry};
+ghost use Rattle.ucd.specs.Pages.{answers_at};
+ghost use Rattle.ucd.specs.Separators.{may_separate, IsUsual};
+
+use crate::image_bytes::u16_at;
+use crate::image_frame::{HEADER, PAGES_AT};
+use crate::pages::{PAGE, PLACES, Pages};
+use crate::properties::Properties;
+use std::alloc::{AllocError, Global};
+
+/// Returns whether each block has the number of one of the image's pages.
+pub fn are_pages_known(bytes: &[u8], pages: usize) -> bool
+    requires { 8736 ≤ length bytes.now }
+    ensures yes { result ≡ true → (block : ℕ) → block < 4352 → page_number bytes.now block < pages }
+    ensures no { result ≡ false → ¬ ((block : ℕ) → block < 4352 → page_number bytes.now block < pages) }
+{
+    let mut known = true;
+    for block in 0..PLACES {
+        known &= (u16_at(bytes, HEADER + 2 * block) as usize) < pages;
+    }
+    known
+}
+
+/// Returns whether the first `count` numbers of the pages encode properties.
+pub fn are_entries(bytes: &[u8], count: usize) -> bool
+    requires { 8736 + 2 * count ≤ length bytes.now }
+    ensures yes { result ≡ true → (i : ℕ) → i < count → IsTrue (is_entry (entry_at bytes.now i)) }
+    ensures no { result ≡ false
+        → ¬ ((i : ℕ) → i < count → IsTrue (is_entry (entry_at bytes.now i))) }
+{
+    let mut valid = true;
+    for i in 0..count {
+        valid &= Properties::are_bits(u16_at(bytes, PAGES_AT + 2 * i));
+    }
+    valid
+}
+
+/// Returns the page number of each block.
+pub fn index_in(alloc: Global, bytes: &[u8]) -> Result<Vec<u16>, AllocError>
+    requires { 8736 ≤ length bytes.now }
+    ensures len { IfOk result (λ index. length index.items ≡ 4352) }
+    ensures each { IfOk result (λ index. (block : ℕ) → block < 4352
+        → slice_index index.items block ≡ page_number bytes.now block) }
+{
+    let mut index = Vec::with_capacity(alloc, PLACES)?;
+    for block in 0..PLACES {
+        index.push(u16_at(bytes, HEADER + 2 * block))?;
+    }
+    Ok(index)
+}
+
+/// Returns the properties that the first `count` numbers of the pages encode.
+pub fn entries_in(alloc: Global, bytes: &[u8], count: usize) -> Result<Vec<Properties>, AllocError>
+    requires room { 8736 + 2 * count ≤ length bytes.now }
+    requires valid { (i : ℕ) → i < count → IsTrue (is_entry (entry_at bytes.now i)) }
+    ensures len { IfOk result (λ entries. length entries.items ≡ count) }
+    ensures each { IfOk result (λ entries. (i : ℕ) → i < count
+        → slice_index_or entries.items i unnamed ≡ answers_in (entry_at bytes.now i)) }
+{
+    let mut entries = Vec::with_capacity(alloc, count)?;
+    for i in 0..count {
+        entries.push(Properties::from_bits(u16_at(bytes, PAGES_AT + 2 * i)))?;
+    }
+    Ok(entries)
+}
+
+/// The pages of an image.
+#[derive(Drop)]
+pub struct ImagePages {
+    pub(crate) index: Vec<u16>,
+    pub(crate) entries: Vec<Properties>,
+    loud: Vec<bool>,
+    ghost places: { length index.items ≡ 4352 },
+    ghost within: { (p : ℕ) → p < 4352 → slice_index index.items p * 256 + 256 ≤ length entries.items },
+    ghost pages: { length loud.items * 256 ≡ length entries.items },
+    ghost quiet: { (p k : ℕ) → p < length loud.items → k < 256 → slice_index_or loud.items p false ≡ false
+        → IsQuiet (slice_index_or entries.items (p * 256 + k) unnamed) },
+}
+
+// Returns for each page whether it has a separator, a bracket or a mirror.
+fn loud_pages(alloc: Global, entries: &[Properties]) -> Result<Vec<bool>, AllocError>
+    requires { length entries.now % 256 ≡ 0 }
+    ensures len { IfOk result (λ loud. length loud.items * 256 ≡ length entries.now) }
+    ensures quiet { IfOk result (λ loud. (p k : ℕ) → p < length loud.items → k < 256
+        → slice_index_or loud.items p false ≡ false
+        → IsQuiet (slice_index_or entries.now (p * 256 + k) unnamed)) }
+{
+    let pages = entries.len() / PAGE;
+    let mut loud = Vec::with_capacity(alloc, pages)?;
+    for page in 0..pages {
+        loud.push(is_loud(entries, page * PAGE))?;
+    }
+    Ok(loud)
+}
+
+// Returns whether the page that starts at an index has a separator, a bracket or a mirror. Reads all of it,
+// which is faster than leaving the loop early.
+fn is_loud(entries: &[Properties], start: usize) -> bool
+    requires { start + 256 ≤ length entries.now }
+    ensures { result ≡ false → (k : ℕ) → k < 256 → IsQuiet (slice_index_or entries.now (start + k) unnamed) }
+{
+    let mut loud = false;
+    for k in 0..PAGE {
+        loud |= !entries[start + k].is_quiet();
+    }
+    loud
+}
+
+impl ImagePages {
+    /// Makes pages of their index and their entries.
+    pub fn new(
+        alloc: Global,
+        index: Vec<u16>,
+        entries: Vec<Properties>,
+    ) -> Result<ImagePages, AllocError>
+        requires places { length index.items ≡ 4352 }
+        requires whole { length entries.items % 256 ≡ 0 }
+        requires within { (p : ℕ) → p < 4352
+            → slice_index index.items p * 256 + 256 ≤ length entries.items }
+        ensures index { IfOk result (λ pages. pages.index.items ≡ index.items) }
+        ensures entries { IfOk result (λ pages. pages.entries.items ≡ entries.items) }
+    {
+        let loud = loud_pages(alloc, &entries)?;
+        Ok(ImagePages {
+            index,
+            entries,
+            loud,
+        })
+    }
+
+    /// Returns the properties of a code point.
+    pub fn at(&self, point: usize) -> Properties
+        requires { point < 1114112 }
+        ensures { result ≡ answers_at self.now.index.items self.now.entries.items point }
+    {
+        self.entries[self.index[point / PAGE] as usize * PAGE + point % PAGE]
+    }
+
+    /// Returns whether a block has no separator, bracket or mirror. May return `false` for such a block.
+    pub fn is_quiet(&self, block: usize) -> bool
+        requires { block < 4352 }
+        ensures { result ≡ true → (c : ℕ) → block * 256 ≤ c → c < block * 256 + 256
+            → IsQuiet (answers_at self.now.index.items self.now.entries.items c) }
+    {
+        !self.loud[self.index[block] as usize]
+    }
+
+    // Returns whether only U+0085, U+2029 and code points below U+0020 have class B in a block.
+    fn is_block_usual(&self, block: usize) -> bool
+        requires { block < 4352 }
+        ensures yes { result ≡ true → (c : ℕ) → block * 256 ≤ c → c < block * 256 + 256
+            → IsUsual c (answers_at self.now.index.items self.now.entries.items c) }
+        ensures no { result ≡ false → ¬ ((c : ℕ) → block * 256 ≤ c → c < block * 256 + 256
+            → IsUsual c (answers_at self.now.index.items self.now.entries.items c)) }
+    {
+        if self.is_quiet(block) {
+            return true;
+        }
+        for c in block * PAGE..block * PAGE + PAGE {
+            if !is_usual(self.at(c), c) {
+                return false;
+            }
+        }
+        true
+    }
+
+    // Returns whether only U+0085, U+2029 and code points below U+0020 have class B.
+    fn are_usual(&self) -> bool
+        ensures yes { result ≡ true → (c : ℕ) → c < 1114112
+            → IsUsual c (answers_at self.now.index.items self.now.entries.items c) }
+        ensures no { result ≡ false → ¬ ((c : ℕ) → c < 1114112
+            → IsUsual c (answers_at self.now.index.items self.now.entries.items c)) }
+    {
+        for block in 0..PLACES {
+            if !self.is_block_usual(block) {
+                return false;
+            }
+        }
+        true
+    }
+
+    /// Returns the pages of the tables.
+    pub fn into_pages(self) -> Pages
+        ensures index { result.index.items ≡ self.index.items }
+        ensures entries { result.entries.items ≡ self.entries.items }
+    {
+        let has_usual_separators = self.are_usual();
+        let ImagePages {
+            index,
+            entries,
+            loud: _,
+        } = self;
+        Pages {
+            index,
+            entries,
+            has_usual_separators,
+        }
+    }
+}
+
+// Returns whether a code point with these properties has class B only if it is U+0085, U+2029 or below
+// U+0020.
+fn is_usual(properties: Properties, c: usize) -> bool
+    ensures yes { result ≡ true → IsUsual c properties }
+    ensures no { result ≡ false → ¬ (IsUsual c properties) }
+{
+    !properties.is_separator() || may_separate(c)
+}
+
+// Returns whether the code point is U+0085, U+2029 or below U+0020.
+fn may_separate(c: usize) -> bool
+    ensures { result ≡ may_separate c }
+{
+    c < 0x20 || c == 0x85 || c == 0x2029
+}

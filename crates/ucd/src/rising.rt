@@ -1,0 +1,131 @@
+//! The entries of a file in rising order.
+//!
+//! Most files have their lines in rising order, or in a few runs of such lines. So the entries of all lines
+//! are collected, sorted and compared with their neighbours. This needs no flags for code points, but it does
+//! not find the first faulty line.
+ghost use Rattle.std.specs.Prelude.{◌≡◌, List, ◌++◌, false, IsTrue, OnOk, IfOk, IfSome, IsOk};
+ghost use Rattle.ucd.specs.declared.grammar.Entry.{Entry};
+ghost use Rattle.ucd.specs.Entries.{AreApart};
+ghost use Rattle.ucd.specs.Files.{HoldsFile};
+ghost use Rattle.ucd.specs.Grammar.{lines_of, reading_of};
+ghost use Rattle.ucd.specs.Rising.{AreRisingFrom, if_any, characters_of, entries_by, entries_in, AreRead};
+
+use crate::fault::Cause;
+use crate::grammar::{Entry, Property, cut, read_line};
+use crate::range_table::{FIRST_SURROGATE, LAST_CHARACTER, LAST_SURROGATE};
+use std::alloc::{AllocError, Global};
+use std::marker::Model;
+
+/// Entries in rising order, which have no characters in common.
+#[derive(Drop)]
+pub struct RisingEntries<V> {
+    entries: Vec<Entry<V>>,
+}
+
+impl<V> Model for RisingEntries<V> {
+    ghost Value = { List (Entry V) };
+
+    ghost view = { λ e. e.entries.items };
+
+    ghost invariant = { λ e. AreRisingFrom 0 e.entries.items };
+}
+
+impl<V: Copy> RisingEntries<V> {
+    pub fn as_slice(&self) -> &[Entry<V>]
+        ensures entries { result.now ≡ self.now }
+        ensures rising { AreRisingFrom 0 result.now }
+        ensures apart { AreApart result.now }
+    {
+        &self.entries
+    }
+}
+
+impl<V: Property> RisingEntries<V> {
+    /// Parses a file. Returns `None` if a line is faulty or memory runs out.
+    pub fn of_file(alloc: Global, file: &[u8]) -> Option<RisingEntries<V>>
+        ensures { IfSome result (HoldsFile V.form (lines_of file.now)) }
+    {
+        let Ok(mut entries) = collect(alloc, file) else {
+            return None;
+        };
+        entries.sort_unstable_by_key(|entry| entry.first);
+        if !are_rising(&entries) {
+            return None;
+        }
+        Some(RisingEntries { entries })
+    }
+}
+
+// Returns whether each entry has a valid range after the entry before it.
+fn are_rising<V: Copy>(entries: &[Entry<V>]) -> bool
+    ensures yes { IsTrue result → AreRisingFrom 0 entries.now }
+    ensures no { result ≡ false → ¬ (AreRisingFrom 0 entries.now) }
+{
+    let mut low = 0;
+    for entry in entries {
+        if entry.first < low || entry.last < entry.first || entry.last > LAST_CHARACTER {
+            return false;
+        }
+        low = entry.last + 1;
+    }
+    true
+}
+
+// Returns the entries of all lines, in the order of the lines. Different lines may name the same character.
+fn collect<V: Property>(alloc: Global, file: &[u8]) -> Result<Vec<Entry<V>>, Cause>
+    ensures entries { IfOk result (λ entries. entries.items ≡ entries_in V.form (lines_of file.now)) }
+    ensures read { IsOk result → AreRead V.form (lines_of file.now) }
+{
+    let mut entries = Vec::new(alloc);
+    let mut rest = Some(file);
+    while let Some(text) = rest {
+        let (line, after) = cut(text, b'\n');
+        collect_line(&mut entries, line)?;
+        rest = after;
+    }
+    Ok(entries)
+}
+
+// Parses one line, and appends its entry if it has one.
+fn collect_line<V: Property>(entries: &mut Vec<Entry<V>>, line: &[u8]) -> Result<(), Cause>
+    ensures entries { OnOk result (entries.new.items
+        ≡ entries.old.items ++ entries_by (reading_of V.form line.now)) }
+    ensures read { OnOk result (IsOk (reading_of V.form line.now)) }
+{
+    let Some(entry) = read_line::<V>(line)? else {
+        return Ok(());
+    };
+    match push_characters(entries, entry) {
+        Ok(()) => Ok(()),
+        Err(_) => Err(Cause::Memory),
+    }
+}
+
+// Appends an entry without its surrogates.
+fn push_characters<V: Copy>(entries: &mut Vec<Entry<V>>, entry: Entry<V>) -> Result<(), AllocError>
+    ensures { OnOk result (entries.new.items ≡ entries.old.items ++ characters_of entry) }
+{
+    let below = Entry {
+        last: entry.last.min(FIRST_SURROGATE - 1),
+        ..entry
+    };
+    let above = Entry {
+        first: entry.first.max(LAST_SURROGATE + 1),
+        ..entry
+    };
+    push_if_any(entries, below)?;
+    push_if_any(entries, above)
+}
+
+// Appends an entry. An entry that ends before it begins is not appended.
+fn push_if_any<V: Copy>(entries: &mut Vec<Entry<V>>, entry: Entry<V>) -> Result<(), AllocError>
+    ensures { OnOk result (entries.new.items ≡ entries.old.items ++ if_any entry) }
+{
+    if entry.last < entry.first {
+        return Ok(());
+    }
+    match entries.push(entry) {
+        Ok(()) => Ok(()),
+        Err(_) => Err(AllocError),
+    }
+}

@@ -1,0 +1,235 @@
+//! Runs of code points with the same properties.
+//!
+//! The entries of all files are passed once, side by side. A run ends where an entry of a file begins or ends.
+ghost use Rattle.std.specs.Prelude.{◌≡◌, ℕ, ◌<◌, ◌≤◌, List};
+ghost use Rattle.ucd.specs.declared.grammar.Entry.{Entry};
+ghost use Rattle.ucd.specs.Entries.{value_at};
+ghost use Rattle.ucd.specs.Puts.{put_by};
+ghost use Rattle.ucd.specs.Rising.{AreRisingFrom};
+
+use crate::bidi_class::BidiClass;
+use crate::bracket::{Bracket, Mirror};
+use crate::category::Category;
+use crate::emoji::Pictograph;
+use crate::entries::Entries;
+use crate::grammar::{Entry, Property};
+use crate::line_class::LineClass;
+use crate::properties::Properties;
+use crate::range_table::CODE_POINTS;
+use crate::rising::RisingEntries;
+use crate::width::Width;
+use std::marker::Model;
+
+/// The properties of the code points in `start..end`.
+#[derive(Clone, Copy)]
+pub struct Run {
+    pub start: usize,
+    pub end: usize,
+    pub properties: Properties,
+}
+
+/// The entries of a file that have not been passed.
+#[derive(Drop)]
+pub struct Cursor<'a, V> {
+    entries: &'a [Entry<V>],
+}
+
+impl<'a, V> Model for Cursor<'a, V> {
+    ghost Value = { List (Entry V) };
+
+    ghost view = { λ c. c.entries.now };
+
+    ghost invariant = { λ c. AreRisingFrom 0 c.entries.now };
+}
+
+impl<'a, V: Property> Cursor<'a, V> {
+    ghost use Rattle.ucd.specs.Runs.{EndsFrom};
+
+    fn new(entries: &'a RisingEntries<V>) -> Cursor<'a, V>
+        ensures { result ≡ entries.now }
+    {
+        Cursor {
+            entries: entries.as_slice(),
+        }
+    }
+
+    // Passes the entries that end before `point`.
+    fn passed(&self, point: usize) -> Cursor<'a, V>
+        ensures values { (c : ℕ) → point ≤ c
+            → value_at result c ≡ value_at self.now c }
+        ensures ends { EndsFrom point result }
+    {
+        let mut entries = self.entries;
+        while let Some((first, later)) = entries.split_first() {
+            if point <= first.last as usize {
+                return Cursor { entries };
+            }
+            entries = later;
+        }
+        Cursor { entries }
+    }
+
+    // Applies the value at the run's start, and ends the run where the file gives another value.
+    fn applied(&self, run: Run) -> Run
+        requires ends { EndsFrom run.start self.now }
+        requires run { run.start < run.end }
+        ensures start { result.start ≡ run.start }
+        ensures end { (run.start < result.end) × (result.end ≤ run.end) }
+        ensures put { result.properties
+            ≡ put_by V.put (value_at self.now run.start) run.properties }
+        ensures same { (c : ℕ) → run.start ≤ c → c < result.end
+            → value_at self.now c ≡ value_at self.now run.start }
+    {
+        let Some(first) = self.entries.first() else {
+            return run;
+        };
+        let (begin, end) = (first.first as usize, first.last as usize + 1);
+        if run.start < begin {
+            return Run {
+                end: run.end.min(begin),
+                ..run
+            };
+        }
+        Run {
+            end: run.end.min(end),
+            properties: first.value.put(run.properties),
+            ..run
+        }
+    }
+}
+
+/// The entries of all files that have not been passed.
+#[derive(Drop)]
+pub struct Left<'a> {
+    bidi_classes: Cursor<'a, BidiClass>,
+    brackets: Cursor<'a, Bracket>,
+    mirrors: Cursor<'a, Mirror>,
+    line_classes: Cursor<'a, LineClass>,
+    categories: Cursor<'a, Category>,
+    widths: Cursor<'a, Width>,
+    pictographs: Cursor<'a, Pictograph>,
+}
+
+impl<'a> Left<'a> {
+    ghost use Rattle.ucd.specs.Runs.{contents_left, AllEndFrom};
+    ghost use Rattle.ucd.specs.Said.{said, contents_of};
+
+    fn of(entries: &'a Entries) -> Left<'a>
+        ensures { contents_left result ≡ contents_of entries.now }
+    {
+        Left {
+            bidi_classes: Cursor::new(&entries.bidi.classes),
+            brackets: Cursor::new(&entries.bidi.brackets),
+            mirrors: Cursor::new(&entries.bidi.mirrors),
+            line_classes: Cursor::new(&entries.breaks.classes),
+            categories: Cursor::new(&entries.breaks.categories),
+            widths: Cursor::new(&entries.breaks.widths),
+            pictographs: Cursor::new(&entries.breaks.pictographs),
+        }
+    }
+
+    // Passes the entries that end before `point`.
+    fn passed(&self, point: usize) -> Left<'a>
+        ensures said { (c : ℕ) → point ≤ c
+            → said (contents_left result) c ≡ said (contents_left self.now) c }
+        ensures ends { AllEndFrom point (contents_left result) }
+    {
+        Left {
+            bidi_classes: self.bidi_classes.passed(point),
+            brackets: self.brackets.passed(point),
+            mirrors: self.mirrors.passed(point),
+            line_classes: self.line_classes.passed(point),
+            categories: self.categories.passed(point),
+            widths: self.widths.passed(point),
+            pictographs: self.pictographs.passed(point),
+        }
+    }
+
+    // Returns the run that starts at `start`.
+    fn run_at(&self, start: usize) -> Run
+        requires ends { AllEndFrom start (contents_left self.now) }
+        requires start { start < 1114112 }
+        ensures start { result.start ≡ start }
+        ensures end { (start < result.end) × (result.end ≤ 1114112) }
+        ensures said { (c : ℕ) → start ≤ c → c < result.end
+            → said (contents_left self.now) c ≡ result.properties }
+    {
+        let run = Run {
+            start,
+            end: CODE_POINTS,
+            properties: Properties::unnamed(),
+        };
+        let run = self.bidi_classes.applied(run);
+        let run = self.brackets.applied(run);
+        let run = self.mirrors.applied(run);
+        let run = self.line_classes.applied(run);
+        let run = self.widths.applied(run);
+        // Categories are applied after pictographs, because a pictograph counts as unassigned until its
+        // category says otherwise.
+        let run = self.pictographs.applied(run);
+        self.categories.applied(run)
+    }
+}
+
+/// A run, and the entries after it.
+#[derive(Drop)]
+pub struct Runs<'a> {
+    left: Left<'a>,
+    run: Run,
+}
+
+impl<'a> Runs<'a> {
+    ghost use Rattle.ucd.specs.Contents.{TableContents};
+    ghost use Rattle.ucd.specs.Runs.{ReachesTo};
+    ghost use Rattle.ucd.specs.Said.{contents_of};
+
+    /// Returns an empty run before the first code point.
+    pub fn of(entries: &'a Entries) -> Runs<'a>
+        ensures { ReachesTo (contents_of entries.now) result 0 }
+    {
+        let run = Run {
+            start: 0,
+            end: 0,
+            properties: Properties::unnamed(),
+        };
+        Runs {
+            left: Left::of(entries),
+            run,
+        }
+    }
+
+    /// Returns the run that contains or follows the code points before `point`.
+    pub fn run(&self) -> Run
+        ensures { result ≡ self.now.run }
+    {
+        self.run
+    }
+
+    /// Returns the run that contains `point`: this one, or the next one if this one ends there.
+    pub fn containing(self, point: usize) -> Runs<'a>
+        requires run { (self.run.start ≤ point) × (point ≤ self.run.end) × (self.run.end ≤ 1114112) }
+        requires point { point < 1114112 }
+        ensures start { result.run.start ≤ point }
+        ensures end { (point < result.run.end) × (result.run.end ≤ 1114112) }
+        ensures reaches { (k : TableContents) → ReachesTo k self.entry point → ReachesTo k result point }
+    {
+        if point < self.run.end {
+            self
+        } else {
+            self.next()
+        }
+    }
+
+    // Returns the run that starts where this one ends.
+    fn next(&self) -> Runs<'a>
+        requires { self.now.run.end < 1114112 }
+        ensures start { result.run.start ≡ self.now.run.end }
+        ensures end { (self.now.run.end < result.run.end) × (result.run.end ≤ 1114112) }
+        ensures reaches { (k : TableContents) → ReachesTo k self.now self.now.run.end
+            → ReachesTo k result self.now.run.end }
+    {
+        let left = self.left.passed(self.run.end);
+        let run = left.run_at(self.run.end);
+        Runs { left, run }
+    }
+}
