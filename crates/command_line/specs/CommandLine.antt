@@ -47,7 +47,8 @@ abbrev pub layout_rules : List Rule
 layout_rules =
     ucd_rule ∷ width_rule
     ∷ map flag_rule (
-    codes "rtl" ∷ codes "ltr" ∷ codes "wrtl" ∷ codes "wltr" ∷ codes "nobreak" ∷ codes "reordernsm" ∷ codes "whole-numbers" ∷ []
+    codes "rtl" ∷ codes "ltr" ∷ codes "wrtl" ∷ codes "wltr" ∷ codes "nobreak" ∷ codes "reordernsm" ∷ codes "whole-numbers"
+    ∷ codes "reorder-clusters" ∷ codes "show-spaces" ∷ []
     )
 
 abbrev pub print_rules : List Rule
@@ -108,6 +109,8 @@ pub record AreSettings (words : List Text) (settings : Settings) : Type 0 where
   pub nobreak : settings.options.nobreak ≡ is_given (codes "nobreak") (matches_of program words)
   pub reordernsm : settings.options.reordernsm ≡ is_given (codes "reordernsm") (matches_of program words)
   pub whole_numbers : settings.options.whole_numbers ≡ is_given (codes "whole-numbers") (matches_of program words)
+  pub reorder_clusters : settings.options.reorder_clusters ≡ is_given (codes "reorder-clusters") (matches_of program words)
+  pub show_spaces : settings.options.show_spaces ≡ is_given (codes "show-spaces") (matches_of program words)
   pub novisual : settings.print.novisual ≡ is_given (codes "novisual") (matches_of program words)
   pub basedir : settings.print.basedir ≡ is_given (codes "basedir") (matches_of program words)
   pub ltov : settings.print.ltov ≡ is_given (codes "ltov") (matches_of program words)

@@ -68,6 +68,14 @@ fn with_layout<'a>(alloc: Global, command: Command<'a>) -> Result<Command<'a>, A
                 "whole-numbers",
                 "Do not break lines inside numbers such as $1,234.56",
             ),
+            (
+                "reorder-clusters",
+                "Keep the characters of grapheme clusters in order in right-to-left text",
+            ),
+            (
+                "show-spaces",
+                "Show spaces at the end of lines, up to the width",
+            ),
         ],
     )
 }
@@ -302,6 +310,10 @@ fn options_of(matches: &ArgMatches<'_>) -> Option<Options>
         o.reordernsm ≡ is_given (codes "reordernsm") (rows_of (found_of matches.now))) }
     ensures whole_numbers { IfSome result (λ o.
         o.whole_numbers ≡ is_given (codes "whole-numbers") (rows_of (found_of matches.now))) }
+    ensures reorder_clusters { IfSome result (λ o.
+        o.reorder_clusters ≡ is_given (codes "reorder-clusters") (rows_of (found_of matches.now))) }
+    ensures show_spaces { IfSome result (λ o.
+        o.show_spaces ≡ is_given (codes "show-spaces") (rows_of (found_of matches.now))) }
 {
     let base = base_of(
         is_set(matches, "rtl"),
@@ -314,6 +326,8 @@ fn options_of(matches: &ArgMatches<'_>) -> Option<Options>
         nobreak: is_set(matches, "nobreak"),
         reordernsm: is_set(matches, "reordernsm"),
         whole_numbers: is_set(matches, "whole-numbers"),
+        reorder_clusters: is_set(matches, "reorder-clusters"),
+        show_spaces: is_set(matches, "show-spaces"),
     })
 }
 

@@ -19,6 +19,7 @@ use Rattle.lines.specs.Visual.{Visual}
 use Rattle.lines.proofs.BesideLemmas.{even_places, odd_places}
 use Rattle.lines.proofs.ColumnLemmas.{left_more}
 use Rattle.lines.proofs.OrderedLemmas.{are_parts, IsPart}
+use Rattle.lines.proofs.ReorderingLemmas.{marks_ltov, marks_vtol}
 
 sum_by-map : (f g : ℕ → ℕ) (xs : List ℕ) → sum_by f (map g xs) ≡ sum_by (λ x. f (g x)) xs
 sum_by-map f g [] = refl
@@ -126,12 +127,12 @@ module _ (text : List ℕ) where
   abbrev between : ℕ → ℕ → ℕ
   between j k = sum_by columns_of (slice_range text j k)
 
-  between_none : (j : ℕ) → between j j ≡ 0
+  pub between_none : (j : ℕ) → between j j ≡ 0
   between_none j =
       let none : j - j ≡ 0 = omega arith in
       ap (λ n. sum_by columns_of (take n (drop j text))) none
 
-  between_more : (j k : ℕ) → j ≤ k → k < length text → between j (suc k) ≡ between j k + at k
+  pub between_more : (j k : ℕ) → j ≤ k → k < length text → between j (suc k) ≡ between j k + at k
   between_more j k from within =
       let n : suc k - j ≡ k - j + 1 = omega arith in
       let place : j + (k - j) ≡ k = omega arith in
@@ -288,7 +289,8 @@ marks_still rules text line is (inr none) =
     ∙ none (is.start + i) 0 (omega (arith, is.inside, base.1))
     (ap is_mark (ap (class_of rules.tables) (sym char) ∙ sym (is.class i base.1)) ∙ base.0))
 
-pub all_adjoin : (rules : Rules) (width : ℕ) (text : List ℕ) → MarksStay rules text → All RunsAdjoin (visuals (layout_of rules width text))
-all_adjoin rules width text stay = λ k d within.
+pub all_adjoin : (rules : Rules) (width : ℕ) (text : List ℕ) → rules.options.reorder_clusters ≡ false → MarksStay rules text → All RunsAdjoin (visuals (layout_of rules width text))
+all_adjoin rules width text whole stay = λ k d within.
     let is = are_parts rules width text k d within in
-    adjoin _ rules.options.reordernsm is.classes is.size is.vtol is.ltov (marks_still rules text _ is stay)
+    adjoin _ rules.options.reordernsm is.classes is.size (is.vtol ∙ sym (marks_vtol rules.options is.classes is.ends _ whole))
+    (is.ltov ∙ sym (marks_ltov rules.options is.classes is.ends _ whole)) (marks_still rules text _ is stay)

@@ -1,6 +1,6 @@
 -- Where lines end and what they show do not depend on cluster ends, unless no break opportunity fits.
 use Rattle.std.proofs.Common.{◌≡◌, ℕ, zero, suc, ◌+◌, ◌-◌, ◌<◌, ◌≤◌, nat_le, Bool, true, false, ◌&&◌, List, [], ◌∷◌, ◌++◌}
-use Rattle.std.proofs.Common.{length, map, take, drop, reverse, set, get_or, Some, unwrap_or, slice_range, refl, sym, ap, ap₂, ◌∙◌, arith}
+use Rattle.std.proofs.Common.{length, map, take, drop, reverse, set, get_or, not, Option, Some, None, unwrap_or, slice_range, refl, sym, ap, ap₂, ◌∙◌, arith}
 use Rattle.std.proofs.Math.Seq.{set-append_seam, get_or-append_seam}
 use Rattle.std.proofs.lemmas.List.{append-nil, drop_all, length-set, take_all, take_more_set, length-map, take-map, drop-map, reverse-append, take_more, drop_more, length-take-le, append_assoc}
 use Rattle.std.specs.List.{fold, prefix_len, suffix_len}
@@ -11,8 +11,9 @@ use Rattle.breaks.specs.declared.mark.Mark.{Mark}
 use Rattle.lines.specs.Bare.{bare, AreAlike, with_ends}
 use Rattle.lines.specs.BareInfos.{bare_infos}
 use Rattle.lines.specs.Extents.{shown_between, shown_from}
-use Rattle.lines.specs.Filling.{by_break, columns, fits_to, is_break, is_must, line_len, may_end, must_end, nothing, place_at, shown, stop}
-use Rattle.lines.specs.CharInfos.{info, infos}
+use Rattle.lines.specs.Filling.{before_tail, by_break, columns, fits_to, is_break, is_must, line_len, may_end, must_end, nothing, place_at, stop, text_len, trails}
+use Rattle.lines.specs.CharInfos.{info, infos, is_space}
+use Rattle.lines.specs.ShownParts.{is_space_within, shown, shown_len}
 use Rattle.lines.specs.Visual.{Line, line_between, lines_from}
 use Rattle.lines.specs.declared.options.Options.{Options}
 use Rattle.lines.specs.declared.char_info.CharInfo.{CharInfo}
@@ -36,7 +37,7 @@ append_bare : (xs ys : List CharInfo) → map bare (xs ++ ys) ≡ map bare xs ++
 append_bare [] ys = refl
 append_bare (x ∷ xs) ys = ap (λ zs. bare x ∷ zs) (append_bare xs ys)
 
-prefix_bare : (xs : List CharInfo) → prefix_len (λ p. p.is_trailing) (map bare xs) ≡ prefix_len (λ p. p.is_trailing) xs
+prefix_bare : (xs : List CharInfo) → prefix_len trails (map bare xs) ≡ prefix_len trails xs
 prefix_bare [] = refl
 prefix_bare (x ∷ xs) = rw (prefix_bare xs) refl
 
@@ -46,19 +47,16 @@ reverse_bare (x ∷ xs) =
     reverse-append (bare x ∷ []) (map bare xs) ∙ ap (λ ys. ys ++ bare x ∷ []) (reverse_bare xs)
     ∙ sym (append_bare (reverse xs) (x ∷ [])) ∙ ap (map bare) (sym (reverse-append (x ∷ []) xs))
 
-suffix_bare : (xs : List CharInfo) → suffix_len (λ p. p.is_trailing) (map bare xs) ≡ suffix_len (λ p. p.is_trailing) xs
-suffix_bare xs = ap (prefix_len (λ p. p.is_trailing)) (reverse_bare xs) ∙ prefix_bare (reverse xs)
+suffix_bare : (xs : List CharInfo) → suffix_len trails (map bare xs) ≡ suffix_len trails xs
+suffix_bare xs = ap (prefix_len trails) (reverse_bare xs) ∙ prefix_bare (reverse xs)
 
-shown_bare : (xs : List CharInfo) → shown (map bare xs) ≡ map bare (shown xs)
-shown_bare xs =
+before_bare : (xs : List CharInfo) → before_tail (map bare xs) ≡ map bare (before_tail xs)
+before_bare xs =
     ap₂ (λ n m. take (n - m) (map bare xs)) (length-map xs bare) (suffix_bare xs)
-    ∙ take-map bare (length xs - suffix_len (λ p. p.is_trailing) xs) xs
+    ∙ take-map bare (length xs - suffix_len trails xs) xs
 
-shown_columns_bare : (xs : List CharInfo) → columns (shown (map bare xs)) ≡ columns (shown xs)
-shown_columns_bare xs = ap columns (shown_bare xs) ∙ columns_bare (shown xs)
-
-shown_length_bare : (xs : List CharInfo) → length (shown (map bare xs)) ≡ length (shown xs)
-shown_length_bare xs = ap length (shown_bare xs) ∙ length-map (shown xs) bare
+before_columns_bare : (xs : List CharInfo) → columns (before_tail (map bare xs)) ≡ columns (before_tail xs)
+before_columns_bare xs = ap columns (before_bare xs) ∙ columns_bare (before_tail xs)
 
 range_bare : (xs : List CharInfo) (s e : ℕ) → slice_range (map bare xs) s e ≡ map bare (slice_range xs s e)
 range_bare xs s e = ap (take (e - s)) (drop-map bare s xs) ∙ take-map bare (e - s) (drop s xs)
@@ -82,7 +80,7 @@ stop_bare xs =
 
 fits_bare : (width : ℕ) (xs : List CharInfo) (k : ℕ) → fits_to width (map bare xs) k ≡ fits_to width xs k
 fits_bare width xs k =
-    ap (λ n. nat_le n width) (ap (λ ys. columns (shown ys)) (take-map bare (suc k) xs) ∙ shown_columns_bare (take (suc k) xs))
+    ap (λ n. nat_le n width) (ap (λ ys. columns (before_tail ys)) (take-map bare (suc k) xs) ∙ before_columns_bare (take (suc k) xs))
 
 break_bare : (width : ℕ) (xs : List CharInfo) → by_break width (map bare xs) ≡ by_break width xs
 break_bare width xs =
@@ -177,40 +175,64 @@ with_more old current ends k e within size e_is so_far =
     ap₂ with_ends (take_more old k nothing within) ends_more ∙ with_append (take k old) (take k ends) p e sizes in
     put ∙ sym (ap (λ (ys : List CharInfo). ys ++ drop (k + 1) old) before ∙ append_assoc front (record p { ends_cluster = e } ∷ []) (drop (k + 1) old))
 
+-- ---- how many characters are shown
+
+space_bare : (margin : ℕ) (xs : List CharInfo) (k : ℕ) → is_space_within margin (map bare xs) k ≡ is_space_within margin xs k
+space_bare margin xs k =
+    ap₂ (λ (p : CharInfo) n. is_space p.trailing && nat_le n margin) (at_bare xs k) (ap columns (take-map bare (suc k) xs) ∙ columns_bare (take (suc k) xs))
+
+shown_len_bare : (margin : Option ℕ) (xs : List CharInfo) → shown_len margin (map bare xs) ≡ shown_len margin xs
+shown_len_bare None xs = ap₂ (λ n m. n - m) (length-map xs bare) (suffix_bare xs)
+shown_len_bare (Some margin) xs =
+    let text : text_len (map bare xs) ≡ text_len xs = ap₂ (λ n m. n - m) (length-map xs bare) (suffix_bare xs) in
+    ap₂ (λ low n. unwrap_or (least (λ k. not (is_space_within margin (map bare xs) k)) low (n - low)) n) text (length-map xs bare)
+    ∙ ap (λ o. unwrap_or o (length xs))
+    (least_same (λ k. not (is_space_within margin (map bare xs) k)) (λ k. not (is_space_within margin xs k)) (text_len xs) (length xs - text_len xs)
+    (λ k. ap not (space_bare margin xs k)))
+
+shown_bare : (margin : Option ℕ) (xs : List CharInfo) → shown margin (map bare xs) ≡ map bare (shown margin xs)
+shown_bare margin xs = ap (λ n. take n (map bare xs)) (shown_len_bare margin xs) ∙ take-map bare (shown_len margin xs) xs
+
+shown_columns_bare : (margin : Option ℕ) (xs : List CharInfo) → columns (shown margin (map bare xs)) ≡ columns (shown margin xs)
+shown_columns_bare margin xs = ap columns (shown_bare margin xs) ∙ columns_bare (shown margin xs)
+
+shown_length_bare : (margin : Option ℕ) (xs : List CharInfo) → length (shown margin (map bare xs)) ≡ length (shown margin xs)
+shown_length_bare margin xs = ap length (shown_bare margin xs) ∙ length-map (shown margin xs) bare
+
 -- ---- lines
 
-module _ (tables : Tables) (options : Options) (base : ℕ) (text levels : List ℕ) where
-  line_bare : (xs : List CharInfo) (s e : ℕ) → line_between tables options base text levels (map bare xs) s e ≡ line_between tables options base text levels xs s e
+module _ (tables : Tables) (options : Options) (margin : Option ℕ) (base : ℕ) (text levels : List ℕ) where
+  line_bare : (xs : List CharInfo) (s e : ℕ) → line_between tables options margin base text levels (map bare xs) s e ≡ line_between tables options margin base text levels xs s e
   line_bare xs s e =
       let part = slice_range xs s e in
-      let amount : length (shown (slice_range (map bare xs) s e)) ≡ length (shown part) = ap (λ ys. length (shown ys)) (range_bare xs s e) ∙ shown_length_bare part in
-      let sum : columns (shown (slice_range (map bare xs) s e)) ≡ columns (shown part) = ap (λ ys. columns (shown ys)) (range_bare xs s e) ∙ shown_columns_bare part in
+      let amount : length (shown margin (slice_range (map bare xs) s e)) ≡ length (shown margin part) = ap (λ ys. length (shown margin ys)) (range_bare xs s e) ∙ shown_length_bare margin part in
+      let sum : columns (shown margin (slice_range (map bare xs) s e)) ≡ columns (shown margin part) = ap (λ ys. columns (shown margin ys)) (range_bare xs s e) ∙ shown_columns_bare margin part in
       rw (amount, sum) refl
 
-  lines_bare : (xs : List CharInfo) (starts : List ℕ) → lines_from tables options base text levels (map bare xs) starts ≡ lines_from tables options base text levels xs starts
+  lines_bare : (xs : List CharInfo) (starts : List ℕ) → lines_from tables options margin base text levels (map bare xs) starts ≡ lines_from tables options margin base text levels xs starts
   lines_bare xs [] = refl
   lines_bare xs (s ∷ []) = ap (λ (l : Line). l ∷ []) (line_bare xs s (length text))
   lines_bare xs (s ∷ t ∷ starts) = ap₂ (λ (l : Line) (ls : List Line). l ∷ ls) (line_bare xs s t) (lines_bare xs (t ∷ starts))
 
-  pub same_lines : (xs ys : List CharInfo) (starts : List ℕ) → AreAlike xs ys → lines_from tables options base text levels xs starts ≡ lines_from tables options base text levels ys starts
-  same_lines xs ys starts alike = sym (lines_bare xs starts) ∙ ap (λ zs. lines_from tables options base text levels zs starts) alike ∙ lines_bare ys starts
+  pub same_lines : (xs ys : List CharInfo) (starts : List ℕ) → AreAlike xs ys → lines_from tables options margin base text levels xs starts ≡ lines_from tables options margin base text levels ys starts
+  same_lines xs ys starts alike = sym (lines_bare xs starts) ∙ ap (λ zs. lines_from tables options margin base text levels zs starts) alike ∙ lines_bare ys starts
 
 -- ---- how much of each line is shown
 
-between_bare : (xs : List CharInfo) (s e : ℕ) → shown_between (map bare xs) s e ≡ shown_between xs s e
-between_bare xs s e =
+between_bare : (margin : Option ℕ) (xs : List CharInfo) (s e : ℕ) → shown_between margin (map bare xs) s e ≡ shown_between margin xs s e
+between_bare margin xs s e =
     let part = slice_range xs s e in
-    let amount : length (shown (slice_range (map bare xs) s e)) ≡ length (shown part) = ap (λ ys. length (shown ys)) (range_bare xs s e) ∙ shown_length_bare part in
-    let sum : columns (shown (slice_range (map bare xs) s e)) ≡ columns (shown part) = ap (λ ys. columns (shown ys)) (range_bare xs s e) ∙ shown_columns_bare part in
+    let amount : length (shown margin (slice_range (map bare xs) s e)) ≡ length (shown margin part) = ap (λ ys. length (shown margin ys)) (range_bare xs s e) ∙ shown_length_bare margin part in
+    let sum : columns (shown margin (slice_range (map bare xs) s e)) ≡ columns (shown margin part) = ap (λ ys. columns (shown margin ys)) (range_bare xs s e) ∙ shown_columns_bare margin part in
     rw (amount, sum) refl
 
-parts_bare : (n : ℕ) (xs : List CharInfo) (starts : List ℕ) → shown_from n (map bare xs) starts ≡ shown_from n xs starts
-parts_bare n xs [] = refl
-parts_bare n xs (s ∷ []) = ap (λ (p : Shown). p ∷ []) (between_bare xs s n)
-parts_bare n xs (s ∷ t ∷ starts) = ap₂ (λ (p : Shown) (ps : List Shown). p ∷ ps) (between_bare xs s t) (parts_bare n xs (t ∷ starts))
+parts_bare : (margin : Option ℕ) (n : ℕ) (xs : List CharInfo) (starts : List ℕ) → shown_from margin n (map bare xs) starts ≡ shown_from margin n xs starts
+parts_bare margin n xs [] = refl
+parts_bare margin n xs (s ∷ []) = ap (λ (p : Shown). p ∷ []) (between_bare margin xs s n)
+parts_bare margin n xs (s ∷ t ∷ starts) = ap₂ (λ (p : Shown) (ps : List Shown). p ∷ ps) (between_bare margin xs s t) (parts_bare margin n xs (t ∷ starts))
 
-pub same_shown : (n : ℕ) (xs ys : List CharInfo) (starts : List ℕ) → AreAlike xs ys → shown_from n xs starts ≡ shown_from n ys starts
-same_shown n xs ys starts alike = sym (parts_bare n xs starts) ∙ ap (λ zs. shown_from n zs starts) alike ∙ parts_bare n ys starts
+pub same_shown : (margin : Option ℕ) (n : ℕ) (xs ys : List CharInfo) (starts : List ℕ) → AreAlike xs ys → shown_from margin n xs starts ≡ shown_from margin n ys starts
+same_shown margin n xs ys starts alike = sym (parts_bare margin n xs starts) ∙ ap (λ zs. shown_from margin n zs starts) alike ∙ parts_bare margin n ys starts
 
 -- The first k items of `current` are written. These items, followed by those of the remaining characters, are
 -- the items of the whole text.

@@ -1,5 +1,5 @@
 -- Where the lines of a paragraph start.
-use Rattle.std.proofs.Common.{◌≡◌, ℕ, ◌-◌, ◌<◌, Bool, List, [], ◌∷◌, length, map, Some, refl, sym, ap, subst, ◌∙◌, arith}
+use Rattle.std.proofs.Common.{◌≡◌, ℕ, ◌-◌, ◌<◌, Bool, Option, List, [], ◌∷◌, length, map, Some, refl, sym, ap, subst, ◌∙◌, arith}
 use Rattle.std.specs.List.{slice_get}
 use Rattle.std.proofs.lemmas.Option.{slice_get_within}
 use Rattle.ucd.specs.declared.tables.Tables.{Tables}
@@ -13,6 +13,7 @@ use Rattle.lines.specs.Filling.{line_starts_of}
 use Rattle.lines.specs.Kept.{AreStarts}
 use Rattle.lines.specs.Layouts.{Rules, base_of, lines_of, start_of}
 use Rattle.lines.specs.CharInfos.{infos_of}
+use Rattle.lines.specs.ShownParts.{margin_of}
 use Rattle.lines.specs.Visual.{lines_from}
 use Rattle.lines.specs.declared.options.Options.{Options}
 use Rattle.lines.specs.declared.char_info.CharInfo.{CharInfo}
@@ -21,11 +22,11 @@ use Rattle.lines.proofs.SkippedLemmas.{length-infos}
 use Rattle.lines.proofs.StayLemmas.{EndsAtMust}
 use Rattle.lines.proofs.VisualLemmas.{starts_within}
 
-pub starts_from : (tables : Tables) (options : Options) (base : ℕ) (text levels : List ℕ) (ps : List CharInfo) (starts : List ℕ)
-    → map start_of (lines_from tables options base text levels ps starts) ≡ starts
-starts_from tables options base text levels ps [] = refl
-starts_from tables options base text levels ps (s ∷ []) = refl
-starts_from tables options base text levels ps (s ∷ t ∷ starts) = ap (λ ss. s ∷ ss) (starts_from tables options base text levels ps (t ∷ starts))
+pub starts_from : (tables : Tables) (options : Options) (margin : Option ℕ) (base : ℕ) (text levels : List ℕ) (ps : List CharInfo) (starts : List ℕ)
+    → map start_of (lines_from tables options margin base text levels ps starts) ≡ starts
+starts_from tables options margin base text levels ps [] = refl
+starts_from tables options margin base text levels ps (s ∷ []) = refl
+starts_from tables options margin base text levels ps (s ∷ t ∷ starts) = ap (λ ss. s ∷ ss) (starts_from tables options margin base text levels ps (t ∷ starts))
 
 starts_at_0 : (nobreak : Bool) (width : ℕ) (ps : List CharInfo) → 0 < length ps → slice_get (line_starts_of nobreak width ps) 0 ≡ Some 0
 unfolding line_starts_of
@@ -43,7 +44,7 @@ pub begin_in_order : EndsAtMust → (rules : Rules) (width : ℕ) (text : List �
 begin_in_order law rules width text =
     let ps : List CharInfo = infos_of rules.tables rules.options.whole_numbers text in
     let starts : List ℕ = line_starts_of rules.options.nobreak width ps in
-    let are : map start_of (lines_of rules width text) ≡ starts = starts_from rules.tables rules.options (base_of rules text) text (levels_of rules.tables text rules.options.base) ps starts in
+    let are : map start_of (lines_of rules width text) ≡ starts = starts_from rules.tables rules.options (margin_of rules.options width) (base_of rules text) text (levels_of rules.tables text rules.options.base) ps starts in
     record {
       starts = subst (AreStarts (length text)) (sym are) (starts_within rules width text);
       first = λ some. ap (λ ss. slice_get ss 0) are ∙ starts_at_0 rules.options.nobreak width ps (some_infos law rules text some);

@@ -1,10 +1,11 @@
 -- A paragraph has at most as many lines as characters.
-use Rattle.std.proofs.Common.{◌≡◌, ℕ, zero, suc, ◌-◌, ◌≤◌, Bool, List, [], ◌∷◌, length, refl, ap, arith}
+use Rattle.std.proofs.Common.{◌≡◌, ℕ, zero, suc, ◌-◌, ◌≤◌, Bool, Option, List, [], ◌∷◌, length, refl, ap, arith}
 use Rattle.ucd.specs.declared.tables.Tables.{Tables}
 use Rattle.breaks.specs.declared.mark.Mark.{Mark}
 use Rattle.lines.specs.Filling.{line_len, line_starts_of, starts}
 use Rattle.lines.specs.Layouts.{Rules, base_of, lines_of}
 use Rattle.lines.specs.CharInfos.{infos, infos_of}
+use Rattle.lines.specs.ShownParts.{margin_of}
 use Rattle.lines.specs.Visual.{lines_from}
 use Rattle.lines.specs.declared.options.Options.{Options}
 use Rattle.lines.specs.declared.char_info.CharInfo.{CharInfo}
@@ -12,10 +13,10 @@ use Rattle.bidi.specs.Levels.{levels_of}
 use Rattle.breaks.specs.Marks.{marks_of}
 use Rattle.lines.specs.Clusters.{cluster_ends}
 
-length-lines_from : (tables : Tables) (options : Options) (base : ℕ) (text levels : List ℕ) (ps : List CharInfo) (ss : List ℕ) → length (lines_from tables options base text levels ps ss) ≡ length ss
-length-lines_from tables options base text levels ps [] = refl
-length-lines_from tables options base text levels ps (s ∷ []) = refl
-length-lines_from tables options base text levels ps (s ∷ t ∷ ss) = ap suc (length-lines_from tables options base text levels ps (t ∷ ss))
+length-lines_from : (tables : Tables) (options : Options) (margin : Option ℕ) (base : ℕ) (text levels : List ℕ) (ps : List CharInfo) (ss : List ℕ) → length (lines_from tables options margin base text levels ps ss) ≡ length ss
+length-lines_from tables options margin base text levels ps [] = refl
+length-lines_from tables options margin base text levels ps (s ∷ []) = refl
+length-lines_from tables options margin base text levels ps (s ∷ t ∷ ss) = ap suc (length-lines_from tables options margin base text levels ps (t ∷ ss))
 
 few-starts : (nobreak : Bool) (width place left : ℕ) (rest : List CharInfo) → length (starts nobreak width place left rest) ≤ length rest
 few-starts nobreak width place zero [] = omega arith
@@ -43,7 +44,7 @@ few_lines rules width text =
     let ss = line_starts_of rules.options.nobreak width ps in
     omega (
       arith,
-      length-lines_from rules.tables rules.options (base_of rules text) text (levels_of rules.tables text rules.options.base) ps ss,
+      length-lines_from rules.tables rules.options (margin_of rules.options width) (base_of rules text) text (levels_of rules.tables text rules.options.base) ps ss,
       few-line_starts rules.options.nobreak width ps,
       few-infos_of rules.tables rules.options.whole_numbers text,
     )

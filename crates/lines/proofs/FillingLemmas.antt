@@ -11,7 +11,7 @@ use Rattle.bidi.specs.Brackets.{greatest}
 use Rattle.ucd.specs.Least.{least}
 use Rattle.bidi.proofs.LeastLemmas.{least_found, least_none}
 use Rattle.bidi.proofs.PairLemmas.{greatest_found}
-use Rattle.lines.specs.Filling.{cluster_ends_at, columns, first_end, fits_to, may_end, must_end, nothing, place_at, line_end, line_len, shown, starts, stop}
+use Rattle.lines.specs.Filling.{before_tail, cluster_ends_at, columns, first_end, fits_to, may_end, must_end, nothing, place_at, line_end, line_len, starts, stop, trails}
 use Rattle.lines.specs.Kept.{AreStarts}
 use Rattle.lines.specs.Sums.{sums_after, AreSumsOf}
 use Rattle.lines.specs.declared.filling.Sums.{Sums}
@@ -31,11 +31,8 @@ greatest_skips p k (suc n) below fails =
 
 -- ---- sums
 
-abbrev trails : CharInfo → Bool
-trails p = p.is_trailing
-
--- the shown part of the first n characters is these characters without the longest tail at their end
-shown_to : (rest : List CharInfo) (n : ℕ) → n ≤ length rest → shown (take n rest) ≡ take (n - suffix_len trails (take n rest)) rest
+-- the first n characters before their tail
+shown_to : (rest : List CharInfo) (n : ℕ) → n ≤ length rest → before_tail (take n rest) ≡ take (n - suffix_len trails (take n rest)) rest
 shown_to rest n within =
     ap (λ m. take (m - suffix_len trails (take n rest)) (take n rest)) (length-take-le n rest within)
     ∙ take-take (n - suffix_len trails (take n rest)) n rest (omega arith)
@@ -51,9 +48,9 @@ trailing_none rest k within counts =
     let e : suc k - 1 ≡ k = omega arith in
     suffix_len-take_no trails rest (suc k) nothing (omega arith) (omega (arith, within)) (subst (λ j. trails (place_at rest j) ≡ false) (sym e) counts)
 
--- If the last character may be in a tail, it adds no shown columns. Otherwise all columns are shown.
+-- If the last character may be in a tail, it adds no columns before the tail. Otherwise there is no tail.
 pub shown_after : (rest : List CharInfo) (k : ℕ) → k < length rest
-    → columns (shown (take (suc k) rest)) ≡ (if (place_at rest k).is_trailing then columns (shown (take k rest)) else columns (take (suc k) rest))
+    → columns (before_tail (take (suc k) rest)) ≡ (if trails (place_at rest k) then columns (before_tail (take k rest)) else columns (take (suc k) rest))
 shown_after rest k within =
     let s : ℕ = suffix_len trails (take k rest) in
     elim (cases_Bool (trails (place_at rest k))) [
@@ -63,13 +60,13 @@ shown_after rest k within =
           ∙ ap (λ n. columns (take (suc k - n) rest)) (trailing_more rest k within trailing)
           ∙ ap (λ n. columns (take n rest)) e
           ∙ ap columns (sym (shown_to rest k (omega (arith, within))))
-          ∙ sym (cond-true (trails (place_at rest k)) (columns (shown (take k rest))) (columns (take (suc k) rest)) trailing)
+          ∙ sym (cond-true (trails (place_at rest k)) (columns (before_tail (take k rest))) (columns (take (suc k) rest)) trailing)
       | inr counts ↦
           let e : suc k - 0 ≡ suc k = omega arith in
           ap columns (shown_to rest (suc k) (omega (arith, within)))
           ∙ ap (λ n. columns (take (suc k - n) rest)) (trailing_none rest k within counts)
           ∙ ap (λ n. columns (take n rest)) e
-          ∙ sym (cond-false (trails (place_at rest k)) (columns (shown (take k rest))) (columns (take (suc k) rest)) counts)
+          ∙ sym (cond-false (trails (place_at rest k)) (columns (before_tail (take k rest))) (columns (take (suc k) rest)) counts)
     ]
 
 pub columns_after : (rest : List CharInfo) (k : ℕ) → k < length rest → columns (take (suc k) rest) ≡ columns (take k rest) + (place_at rest k).columns
@@ -83,28 +80,28 @@ sums_more rest k sums within so_far = record {
   columns_are = ap (λ n. n + (place_at rest k).columns) so_far.columns_are ∙ sym (columns_after rest k within);
   shown_are = elim (cases_Bool (trails (place_at rest k))) [
     | inl trailing ↦ cond-true (trails (place_at rest k)) sums.shown (sums.columns + (place_at rest k).columns) trailing
-        ∙ so_far.shown_are ∙ sym (cond-true (trails (place_at rest k)) (columns (shown (take k rest))) (columns (take (suc k) rest)) trailing)
+        ∙ so_far.shown_are ∙ sym (cond-true (trails (place_at rest k)) (columns (before_tail (take k rest))) (columns (take (suc k) rest)) trailing)
         ∙ sym (shown_after rest k within)
     | inr counts ↦ cond-false (trails (place_at rest k)) sums.shown (sums.columns + (place_at rest k).columns) counts
         ∙ ap (λ n. n + (place_at rest k).columns) so_far.columns_are ∙ sym (columns_after rest k within)
-        ∙ sym (cond-false (trails (place_at rest k)) (columns (shown (take k rest))) (columns (take (suc k) rest)) counts)
+        ∙ sym (cond-false (trails (place_at rest k)) (columns (before_tail (take k rest))) (columns (take (suc k) rest)) counts)
         ∙ sym (shown_after rest k within)
   ];
 }
 
--- the shown part of the first n characters is no wider than all n characters
-shown_most : (rest : List CharInfo) (n : ℕ) → n ≤ length rest → columns (shown (take n rest)) ≤ columns (take n rest)
+-- the characters before a tail are no wider than all characters
+shown_most : (rest : List CharInfo) (n : ℕ) → n ≤ length rest → columns (before_tail (take n rest)) ≤ columns (take n rest)
 shown_most rest n within = sum_by-take-le (λ p. p.columns) (take n rest) (length (take n rest) - suffix_len trails (take n rest))
 
--- appending a character does not make the shown part narrower
-shown_grows : (rest : List CharInfo) (k : ℕ) → k < length rest → columns (shown (take k rest)) ≤ columns (shown (take (suc k) rest))
+-- appending a character does not make the part before the tail narrower
+shown_grows : (rest : List CharInfo) (k : ℕ) → k < length rest → columns (before_tail (take k rest)) ≤ columns (before_tail (take (suc k) rest))
 shown_grows rest k within =
     elim (cases_Bool (trails (place_at rest k))) [
-      | inl trailing ↦ omega (arith, shown_after rest k within, cond-true (trails (place_at rest k)) (columns (shown (take k rest))) (columns (take (suc k) rest)) trailing)
+      | inl trailing ↦ omega (arith, shown_after rest k within, cond-true (trails (place_at rest k)) (columns (before_tail (take k rest))) (columns (take (suc k) rest)) trailing)
       | inr counts ↦ omega (
         arith,
         shown_after rest k within,
-        cond-false (trails (place_at rest k)) (columns (shown (take k rest))) (columns (take (suc k) rest)) counts,
+        cond-false (trails (place_at rest k)) (columns (before_tail (take k rest))) (columns (take (suc k) rest)) counts,
         shown_most rest k (omega (arith, within)),
         columns_after rest k within,
       )
@@ -116,8 +113,8 @@ misfits width rest k zero above within here = let e : k ≡ 0 = omega (arith, ab
 misfits width rest k (suc j) above within here =
     elim (cases_eq k (suc j)) [
       | inl e ↦ subst (λ j. fits_to width rest j ≡ false) e here
-      | inr ne ↦ lt-leb (columns (shown (take (suc (suc j)) rest))) width
-          (omega (arith, shown_grows rest (suc j) within, leb-false (columns (shown (take (suc j) rest))) width (misfits width rest k j (omega arith) (omega (arith, within)) here)))
+      | inr ne ↦ lt-leb (columns (before_tail (take (suc (suc j)) rest))) width
+          (omega (arith, shown_grows rest (suc j) within, leb-false (columns (before_tail (take (suc j) rest))) width (misfits width rest k j (omega arith) (omega (arith, within)) here)))
     ]
 
 -- ---- where a line must end
@@ -190,7 +187,7 @@ pub walk_more : (width : ℕ) (rest : List CharInfo) (k : ℕ) (sums next : Sums
     → IsWalked width rest (k + 1) next (if may_end rest k then Some k else break) (if cluster_ends_at rest k then Some k else cluster)
 walk_more width rest k sums next break cluster within walked e most fitting must =
     let sums_are : AreSumsOf (take (suc k) rest) next = subst (λ (s : Sums). AreSumsOf (take (suc k) rest) s) (sym e) (sums_more rest k sums within walked.sums_are) in
-    let fit : fits_to width rest k ≡ true = le-leb (columns (shown (take (suc k) rest))) width (omega (arith, sums_are.shown_are, fitting)) in
+    let fit : fits_to width rest k ≡ true = le-leb (columns (before_tail (take (suc k) rest))) width (omega (arith, sums_are.shown_are, fitting)) in
     let more : suc k ≡ k + 1 = omega arith in
     subst (λ n. IsWalked width rest n next (if may_end rest k then Some k else break) (if cluster_ends_at rest k then Some k else cluster)) more (record {
       within = omega (arith, within);
@@ -212,7 +209,7 @@ pub walk_stops : (width : ℕ) (rest : List CharInfo) (test : ℕ → Bool) (k :
     → (if test k then Some k else best) ≡ greatest (λ j. test j && fits_to width rest j) (suc (stop rest))
 walk_stops width rest test k sums next best within are no_must e fitting must so_far =
     let sums_are : AreSumsOf (take (suc k) rest) next = subst (λ (s : Sums). AreSumsOf (take (suc k) rest) s) (sym e) (sums_more rest k sums within are) in
-    let fit : fits_to width rest k ≡ true = le-leb (columns (shown (take (suc k) rest))) width (omega (arith, sums_are.shown_are, fitting)) in
+    let fit : fits_to width rest k ≡ true = le-leb (columns (before_tail (take (suc k) rest))) width (omega (arith, sums_are.shown_are, fitting)) in
     greatest_more test (fits_to width rest) k best fit so_far
     ∙ ap (λ n. greatest (λ j. test j && fits_to width rest j) (suc n)) (sym (stop_at rest k within no_must must))
 
@@ -233,7 +230,7 @@ pub walk_misfits : (width : ℕ) (rest : List CharInfo) (test : ℕ → Bool) (k
 walk_misfits width rest test k sums next within are no_must e above =
     let stops = stop_from rest k within no_must in
     let sums_are : AreSumsOf (take (suc k) rest) next = subst (λ (s : Sums). AreSumsOf (take (suc k) rest) s) (sym e) (sums_more rest k sums within are) in
-    let here : fits_to width rest k ≡ false = lt-leb (columns (shown (take (suc k) rest))) width (omega (arith, sums_are.shown_are, above)) in
+    let here : fits_to width rest k ≡ false = lt-leb (columns (before_tail (take (suc k) rest))) width (omega (arith, sums_are.shown_are, above)) in
     sym (greatest_skips (λ j. test j && fits_to width rest j) k (suc (stop rest)) (omega (arith, stops.0))
     (λ j from to. and_right (test j) (fits_to width rest j) (misfits width rest k j from (omega (arith, to, stops.1)) here)))
 
@@ -265,18 +262,6 @@ starts_line nobreak width place (p ∷ rest) some within =
 pub found_within : (rest : List CharInfo) (test : ℕ → Bool) (k : ℕ) → 0 < length rest → greatest test (suc (stop rest)) ≡ Some k → k < length rest
 found_within rest test k some e =
     omega (arith, (stop_from rest 0 some (λ j below. absurd (omega (arith, below)))).1, (greatest_found test (suc (stop rest)) k e).0)
-
--- ---- how much of a line is shown
-
--- whether `len` and `columns_shown` are the length and columns of the shown part of the first k characters,
--- and `columns_all` the columns of all k
-pub record IsShownTo (rest : List CharInfo) (k len columns_shown columns_all : ℕ) : Type 0 where
-  pub within : k ≤ length rest
-  pub most : columns_all ≤ 255 * k
-  pub len_within : len ≤ k
-  pub len_is : len ≡ length (shown (take k rest))
-  pub shown_are : columns_shown ≡ columns (shown (take k rest))
-  pub columns_are : columns_all ≡ columns (take k rest)
 
 -- ---- where lines start
 

@@ -1,16 +1,23 @@
 -- Conditions under which a layout is a fresh layout: after it is built from its parts, or after its lines are
 -- exchanged.
-use Rattle.std.proofs.Common.{◌≡◌, ℕ, List, Result, Ok, Err, IfOk, length, refl, ap, ap₂, subst, sym, ◌∙◌}
+use Rattle.std.proofs.Common.{◌≡◌, ℕ, Bool, List, Result, Ok, Err, IfOk, length, refl, ap, ap₂, subst, sym, ◌∙◌}
+use Rattle.bidi.specs.Levels.{levels_of}
 use Rattle.breaks.specs.declared.mark.Mark.{Mark}
 use Rattle.lines.specs.Extents.{extents_of, reflowed, LineExtents}
-use Rattle.lines.specs.Layouts.{fill_of, layout_of, AreLinesOf, Exchanges, Filled, IsLaidOut, IsParagraph, Layout, Rules}
+use Rattle.lines.specs.CharInfos.{infos_of}
+use Rattle.lines.specs.Filling.{line_starts_of}
+use Rattle.lines.specs.Layouts.{base_of, fill_of, layout_of, AreLinesOf, Exchanges, Filled, IsLaidOut, IsParagraph, Layout, Rules}
+use Rattle.lines.specs.ShownParts.{margin_of}
 use Rattle.lines.specs.Visual.{Line}
+use Rattle.lines.specs.declared.char_info.CharInfo.{CharInfo}
+use Rattle.lines.proofs.WrittenLemmas.{shown_lines}
 
-pub same_layout : (rules : Rules) (width : ℕ) (text seen : List ℕ) (base : ℕ) (levels : List ℕ) (marks : List Mark) (lines : List Line)
+pub same_layout : (rules : Rules) (width : ℕ) (text seen : List ℕ) (base : ℕ) (levels : List ℕ) (marks : List Mark) (ends : List Bool) (lines : List Line)
     → seen ≡ text → base ≡ (layout_of rules width seen).base → levels ≡ (layout_of rules width seen).levels → marks ≡ (layout_of rules width seen).marks
+    → ends ≡ (layout_of rules width seen).ends
     → lines ≡ (layout_of rules width seen).lines
-    → record { text = text; base = base; levels = levels; marks = marks; lines = lines } ≡ layout_of rules width text
-same_layout rules width text seen base levels marks lines e b l m s = rw (b, l, m, s, e) refl
+    → record { text = text; base = base; levels = levels; marks = marks; ends = ends; lines = lines } ≡ layout_of rules width text
+same_layout rules width text seen base levels marks ends lines e b l m n s = rw (b, l, m, n, s, e) refl
 
 -- if `same` equals `rules`, a fresh layout by `rules` satisfies `IsLaidOut`, and its lines satisfy
 -- `AreLinesOf`
@@ -58,8 +65,13 @@ exchanged_by old new fill_old fill_new put taken = rw (put, taken) (exchanged ol
 pub reflowed_by : (rules : Rules) (width : ℕ) (old : Layout) (extents : LineExtents) → IsLaidOut rules old → extents ≡ extents_of rules width old.text
     → reflowed rules old extents ≡ layout_of rules width old.text
 reflowed_by rules width old extents laid is =
+    let text : List ℕ = old.text in
+    let infos : List CharInfo = infos_of rules.tables rules.options.whole_numbers text in
     ap (reflowed rules old) is
-    ∙ subst (λ (m : Layout). reflowed rules m (extents_of rules width m.text) ≡ layout_of rules width m.text) (sym laid.from_scratch) refl
+    ∙ subst (λ (m : Layout). reflowed rules m (extents_of rules width m.text) ≡ layout_of rules width m.text) (sym laid.from_scratch)
+    (ap (λ (lines : List Line). record (layout_of rules laid.width text) { lines = lines })
+    (shown_lines rules.tables rules.options (base_of rules text) text (levels_of rules.tables text rules.options.base) (margin_of rules.options width) infos
+    (line_starts_of rules.options.nobreak width infos)))
 
 pub reflowed_laid_out : (rules : Rules) (width : ℕ) (old new : Layout) (extents : LineExtents) → IsLaidOut rules old → extents ≡ extents_of rules width old.text
     → new ≡ reflowed rules old extents → IsLaidOut rules new

@@ -18,8 +18,11 @@ pub mod PageLemmas
 pub mod RunColumnLemmas
 mod SegmentLemmas
 mod SelectionLemmas
+mod ReadingLemmas
+pub mod ReorderingLemmas
 pub mod ShowLemmas
 mod ShownColumnLemmas
+pub mod ShownPartLemmas
 pub mod SkippedLemmas
 mod SpanLemmas
 mod SplitLemmas

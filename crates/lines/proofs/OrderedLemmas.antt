@@ -1,7 +1,7 @@
 -- Each line of a layout has a level and a position for each shown character, and its position maps are inverse.
-use Rattle.std.proofs.Common.{◌≡◌, ℕ, suc, ◌+◌, ◌-◌, ◌<◌, ◌≤◌, ◌==◌, Bool, List, [], ◌∷◌, length, get_or, map, drop, take, refl, sym, ap, ◌∙◌, arith}
+use Rattle.std.proofs.Common.{◌≡◌, ℕ, suc, ◌+◌, ◌-◌, ◌<◌, ◌≤◌, ◌==◌, Bool, Option, List, [], ◌∷◌, length, get_or, map, drop, take, refl, sym, ap, ◌∙◌, arith}
 use Rattle.std.specs.Prelude.{slice_range, All}
-use Rattle.std.specs.List.{enumerate_from, position_or_len, suffix_len}
+use Rattle.std.specs.List.{enumerate_from, position_or_len}
 use Rattle.std.proofs.lemmas.List.{get_or-drop, get_or-map, get_or-take, length-drop, length-take, length-take-le}
 use Rattle.std.proofs.lemmas.List.Elements.{All-cons, All-nil}
 use Rattle.std.proofs.lemmas.List.FromFn.{length-map-range_with_len}
@@ -15,9 +15,11 @@ use Rattle.ucd.specs.Tables.{class_of}
 use Rattle.ucd.specs.declared.bidi_class.BidiClass.{BidiClass}
 use Rattle.ucd.specs.declared.bidi_class.BidiClass.TheVariants.{ON}
 use Rattle.lines.specs.CharInfos.{infos_of}
-use Rattle.lines.specs.Filling.{line_starts_of, shown}
+use Rattle.lines.specs.Filling.{line_starts_of}
+use Rattle.lines.specs.ShownParts.{margin_of, shown, shown_len}
 use Rattle.lines.specs.Layouts.{Rules, base_of, layout_of, lines_of, start_of, visuals}
 use Rattle.lines.specs.Ordered.{IsOrdered}
+use Rattle.lines.specs.Reordering.{classes_by, ends_by, ltov_by, reorders, vtol_by}
 use Rattle.lines.specs.Visual.{Line, Visual, end_of, line_between, lines_from, visual_of}
 use Rattle.lines.specs.declared.char_info.CharInfo.{CharInfo}
 use Rattle.lines.proofs.BeginningLemmas.{starts_from}
@@ -29,8 +31,9 @@ pub record IsPart (rules : Rules) (text : List ℕ) (line : Visual) : Type 0 whe
   pub classes : List BidiClass
   pub size : length line.text ≡ length line.levels
   pub within : length line.levels ≤ line.len
-  pub vtol : line.vtol ≡ vtol_of rules.options.reordernsm classes line.levels
-  pub ltov : line.ltov ≡ ltov_of rules.options.reordernsm classes line.levels
+  pub ends : List Bool
+  pub vtol : line.vtol ≡ vtol_by rules.options classes ends line.levels
+  pub ltov : line.ltov ≡ ltov_by rules.options classes ends line.levels
   pub inside : start + length line.levels ≤ length text
   pub chars : (k : ℕ) → k < length line.levels → get_or line.text k 0 ≡ get_or text (start + k) 0
   pub class : (k : ℕ) → k < length line.levels → class_at classes k ≡ class_of rules.tables (get_or line.text k 0)
@@ -42,30 +45,31 @@ length-ltov reordernsm classes levels =
 
 part_ordered : (rules : Rules) (text : List ℕ) (line : Visual) → IsPart rules text line → IsOrdered line
 part_ordered rules text line is =
-    let nsm : Bool = rules.options.reordernsm in
+    let nsm : Bool = reorders rules.options in
+    let classes : List BidiClass = classes_by rules.options is.classes is.ends line.levels in
     record {
       text = is.size;
-      vtol = length-vtol nsm is.classes line.levels line.vtol is.vtol;
-      ltov = ap length is.ltov ∙ length-ltov nsm is.classes line.levels;
-      inverse = rw (is.vtol, is.ltov) (inverse_maps nsm is.classes line.levels);
+      vtol = length-vtol nsm classes line.levels line.vtol is.vtol;
+      ltov = ap length is.ltov ∙ length-ltov nsm classes line.levels;
+      inverse = rw (is.vtol, is.ltov) (inverse_maps nsm classes line.levels);
       within = is.within;
     }
 
-module _ (rules : Rules) (base : ℕ) (text levels : List ℕ) (infos : List CharInfo) (lines : List Line) where
+module _ (rules : Rules) (margin : Option ℕ) (base : ℕ) (text levels : List ℕ) (infos : List CharInfo) (lines : List Line) where
   abbrev line_of : ℕ → ℕ → Line
-  line_of s e = line_between rules.tables rules.options base text levels infos s e
+  line_of s e = line_between rules.tables rules.options margin base text levels infos s e
 
   one_line : (n s e : ℕ) → s ≤ e → e ≤ length text → end_of (length text) (map start_of lines) n ≡ e → IsPart rules text (visual_of base text lines n (line_of s e))
   one_line n s e forward within ends =
       let piece : List CharInfo = slice_range infos s e in
       let line : List ℕ = slice_range text s e in
       let classes : List BidiClass = map (class_of rules.tables) line in
-      let found : List ℕ = take (length (shown piece)) (line_levels base classes (slice_range levels s e)) in
+      let found : List ℕ = take (length (shown margin piece)) (line_levels base classes (slice_range levels s e)) in
       let few : length found ≤ e - s =
       omega (
         arith,
-        length-take (length (shown piece)) (line_levels base classes (slice_range levels s e)),
-        length-take (length piece - suffix_len (λ p. p.is_trailing) piece) piece,
+        length-take (length (shown margin piece)) (line_levels base classes (slice_range levels s e)),
+        length-take (shown_len margin piece) piece,
         length-take (e - s) (drop s infos),
       ) in
       let count : s + length found - s ≡ length found = omega arith in
@@ -74,6 +78,7 @@ module _ (rules : Rules) (base : ℕ) (text levels : List ℕ) (infos : List Cha
       record {
         start = s;
         classes = classes;
+        ends = slice_range (ends_by rules.options text) s e;
         size = length-take-le (s + length found - s) (drop s text) (omega (arith, few, within, forward, length-drop s text)) ∙ count;
         within = omega (arith, few, ends);
         vtol = refl;
@@ -87,7 +92,7 @@ module _ (rules : Rules) (base : ℕ) (text levels : List ℕ) (infos : List Cha
       }
 
   abbrev some_lines : ℕ → List ℕ → List Visual
-  some_lines k starts = map (λ nth. visual_of base text lines nth.0 nth.1) (enumerate_from k (lines_from rules.tables rules.options base text levels infos starts))
+  some_lines k starts = map (λ nth. visual_of base text lines nth.0 nth.1) (enumerate_from k (lines_from rules.tables rules.options margin base text levels infos starts))
 
   each_line : (low k : ℕ) (starts : List ℕ) → Rise low (length text) starts
       → ((j : ℕ) → end_of (length text) (map start_of lines) (k + j) ≡ end_of (length text) starts j) → All (IsPart rules text) (some_lines k starts)
@@ -113,8 +118,8 @@ are_parts rules width text =
     let infos : List CharInfo = infos_of rules.tables rules.options.whole_numbers text in
     let levels : List ℕ = levels_of rules.tables text rules.options.base in
     let starts : List ℕ = line_starts_of rules.options.nobreak width infos in
-    let are : map start_of (lines_of rules width text) ≡ starts = starts_from rules.tables rules.options (base_of rules text) text levels infos starts in
-    each_line rules (base_of rules text) text levels infos (lines_of rules width text) 0 0 starts (starts_in rules width text)
+    let are : map start_of (lines_of rules width text) ≡ starts = starts_from rules.tables rules.options (margin_of rules.options width) (base_of rules text) text levels infos starts in
+    each_line rules (margin_of rules.options width) (base_of rules text) text levels infos (lines_of rules width text) 0 0 starts (starts_in rules width text)
     (λ j.
     let same : 0 + j ≡ j = omega arith in
     ap (end_of (length text) (map start_of (lines_of rules width text))) same ∙ ap (λ (ss : List ℕ). end_of (length text) ss j) are)

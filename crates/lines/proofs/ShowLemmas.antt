@@ -1,24 +1,25 @@
 -- Writing the lines of a paragraph one at a time gives all its lines.
-use Rattle.std.proofs.Common.{◌≡◌, ℕ, zero, suc, ◌+◌, ◌-◌, ◌<◌, ◌≤◌, List, [], ◌∷◌, ◌++◌, length, map, take}
+use Rattle.std.proofs.Common.{◌≡◌, ℕ, zero, suc, ◌+◌, ◌-◌, ◌<◌, ◌≤◌, Bool, Option, List, [], ◌∷◌, ◌++◌, length, map, take}
 use Rattle.std.proofs.Common.{drop, get_or, refl, sym, ap, ap₂, subst, ◌∙◌, take-take, drop-drop, below_more, length-append, arith, inl, inr}
 use borrow.Rule.Slice.PartMut.{put_mid}
 use Rattle.std.proofs.lemmas.Bool.{cases_eq, cases_lt}
 use Rattle.std.proofs.lemmas.List.{length-drop, length-take, length-take-le, take_more}
 use Rattle.std.proofs.lemmas.Slice.{between_is, between-put_mid, drop-put_mid, take-put_mid_below}
-use Rattle.std.specs.List.{slice_range, suffix_len, All}
+use Rattle.std.specs.List.{slice_range, All}
 use Rattle.ucd.specs.Tables.{class_of}
 use Rattle.ucd.specs.declared.bidi_class.BidiClass.{BidiClass}
 use Rattle.ucd.specs.declared.tables.Tables.{Tables}
 use Rattle.ucd.specs.Within.{AreWithin}
 use Rattle.lines.specs.Extents.{shown_between, shown_from}
-use Rattle.lines.specs.Filling.{columns, shown}
+use Rattle.lines.specs.Filling.{columns}
+use Rattle.lines.specs.ShownParts.{shown, shown_len}
 use Rattle.lines.specs.Kept.{AreStarts, IsSound, line_in, lines_by, lines_in}
 use Rattle.lines.specs.Layouts.{AreWithin as LinesAreWithin}
 use Rattle.reorder.specs.Mirroring.{visual_chars}
-use Rattle.reorder.specs.Order.{ltov_of, vtol_of}
-use Rattle.lines.specs.Showing.{line_showing, nothing_shown, AreShown, IsPlaced, IsShown}
+use Rattle.lines.specs.Reordering.{ends_by, ltov_by, vtol_by}
+use Rattle.lines.specs.Showing.{line_showing, lines_shown, nothing_shown, AreShown, IsPlaced, IsShown}
 use Rattle.reorder.specs.Spaces.{line_levels}
-use Rattle.lines.specs.Visual.{Line, end_of, lines_from}
+use Rattle.lines.specs.Visual.{Line, end_of}
 use Rattle.lines.specs.declared.options.Options.{Options}
 use Rattle.lines.specs.declared.char_info.CharInfo.{CharInfo}
 use Rattle.lines.specs.declared.fill.Shown.{Shown}
@@ -66,54 +67,54 @@ ends_before n starts j (suc k) are h within =
 
 -- ---- how much of each line is shown
 
-pub length-shown_from : (n : ℕ) (infos : List CharInfo) (starts : List ℕ) → length (shown_from n infos starts) ≡ length starts
-length-shown_from n infos [] = refl
-length-shown_from n infos (s ∷ []) = refl
-length-shown_from n infos (s ∷ t ∷ starts) = ap suc (length-shown_from n infos (t ∷ starts))
+pub length-shown_from : (margin : Option ℕ) (n : ℕ) (infos : List CharInfo) (starts : List ℕ) → length (shown_from margin n infos starts) ≡ length starts
+length-shown_from margin n infos [] = refl
+length-shown_from margin n infos (s ∷ []) = refl
+length-shown_from margin n infos (s ∷ t ∷ starts) = ap suc (length-shown_from margin n infos (t ∷ starts))
 
-pub shown_at : (n : ℕ) (infos : List CharInfo) (starts : List ℕ) (k : ℕ) (d : Shown) → k < length starts
-    → get_or (shown_from n infos starts) k d ≡ shown_between infos (get_or starts k 0) (end_of n starts k)
-shown_at n infos [] k d h = absurd (omega (arith, h))
-shown_at n infos (s ∷ []) zero d h = refl
-shown_at n infos (s ∷ []) (suc k) d h = absurd (omega (arith, h))
-shown_at n infos (s ∷ t ∷ starts) zero d h = refl
-shown_at n infos (s ∷ t ∷ starts) (suc k) d h = shown_at n infos (t ∷ starts) k d (omega (arith, h))
+pub shown_at : (margin : Option ℕ) (n : ℕ) (infos : List CharInfo) (starts : List ℕ) (k : ℕ) (d : Shown) → k < length starts
+    → get_or (shown_from margin n infos starts) k d ≡ shown_between margin infos (get_or starts k 0) (end_of n starts k)
+shown_at margin n infos [] k d h = absurd (omega (arith, h))
+shown_at margin n infos (s ∷ []) zero d h = refl
+shown_at margin n infos (s ∷ []) (suc k) d h = absurd (omega (arith, h))
+shown_at margin n infos (s ∷ t ∷ starts) zero d h = refl
+shown_at margin n infos (s ∷ t ∷ starts) (suc k) d h = shown_at margin n infos (t ∷ starts) k d (omega (arith, h))
 
 -- if `parts` are the shown parts of the first k lines, appending the shown part of line k gives those of the
 -- first k + 1
-pub shown_more : (n : ℕ) (infos : List CharInfo) (starts : List ℕ) (k e : ℕ) (part : Shown) (parts more : List Shown) → k < length starts → e ≡ end_of n starts k
-    → part.len ≡ length (shown (slice_range infos (get_or starts k 0) e)) → part.columns ≡ columns (shown (slice_range infos (get_or starts k 0) e))
-    → parts ≡ take k (shown_from n infos starts) → more ≡ parts ++ part ∷ [] → more ≡ take (k + 1) (shown_from n infos starts)
-shown_more n infos starts k e part parts more below e_is len columns_are so_far is =
-    let here : k < length (shown_from n infos starts) = omega (arith, below, length-shown_from n infos starts) in
-    let this : part ≡ shown_between infos (get_or starts k 0) e = rw (len, columns_are) refl in
-    let item : get_or (shown_from n infos starts) k part ≡ part =
-    shown_at n infos starts k part below ∙ ap (shown_between infos (get_or starts k 0)) (sym e_is) ∙ sym this in
-    is ∙ ap (λ (ps : List Shown). ps ++ part ∷ []) so_far ∙ ap (λ (p : Shown). take k (shown_from n infos starts) ++ p ∷ []) (sym item)
-    ∙ sym (take_more (shown_from n infos starts) k part here)
+pub shown_more : (margin : Option ℕ) (n : ℕ) (infos : List CharInfo) (starts : List ℕ) (k e : ℕ) (part : Shown) (parts more : List Shown) → k < length starts → e ≡ end_of n starts k
+    → part.len ≡ length (shown margin (slice_range infos (get_or starts k 0) e)) → part.columns ≡ columns (shown margin (slice_range infos (get_or starts k 0) e))
+    → parts ≡ take k (shown_from margin n infos starts) → more ≡ parts ++ part ∷ [] → more ≡ take (k + 1) (shown_from margin n infos starts)
+shown_more margin n infos starts k e part parts more below e_is len columns_are so_far is =
+    let here : k < length (shown_from margin n infos starts) = omega (arith, below, length-shown_from margin n infos starts) in
+    let this : part ≡ shown_between margin infos (get_or starts k 0) e = rw (len, columns_are) refl in
+    let item : get_or (shown_from margin n infos starts) k part ≡ part =
+    shown_at margin n infos starts k part below ∙ ap (shown_between margin infos (get_or starts k 0)) (sym e_is) ∙ sym this in
+    is ∙ ap (λ (ps : List Shown). ps ++ part ∷ []) so_far ∙ ap (λ (p : Shown). take k (shown_from margin n infos starts) ++ p ∷ []) (sym item)
+    ∙ sym (take_more (shown_from margin n infos starts) k part here)
 
 -- `shown_from` gives equal shown parts for equal text lengths and equal starts
-pub taken_shown : (n m : ℕ) (infos : List CharInfo) (starts seen : List ℕ) {parts : List Shown} → n ≡ m → seen ≡ starts → parts ≡ shown_from m infos seen
-    → parts ≡ shown_from n infos starts
-taken_shown n m infos starts seen e same is = is ∙ ap₂ (λ (j : ℕ) (ss : List ℕ). shown_from j infos ss) (sym e) same
+pub taken_shown : (margin : Option ℕ) (n m : ℕ) (infos : List CharInfo) (starts seen : List ℕ) {parts : List Shown} → n ≡ m → seen ≡ starts → parts ≡ shown_from margin m infos seen
+    → parts ≡ shown_from margin n infos starts
+taken_shown margin n m infos starts seen e same is = is ∙ ap₂ (λ (j : ℕ) (ss : List ℕ). shown_from margin j infos ss) (sym e) same
 
 -- the shown part of a line has at most as many characters as the line
-shown_most : (infos : List CharInfo) (s e : ℕ) → (shown_between infos s e).len ≤ e - s
-shown_most infos s e =
+shown_most : (margin : Option ℕ) (infos : List CharInfo) (s e : ℕ) → (shown_between margin infos s e).len ≤ e - s
+shown_most margin infos s e =
     let piece : List CharInfo = slice_range infos s e in
     omega (
       arith,
-      length-take (length piece - suffix_len (λ p. p.is_trailing) piece) piece,
+      length-take (shown_len margin piece) piece,
       length-take (e - s) (drop s infos),
     )
 
-pub shown_within : (n : ℕ) (infos : List CharInfo) (starts : List ℕ) (parts : List Shown) (k e : ℕ) (part d : Shown) → AreStarts n starts → k < length starts
-    → e ≡ end_of n starts k → parts ≡ shown_from n infos starts → part ≡ get_or parts k d → get_or starts k 0 + part.len ≤ e
-shown_within n infos starts parts k e part d are below e_is is this =
+pub shown_within : (margin : Option ℕ) (n : ℕ) (infos : List CharInfo) (starts : List ℕ) (parts : List Shown) (k e : ℕ) (part d : Shown) → AreStarts n starts → k < length starts
+    → e ≡ end_of n starts k → parts ≡ shown_from margin n infos starts → part ≡ get_or parts k d → get_or starts k 0 + part.len ≤ e
+shown_within margin n infos starts parts k e part d are below e_is is this =
     let w = end_within n starts k are below in
-    let here : part ≡ shown_between infos (get_or starts k 0) (end_of n starts k) = this ∙ ap (λ (ps : List Shown). get_or ps k d) is ∙ shown_at n infos starts k d below in
-    let len : part.len ≡ (shown_between infos (get_or starts k 0) (end_of n starts k)).len = ap (λ (p : Shown). p.len) here in
-    omega (arith, e_is, len, w.0, shown_most infos (get_or starts k 0) (end_of n starts k))
+    let here : part ≡ shown_between margin infos (get_or starts k 0) (end_of n starts k) = this ∙ ap (λ (ps : List Shown). get_or ps k d) is ∙ shown_at margin n infos starts k d below in
+    let len : part.len ≡ (shown_between margin infos (get_or starts k 0) (end_of n starts k)).len = ap (λ (p : Shown). p.len) here in
+    omega (arith, e_is, len, w.0, shown_most margin infos (get_or starts k 0) (end_of n starts k))
 
 -- ---- ranges of a list after a write to one range
 
@@ -182,7 +183,7 @@ module _ (tables : Tables) (options : Options) (base : ℕ) (text old : List ℕ
 
   -- after a line is written to its range, the lists hold it there
   placed_now : (s e : ℕ) (part : Shown) (levels ltov vtol chars l t v h : List ℕ)
-      → IsShown tables options base (slice_range text s e) (slice_range levels s e) part l t v h
+      → IsShown tables options base (slice_range (ends_by options text) s e) (slice_range text s e) (slice_range levels s e) part l t v h
       → s < e → e ≤ length text → length levels ≡ length text → length ltov ≡ length text → length vtol ≡ length text → length chars ≡ length text
       → length l ≡ e - s → length t ≡ e - s → length v ≡ e - s → length h ≡ e - s → drop s levels ≡ drop s old
       → IsPlaced tables options base text old s e part (put_mid s (e - s) levels l) (put_mid s (e - s) ltov t) (put_mid s (e - s) vtol v) (put_mid s (e - s) chars h)
@@ -191,6 +192,7 @@ module _ (tables : Tables) (options : Options) (base : ℕ) (text old : List ℕ
       let n : ℕ = part.len in
       let line : List ℕ = slice_range text s e in
       let classes : List BidiClass = map (class_of tables) line in
+      let ends : List Bool = slice_range (ends_by options text) s e in
       let size : length line ≡ m = length_range text s e (omega (arith, some)) within in
       let below : n ≤ m = omega (arith, is.within, size) in
       let whole : ℕ → List ℕ → List ℕ = λ (j : ℕ) (xs : List ℕ). take j (line_levels base (map (class_of tables) line) xs) in
@@ -200,10 +202,10 @@ module _ (tables : Tables) (options : Options) (base : ℕ) (text old : List ℕ
         line_is = same_line s part.columns part.columns _ _ _ _ _ _ _ _
             refl
             (written s m levels l n (omega (arith, wl, within, some)) sl below ∙ levels_here)
-            (written s m ltov t n (omega (arith, wt, within, some)) st below ∙ is.ltov_is ∙ ap (ltov_of options.reordernsm classes) levels_here)
-            (vtol_here ∙ is.vtol_is ∙ ap (vtol_of options.reordernsm classes) levels_here)
+            (written s m ltov t n (omega (arith, wt, within, some)) st below ∙ is.ltov_is ∙ ap (ltov_by options classes ends) levels_here)
+            (vtol_here ∙ is.vtol_is ∙ ap (vtol_by options classes ends) levels_here)
             (written s m chars h n (omega (arith, wh, within, some)) sh below ∙ is.chars_are
-            ∙ ap (λ (xs : List ℕ). visual_chars tables xs (take n line) (vtol_of options.reordernsm classes xs)) levels_here);
+            ∙ ap (λ (xs : List ℕ). visual_chars tables xs (take n line) (vtol_by options classes ends xs)) levels_here);
         within = omega (arith, below, some);
         vtol_within = subst (λ (xs : List ℕ). AreWithin n xs) (sym vtol_here) is.vtol_within;
       }
@@ -212,7 +214,8 @@ module _ (tables : Tables) (options : Options) (base : ℕ) (text old : List ℕ
   pub show_more : (starts : List ℕ) (k e : ℕ) (part : Shown) (parts : List Shown) (levels ltov vtol chars l t v h : List ℕ)
       → AreStarts (length text) starts → k < length starts → e ≡ end_of (length text) starts k
       → Showing tables options base text old starts k parts levels ltov vtol chars
-      → IsShown tables options base (slice_range text (get_or starts k 0) e) (slice_range levels (get_or starts k 0) e) part l t v h
+      → IsShown tables options base (slice_range (ends_by options text) (get_or starts k 0) e) (slice_range text (get_or starts k 0) e)
+      (slice_range levels (get_or starts k 0) e) part l t v h
       → length l ≡ e - get_or starts k 0 → length t ≡ e - get_or starts k 0 → length v ≡ e - get_or starts k 0 → length h ≡ e - get_or starts k 0
       → part ≡ get_or parts k nothing_shown
       → Showing tables options base text old starts (k + 1) parts
@@ -285,23 +288,22 @@ all_lines P levels ltov vtol chars starts parts h each = λ j d below.
 
 module _ (tables : Tables) (options : Options) (base : ℕ) (text old : List ℕ) where
   -- if each stored line equals the line that shows its characters, the two lists of lines are equal
-  lines_are : (infos : List CharInfo) (levels ltov vtol chars starts : List ℕ)
+  lines_are : (levels ltov vtol chars starts : List ℕ) (parts : List Shown) → length parts ≡ length starts
       → ((j : ℕ) → j < length starts
-      → line_in levels ltov vtol chars (get_or starts j 0) (get_or (shown_from (length text) infos starts) j nothing_shown)
-      ≡ line_showing tables options base text old (get_or (shown_from (length text) infos starts) j nothing_shown) (get_or starts j 0) (end_of (length text) starts j))
-      → lines_by levels ltov vtol chars starts (shown_from (length text) infos starts) ≡ lines_from tables options base text old infos starts
-  lines_are infos levels ltov vtol chars [] each = refl
-  lines_are infos levels ltov vtol chars (s ∷ []) each = ap (λ (line : Line). line ∷ []) (each zero (omega arith))
-  lines_are infos levels ltov vtol chars (s ∷ t ∷ starts) each =
-      ap₂ ◌∷◌ (each zero (omega arith)) (lines_are infos levels ltov vtol chars (t ∷ starts) (λ j below. each (suc j) (omega (arith, below))))
+      → line_in levels ltov vtol chars (get_or starts j 0) (get_or parts j nothing_shown)
+      ≡ line_showing tables options base text old (get_or parts j nothing_shown) (get_or starts j 0) (end_of (length text) starts j))
+      → lines_by levels ltov vtol chars starts parts ≡ lines_shown tables options base text old starts parts
+  lines_are levels ltov vtol chars [] parts same each = refl
+  lines_are levels ltov vtol chars (s ∷ []) [] same each = absurd (omega (arith, same))
+  lines_are levels ltov vtol chars (s ∷ t ∷ starts) [] same each = absurd (omega (arith, same))
+  lines_are levels ltov vtol chars (s ∷ []) (part ∷ parts) same each = ap (λ (line : Line). line ∷ []) (each zero (omega arith))
+  lines_are levels ltov vtol chars (s ∷ t ∷ starts) (part ∷ parts) same each =
+      ap₂ ◌∷◌ (each zero (omega arith)) (lines_are levels ltov vtol chars (t ∷ starts) parts (omega (arith, same)) (λ j below. each (suc j) (omega (arith, below))))
 
-  pub all_shown : (infos : List CharInfo) (levels ltov vtol chars starts : List ℕ) (parts : List Shown) → parts ≡ shown_from (length text) infos starts
+  pub all_shown : (levels ltov vtol chars starts : List ℕ) (parts : List Shown) → length parts ≡ length starts
       → AreShown tables options base text old starts (length starts) parts levels ltov vtol chars
-      → lines_in starts parts levels ltov vtol chars ≡ lines_from tables options base text old infos starts
-  all_shown infos levels ltov vtol chars starts parts e each =
-      ap (λ (ps : List Shown). lines_in starts ps levels ltov vtol chars) e
-      ∙ lines_are infos levels ltov vtol chars starts
-      (λ j below. (subst (λ (ps : List Shown). AreShown tables options base text old starts (length starts) ps levels ltov vtol chars) e each j below).line_is)
+      → lines_in starts parts levels ltov vtol chars ≡ lines_shown tables options base text old starts parts
+  all_shown levels ltov vtol chars starts parts same each = lines_are levels ltov vtol chars starts parts same (λ j below. (each j below).line_is)
 
   -- there is one level for each character of a shown part
   length_part : (levels : List ℕ) (part : Shown) (s e : ℕ) → e ≤ length levels → s + part.len ≤ e → length (slice_range levels s (s + part.len)) ≡ part.len

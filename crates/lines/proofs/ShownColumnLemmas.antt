@@ -1,7 +1,7 @@
 -- The columns of a laid out line are those of its shown characters, and so of its runs.
-use Rattle.std.proofs.Common.{◌≡◌, ℕ, zero, suc, ◌+◌, ◌-◌, ◌≤◌, Bool, List, [], ◌∷◌, length, map, drop, take, refl, sym, ap, ◌∙◌, arith}
+use Rattle.std.proofs.Common.{◌≡◌, ℕ, zero, suc, ◌+◌, ◌-◌, ◌≤◌, Bool, Option, List, [], ◌∷◌, length, map, drop, take, refl, sym, ap, ◌∙◌, arith}
 use Rattle.std.specs.Prelude.{slice_range, sum_by, All}
-use Rattle.std.specs.List.{enumerate_from, suffix_len}
+use Rattle.std.specs.List.{enumerate_from}
 use Rattle.std.proofs.lemmas.List.{length-drop, length-map, length-take-le, take-take}
 use Rattle.std.proofs.lemmas.List.Elements.{All-cons, All-nil, All-head, All-tail}
 use Rattle.std.proofs.lemmas.List.Sums.{sum_by-cons}
@@ -19,7 +19,8 @@ use Rattle.ucd.specs.declared.tables.Tables.{Tables}
 use Rattle.lines.specs.CharInfos.{columns_of, info, infos, infos_of}
 use Rattle.lines.specs.Clusters.{cluster_ends}
 use Rattle.lines.specs.Columns.{run_columns}
-use Rattle.lines.specs.Filling.{columns, line_starts_of, shown}
+use Rattle.lines.specs.Filling.{columns, line_starts_of}
+use Rattle.lines.specs.ShownParts.{margin_of, shown, shown_len}
 use Rattle.lines.specs.Layouts.{Rules, base_of, layout_of, lines_of, visuals}
 use Rattle.lines.specs.Visual.{Line, Visual, line_between, lines_from, visual_of}
 use Rattle.lines.specs.declared.char_info.CharInfo.{CharInfo}
@@ -27,6 +28,7 @@ use Rattle.lines.specs.declared.options.Options.{Options}
 use Rattle.lines.proofs.ClusterLemmas.{length-cluster_ends}
 use Rattle.lines.proofs.RunColumnLemmas.{runs_add_up}
 use Rattle.lines.proofs.ShowLemmas.{length_range}
+use Rattle.lines.proofs.ShownPartLemmas.{shown_len-within}
 use Rattle.lines.proofs.VisualLemmas.{starts_in, Rise}
 use Rattle.lines.proofs.WrittenLemmas.{length-line_levels}
 
@@ -63,29 +65,39 @@ pub record HasColumns (text : List ℕ) (line : Line) : Type 0 where
   size : length line.levels ≡ length (slice_range text line.start (line.start + length line.levels))
   sum : sum_by columns_of (slice_range text line.start (line.start + length line.levels)) ≡ line.columns
 
-module _ (t : Tables) (options : Options) (base : ℕ) (text levels : List ℕ) (marks : List Mark) (clusters : List Bool)
+module _ (t : Tables) (options : Options) (margin : Option ℕ) (base : ℕ) (text levels : List ℕ) (marks : List Mark) (clusters : List Bool)
     (levels_size : length levels ≡ length text) (marks_size : length marks ≡ length text) (clusters_size : length clusters ≡ length text) where
   abbrev all : List CharInfo
   all = infos t text marks clusters
 
-  between : (s e : ℕ) → s ≤ e → e ≤ length text → HasColumns text (line_between t options base text levels all s e)
-  between s e forward within =
+  -- the line from s to e has a level for each shown character
+  pub levels_size_is : (s e : ℕ) → s ≤ e → e ≤ length text
+      → length (line_between t options margin base text levels all s e).levels ≡ shown_len margin (slice_range all s e)
+  levels_size_is s e forward within =
       let piece : List CharInfo = slice_range all s e in
-      let q : ℕ = length piece - suffix_len (λ p. p.is_trailing) piece in
+      let q : ℕ = shown_len margin piece in
+      let q_within : q ≤ length piece = shown_len-within margin piece in
       let all_size : length all ≡ length text = length-infos_all t text marks clusters marks_size clusters_size in
       let piece_size : length piece ≡ e - s = length_range all s e forward (omega (arith, all_size, within)) in
-      let part_size : length (shown piece) ≡ q = length-take-le q piece (omega arith) in
+      let part_size : length (shown margin piece) ≡ q = length-take-le q piece q_within in
       let line : List ℕ = slice_range text s e in
       let classes : List BidiClass = map (class_of t) line in
       let old : List ℕ = slice_range levels s e in
       let old_size : length old ≡ e - s = length_range levels s e forward (omega (arith, levels_size, within)) in
       let whole : length old ≡ length classes = old_size ∙ sym (length-map line (class_of t) ∙ length_range text s e forward within) in
-      let size : length (take (length (shown piece)) (line_levels base classes old)) ≡ q =
-      length-take-le (length (shown piece)) (line_levels base classes old)
-      (omega (arith, length-line_levels base classes old whole, old_size, part_size, piece_size))
-      ∙ part_size in
-      let n : s + length (take (length (shown piece)) (line_levels base classes old)) - s ≡ q = omega (arith, size) in
-      let most : q ≤ e - s = omega (arith, piece_size) in
+      length-take-le (length (shown margin piece)) (line_levels base classes old)
+      (omega (arith, length-line_levels base classes old whole, old_size, part_size, piece_size, q_within))
+      ∙ part_size
+
+  between : (s e : ℕ) → s ≤ e → e ≤ length text → HasColumns text (line_between t options margin base text levels all s e)
+  between s e forward within =
+      let piece : List CharInfo = slice_range all s e in
+      let q : ℕ = shown_len margin piece in
+      let all_size : length all ≡ length text = length-infos_all t text marks clusters marks_size clusters_size in
+      let piece_size : length piece ≡ e - s = length_range all s e forward (omega (arith, all_size, within)) in
+      let size : length (line_between t options margin base text levels all s e).levels ≡ q = levels_size_is s e forward within in
+      let n : s + length (line_between t options margin base text levels all s e).levels - s ≡ q = omega (arith, size) in
+      let most : q ≤ e - s = omega (arith, piece_size, shown_len-within margin piece) in
       record {
         size = size ∙ sym (ap (λ k. length (take k (drop s text))) n
             ∙ length-take-le q (drop s text) (omega (arith, length-drop s text, most, within, forward)));
@@ -93,13 +105,13 @@ module _ (t : Tables) (options : Options) (base : ℕ) (text levels : List ℕ) 
             ∙ sym (ap columns (take-take q (e - s) (drop s all) most) ∙ same_columns t text marks clusters s q marks_size clusters_size);
       }
 
-  each_line : (low : ℕ) (starts : List ℕ) → Rise low (length text) starts → All (HasColumns text) (lines_from t options base text levels all starts)
+  each_line : (low : ℕ) (starts : List ℕ) → Rise low (length text) starts → All (HasColumns text) (lines_from t options margin base text levels all starts)
   each_line low [] rise = All-nil (HasColumns text)
   each_line low (s ∷ []) rise =
-      All-cons (HasColumns text) (line_between t options base text levels all s (length text)) [] (between s (length text) (omega (arith, rise.1)) (omega arith))
+      All-cons (HasColumns text) (line_between t options margin base text levels all s (length text)) [] (between s (length text) (omega (arith, rise.1)) (omega arith))
       (All-nil (HasColumns text))
   each_line low (s ∷ e ∷ starts) rise =
-      All-cons (HasColumns text) (line_between t options base text levels all s e) (lines_from t options base text levels all (e ∷ starts))
+      All-cons (HasColumns text) (line_between t options margin base text levels all s e) (lines_from t options margin base text levels all (e ∷ starts))
       (between s e (omega (arith, rise.2.0)) (omega (arith, rise.2.1))) (each_line (suc s) (e ∷ starts) rise.2)
 
 -- the columns of a visual line's runs
@@ -123,6 +135,6 @@ unfolding infos_of
 layout_adds_up rules width text =
     let marks : List Mark = marks_of rules.tables rules.options.whole_numbers text in
     all_add_up (base_of rules text) text (lines_of rules width text) 0 (lines_of rules width text)
-    (each_line rules.tables rules.options (base_of rules text) text (levels_of rules.tables text rules.options.base) marks (cluster_ends text)
+    (each_line rules.tables rules.options (margin_of rules.options width) (base_of rules text) text (levels_of rules.tables text rules.options.base) marks (cluster_ends text)
     (length-levels_of rules.tables text rules.options.base) (length-marks rules.tables rules.options.whole_numbers text) (length-cluster_ends text)
     0 (line_starts_of rules.options.nobreak width (infos_of rules.tables rules.options.whole_numbers text)) (starts_in rules width text))

@@ -1,5 +1,5 @@
 -- A paragraph without printed lines: only the base direction is printed.
-use Rattle.std.proofs.Common.{◌≡◌, ◌∙◌, ℕ, suc, ◌+◌, ◌<◌, ◌≤◌, ◌==◌, Bool, true, false, ◌&&◌, not, List, [], ◌∷◌, ◌++◌, length, if◌then◌else◌, refl, sym, ap, arith}
+use Rattle.std.proofs.Common.{◌≡◌, ◌∙◌, ℕ, suc, ◌+◌, ◌<◌, ◌≤◌, ◌==◌, Bool, true, false, ◌&&◌, not, Option, List, [], ◌∷◌, ◌++◌, length, if◌then◌else◌, refl, sym, ap, arith}
 use Rattle.std.specs.List.{enumerate_from, flat_map}
 use Rattle.std.proofs.lemmas.Bool.Decides.{nat_tests}
 use Rattle.std.proofs.lemmas.List.{append-nil}
@@ -14,6 +14,7 @@ use Rattle.lines.specs.Layouts.{IsParagraph, Rules, base_of, lines_of}
 use Rattle.lines.specs.Pages.{paragraph_bytes}
 use Rattle.lines.specs.CharInfos.{infos, infos_of}
 use Rattle.lines.specs.Printing.{skips_lines}
+use Rattle.lines.specs.ShownParts.{margin_of}
 use Rattle.lines.specs.Visual.{Line, Visual, lines_from, visual_of}
 use Rattle.lines.specs.declared.options.Options.{Options}
 use Rattle.lines.specs.declared.char_info.CharInfo.{CharInfo}
@@ -85,11 +86,11 @@ unfolding line_starts_of
 some_starts nobreak width [] some = some
 some_starts nobreak width (p ∷ ps) some = omega arith
 
-some_from : (tables : Tables) (options : Options) (base : ℕ) (text levels : List ℕ) (ps : List CharInfo) (starts : List ℕ)
-    → 0 < length starts → 0 < length (lines_from tables options base text levels ps starts)
-some_from tables options base text levels ps [] some = some
-some_from tables options base text levels ps (s ∷ []) some = omega arith
-some_from tables options base text levels ps (s ∷ t ∷ starts) some = omega arith
+some_from : (tables : Tables) (options : Options) (margin : Option ℕ) (base : ℕ) (text levels : List ℕ) (ps : List CharInfo) (starts : List ℕ)
+    → 0 < length starts → 0 < length (lines_from tables options margin base text levels ps starts)
+some_from tables options margin base text levels ps [] some = some
+some_from tables options margin base text levels ps (s ∷ []) some = omega arith
+some_from tables options margin base text levels ps (s ∷ t ∷ starts) some = omega arith
 
 pub some_text : (rules : Rules) (text : List ℕ) → IsParagraph rules text → 0 < length text
 some_text rules [] paragraph = let bad = paragraph.whole in cc
@@ -102,7 +103,7 @@ some_lines rules width text paragraph marks =
     let ps : List CharInfo = infos_of rules.tables rules.options.whole_numbers text in
     let size = length-infos rules.tables text (marks_of rules.tables rules.options.whole_numbers text) (cluster_ends text) (omega (arith, marks)) (length-cluster_ends text) in
     let some : 0 < length ps = omega (arith, size, some_text rules text paragraph) in
-    some_from rules.tables rules.options (base_of rules text) text (levels_of rules.tables text rules.options.base) ps (line_starts_of rules.options.nobreak width ps)
+    some_from rules.tables rules.options (margin_of rules.options width) (base_of rules text) text (levels_of rules.tables text rules.options.base) ps (line_starts_of rules.options.nobreak width ps)
     (some_starts rules.options.nobreak width ps some)
 
 pub direction_only : (rules : Rules) (width : ℕ) (print : Print) (text : List ℕ) → skips_lines print ≡ true → IsParagraph rules text

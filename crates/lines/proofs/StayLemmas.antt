@@ -1,27 +1,36 @@
 -- If a paragraph is one line at some width, it is the same line at every width that the line fits.
 use Rattle.std.proofs.Common.{◌≡◌, ◌∙◌, ℕ, zero, suc, ◌+◌, ◌-◌, ◌<◌, ◌≤◌, Bool, true, false, ◌&&◌, ◌||◌, Option, Some}
-use Rattle.std.proofs.Common.{None, unwrap_or, List, [], ◌∷◌, length, get_or, take, drop, refl, sym, ap, subst, inl, inr, arith}
+use Rattle.std.specs.Option.{option_map_or}
+use Rattle.std.proofs.Common.{None, not, nat_le, ap₂, unwrap_or, List, [], ◌∷◌, length, get_or, take, drop, refl, sym, ap, subst, inl, inr, arith}
 use Rattle.std.specs.List.{slice_get, slice_range}
-use Rattle.std.proofs.lemmas.Bool.{and_from, cases_Bool, cond-true, cond-false, le-leb, leb-true, both_ways}
+use Rattle.std.proofs.lemmas.Bool.{and_from, and_parts, cases_Bool, not-true, cond-true, cond-false, le-leb, leb-true, both_ways}
 use Rattle.std.proofs.lemmas.List.{take_all}
-use Rattle.std.proofs.lemmas.Option.{slice_get_within}
+use Rattle.std.proofs.lemmas.Option.{slice_get-get_or, slice_get_within}
 use Rattle.ucd.specs.declared.tables.Tables.{Tables}
 use Rattle.ucd.specs.Least.{least}
 use Rattle.bidi.specs.Levels.{levels_of}
+use Rattle.bidi.proofs.LengthLemmas.{length-levels_of}
 use Rattle.bidi.proofs.PairLemmas.{greatest_found, greatest_here}
 use Rattle.breaks.specs.Marks.{marks_of}
+use Rattle.breaks.proofs.WalkLemmas.{length-marks}
 use Rattle.breaks.specs.declared.mark.Mark.{Mark}
 use Rattle.breaks.specs.declared.mark.Mark.TheVariants.{Never, May, Must}
 use Rattle.lines.specs.Clusters.{cluster_ends}
-use Rattle.lines.specs.Filling.{by_break, by_cluster, cluster_ends_at, columns, first_end, fits, fits_to, is_break, is_must, line_end}
-use Rattle.lines.specs.Filling.{line_len, line_starts_of, may_end, must_end, or_else, place_at, shown, starts, stop}
-use Rattle.lines.specs.Layouts.{IsLaidOut, Layout, Rules, base_of, is_line_within, lines_of}
-use Rattle.lines.specs.CharInfos.{infos, infos_of}
-use Rattle.lines.specs.Visual.{lines_from}
+use Rattle.lines.specs.Filling.{before_tail, by_break, by_cluster, cluster_ends_at, columns, first_end, fits, fits_to, is_break, is_must, line_end}
+use Rattle.lines.specs.Filling.{line_len, line_starts_of, may_end, must_end, or_else, place_at, starts, stop}
+use Rattle.lines.specs.Layouts.{IsLaidOut, Layout, Rules, base_of, hides_space_within, is_line_within, keeps_lines, layout_of, lines_of}
+use Rattle.lines.specs.CharInfos.{columns_of, infos, infos_of, is_space, trailing_in}
+use Rattle.lines.specs.Showing.{line_showing}
+use Rattle.lines.specs.ShownParts.{is_space_within, margin_of, shown, shown_len}
+use Rattle.lines.specs.Visual.{Line, line_between, lines_from}
 use Rattle.lines.specs.declared.options.Options.{Options}
 use Rattle.lines.specs.declared.char_info.CharInfo.{CharInfo}
+use Rattle.lines.specs.declared.char_info.Trailing.{Trailing}
+use Rattle.lines.specs.declared.fill.Shown.{Shown}
 use Rattle.lines.proofs.ClusterLemmas.{length-cluster_ends}
-use Rattle.lines.proofs.FillingLemmas.{least_within, stop_from}
+use Rattle.lines.proofs.FillingLemmas.{columns_after, least_within, stop_from}
+use Rattle.lines.proofs.ShownColumnLemmas.{levels_size_is}
+use Rattle.lines.proofs.ShownPartLemmas.{same_part, text_narrow}
 use Rattle.lines.proofs.SkippedLemmas.{length-infos, some_text}
 
 -- ---- where the first line ends
@@ -77,11 +86,11 @@ may_at : (mark : Mark) → mark ≡ Must → is_break mark ≡ true
 may_at mark e = ap is_break e
 
 -- if all characters fit in one line, and the line must end only after the last of them, it ends there
-end_whole : (width : ℕ) (rest : List CharInfo) (last : ℕ) → length rest ≡ suc last → (place_at rest last).mark ≡ Must → columns (shown rest) ≤ width → stop rest ≡ last
+end_whole : (width : ℕ) (rest : List CharInfo) (last : ℕ) → length rest ≡ suc last → (place_at rest last).mark ≡ Must → columns (before_tail rest) ≤ width → stop rest ≡ last
     → line_end width rest ≡ last
 end_whole width rest last size ends fit stops =
     let all : take (suc last) rest ≡ rest = take_all (suc last) rest (omega (arith, size)) in
-    let fits_whole : fits_to width rest last ≡ true = ap (fits width) all ∙ le-leb (columns (shown rest)) width fit in
+    let fits_whole : fits_to width rest last ≡ true = ap (fits width) all ∙ le-leb (columns (before_tail rest)) width fit in
     let test : (may_end rest last && fits_to width rest last) ≡ true = and_from (may_end rest last) (fits_to width rest last) (may_at (place_at rest last).mark ends) fits_whole in
     let found : by_break width rest ≡ Some last = greatest_here (λ j. may_end rest j && fits_to width rest j) last (suc (stop rest)) (omega (arith, stops)) test in
     ap (λ o. unwrap_or (or_else o (by_cluster width rest)) (first_end rest)) found
@@ -100,7 +109,7 @@ all_left nobreak width place zero (p ∷ rest) within = absurd (omega (arith, wi
 all_left nobreak width place (suc left) (p ∷ rest) within = all_left nobreak width (suc place) left rest (omega (arith, within))
 
 -- if the first line has all characters at one width, it has all of them at every width that they fit
-whole_again : (nobreak : Bool) (old width : ℕ) (p : CharInfo) (rest : List CharInfo) → (place_at (p ∷ rest) (length rest)).mark ≡ Must → columns (shown (p ∷ rest)) ≤ width
+whole_again : (nobreak : Bool) (old width : ℕ) (p : CharInfo) (rest : List CharInfo) → (place_at (p ∷ rest) (length rest)).mark ≡ Must → columns (before_tail (p ∷ rest)) ≤ width
     → length rest ≤ line_len nobreak old (p ∷ rest) - 1 → length rest ≤ line_len nobreak width (p ∷ rest) - 1
 whole_again true old width p rest ends fit was = was
 whole_again false old width p rest ends fit was =
@@ -109,7 +118,7 @@ whole_again false old width p rest ends fit was =
     omega (arith, end_whole width (p ∷ rest) (length rest) (omega arith) ends fit stops)
 
 same_starts : (nobreak : Bool) (old width s : ℕ) (rest : List CharInfo) → 0 < length rest → line_starts_of nobreak old rest ≡ s ∷ []
-    → (place_at rest (length rest - 1)).mark ≡ Must → columns (shown (slice_range rest s (length rest))) ≤ width
+    → (place_at rest (length rest - 1)).mark ≡ Must → columns (before_tail (slice_range rest s (length rest))) ≤ width
     → line_starts_of nobreak width rest ≡ line_starts_of nobreak old rest
 unfolding line_starts_of
 same_starts nobreak old width s [] some e ends fit = absurd (omega (arith, some))
@@ -122,7 +131,7 @@ same_starts nobreak old width s (p ∷ rest) some e ends fit =
     ap (λ n. slice_range (p ∷ rest) n (length (p ∷ rest))) (sym first)
     ∙ ap (λ n. take n (p ∷ rest)) less ∙ take_all (length (p ∷ rest)) (p ∷ rest) (omega arith) in
     let whole = whole_again nobreak old width p rest (subst (λ k. (place_at (p ∷ rest) k).mark ≡ Must) last ends)
-    (subst (λ ps. columns (shown ps) ≤ width) all fit) (none_left nobreak old 1 (line_len nobreak old (p ∷ rest) - 1) rest none) in
+    (subst (λ ps. columns (before_tail ps) ≤ width) all fit) (none_left nobreak old 1 (line_len nobreak old (p ∷ rest) - 1) rest none) in
     ap (λ xs. 0 ∷ xs) (all_left nobreak width 1 (line_len nobreak width (p ∷ rest) - 1) rest whole ∙ sym none)
 
 -- ---- the last position
@@ -141,36 +150,90 @@ mark_at t (x ∷ text) (m ∷ marks) (ends ∷ clusters) (suc k) mark e within c
 abbrev pub EndsAtMust : Type 0
 EndsAtMust = (tables : Tables) (whole_numbers : Bool) (text : List ℕ) → 0 < length text → slice_get (marks_of tables whole_numbers text) (length text - 1) ≡ Some Must
 
-module _ (tables : Tables) (options : Options) (base : ℕ) (text levels : List ℕ) (ps : List CharInfo) (width : ℕ) where
-  one_start : (starts : List ℕ) → is_line_within width (lines_from tables options base text levels ps starts) ≡ true
-      → (s : ℕ) × (starts ≡ s ∷ []) × (columns (shown (slice_range ps s (length text))) ≤ width)
+module _ (tables : Tables) (options : Options) (margin : Option ℕ) (base : ℕ) (text levels : List ℕ) (ps : List CharInfo) (width : ℕ) where
+  one_start : (starts : List ℕ) → is_line_within width (lines_from tables options margin base text levels ps starts) ≡ true
+      → (s : ℕ) × (starts ≡ s ∷ []) × (columns (shown margin (slice_range ps s (length text))) ≤ width)
   one_start [] h = cc
-  one_start (s ∷ []) h = (s, refl, leb-true (columns (shown (slice_range ps s (length text)))) width h)
+  one_start (s ∷ []) h = (s, refl, leb-true (columns (shown margin (slice_range ps s (length text)))) width h)
   one_start (s ∷ t ∷ []) h = cc
   one_start (s ∷ t ∷ u ∷ starts) h = cc
 
-lines_stay : EndsAtMust → (rules : Rules) (old width : ℕ) (text : List ℕ) → 0 < length text → is_line_within width (lines_of rules old text) ≡ true
+first_zero : (nobreak : Bool) (width s : ℕ) (rest : List CharInfo) → line_starts_of nobreak width rest ≡ s ∷ [] → s ≡ 0
+unfolding line_starts_of
+first_zero nobreak width s [] e = cc
+first_zero nobreak width s (p ∷ rest) e = sym (ap (λ xs. get_or xs 0 0) e)
+
+info_at : (t : Tables) (text : List ℕ) (marks : List Mark) (clusters : List Bool) (k : ℕ) → k < length (infos t text marks clusters)
+    → ((place_at (infos t text marks clusters) k).trailing ≡ trailing_in t (get_or text k 0)) × ((place_at (infos t text marks clusters) k).columns ≡ columns_of (get_or text k 0))
+info_at t [] marks clusters k within = absurd (omega (arith, within))
+info_at t (x ∷ text) [] clusters k within = absurd (omega (arith, within))
+info_at t (x ∷ text) (m ∷ marks) [] k within = absurd (omega (arith, within))
+info_at t (x ∷ text) (m ∷ marks) (ends ∷ clusters) zero within = (refl, refl)
+info_at t (x ∷ text) (m ∷ marks) (ends ∷ clusters) (suc k) within = info_at t text marks clusters k (omega (arith, within))
+
+-- the first hidden character is a space that fits if its `CharInfo` says so
+hides : (t : Tables) (width : ℕ) (text : List ℕ) (line : Line) (ps : List CharInfo) (n : ℕ) → length line.levels ≡ n → line.columns ≡ columns (take n ps) → n < length ps → n < length text
+    → (place_at ps n).trailing ≡ trailing_in t (get_or text n 0) → (place_at ps n).columns ≡ columns_of (get_or text n 0)
+    → is_space_within width ps n ≡ hides_space_within t width text line
+hides t width text line ps n size sum below within trailing wide =
+    let c : ℕ = get_or text n 0 in
+    let found : slice_get text (length line.levels) ≡ Some c = ap (slice_get text) size ∙ slice_get-get_or text n 0 within in
+    let most : columns (take (suc n) ps) ≡ line.columns + columns_of c = columns_after ps n below ∙ ap₂ (λ (a b : ℕ). a + b) (sym sum) wide in
+    ap₂ (λ (kind : Trailing) (m : ℕ). is_space kind && nat_le m width) trailing most
+    ∙ sym (ap (λ (o : Option ℕ). option_map_or (λ d. is_space (trailing_in t d) && nat_le (line.columns + columns_of d) width) o false) found)
+
+lines_stay : EndsAtMust → (rules : Rules) (old width : ℕ) (text : List ℕ) → 0 < length text → keeps_lines rules width (layout_of rules old text) ≡ true
     → lines_of rules width text ≡ lines_of rules old text
 unfolding infos_of
 lines_stay law rules old width text some h =
-    let marks : List Mark = marks_of rules.tables rules.options.whole_numbers text in
-    let ps : List CharInfo = infos_of rules.tables rules.options.whole_numbers text in
-    let last = law rules.tables rules.options.whole_numbers text some in
-    let few = slice_get_within marks (length text - 1) Must last in
-    let size : length ps ≡ length text = length-infos rules.tables text marks (cluster_ends text) (omega (arith, few)) (length-cluster_ends text) in
-    let ends : (place_at ps (length text - 1)).mark ≡ Must = mark_at rules.tables text marks (cluster_ends text) (length text - 1) Must last (omega (arith, some)) (length-cluster_ends text) in
+    let t : Tables = rules.tables in
+    let options : Options = rules.options in
+    let marks : List Mark = marks_of t options.whole_numbers text in
+    let ps : List CharInfo = infos_of t options.whole_numbers text in
+    let last = law t options.whole_numbers text some in
+    let many : length marks ≡ length text = length-marks t options.whole_numbers text in
+    let size : length ps ≡ length text = length-infos t text marks (cluster_ends text) (omega (arith, many)) (length-cluster_ends text) in
+    let ends : (place_at ps (length text - 1)).mark ≡ Must = mark_at t text marks (cluster_ends text) (length text - 1) Must last (omega (arith, some)) (length-cluster_ends text) in
     let base : ℕ = base_of rules text in
-    let levels : List ℕ = levels_of rules.tables text rules.options.base in
-    let one = one_start rules.tables rules.options base text levels ps width (line_starts_of rules.options.nobreak old ps) h in
-    ap (lines_from rules.tables rules.options base text levels ps)
-    (same_starts rules.options.nobreak old width one.0 ps (omega (arith, size, some)) one.1
+    let levels : List ℕ = levels_of t text options.base in
+    let margin : Option ℕ = margin_of options old in
+    let shows : Bool = option_map_or (hides_space_within t width text) (slice_get (lines_of rules old text) 0) false in
+    let tests = and_parts (is_line_within width (lines_of rules old text)) (not (options.show_spaces && shows)) h in
+    let one = one_start t options margin base text levels ps width (line_starts_of options.nobreak old ps) tests.0 in
+    let zero_is : one.0 ≡ 0 = first_zero options.nobreak old one.0 ps one.1 in
+    let piece : List CharInfo = slice_range ps 0 (length text) in
+    let whole : piece ≡ ps = take_all (length text - 0) ps (omega (arith, size)) in
+    let fit : columns (shown margin piece) ≤ width = subst (λ s. columns (shown margin (slice_range ps s (length text))) ≤ width) zero_is one.2 in
+    let began : line_starts_of options.nobreak old ps ≡ 0 ∷ [] = one.1 ∙ ap (λ s. s ∷ []) zero_is in
+    let begins : line_starts_of options.nobreak width ps ≡ 0 ∷ [] =
+    same_starts options.nobreak old width 0 ps (omega (arith, size, some)) began
     (subst (λ n. (place_at ps (n - 1)).mark ≡ Must) (sym size) ends)
-    (subst (λ n. columns (shown (slice_range ps one.0 n)) ≤ width) (sym size) one.2))
+    (subst (λ n. columns (before_tail (slice_range ps 0 n)) ≤ width) (sym size) (omega (arith, text_narrow margin piece, fit)))
+    ∙ began in
+    let line : Line = line_between t options margin base text levels ps 0 (length text) in
+    let lines : lines_of rules old text ≡ line ∷ [] = ap (lines_from t options margin base text levels ps) began in
+    let n : ℕ = shown_len margin piece in
+    let n_is : length line.levels ≡ n =
+    levels_size_is t options margin base text levels marks (cluster_ends text) (length-levels_of t text options.base) many (length-cluster_ends text)
+    0 (length text) (omega arith) (omega arith) in
+    let stops : options.show_spaces ≡ true → n < length piece → is_space_within width piece n ≡ false =
+    λ on below.
+    let inside : n < length ps = omega (arith, below, ap length whole) in
+    let info = info_at t text marks (cluster_ends text) n inside in
+    let place : place_at piece n ≡ place_at ps n = ap (λ (xs : List CharInfo). place_at xs n) whole in
+    hides t width text line piece n n_is refl below (omega (arith, inside, size)) (ap (λ (p : CharInfo). p.trailing) place ∙ info.0) (ap (λ (p : CharInfo). p.columns) place ∙ info.1)
+    ∙ sym (ap (λ (ls : List Line). option_map_or (hides_space_within t width text) (slice_get ls 0) false) lines)
+    ∙ sym (ap (λ (b : Bool). b && shows) on)
+    ∙ not-true (options.show_spaces && shows) tests.1 in
+    let part : ℕ → Shown = λ m. record { len = length (take m piece); columns = columns (take m piece) } in
+    ap (lines_from t options (margin_of options width) base text levels ps) begins
+    ∙ ap (λ m. line_showing t options base text levels (part m) 0 (length text) ∷ []) (same_part options old width piece fit stops)
+    ∙ sym lines
 
-pub lines_kept : EndsAtMust → (width : ℕ) (layout : Layout) (result : Bool) → result ≡ is_line_within width layout.lines → result ≡ true
-    → (rules : Rules) → IsLaidOut rules layout → lines_of rules width layout.text ≡ layout.lines
-lines_kept law width layout result value passed rules laid =
-    let same : layout.lines ≡ lines_of rules laid.width layout.text = ap (λ (l : Layout). l.lines) laid.from_scratch in
+pub lines_kept : EndsAtMust → (rules : Rules) (width : ℕ) (layout : Layout) → keeps_lines rules width layout ≡ true → IsLaidOut rules layout
+    → lines_of rules width layout.text ≡ layout.lines
+lines_kept law rules width layout passed laid =
+    let same : layout ≡ layout_of rules laid.width layout.text = laid.from_scratch in
     lines_stay law rules laid.width width layout.text (some_text rules layout.text laid.paragraph)
-    (ap (is_line_within width) (sym same) ∙ sym value ∙ passed)
-    ∙ sym same
+    (ap (keeps_lines rules width) (sym same) ∙ passed)
+    ∙ sym (ap (λ (l : Layout). l.lines) same)

@@ -1,8 +1,7 @@
 -- Each line's shown part is inside the paragraph.
-use Rattle.std.proofs.Common.{◌≡◌, ℕ, zero, suc, ◌+◌, ◌-◌, ◌<◌, ◌≤◌, Bool, List, [], ◌∷◌, length, map, take, drop, slice_index, slice_range, subst, refl, arith}
+use Rattle.std.proofs.Common.{◌≡◌, ℕ, zero, suc, ◌+◌, ◌-◌, ◌<◌, ◌≤◌, Bool, Option, List, [], ◌∷◌, length, map, take, drop, slice_index, slice_range, subst, refl, arith}
 use Rattle.std.proofs.lemmas.List.{length-take}
 use Rattle.std.proofs.lemmas.List.Elements.{All-cons, All-nil}
-use Rattle.std.specs.List.{suffix_len}
 use Rattle.std.specs.Prelude.{⊤}
 use Rattle.ucd.specs.Tables.{class_of}
 use Rattle.ucd.specs.declared.tables.Tables.{Tables}
@@ -10,11 +9,12 @@ use Rattle.breaks.specs.Marks.{marks_of}
 use Rattle.breaks.specs.declared.mark.Mark.{Mark}
 use Rattle.lines.specs.Clusters.{cluster_ends}
 use Rattle.lines.specs.Extents.{extents_of}
-use Rattle.lines.specs.Filling.{line_len, line_starts_of, shown, starts}
+use Rattle.lines.specs.Filling.{line_len, line_starts_of, starts}
 use Rattle.lines.specs.Kept.{AreStarts}
 use Rattle.lines.specs.Layouts.{AreWithin, Rules, base_of, lines_of}
 use Rattle.lines.specs.CharInfos.{infos, infos_of}
 use Rattle.reorder.specs.Spaces.{line_levels}
+use Rattle.lines.specs.ShownParts.{margin_of, shown, shown_len}
 use Rattle.lines.specs.Visual.{Line, line_between, lines_from}
 use Rattle.lines.specs.declared.options.Options.{Options}
 use Rattle.lines.specs.declared.char_info.CharInfo.{CharInfo}
@@ -57,25 +57,25 @@ length-take-most : {X : Type 0} (n : ℕ) (xs : List X) → length (take n xs) �
 length-take-most n xs = omega (arith, length-take n xs)
 
 -- the shown part of a line is no longer than the line
-levels_most : (tables : Tables) (options : Options) (base : ℕ) (text levels : List ℕ) (ps : List CharInfo) (s e : ℕ) → length (line_between tables options base text levels ps s e).levels ≤ e - s
-levels_most tables options base text levels ps s e =
+levels_most : (tables : Tables) (options : Options) (margin : Option ℕ) (base : ℕ) (text levels : List ℕ) (ps : List CharInfo) (s e : ℕ) → length (line_between tables options margin base text levels ps s e).levels ≤ e - s
+levels_most tables options margin base text levels ps s e =
     let span : List CharInfo = slice_range ps s e in
     omega (
       arith,
-      length-take-most (length (shown span)) (line_levels base (map (class_of tables) (slice_range text s e)) (slice_range levels s e)),
-      length-take (length span - suffix_len (λ p. p.is_trailing) span) span,
+      length-take-most (length (shown margin span)) (line_levels base (map (class_of tables) (slice_range text s e)) (slice_range levels s e)),
+      length-take (shown_len margin span) span,
       length-take-most (e - s) (drop s ps),
     )
 
-from_within : (tables : Tables) (options : Options) (base : ℕ) (text levels : List ℕ) (ps : List CharInfo) (low n : ℕ) (at : List ℕ) → n ≡ length text → Rise low n at
-    → AreWithin n (lines_from tables options base text levels ps at)
-from_within tables options base text levels ps low n [] e rise = All-nil (λ (line : Line). line.start + length line.levels ≤ n)
-from_within tables options base text levels ps low n (s ∷ []) e rise =
-    All-cons (λ (line : Line). line.start + length line.levels ≤ n) (line_between tables options base text levels ps s (length text)) []
-    (omega (arith, levels_most tables options base text levels ps s (length text), rise.1, e)) (All-nil (λ (line : Line). line.start + length line.levels ≤ n))
-from_within tables options base text levels ps low n (s ∷ t ∷ at) e rise =
-    All-cons (λ (line : Line). line.start + length line.levels ≤ n) (line_between tables options base text levels ps s t) (lines_from tables options base text levels ps (t ∷ at))
-    (omega (arith, levels_most tables options base text levels ps s t, rise.2.0, rise.2.1)) (from_within tables options base text levels ps (suc s) n (t ∷ at) e rise.2)
+from_within : (tables : Tables) (options : Options) (margin : Option ℕ) (base : ℕ) (text levels : List ℕ) (ps : List CharInfo) (low n : ℕ) (at : List ℕ) → n ≡ length text → Rise low n at
+    → AreWithin n (lines_from tables options margin base text levels ps at)
+from_within tables options margin base text levels ps low n [] e rise = All-nil (λ (line : Line). line.start + length line.levels ≤ n)
+from_within tables options margin base text levels ps low n (s ∷ []) e rise =
+    All-cons (λ (line : Line). line.start + length line.levels ≤ n) (line_between tables options margin base text levels ps s (length text)) []
+    (omega (arith, levels_most tables options margin base text levels ps s (length text), rise.1, e)) (All-nil (λ (line : Line). line.start + length line.levels ≤ n))
+from_within tables options margin base text levels ps low n (s ∷ t ∷ at) e rise =
+    All-cons (λ (line : Line). line.start + length line.levels ≤ n) (line_between tables options margin base text levels ps s t) (lines_from tables options margin base text levels ps (t ∷ at))
+    (omega (arith, levels_most tables options margin base text levels ps s t, rise.2.0, rise.2.1)) (from_within tables options margin base text levels ps (suc s) n (t ∷ at) e rise.2)
 
 -- the line starts of a paragraph rise strictly
 pub starts_in : (rules : Rules) (width : ℕ) (text : List ℕ) → Rise 0 (length text) (line_starts_of rules.options.nobreak width (infos_of rules.tables rules.options.whole_numbers text))
@@ -90,7 +90,7 @@ pub lines_within : (rules : Rules) (width : ℕ) (text : List ℕ) → AreWithin
 unfolding line_starts_of infos_of
 lines_within rules width text =
     let ps : List CharInfo = infos_of rules.tables rules.options.whole_numbers text in
-    from_within rules.tables rules.options (base_of rules text) text (levels_of rules.tables text rules.options.base) ps 0 (length text) (line_starts_of rules.options.nobreak width ps) refl
+    from_within rules.tables rules.options (margin_of rules.options width) (base_of rules text) text (levels_of rules.tables text rules.options.base) ps 0 (length text) (line_starts_of rules.options.nobreak width ps) refl
     (rise_to 0 (length ps) (length text) (line_starts_of rules.options.nobreak width ps) (length-infos rules.tables text (marks_of rules.tables rules.options.whole_numbers text) (cluster_ends text))
     (starts_rise rules.options.nobreak width 0 0 (length ps) ps (omega arith)))
 

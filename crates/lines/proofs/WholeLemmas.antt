@@ -1,5 +1,5 @@
 -- If lines end only at mandatory breaks, a paragraph without a mandatory break before its end is one line.
-use Rattle.std.proofs.Common.{◌≡◌, ℕ, zero, suc, ◌+◌, ◌-◌, ◌<◌, ◌≤◌, Bool, true, false, not, ◌&&◌, ◌⊎◌, List, [], ◌∷◌, ◌++◌, length, map, take, drop, get_or}
+use Rattle.std.proofs.Common.{◌≡◌, ℕ, zero, suc, ◌+◌, ◌-◌, ◌<◌, ◌≤◌, Bool, true, false, not, ◌&&◌, ◌⊎◌, Option, Some, None, List, [], ◌∷◌, ◌++◌, length, map, take, drop, get_or}
 use Rattle.std.proofs.Common.{slice_range, if◌then◌else◌, refl, sym, ap, ap₂, subst, ◌∙◌, inl, inr, arith}
 use Rattle.std.specs.List.{suffix_len}
 use Rattle.std.proofs.lemmas.Bool.{and_left, and_parts, both_ways, cases_Bool, cases_eq, cond-true, cond-false, not-true, or_parts}
@@ -19,10 +19,12 @@ use Rattle.breaks.specs.declared.mark.Mark.TheVariants.{Never}
 use Rattle.lines.specs.Asked.{visual_shown}
 use Rattle.lines.specs.Bytes.{direction_line, line_bytes, numbers_line, visual_line}
 use Rattle.lines.specs.Clusters.{cluster_ends}
-use Rattle.lines.specs.Filling.{is_must, line_starts_of, must_end, nothing, place_at, shown, starts, stop}
-use Rattle.reorder.specs.Order.{ltov_of, vtol_of}
+use Rattle.lines.specs.Filling.{before_tail, is_must, line_starts_of, must_end, nothing, place_at, starts, stop, trails}
+use Rattle.lines.specs.ShownParts.{margin_of}
+use Rattle.lines.specs.Reordering.{ends_by, ltov_by, vtol_by}
+use Rattle.lines.proofs.ReorderingLemmas.{all_ends}
 use Rattle.lines.specs.Pages.{lines_bytes}
-use Rattle.lines.specs.CharInfos.{is_trailing_in, infos, infos_of}
+use Rattle.lines.specs.CharInfos.{infos, infos_of, may_trail, trailing_in}
 use Rattle.reorder.specs.Spaces.{line_levels}
 use Rattle.lines.specs.Visual.{Line, Visual, line_between, lines_from, visual_of}
 use Rattle.lines.specs.Whole.{IsShownLen, IsWhole}
@@ -198,7 +200,7 @@ tame_infos t (c ∷ d ∷ text) (m ∷ n ∷ marks) (e ∷ ends) (suc j) quiet b
     tame_infos t (d ∷ text) (n ∷ marks) ends j quiet.1 (omega (arith, below))
 
 trailing_place : (t : Tables) (text : List ℕ) (marks : List Mark) (ends : List Bool) (k : ℕ) → k < length (infos t text marks ends)
-    → (place_at (infos t text marks ends) k).is_trailing ≡ is_trailing_in t (get_or text k 0)
+    → (place_at (infos t text marks ends) k).trailing ≡ trailing_in t (get_or text k 0)
 trailing_place t [] marks ends k below = absurd (omega (arith, below))
 trailing_place t (c ∷ text) [] ends k below = absurd (omega (arith, below))
 trailing_place t (c ∷ text) (m ∷ marks) [] k below = absurd (omega (arith, below))
@@ -233,16 +235,16 @@ whole_range : {X : Type 0} (xs : List X) (n : ℕ) → n ≡ length xs → slice
 whole_range xs n e = take_all (n - 0) xs (omega arith)
 
 shown_is : (t : Tables) (text : List ℕ) (marks : List Mark) (ends : List Bool) (len : ℕ) → length (infos t text marks ends) ≡ length text
-    → IsShownLen t text len → len ≡ length (shown (slice_range (infos t text marks ends) 0 (length text)))
+    → IsShownLen t text len → len ≡ length (before_tail (slice_range (infos t text marks ends) 0 (length text)))
 shown_is t text marks ends len size is =
     let all : List CharInfo = infos t text marks ends in
-    let tail : suffix_len (λ (p : CharInfo). p.is_trailing) all ≡ length all - len =
-    suffix_len_is (λ (p : CharInfo). p.is_trailing) all len nothing (omega (arith, is.within, size))
-    (λ k from below. trailing_place t text marks ends k below ∙ is.tail k from (omega (arith, below, size)))
-    (λ some. trailing_place t text marks ends (len - 1) (omega (arith, is.within, size)) ∙ is.last some) in
-    let whole : length (shown all) ≡ len =
-    length-take-le (length all - suffix_len (λ (p : CharInfo). p.is_trailing) all) all (omega arith) ∙ omega (arith, tail, is.within, size) in
-    sym (ap (λ (ps : List CharInfo). length (shown ps)) (whole_range all (length text) (sym size)) ∙ whole)
+    let tail : suffix_len trails all ≡ length all - len =
+    suffix_len_is trails all len nothing (omega (arith, is.within, size))
+    (λ k from below. ap may_trail (trailing_place t text marks ends k below) ∙ is.tail k from (omega (arith, below, size)))
+    (λ some. ap may_trail (trailing_place t text marks ends (len - 1) (omega (arith, is.within, size))) ∙ is.last some) in
+    let whole : length (before_tail all) ≡ len =
+    length-take-le (length all - suffix_len trails all) all (omega arith) ∙ omega (arith, tail, is.within, size) in
+    sym (ap (λ (ps : List CharInfo). length (before_tail ps)) (whole_range all (length text) (sym size)) ∙ whole)
 
 unseen : (width : ℕ) (print : Print) (a b : Visual) → print.novisual ≡ true → a.is_first ≡ b.is_first → a.base ≡ b.base → a.ltov ≡ b.ltov → a.vtol ≡ b.vtol
     → a.levels ≡ b.levels → line_bytes width print a ≡ line_bytes width print b
@@ -256,13 +258,13 @@ unseen width print a b off first base ltov vtol levels =
     (ap (λ (xs : List ℕ). if print.vtol then numbers_line xs else []) vtol))
     (ap (λ (xs : List ℕ). if print.levels then numbers_line xs else []) levels)
 
-pub whole_bytes : (t : Tables) (options : Options) (base width : ℕ) (print : Print) (text levels : List ℕ) (len : ℕ) → print.novisual ≡ true → options.nobreak ≡ true
+pub whole_bytes : (t : Tables) (options : Options) (base width : ℕ) (print : Print) (text levels : List ℕ) (len : ℕ) → print.novisual ≡ true → options.nobreak ≡ true → options.show_spaces ≡ false
     → 0 < length text → length levels ≡ length text → length (marks_of t options.whole_numbers text) ≡ length text → IsWhole t text → IsShownLen t text len
-    → line_bytes width print (visual_shown t options base true text levels (record { len = len; columns = 0 }))
-    ≡ lines_bytes width print base text (lines_from t options base text levels (infos_of t options.whole_numbers text)
+    → line_bytes width print (visual_shown t options base true text (ends_by options text) levels (record { len = len; columns = 0 }))
+    ≡ lines_bytes width print base text (lines_from t options (margin_of options width) base text levels (infos_of t options.whole_numbers text)
     (line_starts_of options.nobreak width (infos_of t options.whole_numbers text)))
 unfolding infos_of
-whole_bytes t options base width print text levels len off nobreak some sizes many is shown_len =
+whole_bytes t options base width print text levels len off nobreak hidden some sizes many is shown_len =
     let marks : List Mark = marks_of t options.whole_numbers text in
     let ends : List Bool = cluster_ends text in
     let all : List CharInfo = infos t text marks ends in
@@ -271,27 +273,30 @@ whole_bytes t options base width print text levels len off nobreak some sizes ma
     let starts_are : line_starts_of options.nobreak width all ≡ 0 ∷ [] =
     ap (λ (b : Bool). line_starts_of b width all) nobreak
     ∙ one_start width all (omega (arith, size, some)) (λ j below. tame_infos t text marks ends j (quiet_marks t options.whole_numbers text is) below) in
-    let line : Line = line_between t options base text levels all 0 n in
+    let line : Line = line_between t options None base text levels all 0 n in
+    let margin_is : margin_of options width ≡ None = cond-false options.show_spaces (Some width) None hidden in
     let levels_by : List ℕ → List ℕ → ℕ → List ℕ = λ cs ls m. take m (line_levels base (map (class_of t) cs) ls) in
-    let view : List ℕ → List ℕ → ℕ → Visual =
-    λ cs ls m. record {
+    let view : List ℕ → List Bool → List ℕ → ℕ → Visual =
+    λ cs es ls m. record {
       is_first = true;
       base = base;
       len = 0;
       text = [];
       columns = 0;
       levels = levels_by cs ls m;
-      ltov = ltov_of options.reordernsm (map (class_of t) cs) (levels_by cs ls m);
-      vtol = vtol_of options.reordernsm (map (class_of t) cs) (levels_by cs ls m);
+      ltov = ltov_by options (map (class_of t) cs) es (levels_by cs ls m);
+      vtol = vtol_by options (map (class_of t) cs) es (levels_by cs ls m);
       chars = [];
     } in
-    let bytes : List ℕ → List ℕ → ℕ → List ℕ = λ cs ls m. line_bytes width print (view cs ls m) in
-    unseen width print (visual_shown t options base true text levels (record { len = len; columns = 0 })) (view text levels len) off refl refl refl refl refl
-    ∙ ap (bytes text levels) (shown_is t text marks ends len size shown_len)
-    ∙ ap₂ (λ (cs ls : List ℕ). bytes cs ls (length (shown (slice_range all 0 n)))) (sym (whole_range text n refl)) (sym (whole_range levels n (sym sizes)))
-    ∙ unseen width print (view (slice_range text 0 n) (slice_range levels 0 n) (length (shown (slice_range all 0 n)))) (visual_of base text (line ∷ []) 0 line) off refl refl refl refl refl
+    let known : List Bool = ends_by options text in
+    let bytes : List ℕ → List Bool → List ℕ → ℕ → List ℕ = λ cs es ls m. line_bytes width print (view cs es ls m) in
+    unseen width print (visual_shown t options base true text (ends_by options text) levels (record { len = len; columns = 0 })) (view text known levels len) off refl refl refl refl refl
+    ∙ ap (bytes text known levels) (shown_is t text marks ends len size shown_len)
+    ∙ ap (λ (es : List Bool). bytes text es levels (length (before_tail (slice_range all 0 n)))) (sym (all_ends options text))
+    ∙ ap₂ (λ (cs ls : List ℕ). bytes cs (slice_range known 0 n) ls (length (before_tail (slice_range all 0 n)))) (sym (whole_range text n refl)) (sym (whole_range levels n (sym sizes)))
+    ∙ unseen width print (view (slice_range text 0 n) (slice_range known 0 n) (slice_range levels 0 n) (length (before_tail (slice_range all 0 n)))) (visual_of base text (line ∷ []) 0 line) off refl refl refl refl refl
     ∙ sym (append-nil (line_bytes width print (visual_of base text (line ∷ []) 0 line)))
-    ∙ ap (λ (ss : List ℕ). lines_bytes width print base text (lines_from t options base text levels all ss)) (sym starts_are)
+    ∙ ap₂ (λ (margin : Option ℕ) (ss : List ℕ). lines_bytes width print base text (lines_from t options margin base text levels all ss)) (sym margin_is) (sym starts_are)
 
 -- the k-th looked-up properties are those of the k-th character
 pub looked_up : (t : Tables) (text : List ℕ) (properties : List Properties) (k : ℕ) (p : Properties) → properties ≡ map (properties_of t) text → k < length text

@@ -1,18 +1,20 @@
 -- Worked examples: where lines start, and the values of limits and buffer sizes.
-use Rattle.std.proofs.Common.{◌≡◌, ℕ, ◌-◌, ◌^◌, true, false, List, [], ◌∷◌, refl}
+use Rattle.std.proofs.Common.{◌≡◌, ℕ, ◌-◌, ◌^◌, true, false, Some, None, List, [], ◌∷◌, refl}
 use Rattle.breaks.specs.declared.mark.Mark.TheVariants.{Never, May, Must}
 use Rattle.lines.specs.Engine.{counted}
-use Rattle.lines.specs.Filling.{line_starts_of, shown}
+use Rattle.lines.specs.Filling.{before_tail, columns, line_starts_of}
+use Rattle.lines.specs.ShownParts.{shown, shown_len}
 use Rattle.lines.specs.declared.bytes.TheConstants.{CHARACTERS_AT_ONCE, ROW_BYTES_AT_ONCE}
 use Rattle.lines.specs.declared.engine.TheConstants.{PARAGRAPH_LIMIT}
 use Rattle.lines.specs.declared.char_info.CharInfo.{CharInfo}
+use Rattle.lines.specs.declared.char_info.Trailing.TheVariants.{No, Space, Separator}
 
 -- a letter, a space, a space before a break opportunity, and the last letter of a paragraph
 abbrev letter : CharInfo
-letter = record { columns = 1; is_trailing = false; mark = Never; ends_cluster = true }
+letter = record { columns = 1; trailing = No; mark = Never; ends_cluster = true }
 
 abbrev space : CharInfo
-space = record { columns = 1; is_trailing = true; mark = Never; ends_cluster = true }
+space = record { columns = 1; trailing = Space; mark = Never; ends_cluster = true }
 
 abbrev last_space : CharInfo
 last_space = record space { mark = May }
@@ -51,8 +53,40 @@ front : starts 1 (space ∷ space ∷ last_space ∷ last ∷ []) ≡ 0 ∷ 3 �
 unfolding line_starts_of
 front = refl
 
-nothing_shown : shown (space ∷ space ∷ last_space ∷ []) ≡ []
+nothing_shown : before_tail (space ∷ space ∷ last_space ∷ []) ≡ []
 nothing_shown = refl
+
+-- With a margin, spaces that end within it are shown: none after a text that is wider, and none after a separator.
+abbrev separator : CharInfo
+separator = record { columns = 0; trailing = Separator; mark = Must; ends_cluster = true }
+
+abbrev shown_lens : List CharInfo → List ℕ
+shown_lens line = shown_len None line ∷ shown_len (Some 80) line ∷ shown_len (Some 4) line ∷ shown_len (Some 3) line ∷ shown_len (Some 2) line ∷ []
+
+after_text : shown_lens (letter ∷ letter ∷ letter ∷ space ∷ last_space ∷ []) ≡ 3 ∷ 5 ∷ 4 ∷ 3 ∷ 3 ∷ []
+after_text = refl
+
+spaces_alone : shown_lens (space ∷ space ∷ space ∷ last_space ∷ []) ≡ 0 ∷ 4 ∷ 4 ∷ 3 ∷ 2 ∷ []
+spaces_alone = refl
+
+before_separator : shown_lens (letter ∷ space ∷ space ∷ space ∷ separator ∷ []) ≡ 1 ∷ 4 ∷ 4 ∷ 3 ∷ 2 ∷ []
+before_separator = refl
+
+after_separator : shown_lens (letter ∷ separator ∷ space ∷ space ∷ []) ≡ 1 ∷ 1 ∷ 1 ∷ 1 ∷ 1 ∷ []
+after_separator = refl
+
+no_tail : shown_lens (letter ∷ space ∷ letter ∷ []) ≡ 3 ∷ 3 ∷ 3 ∷ 3 ∷ 3 ∷ []
+no_tail = refl
+
+-- spaces of no columns, and of two
+shown_lens_of_zero : shown_lens (letter ∷ letter ∷ letter ∷ record space { columns = 0 } ∷ space ∷ []) ≡ 3 ∷ 5 ∷ 5 ∷ 4 ∷ 3 ∷ []
+shown_lens_of_zero = refl
+
+shown_lens_of_two : shown_lens (letter ∷ record space { columns = 2 } ∷ space ∷ []) ≡ 1 ∷ 3 ∷ 3 ∷ 2 ∷ 1 ∷ []
+shown_lens_of_two = refl
+
+columns_shown : columns (shown (Some 4) (letter ∷ letter ∷ letter ∷ space ∷ last_space ∷ [])) ≡ 4
+columns_shown = refl
 
 -- `a`, a space with a combining mark, and `b`: the line may end inside a cluster
 inside : starts 1 (letter ∷ record last_space { ends_cluster = false } ∷ record letter { columns = 0 } ∷ last ∷ []) ≡ 0 ∷ 2 ∷ []
@@ -70,7 +104,7 @@ nobreak = refl
 
 -- two wide characters, each of which is wider than the line
 abbrev wide : CharInfo
-wide = record { columns = 2; is_trailing = false; mark = May; ends_cluster = true }
+wide = record { columns = 2; trailing = No; mark = May; ends_cluster = true }
 
 too_wide : starts 1 (wide ∷ record wide { mark = Must } ∷ []) ≡ 0 ∷ 1 ∷ []
 unfolding line_starts_of

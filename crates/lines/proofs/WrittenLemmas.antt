@@ -1,6 +1,6 @@
 -- Writing the lines of a paragraph one at a time, given their shown parts, writes the printed bytes of the
 -- paragraph.
-use Rattle.std.proofs.Common.{◌≡◌, ℕ, zero, suc, ◌+◌, ◌-◌, ◌<◌, ◌≤◌, ◌==◌, ◌++◌, Bool, List, [], ◌∷◌, length, map, take, drop, get_or, Some, refl, sym, ap, ap₂, ◌∙◌, arith}
+use Rattle.std.proofs.Common.{◌≡◌, ℕ, zero, suc, ◌+◌, ◌-◌, ◌<◌, ◌≤◌, ◌==◌, ◌++◌, Bool, Option, List, [], ◌∷◌, length, map, take, drop, get_or, Some, refl, sym, ap, ap₂, ◌∙◌, arith}
 use Rattle.std.specs.Prelude.{option_map, slice_get, slice_range}
 use Rattle.std.proofs.lemmas.List.{length-map, length-take-le, take-take}
 use Rattle.std.proofs.Math.Seq.{take-append_seam}
@@ -16,7 +16,8 @@ use Rattle.lines.specs.Layouts.{Rules, base_of}
 use Rattle.lines.specs.Pages.{lines_bytes, paragraph_bytes}
 use Rattle.lines.specs.CharInfos.{infos_of}
 use Rattle.reorder.specs.Mirroring.{visual_chars}
-use Rattle.reorder.specs.Order.{ltov_of, vtol_of}
+use Rattle.lines.specs.Reordering.{ends_by, ltov_by, vtol_by}
+use Rattle.lines.specs.ShownParts.{margin_of}
 use Rattle.lines.specs.Showing.{line_showing, lines_shown, nothing_shown}
 use Rattle.reorder.specs.Spaces.{line_levels}
 use Rattle.lines.specs.Visual.{Line, Visual, end_of, lines_from, visual_of}
@@ -46,9 +47,9 @@ length-line_levels base (class ∷ classes) (level ∷ levels) same = ap suc (le
 module _ (tables : Tables) (options : Options) (base : ℕ) where
   -- the visual line of a shown part is made up of the levels, position maps and characters that are computed
   -- for it
-  pub is_part : (is_first : Bool) (line : List ℕ) (columns : ℕ) (levels ltov vtol chars : List ℕ) (classes : List BidiClass)
-      → classes ≡ map (class_of tables) line → ltov ≡ ltov_of options.reordernsm classes levels → vtol ≡ vtol_of options.reordernsm classes levels
-      → chars ≡ visual_chars tables levels (take (length levels) line) (vtol_of options.reordernsm classes levels)
+  pub is_part : (is_first : Bool) (line : List ℕ) (ends : List Bool) (columns : ℕ) (levels ltov vtol chars : List ℕ) (classes : List BidiClass)
+      → classes ≡ map (class_of tables) line → ltov ≡ ltov_by options classes ends levels → vtol ≡ vtol_by options classes ends levels
+      → chars ≡ visual_chars tables levels (take (length levels) line) (vtol_by options classes ends levels)
       → record {
         is_first = is_first;
         base = base;
@@ -59,8 +60,8 @@ module _ (tables : Tables) (options : Options) (base : ℕ) where
         ltov = ltov;
         vtol = vtol;
         chars = chars;
-      } ≡ visual_part tables options base is_first line columns levels
-  is_part is_first line columns levels ltov vtol chars classes e t v c = rw (t, v, c, e) refl
+      } ≡ visual_part tables options base is_first line ends columns levels
+  is_part is_first line ends columns levels ltov vtol chars classes e t v c = rw (t, v, c, e) refl
 
   module _ (text old : List ℕ) where
     -- the k-th line has the k-th start and the k-th shown part
@@ -82,17 +83,19 @@ module _ (tables : Tables) (options : Options) (base : ℕ) where
     length-lines_shown (s ∷ t ∷ starts) (part ∷ parts) same = ap suc (length-lines_shown (t ∷ starts) parts (omega (arith, same)))
 
     -- if the shown parts are computed from the `CharInfo`s, the lines are those of the paragraph
-    pub shown_lines : (infos : List CharInfo) (starts : List ℕ)
-        → lines_shown tables options base text old starts (shown_from (length text) infos starts) ≡ lines_from tables options base text old infos starts
-    shown_lines infos [] = refl
-    shown_lines infos (s ∷ []) = refl
-    shown_lines infos (s ∷ t ∷ starts) = ap (λ (lines : List Line). line_showing tables options base text old (shown_between infos s t) s t ∷ lines) (shown_lines infos (t ∷ starts))
+    pub shown_lines : (margin : Option ℕ) (infos : List CharInfo) (starts : List ℕ)
+        → lines_shown tables options base text old starts (shown_from margin (length text) infos starts) ≡ lines_from tables options margin base text old infos starts
+    shown_lines margin infos [] = refl
+    shown_lines margin infos (s ∷ []) = refl
+    shown_lines margin infos (s ∷ t ∷ starts) =
+        ap (λ (lines : List Line). line_showing tables options base text old (shown_between margin infos s t) s t ∷ lines) (shown_lines margin infos (t ∷ starts))
 
     -- the k-th piece is the printed bytes of the k-th line
     pub piece_is : (width : ℕ) (print : Print) (starts : List ℕ) (parts : List Shown) (k e : ℕ) (part : Shown) → length parts ≡ length starts → k < length starts
         → e ≡ end_of (length text) starts k → part ≡ get_or parts k nothing_shown → get_or starts k 0 + part.len ≤ e → e ≤ length text → length old ≡ length text
         → line_bytes width print
-        (visual_shown tables options base (k == 0) (slice_range text (get_or starts k 0) e) (slice_range old (get_or starts k 0) e) part)
+        (visual_shown tables options base (k == 0) (slice_range text (get_or starts k 0) e) (slice_range (ends_by options text) (get_or starts k 0) e)
+        (slice_range old (get_or starts k 0) e) part)
         ≡ get_or (pieces width print base text (lines_shown tables options base text old starts parts)) k []
     piece_is width print starts parts k e part same below e_is part_is within most sizes =
         let lines : List Line = lines_shown tables options base text old starts parts in
@@ -100,7 +103,8 @@ module _ (tables : Tables) (options : Options) (base : ℕ) where
         let line : List ℕ = slice_range text s e in
         let classes : List BidiClass = map (class_of tables) line in
         let levels : List ℕ = take part.len (line_levels base classes (slice_range old s e)) in
-        let vtol : List ℕ = vtol_of options.reordernsm classes levels in
+        let ends : List Bool = slice_range (ends_by options text) s e in
+        let vtol : List ℕ = vtol_by options classes ends levels in
         let whole : length (slice_range old s e) ≡ length classes =
         length_range old s e (omega arith) (omega (arith, most, sizes)) ∙ sym (length-map line (class_of tables) ∙ length_range text s e (omega arith) most) in
         let size : length levels ≡ part.len =
@@ -117,7 +121,7 @@ module _ (tables : Tables) (options : Options) (base : ℕ) where
           text = t;
           columns = part.columns;
           levels = levels;
-          ltov = ltov_of options.reordernsm classes levels;
+          ltov = ltov_by options classes ends levels;
           vtol = vtol;
           chars = visual_chars tables levels u vtol;
         } in
@@ -132,11 +136,11 @@ module _ (tables : Tables) (options : Options) (base : ℕ) where
 pub page_is : (rules : Rules) (width : ℕ) (print : Print) (text : List ℕ) (base : ℕ) (levels starts : List ℕ) → base ≡ base_of rules text
     → levels ≡ levels_of rules.tables text rules.options.base
     → starts ≡ line_starts_of rules.options.nobreak width (infos_of rules.tables rules.options.whole_numbers text)
-    → lines_bytes width print base text (lines_from rules.tables rules.options base text levels (infos_of rules.tables rules.options.whole_numbers text) starts)
+    → lines_bytes width print base text (lines_from rules.tables rules.options (margin_of rules.options width) base text levels (infos_of rules.tables rules.options.whole_numbers text) starts)
     ≡ paragraph_bytes rules width print text
 page_is rules width print text base levels starts b l s =
     let infos : List CharInfo = infos_of rules.tables rules.options.whole_numbers text in
-    let bytes : ℕ → List ℕ → List ℕ → List ℕ = λ b l s. lines_bytes width print b text (lines_from rules.tables rules.options b text l infos s) in
+    let bytes : ℕ → List ℕ → List ℕ → List ℕ = λ b l s. lines_bytes width print b text (lines_from rules.tables rules.options (margin_of rules.options width) b text l infos s) in
     ap (λ (x : ℕ). bytes x levels starts) b
     ∙ ap (λ (ls : List ℕ). bytes (base_of rules text) ls starts) l
     ∙ ap (bytes (base_of rules text) (levels_of rules.tables text rules.options.base)) s

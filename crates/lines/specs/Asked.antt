@@ -4,20 +4,20 @@ use Rattle.std.specs.Prelude.{ℕ, Bool, ◌&&◌, ◌||◌, not, List, length, 
 use Rattle.ucd.specs.Tables.{class_of}
 use Rattle.ucd.specs.declared.tables.Tables.{Tables}
 use Rattle.reorder.specs.Mirroring.{visual_chars}
-use Rattle.reorder.specs.Order.{ltov_of, vtol_of}
+use Rattle.lines.specs.Reordering.{ltov_by, vtol_by}
 use Rattle.reorder.specs.Spaces.{line_levels}
 use Rattle.lines.specs.Visual.{Visual}
 use Rattle.lines.specs.declared.options.Options.{Options}
 use Rattle.lines.specs.declared.fill.Shown.{Shown}
 use Rattle.lines.specs.declared.print.Print.{Print}
 
--- one line of a paragraph
-module _ (tables : Tables) (options : Options) (base : ℕ) (is_first : Bool) (line : List ℕ) where
+-- one line of a paragraph, and whether a grapheme cluster ends after each of its characters
+module _ (tables : Tables) (options : Options) (base : ℕ) (is_first : Bool) (line : List ℕ) (ends : List Bool) where
   -- the visual line, given the columns of its shown part and its levels after L1
   abbrev pub visual_part : ℕ → List ℕ → Visual
   visual_part columns levels =
       let classes = map (class_of tables) line in
-      let vtol = vtol_of options.reordernsm classes levels in
+      let vtol = vtol_by options classes ends levels in
       record {
         is_first = is_first;
         base = base;
@@ -25,7 +25,7 @@ module _ (tables : Tables) (options : Options) (base : ℕ) (is_first : Bool) (l
         text = take (length levels) line;
         columns = columns;
         levels = levels;
-        ltov = ltov_of options.reordernsm classes levels;
+        ltov = ltov_by options classes ends levels;
         vtol = vtol;
         chars = visual_chars tables levels (take (length levels) line) vtol;
       }

@@ -1,10 +1,12 @@
 -- Where the lines of a paragraph start, and how much of each is shown. A layout depends on the width only
 -- through these extents.
-use Rattle.std.specs.Prelude.{ℕ, List, [], ◌∷◌, length, map, slice_range}
-use Rattle.lines.specs.Filling.{columns, line_starts_of, shown}
+use Rattle.std.specs.Prelude.{ℕ, List, [], ◌∷◌, length, map, slice_range, Option}
+use Rattle.lines.specs.Filling.{columns, line_starts_of}
 use Rattle.lines.specs.Layouts.{Layout, Rules, start_of}
 use Rattle.lines.specs.CharInfos.{infos_of}
-use Rattle.lines.specs.Visual.{Line, lines_from}
+use Rattle.lines.specs.Showing.{lines_shown}
+use Rattle.lines.specs.ShownParts.{margin_of, shown}
+use Rattle.lines.specs.Visual.{Line}
 use Rattle.lines.specs.declared.char_info.CharInfo.{CharInfo}
 use Rattle.lines.specs.declared.fill.Shown.{Shown}
 
@@ -13,24 +15,24 @@ pub record LineExtents : Type 0 where
   pub shown : List Shown
 
 -- how many characters of the line from s to e are shown, and their columns
-abbrev pub shown_between : List CharInfo → ℕ → ℕ → Shown
-shown_between infos s e =
-    let part = shown (slice_range infos s e) in
+abbrev pub shown_between : Option ℕ → List CharInfo → ℕ → ℕ → Shown
+shown_between margin infos s e =
+    let part = shown margin (slice_range infos s e) in
     record { len = length part; columns = columns part }
 
 -- The shown parts of the lines that start at the given positions. Each line ends where the next one starts,
 -- and the last line ends at n.
-abbrev pub shown_from : ℕ → List CharInfo → List ℕ → List Shown
-shown_from n infos [] = []
-shown_from n infos (s ∷ []) = shown_between infos s n ∷ []
-shown_from n infos (s ∷ t ∷ starts) = shown_between infos s t ∷ shown_from n infos (t ∷ starts)
+abbrev pub shown_from : Option ℕ → ℕ → List CharInfo → List ℕ → List Shown
+shown_from margin n infos [] = []
+shown_from margin n infos (s ∷ []) = shown_between margin infos s n ∷ []
+shown_from margin n infos (s ∷ t ∷ starts) = shown_between margin infos s t ∷ shown_from margin n infos (t ∷ starts)
 
 -- the extents of a paragraph's lines at a width
 abbrev pub extents_of : Rules → ℕ → List ℕ → LineExtents
 extents_of rules width text =
     let infos = infos_of rules.tables rules.options.whole_numbers text in
     let starts = line_starts_of rules.options.nobreak width infos in
-    record { starts = starts; shown = shown_from (length text) infos starts }
+    record { starts = starts; shown = shown_from (margin_of rules.options width) (length text) infos starts }
 
 -- the shown part of a line, and the extents of given lines
 abbrev pub shown_in : Line → Shown
@@ -42,8 +44,7 @@ extents_in lines = record { starts = map start_of lines; shown = map shown_in li
 -- a layout with its lines replaced by the lines with these extents
 abbrev pub reflowed : Rules → Layout → LineExtents → Layout
 reflowed rules l extents =
-    let infos = infos_of rules.tables rules.options.whole_numbers l.text in
-    record l { lines = lines_from rules.tables rules.options l.base l.text l.levels infos extents.starts }
+    record l { lines = lines_shown rules.tables rules.options l.base l.text l.levels extents.starts extents.shown }
 
 -- Scratch space: its capacity in characters, and the number of characters whose lines were written with it.
 pub record ScratchState : Type 0 where

@@ -5,19 +5,28 @@ use Rattle.bidi.specs.Brackets.{greatest}
 use Rattle.ucd.specs.Least.{least}
 use Rattle.breaks.specs.declared.mark.Mark.{Mark}
 use Rattle.breaks.specs.declared.mark.Mark.TheVariants.{Never, Must}
+use Rattle.lines.specs.CharInfos.{may_trail}
 use Rattle.lines.specs.declared.char_info.CharInfo.{CharInfo}
+use Rattle.lines.specs.declared.char_info.Trailing.TheVariants.{No}
 
 -- the columns of a part of a line
 abbrev pub columns : List CharInfo → ℕ
 columns piece = sum_by (λ p. p.columns) piece
 
--- The tail is the longest suffix of characters that may all be in a tail. The shown part is the rest.
-abbrev pub shown : List CharInfo → List CharInfo
-shown piece = take (length piece - suffix_len (λ p. p.is_trailing) piece) piece
+-- The tail is the longest suffix of characters that may all be in a tail.
+abbrev pub trails : CharInfo → Bool
+trails p = may_trail p.trailing
 
--- whether the shown part is no wider than the width
+-- the characters before the tail, and their number
+abbrev pub text_len : List CharInfo → ℕ
+text_len piece = length piece - suffix_len trails piece
+
+abbrev pub before_tail : List CharInfo → List CharInfo
+before_tail piece = take (text_len piece) piece
+
+-- whether the characters before the tail are no wider than the width
 abbrev pub fits : ℕ → List CharInfo → Bool
-fits width piece = nat_le (columns (shown piece)) width
+fits width piece = nat_le (columns (before_tail piece)) width
 
 abbrev pub is_must : Mark → Bool
 is_must Must = true
@@ -29,7 +38,7 @@ is_break mark = true
 
 -- the character at an index, or `nothing` past the end
 abbrev pub nothing : CharInfo
-nothing = record { columns = 0; is_trailing = false; mark = Never; ends_cluster = false }
+nothing = record { columns = 0; trailing = No; mark = Never; ends_cluster = false }
 
 abbrev pub place_at : List CharInfo → ℕ → CharInfo
 place_at rest k = slice_index_or rest k nothing

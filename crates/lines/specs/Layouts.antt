@@ -1,6 +1,7 @@
 -- The layout of a paragraph.
-use Rattle.std.specs.Prelude.{◌≡◌, ℕ, ◌+◌, ◌≤◌, nat_le, Bool, false, List, [], ◌∷◌, length, map, All}
+use Rattle.std.specs.Prelude.{◌≡◌, ℕ, ◌+◌, ◌≤◌, nat_le, Bool, false, ◌&&◌, not, List, [], ◌∷◌, length, map, slice_get, All}
 use Rattle.std.specs.List.{enumerate_from}
+use Rattle.std.specs.Option.{option_map_or}
 use Rattle.ucd.specs.Tables.{class_of}
 use Rattle.ucd.specs.declared.tables.Tables.{Tables}
 use Rattle.bidi.specs.Base.{base_level_of}
@@ -9,7 +10,9 @@ use Rattle.bidi.specs.Levels.{levels_of}
 use Rattle.breaks.specs.Marks.{marks_of}
 use Rattle.breaks.specs.declared.mark.Mark.{Mark}
 use Rattle.lines.specs.Filling.{line_starts_of}
-use Rattle.lines.specs.CharInfos.{infos_of}
+use Rattle.lines.specs.CharInfos.{columns_of, infos_of, is_space, trailing_in}
+use Rattle.lines.specs.Reordering.{ends_by}
+use Rattle.lines.specs.ShownParts.{margin_of}
 use Rattle.lines.specs.Visual.{Line, Visual, lines_from, visual_of}
 use Rattle.lines.specs.declared.engine.TheConstants.{PARAGRAPH_LIMIT}
 use Rattle.lines.specs.declared.options.Options.{Options}
@@ -19,12 +22,14 @@ pub record Rules : Type 0 where
   pub tables : Tables
   pub options : Options
 
--- a paragraph: its characters, its base level, the level and the mark of each character, and its lines
+-- a paragraph: its characters, its base level, the level and the mark of each character, its cluster ends if its lines are ordered by
+-- clusters, and its lines
 pub record Layout : Type 0 where
   pub text : List ℕ
   pub base : ℕ
   pub levels : List ℕ
   pub marks : List Mark
+  pub ends : List Bool
   pub lines : List Line
 
 abbrev pub base_of : Rules → List ℕ → ℕ
@@ -33,7 +38,7 @@ base_of rules text = base_level_of (map (class_of rules.tables) text) rules.opti
 abbrev pub lines_of : Rules → ℕ → List ℕ → List Line
 lines_of rules width text =
     let infos = infos_of rules.tables rules.options.whole_numbers text in
-    lines_from rules.tables rules.options (base_of rules text) text (levels_of rules.tables text rules.options.base) infos (line_starts_of rules.options.nobreak width infos)
+    lines_from rules.tables rules.options (margin_of rules.options width) (base_of rules text) text (levels_of rules.tables text rules.options.base) infos (line_starts_of rules.options.nobreak width infos)
 
 -- the fresh layout of a paragraph
 abbrev pub layout_of : Rules → ℕ → List ℕ → Layout
@@ -42,6 +47,7 @@ layout_of rules width text = record {
   base = base_of rules text;
   levels = levels_of rules.tables text rules.options.base;
   marks = marks_of rules.tables rules.options.whole_numbers text;
+  ends = ends_by rules.options text;
   lines = lines_of rules width text;
 }
 
@@ -68,6 +74,17 @@ AreWithin n lines = All (λ line. line.start + length line.levels ≤ n) lines
 abbrev pub is_line_within : ℕ → List Line → Bool
 is_line_within width (line ∷ []) = nat_le line.columns width
 is_line_within width lines = false
+
+-- whether the first character that a paragraph's first line does not show is a space that fits the width, too
+abbrev pub hides_space_within : Tables → ℕ → List ℕ → Line → Bool
+hides_space_within tables width text line =
+    option_map_or (λ c. is_space (trailing_in tables c) && nat_le (line.columns + columns_of c) width) (slice_get text (length line.levels)) false
+
+-- whether a paragraph keeps its lines at a width: it has one line, which fits, and if spaces are shown, it hides none that fits
+abbrev pub keeps_lines : Rules → ℕ → Layout → Bool
+keeps_lines rules width layout =
+    is_line_within width layout.lines
+    && not (rules.options.show_spaces && option_map_or (hides_space_within rules.tables width layout.text) (slice_get layout.lines 0) false)
 
 -- whether there is a paragraph boundary between two adjacent characters
 abbrev pub cut_by : Rules → ℕ → ℕ → Bool

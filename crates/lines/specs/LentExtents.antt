@@ -6,6 +6,7 @@ use Rattle.lines.specs.CharInfos.{infos_of}
 use Rattle.lines.specs.Extents.{shown_from}
 use Rattle.lines.specs.Filling.{line_starts_of}
 use Rattle.lines.specs.Kept.{AreStarts}
+use Rattle.lines.specs.ShownParts.{margin_of}
 use Rattle.lines.specs.declared.buffers.LineBuffers.{LineBuffers}
 use Rattle.lines.specs.declared.paragraph.Text.{Text}
 
@@ -13,6 +14,6 @@ pub record AreExtentsOf (text : Text) (width : ℕ) (lines : LineBuffers) : Type
   pub starts : lines.starts.items
       ≡ line_starts_of text.rules.options.nobreak width (infos_of text.rules.tables.now text.rules.options.whole_numbers text.characters.now)
   pub shown : lines.shown.items
-      ≡ shown_from (length text.characters.now) (infos_of text.rules.tables.now text.rules.options.whole_numbers text.characters.now) lines.starts.items
+      ≡ shown_from (margin_of text.rules.options width) (length text.characters.now) (infos_of text.rules.tables.now text.rules.options.whole_numbers text.characters.now) lines.starts.items
   pub ordered : AreStarts (length text.characters.now) lines.starts.items
   pub visual : CanHold (length text.characters.now) lines.visual

@@ -22,8 +22,10 @@ pub mod Printing
 pub mod Selections
 pub mod Separators
 pub mod Showing
+pub mod ShownParts
 pub mod Spans
 pub mod Sums
+pub mod Reordering
 pub mod Visual
 pub mod Whole
 pub mod Words

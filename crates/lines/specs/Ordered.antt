@@ -1,9 +1,10 @@
 -- What holds of the order of each visual line.
-use Rattle.std.specs.Prelude.{◌≡◌, ℕ, suc, ◌+◌, ◌<◌, ◌≤◌, false, true, ◌⊎◌, List, length, slice_index, All}
+use Rattle.std.specs.Prelude.{◌≡◌, ℕ, suc, ◌+◌, ◌<◌, ◌≤◌, Bool, false, true, ◌⊎◌, List, length, slice_index, All}
 use Rattle.reorder.specs.Order.{is_odd, AreInverse}
 use Rattle.ucd.specs.Classes.{is_mark}
 use Rattle.ucd.specs.Tables.{class_of}
 use Rattle.lines.specs.CharInfos.{columns_of}
+use Rattle.lines.specs.Clusters.{ends_at}
 use Rattle.lines.specs.Columns.{columns_between, columns_left}
 use Rattle.lines.specs.Layouts.{Rules}
 use Rattle.lines.specs.Visual.{Visual}
@@ -35,3 +36,11 @@ pub record RunsAdjoin (line : Visual) : Type 0 where
       → columns_left line (slice_index line.ltov k) ≡ columns_left line (slice_index line.ltov j) + columns_between line j k
   pub odd : (j k : ℕ) → AreInRun line j k → is_odd (slice_index line.levels j) ≡ true
       → columns_left line (slice_index line.ltov k + 1) + columns_between line j k ≡ columns_left line (slice_index line.ltov j + 1)
+
+-- Whether the characters of each level run at an even level are next to each other from left to right, and so are those of each part of a
+-- cluster in a level run at an odd level. `ends` says where the clusters of the line's paragraph end. The line starts at `start`.
+pub record ClustersAdjoin (line : Visual) (ends : List Bool) (start : ℕ) : Type 0 where
+  pub even : (j k : ℕ) → AreInRun line j k → is_odd (slice_index line.levels j) ≡ false
+      → columns_left line (slice_index line.ltov k) ≡ columns_left line (slice_index line.ltov j) + columns_between line j k
+  pub odd : (j k : ℕ) → AreInRun line j k → is_odd (slice_index line.levels j) ≡ true → ((i : ℕ) → j ≤ i → i < k → ends_at ends (start + i) ≡ false)
+      → columns_left line (slice_index line.ltov k) ≡ columns_left line (slice_index line.ltov j) + columns_between line j k

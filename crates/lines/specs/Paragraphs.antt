@@ -10,6 +10,8 @@ use Rattle.lines.specs.Asked.{visual_part}
 use Rattle.lines.specs.CharInfos.{infos_of}
 use Rattle.lines.specs.Filling.{line_starts_of}
 use Rattle.lines.specs.Layouts.{Rules, base_of}
+use Rattle.lines.specs.Reordering.{ends_by}
+use Rattle.lines.specs.ShownParts.{margin_of}
 use Rattle.lines.specs.Visual.{Line, Visual, lines_from}
 use Rattle.lines.specs.declared.buffers.VisualBuffers.{VisualBuffers}
 use Rattle.lines.specs.declared.engine.TheConstants.{PARAGRAPH_LIMIT}
@@ -25,9 +27,14 @@ rules_in rules = record { tables = rules.tables.now; options = rules.options }
 abbrev pub IsLookedUp : Text → Type 0
 IsLookedUp text = text.properties.now ≡ map (properties_of text.rules.tables.now) text.characters.now
 
--- a text of at most PARAGRAPH_LIMIT characters, with its base level and the levels of its characters before L1
+-- whether a paragraph's cluster ends are known, if its lines are ordered by clusters
+abbrev pub HasEnds : Text → Type 0
+HasEnds text = text.ends.now ≡ ends_by text.rules.options text.characters.now
+
+-- a text of at most PARAGRAPH_LIMIT characters, with its base level, its cluster ends and the levels of its characters before L1
 pub record IsResolved (text : Text) (levels : List ℕ) : Type 0 where
   pub looked_up : IsLookedUp text
+  pub ends : HasEnds text
   pub limit : length text.characters.now ≤ PARAGRAPH_LIMIT
   pub base : text.base ≡ base_of (rules_in text.rules) text.characters.now
   pub levels_are : levels ≡ levels_of text.rules.tables.now text.characters.now text.rules.options.base
@@ -44,12 +51,12 @@ lines_at text levels width =
     let tables = text.rules.tables.now in
     let options = text.rules.options in
     let infos = infos_of tables options.whole_numbers text.characters.now in
-    lines_from tables options text.base text.characters.now levels infos (line_starts_of options.nobreak width infos)
+    lines_from tables options (margin_of options width) text.base text.characters.now levels infos (line_starts_of options.nobreak width infos)
 
 -- the visual line of a logical line, given the levels of its shown part after L1
 abbrev pub shown_by : LogicalLine → List ℕ → Visual
 shown_by line levels =
-    visual_part line.text.rules.tables.now line.text.rules.options line.text.base line.is_first line.text.characters.now line.shown.columns levels
+    visual_part line.text.rules.tables.now line.text.rules.options line.text.base line.is_first line.text.characters.now line.text.ends.now line.shown.columns levels
 
 -- the levels after L1 of a line's shown part
 abbrev pub shown_levels : LogicalLine → List ℕ

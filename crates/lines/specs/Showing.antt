@@ -1,26 +1,26 @@
 -- What the buffers hold for the lines of a paragraph. The items of each line are at the indices of its
 -- characters.
-use Rattle.std.specs.Prelude.{◌≡◌, ℕ, ◌+◌, ◌<◌, ◌≤◌, List, [], ◌∷◌, length, map, take, slice_index, slice_index_or, slice_range}
+use Rattle.std.specs.Prelude.{◌≡◌, ℕ, Bool, ◌+◌, ◌<◌, ◌≤◌, List, [], ◌∷◌, length, map, take, slice_index, slice_index_or, slice_range}
 use Rattle.ucd.specs.Tables.{class_of}
 use Rattle.ucd.specs.declared.tables.Tables.{Tables}
 use Rattle.ucd.specs.Within.{AreWithin}
 use Rattle.lines.specs.Kept.{line_in}
 use Rattle.reorder.specs.Mirroring.{visual_chars}
-use Rattle.reorder.specs.Order.{ltov_of, vtol_of}
+use Rattle.lines.specs.Reordering.{ends_by, ltov_by, vtol_by}
 use Rattle.reorder.specs.Spaces.{line_levels}
 use Rattle.lines.specs.Visual.{Line, end_of}
 use Rattle.lines.specs.declared.options.Options.{Options}
 use Rattle.lines.specs.declared.fill.Shown.{Shown}
 
--- whether the lists have the levels, position maps and characters of one line, given its shown part and, in
--- `old`, its levels before L1
-pub record IsShown (tables : Tables) (options : Options) (base : ℕ) (line old : List ℕ) (part : Shown) (levels ltov vtol chars : List ℕ) : Type 0 where
+-- whether the lists have the levels, position maps and characters of one line, given its shown part, where its clusters end and,
+-- in `old`, its levels before L1
+pub record IsShown (tables : Tables) (options : Options) (base : ℕ) (ends : List Bool) (line old : List ℕ) (part : Shown) (levels ltov vtol chars : List ℕ) : Type 0 where
   pub within : part.len ≤ length line
   pub levels_are : take part.len levels ≡ take part.len (line_levels base (map (class_of tables) line) old)
-  pub ltov_is : take part.len ltov ≡ ltov_of options.reordernsm (map (class_of tables) line) (take part.len levels)
-  pub vtol_is : take part.len vtol ≡ vtol_of options.reordernsm (map (class_of tables) line) (take part.len levels)
+  pub ltov_is : take part.len ltov ≡ ltov_by options (map (class_of tables) line) ends (take part.len levels)
+  pub vtol_is : take part.len vtol ≡ vtol_by options (map (class_of tables) line) ends (take part.len levels)
   pub chars_are : take part.len chars
-      ≡ visual_chars tables (take part.len levels) (take part.len line) (vtol_of options.reordernsm (map (class_of tables) line) (take part.len levels))
+      ≡ visual_chars tables (take part.len levels) (take part.len line) (vtol_by options (map (class_of tables) line) ends (take part.len levels))
   pub vtol_within : AreWithin part.len (take part.len vtol)
 
 abbrev pub nothing_shown : Shown
@@ -32,13 +32,14 @@ module _ (tables : Tables) (options : Options) (base : ℕ) (text levels : List 
   line_showing part s e =
       let line = slice_range text s e in
       let classes = map (class_of tables) line in
+      let ends = slice_range (ends_by options text) s e in
       let part_levels = take part.len (line_levels base classes (slice_range levels s e)) in
-      let vtol = vtol_of options.reordernsm classes part_levels in
+      let vtol = vtol_by options classes ends part_levels in
       record {
         start = s;
         columns = part.columns;
         levels = part_levels;
-        ltov = ltov_of options.reordernsm classes part_levels;
+        ltov = ltov_by options classes ends part_levels;
         vtol = vtol;
         chars = visual_chars tables part_levels (take part.len line) vtol;
       }

@@ -1,10 +1,11 @@
 -- The lines of a paragraph as they are shown: the order, the levels and the characters of each line's shown part.
-use Rattle.std.specs.Prelude.{ℕ, zero, suc, ◌+◌, ◌-◌, ◌==◌, Bool, List, [], ◌∷◌, length, map, take, slice_range}
+use Rattle.std.specs.Prelude.{ℕ, zero, suc, ◌+◌, ◌-◌, ◌==◌, Bool, List, [], ◌∷◌, length, map, take, slice_range, Option}
 use Rattle.ucd.specs.Tables.{class_of}
 use Rattle.ucd.specs.declared.tables.Tables.{Tables}
-use Rattle.lines.specs.Filling.{columns, shown}
+use Rattle.lines.specs.Filling.{columns}
+use Rattle.lines.specs.ShownParts.{shown}
 use Rattle.reorder.specs.Mirroring.{visual_chars}
-use Rattle.reorder.specs.Order.{ltov_of, vtol_of}
+use Rattle.lines.specs.Reordering.{ends_by, ltov_by, vtol_by}
 use Rattle.reorder.specs.Spaces.{line_levels}
 use Rattle.lines.specs.declared.options.Options.{Options}
 use Rattle.lines.specs.declared.char_info.CharInfo.{CharInfo}
@@ -20,21 +21,22 @@ pub record Line : Type 0 where
   pub vtol : List ℕ
   pub chars : List ℕ
 
--- the lines of a paragraph, given its base level, its levels before L1, and the `CharInfo`s of its characters
-module _ (tables : Tables) (options : Options) (base : ℕ) (text levels : List ℕ) (infos : List CharInfo) where
+-- the lines of a paragraph, given the margin for spaces, its base level, its levels before L1, and the `CharInfo`s of its characters
+module _ (tables : Tables) (options : Options) (margin : Option ℕ) (base : ℕ) (text levels : List ℕ) (infos : List CharInfo) where
   -- L1 is applied to the whole line from s to e, and L2, L3 and L4 to its shown part
   abbrev pub line_between : ℕ → ℕ → Line
   line_between s e =
-      let part = shown (slice_range infos s e) in
+      let part = shown margin (slice_range infos s e) in
       let line = slice_range text s e in
       let classes = map (class_of tables) line in
+      let ends = slice_range (ends_by options text) s e in
       let part_levels = take (length part) (line_levels base classes (slice_range levels s e)) in
-      let vtol = vtol_of options.reordernsm classes part_levels in
+      let vtol = vtol_by options classes ends part_levels in
       record {
         start = s;
         columns = columns part;
         levels = part_levels;
-        ltov = ltov_of options.reordernsm classes part_levels;
+        ltov = ltov_by options classes ends part_levels;
         vtol = vtol;
         chars = visual_chars tables part_levels (take (length part) line) vtol;
       }

@@ -7,7 +7,7 @@ use Rattle.ucd.specs.declared.line_class.LineClass.TheVariants.{BK, CR, LF, NL}
 use Rattle.ucd.specs.declared.tables.Tables.{Tables}
 use Rattle.breaks.specs.Bases.{base_class, character}
 use Rattle.breaks.specs.Classes.{is_one_of}
-use Rattle.lines.specs.CharInfos.{is_trailing_in}
+use Rattle.lines.specs.CharInfos.{may_trail, trailing_in}
 
 -- whether a line must end after a character of this class, as resolved by LB1; the exception for CR LF is not covered
 abbrev pub ends_line : LineClass → Bool
@@ -20,5 +20,5 @@ IsWhole t text = (j : ℕ) → j + 1 < length text → ends_line (character t (s
 -- whether `len` is the length of a text without its tail
 pub record IsShownLen (t : Tables) (text : List ℕ) (len : ℕ) : Type 0 where
   pub within : len ≤ length text
-  pub tail : (k : ℕ) → len ≤ k → k < length text → is_trailing_in t (slice_index text k) ≡ true
-  pub last : 0 < len → is_trailing_in t (slice_index text (len - 1)) ≡ false
+  pub tail : (k : ℕ) → len ≤ k → k < length text → may_trail (trailing_in t (slice_index text k)) ≡ true
+  pub last : 0 < len → may_trail (trailing_in t (slice_index text (len - 1))) ≡ false

@@ -67,6 +67,7 @@ impl LineBuffers {
 pub(crate) struct LayoutBuffers {
     pub(crate) levels: Vec<u8>,
     pub(crate) marks: Vec<Mark>,
+    pub(crate) ends: Vec<bool>,
     pub(crate) lines: LineBuffers,
 }
 
@@ -76,6 +77,7 @@ impl LayoutBuffers {
         LayoutBuffers {
             levels: Vec::new(alloc),
             marks: Vec::new(alloc),
+            ends: Vec::new(alloc),
             lines: LineBuffers::new(alloc),
         }
     }

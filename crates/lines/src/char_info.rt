@@ -1,15 +1,13 @@
 //! What filling needs to know about each character of a paragraph.
-ghost use Rattle.std.specs.Prelude.{◌≡◌, false, Bool, [], ◌∷◌, length, map, OnOk};
+ghost use Rattle.std.specs.Prelude.{◌≡◌, false, Bool, length, map, OnOk};
 ghost use Rattle.ucd.specs.Properties.{properties_of};
-ghost use Rattle.ucd.specs.declared.line_class.LineClass.TheVariants.{BK, CR, LF, NL, SP};
 ghost use Rattle.ucd.specs.declared.tables.Tables.{Tables};
 ghost use Rattle.breaks.specs.Bases.{resolved};
-ghost use Rattle.breaks.specs.Classes.{is_one_of};
 ghost use Rattle.breaks.specs.Marks.{marks_of};
 ghost use Rattle.lines.specs.Bare.{with_ends};
 ghost use Rattle.lines.specs.BareInfos.{bare_infos};
 ghost use Rattle.lines.specs.Clusters.{cluster_ends};
-ghost use Rattle.lines.specs.CharInfos.{columns_of, info, infos_of};
+ghost use Rattle.lines.specs.CharInfos.{columns_of, info, infos_of, trailing_by};
 ghost use Rattle.lines.specs.Paragraphs.{IsLookedUp};
 
 use crate::paragraph::Text;
@@ -18,13 +16,24 @@ use std::alloc::AllocError;
 use ucd::{LineClass, Properties, Tables};
 use unicode_width::UnicodeWidthChar;
 
+/// What a character is in a tail, which is what follows the text of a line.
+#[derive(Clone, Copy, Debug, PartialEq, Eq)]
+pub enum Trailing {
+    /// The character is in no tail.
+    No,
+    /// A space (line breaking class SP).
+    Space,
+    /// A separator (line breaking class BK, CR, LF or NL).
+    Separator,
+}
+
 /// What filling needs to know about a character.
 #[derive(Clone, Copy, Debug)]
 pub struct CharInfo {
     /// The width of the character in columns.
     pub columns: u8,
-    /// Whether the character may be in a tail. A tail is not shown.
-    pub is_trailing: bool,
+    /// What the character is in a tail.
+    pub trailing: Trailing,
     /// The break mark after the character.
     pub mark: Mark,
     /// Whether a grapheme cluster ends after the character.
@@ -34,22 +43,33 @@ pub struct CharInfo {
 // The placeholder in a new list, whose items are all overwritten.
 const NOTHING: CharInfo = CharInfo {
     columns: 0,
-    is_trailing: false,
+    trailing: Trailing::No,
     mark: Mark::Never,
     ends_cluster: false,
 };
 
 impl CharInfo {
-    // Returns the info for a character, with `ends_cluster` set to `false`.
-    fn of(properties: Properties, c: char, mark: Mark) -> CharInfo
+    ghost use Rattle.std.specs.Prelude.{◌+◌, ◌&&◌, nat_le};
+    ghost use Rattle.lines.specs.CharInfos.{is_space};
+
+    /// Returns the info for a character, with `ends_cluster` set to `false`.
+    pub(crate) fn of(properties: Properties, c: char, mark: Mark) -> CharInfo
         ensures { (t : Tables) → properties ≡ properties_of t c → result ≡ info t c mark false }
     {
         CharInfo {
             columns: columns(c),
-            is_trailing: is_trailing(properties.line_class()),
+            trailing: trailing_of(properties.line_class()),
             mark,
             ends_cluster: false,
         }
+    }
+
+    /// Returns whether the character is a space, and the line is no wider than the margin up to its end.
+    /// `before` are the columns of the line before it.
+    pub(crate) fn is_space_within(self, before: u32, margin: u16) -> bool
+        ensures { result ≡ (is_space self.trailing && nat_le (before + self.columns) margin) }
+    {
+        self.trailing.is_space() && u64::from(before) + u64::from(self.columns) <= u64::from(margin)
     }
 }
 
@@ -68,18 +88,35 @@ fn columns(c: char) -> u8
     }
 }
 
-/// Returns whether characters of a class may be in a tail.
-pub(crate) fn is_trailing(class: LineClass) -> bool
-    ensures { (is_mark : Bool) → result
-        ≡ is_one_of (SP ∷ BK ∷ CR ∷ LF ∷ NL ∷ []) (resolved class is_mark) }
+/// Returns what characters of a class are in a tail.
+pub(crate) fn trailing_of(class: LineClass) -> Trailing
+    ensures { (is_mark : Bool) → result ≡ trailing_by (resolved class is_mark) }
 {
     match class {
-        LineClass::SP => true,
-        LineClass::BK => true,
-        LineClass::CR => true,
-        LineClass::LF => true,
-        LineClass::NL => true,
-        _ => false,
+        LineClass::SP => Trailing::Space,
+        LineClass::BK => Trailing::Separator,
+        LineClass::CR => Trailing::Separator,
+        LineClass::LF => Trailing::Separator,
+        LineClass::NL => Trailing::Separator,
+        _ => Trailing::No,
+    }
+}
+
+impl Trailing {
+    ghost use Rattle.lines.specs.CharInfos.{is_space, may_trail};
+
+    /// Returns whether such characters may be in a tail.
+    pub(crate) fn may_trail(self) -> bool
+        ensures { result ≡ may_trail self }
+    {
+        self != Trailing::No
+    }
+
+    /// Returns whether such characters are spaces.
+    pub(crate) fn is_space(self) -> bool
+        ensures { result ≡ is_space self }
+    {
+        self == Trailing::Space
     }
 }
 

@@ -1,6 +1,6 @@
 //! Lays out paragraphs using tables and options, and counts the work.
 ghost use Rattle.std.specs.Prelude.{◌≡◌, ◌<◌, ◌≤◌, ℕ, [], true, false, length, map};
-ghost use Rattle.std.specs.Prelude.{IfOk, IfErr, IsErrOf, OnErr, OnOk};
+ghost use Rattle.std.specs.Prelude.{IfOk, IfErr, IsErrOf, IsTrue, OnErr, OnOk};
 ghost use Rattle.std.specs.Prelude.{if◌then◌else◌};
 ghost use Rattle.device.specs.Device.{Wrote};
 ghost use Rattle.bidi.specs.Levels.{levels_of};
@@ -25,7 +25,7 @@ use crate::separators::ends_line;
 use crate::workspace::Workspace;
 use crate::writing::Form;
 use bidi::{base_level, first_cut, first_cut_in_text, is_cut};
-use breaks::{Mark, marks_are_as_many};
+use breaks::{Mark, marks_are_as_many, paragraphs_end_at_must};
 use device::Sink;
 use std::alloc::{AllocError, Global};
 use std::marker::Model;
@@ -51,6 +51,7 @@ struct Parts {
     base: u8,
     levels: Vec<u8>,
     marks: Vec<Mark>,
+    ends: Vec<bool>,
     lines: Fill,
 }
 
@@ -85,7 +86,7 @@ impl Engine {
     ghost use Rattle.bidi.specs.TextCuts.{FindsEndAfter};
     ghost use Rattle.bidi.specs.Levels.{levels_of};
     ghost use Rattle.lines.specs.Extents.{extents_in, extents_of, reflowed};
-    ghost use Rattle.lines.specs.Layouts.{base_of, cut_by, fill_of, layout_of};
+    ghost use Rattle.lines.specs.Layouts.{base_of, cut_by, fill_of, keeps_lines, layout_of, lines_of};
     ghost use Rattle.lines.specs.Layouts.{AreLinesOf, AreWithin, IsLaidOut, IsParagraph};
     ghost use Rattle.lines.specs.Engine.{rules_of, analysed_of, filled_of, written_of, counted};
     ghost use Rattle.lines.specs.Engine.{Fills, FillsAtMost, FindsExtents, FindsExtentsAtMost};
@@ -105,6 +106,25 @@ impl Engine {
             counts: Counts::zero(),
             work: None,
         }
+    }
+
+    /// Sets the options for the next paragraphs. Keeps the tables, the counters and the buffers.
+    pub fn set_options(&mut self, options: Options)
+        ensures rules { rules_of self.new
+            ≡ record { tables = (rules_of self.old).tables; options = options } }
+        ensures analysed { analysed_of self.new ≡ analysed_of self.old }
+        ensures filled { filled_of self.new ≡ filled_of self.old }
+        ensures written { written_of self.new ≡ written_of self.old }
+    {
+        self.options = options;
+    }
+
+    /// Frees the buffers that are reused from one paragraph to the next. They are as large as the longest
+    /// paragraph so far needed.
+    pub fn free_buffers(&mut self)
+        ensures { self.new ≡ self.old }
+    {
+        self.work = None;
     }
 
     /// Returns whether there is a paragraph boundary between two adjacent characters.
@@ -173,6 +193,29 @@ impl Engine {
         self.counts.written.get()
     }
 
+    /// Returns whether a paragraph has exactly one line, which is the same at this width, because it fits. If
+    /// spaces at the end of lines are shown, it also hides no space that fits. The paragraph must have been
+    /// laid out with this engine's tables and options.
+    pub fn keeps_lines(&self, laid: &Laid, width: u16) -> bool
+        ensures value { result ≡ keeps_lines (rules_of self.now) width laid.now }
+        ensures lines { IsTrue result → IsLaidOut (rules_of self.now) laid.now
+            → lines_of (rules_of self.now) width laid.now.text ≡ laid.now.lines }
+    {
+        // By this theorem, a line of the whole paragraph may end after the last character.
+        paragraphs_end_at_must();
+        self.is_kept(laid, width)
+    }
+
+    // Returns whether a paragraph's only line fits and, if spaces are shown, hides none that fits.
+    fn is_kept(&self, laid: &Laid, width: u16) -> bool
+        ensures { result ≡ keeps_lines (rules_of self.now) width laid.now }
+    {
+        if !laid.is_line_within(width) {
+            return false;
+        }
+        !self.options.show_spaces || !laid.hides_space_within(&self.tables, width)
+    }
+
     /// Lays out one paragraph at a width in columns, which must not be 0. If an allocation fails, returns the
     /// text with the error.
     pub fn lay_out(
@@ -201,6 +244,7 @@ impl Engine {
                 base: parts.base,
                 levels: parts.levels,
                 marks: parts.marks,
+                ends: parts.ends,
                 lines: parts.lines,
             }),
             Err(error) => Err((text, error)),
@@ -387,6 +431,8 @@ impl Engine {
             parts.levels.items ≡ (layout_of (rules_of self.old) width text.now).levels) }
         ensures marks { IfOk result (λ parts.
             parts.marks.items ≡ (layout_of (rules_of self.old) width text.now).marks) }
+        ensures ends { IfOk result (λ parts.
+            parts.ends.items ≡ (layout_of (rules_of self.old) width text.now).ends) }
         ensures lines { IfOk result (λ parts.
             parts.lines ≡ fill_of (rules_of self.old) width text.now) }
         ensures len { IfOk result (λ parts. length parts.levels.items ≡ length text.now) }
@@ -410,6 +456,7 @@ impl Engine {
             base,
             levels: kept.levels,
             marks: kept.marks,
+            ends: kept.ends,
             lines: Fill::of(kept.lines),
         })
     }

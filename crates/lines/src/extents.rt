@@ -5,6 +5,7 @@ ghost use Rattle.lines.specs.Clusters.{cluster_ends};
 ghost use Rattle.lines.specs.Extents.{shown_from};
 ghost use Rattle.lines.specs.Filling.{line_starts_of};
 ghost use Rattle.lines.specs.Kept.{AreStarts};
+ghost use Rattle.lines.specs.ShownParts.{margin_of};
 ghost use Rattle.lines.specs.declared.engine.TheConstants.{PARAGRAPH_LIMIT};
 
 use crate::buffers::LineBuffers;
@@ -12,6 +13,7 @@ use crate::char_info::CharInfo;
 use crate::counts::Counted;
 use crate::fill::Shown;
 use crate::filling::line_starts;
+use crate::options::Options;
 use crate::showing::fill_shown;
 use std::alloc::{AllocError, Global};
 use std::marker::Model;
@@ -39,7 +41,7 @@ pub(crate) fn fill_spans_by(
     text: &[char],
     infos: &mut [CharInfo],
     width: u16,
-    nobreak: bool,
+    options: Options,
     lines: &mut LineBuffers,
     filled: Counted,
 ) -> Result<(), AllocError>
@@ -47,9 +49,10 @@ pub(crate) fn fill_spans_by(
     requires len { length infos.old ≡ length text.now }
     requires within { length text.now ≤ PARAGRAPH_LIMIT }
     ensures starts { OnOk result (lines.new.starts.items
-        ≡ line_starts_of nobreak width (with_ends infos.old (cluster_ends text.now))) }
+        ≡ line_starts_of options.nobreak width (with_ends infos.old (cluster_ends text.now))) }
     ensures shown { OnOk result (lines.new.shown.items
-        ≡ shown_from (length text.now) (with_ends infos.old (cluster_ends text.now)) lines.new.starts.items) }
+        ≡ shown_from (margin_of options width) (length text.now)
+        (with_ends infos.old (cluster_ends text.now)) lines.new.starts.items) }
     ensures ordered { OnOk result (AreStarts (length text.now) lines.new.starts.items) }
     ensures visual { lines.new.visual ≡ lines.old.visual }
 {
@@ -58,9 +61,10 @@ pub(crate) fn fill_spans_by(
         text,
         infos,
         width,
-        nobreak,
+        options.nobreak,
         &mut lines.starts,
         filled,
     )?;
-    fill_shown(infos, &lines.starts, &mut lines.shown)
+    let margin = options.margin(width);
+    fill_shown(infos, margin, &lines.starts, &mut lines.shown)
 }

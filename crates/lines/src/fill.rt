@@ -1,15 +1,15 @@
 //! The lines of a paragraph at a width: reading them, replacing them with the lines at another width, and
 //! printing them.
-ghost use Rattle.std.specs.Prelude.{◌≡◌, ◌+◌, ◌≤◌, List, length, map, option_map, slice_get};
+ghost use Rattle.std.specs.Prelude.{◌≡◌, ◌+◌, ◌≤◌, ℕ, List, Option, length, map, option_map, slice_get};
 ghost use Rattle.std.specs.Prelude.{IfErr, IfOk, IfSome};
 ghost use Rattle.ucd.specs.Within.{AreWithin};
 ghost use Rattle.lines.specs.Engine.{counted};
 ghost use Rattle.lines.specs.Extents.{extents_in, shown_from};
 ghost use Rattle.lines.specs.Kept.{AreStarts, line_in};
 ghost use Rattle.lines.specs.Layouts;
-ghost use Rattle.lines.specs.Paragraphs.{IsLookedUp};
+ghost use Rattle.lines.specs.Paragraphs.{HasEnds, IsLookedUp};
 ghost use Rattle.lines.specs.Parts.{line_of};
-ghost use Rattle.lines.specs.Visual.{lines_from};
+ghost use Rattle.lines.specs.Showing.{lines_shown};
 ghost use Rattle.lines.specs.declared.char_info.CharInfo.{CharInfo};
 ghost use Rattle.lines.specs.declared.engine.TheConstants.{PARAGRAPH_LIMIT};
 
@@ -113,16 +113,15 @@ impl Fill {
         written: &mut Count,
     )
         requires text { IsLookedUp text.now }
+        requires ends { HasEnds text.now }
         requires len { self.old.len ≡ length text.now.characters.now }
         requires limit { length text.now.characters.now ≤ PARAGRAPH_LIMIT }
         requires levels { length levels.now ≡ length text.now.characters.now }
         requires starts { AreStarts (length text.now.characters.now) extents.old.starts }
-        requires shown { (infos : List CharInfo) × (extents.old.shown
-            ≡ shown_from (length text.now.characters.now) infos extents.old.starts) }
-        ensures lines { (infos : List CharInfo)
-            → extents.old.shown ≡ shown_from (length text.now.characters.now) infos extents.old.starts
-            → self.new.lines ≡ lines_from text.now.rules.tables.now text.now.rules.options text.now.base
-            text.now.characters.now levels.now infos extents.old.starts }
+        requires shown { (margin : Option ℕ) × (infos : List CharInfo) × (extents.old.shown
+            ≡ shown_from margin (length text.now.characters.now) infos extents.old.starts) }
+        ensures lines { self.new.lines ≡ lines_shown text.now.rules.tables.now text.now.rules.options
+            text.now.base text.now.characters.now levels.now extents.old.starts extents.old.shown }
         ensures len { self.new.len ≡ length text.now.characters.now }
         ensures within { Layouts.AreWithin (length text.now.characters.now) self.new.lines }
         ensures extents { extents.new ≡ extents_in self.old.lines }

@@ -204,7 +204,7 @@ impl Sums {
         ensures most { result.columns ≤ self.columns + 255 }
     {
         let columns = self.columns + info.columns as usize;
-        if info.is_trailing {
+        if info.trailing.may_trail() {
             Sums {
                 columns,
                 shown: self.shown,

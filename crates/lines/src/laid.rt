@@ -1,9 +1,10 @@
 //! The layout of a paragraph.
-ghost use Rattle.std.specs.Prelude.{◌≡◌, ◌<◌, ◌≤◌, ℕ, length, map, option_map, slice_get};
-ghost use Rattle.std.specs.Prelude.{IfErr, IfOk, IsTrue, OnErr, OnOk};
+ghost use Rattle.std.specs.Prelude.{◌≡◌, ◌<◌, ◌≤◌, ℕ, false, length, map, option_map, slice_get};
+ghost use Rattle.std.specs.Prelude.{IfErr, IfOk, OnErr, OnOk};
 ghost use Rattle.device.specs.Device.{StoppedAt, Wrote};
 
 use crate::bytes::WriteFault;
+use crate::char_info::CharInfo;
 use crate::counts::Count;
 use crate::extents::Extents;
 use crate::fill::Fill;
@@ -17,13 +18,15 @@ use device::Sink;
 use std::marker::Model;
 use ucd::{Properties, Tables};
 
-/// The layout of a paragraph: its text, base level, levels, break marks and lines.
+/// The layout of a paragraph: its text, base level, levels, break marks and lines. If its lines are ordered
+/// by clusters, also where these end.
 #[derive(Debug)]
 pub struct Laid {
     pub(crate) text: Vec<char>,
     pub(crate) base: u8,
     pub(crate) levels: Vec<u8>,
     pub(crate) marks: Vec<Mark>,
+    pub(crate) ends: Vec<bool>,
     pub(crate) lines: Fill,
 }
 
@@ -34,6 +37,7 @@ impl Drop for Laid {
             base: _,
             levels: _,
             marks: _,
+            ends: _,
             lines: _,
         } = self;
     }
@@ -50,6 +54,7 @@ impl Model for Laid {
       base = l.base;
       levels = l.levels.items;
       marks = l.marks.items;
+      ends = l.ends.items;
       lines = l.lines.lines;
     } };
 
@@ -61,7 +66,8 @@ impl Model for Laid {
 impl Laid {
     ghost use Rattle.lines.specs.Engine.{counted};
     ghost use Rattle.lines.specs.Extents.{extents_in, extents_of, reflowed};
-    ghost use Rattle.lines.specs.Layouts.{is_line_within, lines_of, start_of, visuals};
+    ghost use Rattle.std.specs.Option.{option_map_or};
+    ghost use Rattle.lines.specs.Layouts.{hides_space_within, is_line_within, start_of, visuals};
     ghost use Rattle.lines.specs.Layouts.{AreLinesOf, Exchanges, IsLaidOut, Rules};
     ghost use Rattle.lines.specs.Pages.{layout_bytes};
     ghost use Rattle.lines.specs.Visual.{visual_of};
@@ -96,6 +102,13 @@ impl Laid {
         &self.marks
     }
 
+    /// Returns whether a grapheme cluster ends after each character, if lines are ordered by clusters.
+    pub(crate) fn ends(&self) -> &[bool]
+        ensures { result.now ≡ self.now.ends }
+    {
+        &self.ends
+    }
+
     /// Returns where each line starts, in characters from the start of the paragraph.
     pub fn line_starts(&self) -> &[u32]
         ensures { result.now ≡ map start_of self.now.lines }
@@ -110,16 +123,28 @@ impl Laid {
         self.lines.starts().len()
     }
 
-    /// Returns whether the paragraph has exactly one line, at most `width` columns wide. If so, its lines at
-    /// that width are the same.
-    pub fn keeps_lines(&self, width: u16) -> bool
-        ensures value { result ≡ is_line_within width self.now.lines }
-        ensures lines { IsTrue result → (rules : Rules) → IsLaidOut rules self.now
-            → lines_of rules width self.now.text ≡ self.now.lines }
+    // Returns whether the paragraph has exactly one line, at most `width` columns wide.
+    pub(crate) fn is_line_within(&self, width: u16) -> bool
+        ensures { result ≡ is_line_within width self.now.lines }
     {
-        // By this theorem, a line of the whole paragraph may end after the last character.
-        paragraphs_end_at_must();
         self.lines.is_line_within(width)
+    }
+
+    // Returns whether the first character that the first line does not show is a space that fits the width,
+    // too.
+    pub(crate) fn hides_space_within(&self, tables: &Tables, width: u16) -> bool
+        ensures { result ≡ option_map_or (hides_space_within tables.now width self.now.text)
+            (slice_get self.now.lines 0) false }
+    {
+        let Some(line) = self.lines.part(0) else {
+            return false;
+        };
+        let shown = line.levels.len();
+        if shown >= self.text.len() {
+            return false;
+        }
+        let c = self.text[shown];
+        CharInfo::of(tables.properties(c), c, Mark::Never).is_space_within(line.columns, width)
     }
 
     /// Returns line `n`, or `None` past the last line.
@@ -197,6 +222,7 @@ impl Laid {
             rules: LentRules { tables, options },
             characters: text,
             properties,
+            ends: &self.ends,
             base: self.base,
         };
         self.lines.reflow(&text, &self.levels, extents, written);

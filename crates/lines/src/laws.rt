@@ -1,12 +1,15 @@
 //! Theorems about all layouts.
-ghost use Rattle.std.specs.Prelude.{◌≡◌, ◌≤◌, ℕ, List, length, sum_by, All};
+ghost use Rattle.std.specs.Prelude.{◌≡◌, ◌≤◌, ℕ, false, true, List, length, map, slice_get, slice_index};
+ghost use Rattle.std.specs.Prelude.{sum_by, All, Some};
 ghost use Rattle.std.specs.List.{flat_map};
 ghost use Rattle.reorder.specs.Runs.{runs_of};
 ghost use Rattle.lines.specs.Bytes.{line_bytes};
+ghost use Rattle.lines.specs.Clusters.{cluster_ends};
 ghost use Rattle.lines.specs.Columns.{run_columns};
-ghost use Rattle.lines.specs.Layouts.{Layout, Rules, layout_of, lines_of, visuals};
-ghost use Rattle.lines.specs.Ordered.{IsOrdered, MarksStay, RunsAdjoin};
+ghost use Rattle.lines.specs.Layouts.{Layout, Rules, layout_of, lines_of, start_of, visuals};
+ghost use Rattle.lines.specs.Ordered.{ClustersAdjoin, IsOrdered, MarksStay, RunsAdjoin};
 ghost use Rattle.lines.specs.Pages.{layout_bytes};
+ghost use Rattle.lines.specs.Visual.{Visual};
 ghost use Rattle.lines.specs.declared.print.Print.{Print};
 
 use breaks::paragraphs_end_at_must;
@@ -51,9 +54,21 @@ pub fn lines_are_ordered()
         → All IsOrdered (visuals (layout_of rules width text)) }
 {}
 
-/// States, as a theorem, that the characters of a level run are next to each other, at any width. The rules
-/// must leave marks in place, or marks must take no columns. Costs nothing at run time.
+/// States, as a theorem, that the characters of a level run are next to each other, at any width, without
+/// `reorder_clusters`. The rules must leave marks in place, or marks must take no columns. Costs nothing at
+/// run time.
 pub fn runs_adjoin()
-    ensures { (rules : Rules) (width : ℕ) (text : List ℕ) → MarksStay rules text
+    ensures { (rules : Rules) (width : ℕ) (text : List ℕ)
+        → rules.options.reorder_clusters ≡ false → MarksStay rules text
         → All RunsAdjoin (visuals (layout_of rules width text)) }
+{}
+
+/// States, as a theorem, that with `reorder_clusters` the characters of a cluster that are in one level run
+/// are next to each other from left to right, at any width. So are those of a level run at an even level.
+/// Costs nothing at run time.
+pub fn clusters_adjoin()
+    ensures { (rules : Rules) (width : ℕ) (text : List ℕ) → rules.options.reorder_clusters ≡ true
+        → (n : ℕ) (line : Visual) → slice_get (visuals (layout_of rules width text)) n ≡ Some line
+        → ClustersAdjoin line (cluster_ends text)
+        (slice_index (map start_of (lines_of rules width text)) n) }
 {}

@@ -6,7 +6,7 @@ ghost use Rattle.lines.specs.CharInfos.{infos_of};
 ghost use Rattle.lines.specs.Clusters.{cluster_ends};
 ghost use Rattle.lines.specs.Engine.{counted, RisesBy};
 ghost use Rattle.lines.specs.Layouts.{AreWithin, lines_of};
-ghost use Rattle.lines.specs.Paragraphs.{IsLookedUp, IsPrepared, lines_at, rules_in};
+ghost use Rattle.lines.specs.Paragraphs.{HasEnds, IsLookedUp, IsPrepared, lines_at, rules_in};
 ghost use Rattle.lines.specs.declared.engine.TheConstants.{PARAGRAPH_LIMIT};
 
 use crate::buffers::{LayoutBuffers, LineBuffers};
@@ -15,7 +15,7 @@ use crate::counts::{Count, Counted, Counts};
 use crate::filling::line_starts;
 use crate::paragraph::{LentRules, Paragraph, Text};
 use crate::showing::show_lines;
-use crate::workspace::{Workspace, fill_marks};
+use crate::workspace::{Workspace, fill_ends, fill_marks};
 use std::alloc::{AllocError, Global};
 
 impl Workspace {
@@ -43,6 +43,8 @@ impl Workspace {
             (kept.new.levels.items ≡ (layout_of (rules_in rules.now) width text.now).levels) }
         ensures marks { OnOk result
             (kept.new.marks.items ≡ (layout_of (rules_in rules.now) width text.now).marks) }
+        ensures ends { OnOk result
+            (kept.new.ends.items ≡ (layout_of (rules_in rules.now) width text.now).ends) }
         ensures lines { OnOk result
             (held_lines kept.new.lines ≡ (layout_of (rules_in rules.now) width text.now).lines) }
         ensures len { OnOk result (length kept.new.levels.items ≡ length text.now) }
@@ -58,10 +60,12 @@ impl Workspace {
         let filled = counts.take_filled(text.len());
         let analysis = &mut self.analysis;
         let base = analysis.resolve(rules, text, &mut kept.levels, &mut counts.analysed)?;
+        fill_ends(alloc, rules.options, text, &mut kept.ends)?;
         let text = Text {
             rules: *rules,
             characters: text,
             properties: analysis.properties.as_slice(),
+            ends: &kept.ends,
             base,
         };
         fill_marks(&text, &mut kept.marks)?;
@@ -117,6 +121,7 @@ fn fill_lines_by(
 ) -> Result<(), AllocError>
     requires counted { filled ≡ length paragraph.now.text.characters.now }
     requires text { IsLookedUp paragraph.now.text }
+    requires ends { HasEnds paragraph.now.text }
     requires infos { with_ends infos.old (cluster_ends paragraph.now.text.characters.now)
         ≡ infos_of paragraph.now.text.rules.tables.now
         paragraph.now.text.rules.options.whole_numbers paragraph.now.text.characters.now }
@@ -145,5 +150,5 @@ fn fill_lines_by(
         &mut lines.starts,
         filled,
     )?;
-    show_lines(paragraph, infos, lines, written)
+    show_lines(paragraph, infos, width, lines, written)
 }

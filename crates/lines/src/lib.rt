@@ -54,14 +54,14 @@ mod workspace;
 mod writing;
 
 pub use bytes::{WriteFault, write_chars};
-pub use clusters::{cluster_begin, cluster_end};
+pub use clusters::{cluster_begin, cluster_end, cluster_ends};
 pub use engine::{Engine, PARAGRAPH_LIMIT};
 pub use extents::Extents;
 pub use fill::Fill;
 pub use laid::Laid;
 pub use laws::{
-    lines_are_few, lines_are_ordered, lines_have_all_characters, paragraphs_print_their_lines,
-    runs_adjoin, runs_have_all_columns,
+    clusters_adjoin, lines_are_few, lines_are_ordered, lines_have_all_characters,
+    paragraphs_print_their_lines, runs_adjoin, runs_have_all_columns,
 };
 pub use options::Options;
 pub use print::{Print, PrintFault};

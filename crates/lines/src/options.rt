@@ -16,12 +16,24 @@ pub struct Options {
     pub reordernsm: bool,
     /// Whether no line ends inside a number (replaces UAX #14, LB25).
     pub whole_numbers: bool,
+    /// Whether the characters of a grapheme cluster that are shown at one odd level, one after another, are
+    /// in logical order instead of reversed. `reordernsm` then has no effect.
+    pub reorder_clusters: bool,
+    /// Whether spaces at the end of a line are shown, as far as they fit in the width.
+    pub show_spaces: bool,
 }
 
 impl Default for Options {
     // The options that a command without arguments uses.
     ghost is_default = { λ options. options
-        ≡ record { base = WeakLtr; nobreak = false; reordernsm = false; whole_numbers = false } };
+        ≡ record {
+          base = WeakLtr;
+          nobreak = false;
+          reordernsm = false;
+          whole_numbers = false;
+          reorder_clusters = false;
+          show_spaces = false;
+        } };
 
     fn default() -> Options {
         Options {
@@ -29,6 +41,20 @@ impl Default for Options {
             nobreak: false,
             reordernsm: false,
             whole_numbers: false,
+            reorder_clusters: false,
+            show_spaces: false,
         }
+    }
+}
+
+impl Options {
+    ghost use Rattle.lines.specs.ShownParts.{margin_of};
+
+    // Returns the margin up to which spaces at the end of a line are shown, in columns, or `None` if they are
+    // hidden.
+    pub(crate) fn margin(self, width: u16) -> Option<u16>
+        ensures { result ≡ margin_of self width }
+    {
+        if self.show_spaces { Some(width) } else { None }
     }
 }

@@ -11,12 +11,14 @@ pub(crate) struct LentRules<'a> {
     pub(crate) options: Options,
 }
 
-/// The characters of a paragraph or of a line, with their properties and the base level.
+/// The characters of a paragraph or of a line, with their properties and the base level. If lines are ordered
+/// by clusters, `ends` says whether a grapheme cluster ends after each character. Otherwise it is empty.
 #[derive(Clone, Copy)]
 pub(crate) struct Text<'a> {
     pub(crate) rules: LentRules<'a>,
     pub(crate) characters: &'a [char],
     pub(crate) properties: &'a [Properties],
+    pub(crate) ends: &'a [bool],
     pub(crate) base: u8,
 }
 

@@ -16,7 +16,7 @@ use crate::extents::fill_spans_by;
 use crate::paragraph::{LentExtents, LentRules, Paragraph, Text};
 use crate::print::PrintFault;
 use crate::whole::{is_whole, write_whole};
-use crate::workspace::{Workspace, fill_marks};
+use crate::workspace::{Workspace, fill_ends, fill_marks};
 use crate::writing::{Form, write_each};
 use device::Sink;
 use std::alloc::{AllocError, Global};
@@ -61,10 +61,14 @@ impl Workspace {
         else {
             return Err(PrintFault::Memory);
         };
+        let Ok(()) = fill_ends(alloc, rules.options, text, &mut self.printed.ends) else {
+            return Err(PrintFault::Memory);
+        };
         let text = Text {
             rules: *rules,
             characters: text,
             properties: self.analysis.properties.as_slice(),
+            ends: &self.printed.ends,
             base,
         };
         let written = &mut counts.written;
@@ -88,19 +92,25 @@ impl Workspace {
     }
 }
 
-// Returns whether a nonempty paragraph is one line because `nobreak` is set, and its characters are not
-// printed.
+// Returns whether a nonempty paragraph is one line because `nobreak` is set, its shown part does not depend
+// on columns, and its characters are not printed.
 fn is_one_line(form: &Form<'_>, text: &Text<'_>) -> bool
     requires { IsLookedUp text.now }
     ensures nobreak { result ≡ true → text.now.rules.options.nobreak ≡ true }
+    ensures hidden { result ≡ true → text.now.rules.options.show_spaces ≡ false }
     ensures unseen { result ≡ true → form.now.print.now.novisual ≡ true }
     ensures some { result ≡ true → 0 < length text.now.characters.now }
     ensures whole { result ≡ true → IsWhole text.now.rules.tables.now text.now.characters.now }
-    ensures no { result ≡ false → text.now.rules.options.nobreak ≡ true → form.now.print.now.novisual ≡ true
+    ensures no { result ≡ false → text.now.rules.options.nobreak ≡ true
+        → text.now.rules.options.show_spaces ≡ false → form.now.print.now.novisual ≡ true
         → 0 < length text.now.characters.now
         → ¬ (IsWhole text.now.rules.tables.now text.now.characters.now) }
 {
-    if !text.rules.options.nobreak || !form.print.novisual || text.characters.is_empty() {
+    let options = text.rules.options;
+    if !options.nobreak || options.show_spaces {
+        return false;
+    }
+    if !form.print.novisual || text.characters.is_empty() {
         return false;
     }
     is_whole(text)
@@ -121,6 +131,7 @@ fn write_one_line<W: Sink>(
     requires some { 0 < length text.now.characters.now }
     requires whole { IsWhole text.now.rules.tables.now text.now.characters.now }
     requires nobreak { text.now.rules.options.nobreak ≡ true }
+    requires hidden { text.now.rules.options.show_spaces ≡ false }
     requires unseen { form.now.print.now.novisual ≡ true }
     ensures ok { OnOk result (Wrote (paragraph_bytes (rules_in text.now.rules)
         form.now.width form.now.print.now text.now.characters.now)
@@ -167,8 +178,8 @@ fn fill_spans(
     let text = &paragraph.text;
     fill_infos(text, paragraph.marks, infos)?;
     lines.visual.grow_to(text.characters.len())?;
-    let nobreak = text.rules.options.nobreak;
-    fill_spans_by(alloc, text.characters, infos, width, nobreak, lines, filled)
+    let options = text.rules.options;
+    fill_spans_by(alloc, text.characters, infos, width, options, lines, filled)
 }
 
 // Writes the lines of a paragraph, whose starts and shown parts are in `lines`.

@@ -4,6 +4,7 @@ ghost use Rattle.lines.specs.Bare.{with_ends};
 ghost use Rattle.lines.specs.Clusters.{cluster_ends};
 ghost use Rattle.lines.specs.Extents.{shown_from};
 ghost use Rattle.lines.specs.Filling.{line_starts_of};
+ghost use Rattle.lines.specs.ShownParts.{margin_of};
 ghost use Rattle.lines.specs.declared.engine.TheConstants.{PARAGRAPH_LIMIT};
 
 use crate::buffers::LineBuffers;
@@ -13,6 +14,7 @@ use crate::extents::{Extents, fill_spans_by};
 use crate::fill::Fill;
 use crate::laid::Laid;
 use crate::layout::fill_lines;
+use crate::options::Options;
 use crate::paragraph::{LentRules, Paragraph, Text};
 use crate::properties::fill_properties;
 use crate::workspace::Workspace;
@@ -98,11 +100,12 @@ impl Workspace {
             rules: *rules,
             characters: text,
             properties: properties.as_slice(),
+            ends: &[],
             base: laid.base(),
         };
         let infos = &mut self.infos;
         fill_infos(&known, laid.marks(), infos)?;
-        extents_by(alloc, text, infos, width, rules.options.nobreak, filled)
+        extents_by(alloc, text, infos, width, rules.options, filled)
     }
 
     /// Finds the lines of a laid-out paragraph at another width.
@@ -131,6 +134,7 @@ impl Workspace {
                 rules: *rules,
                 characters: text,
                 properties: properties.as_slice(),
+                ends: laid.ends(),
                 base: laid.base(),
             },
             levels: laid.levels(),
@@ -150,19 +154,20 @@ fn extents_by(
     text: &[char],
     infos: &mut [CharInfo],
     width: u16,
-    nobreak: bool,
+    options: Options,
     filled: Counted,
 ) -> Result<Extents, AllocError>
     requires counted { filled ≡ length text.now }
     requires len { length infos.old ≡ length text.now }
     requires within { length text.now ≤ PARAGRAPH_LIMIT }
     ensures starts { IfOk result (λ extents. extents.starts
-        ≡ line_starts_of nobreak width (with_ends infos.old (cluster_ends text.now))) }
+        ≡ line_starts_of options.nobreak width (with_ends infos.old (cluster_ends text.now))) }
     ensures shown { IfOk result (λ extents. extents.shown
-        ≡ shown_from (length text.now) (with_ends infos.old (cluster_ends text.now)) extents.starts) }
+        ≡ shown_from (margin_of options width) (length text.now)
+        (with_ends infos.old (cluster_ends text.now)) extents.starts) }
 {
     let mut lines = LineBuffers::new(alloc);
-    fill_spans_by(alloc, text, infos, width, nobreak, &mut lines, filled)?;
+    fill_spans_by(alloc, text, infos, width, options, &mut lines, filled)?;
     Ok(Extents {
         starts: lines.starts,
         shown: lines.shown,

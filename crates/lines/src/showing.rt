@@ -1,22 +1,24 @@
 //! The visual lines of a paragraph: the levels of each line after L1, and its shown part in visual order (L2,
 //! L3), mirrored (L4).
-ghost use Rattle.std.specs.Prelude.{◌≡◌, ◌-◌, ◌<◌, ◌≤◌, ℕ, List, true, false, OnErr, OnOk};
+ghost use Rattle.std.specs.Prelude.{◌≡◌, ◌*◌, ◌<◌, ◌≤◌, ℕ, List, Option, Some, true, false, OnErr, OnOk};
 ghost use Rattle.std.specs.Prelude.{length, map, take, slice_index};
-ghost use Rattle.std.specs.List.{range_with_len, suffix_len};
+ghost use Rattle.std.specs.List.{range_with_len, slice_range};
 ghost use Rattle.ucd.specs.Properties.{properties_of};
 ghost use Rattle.ucd.specs.Classes.{class_in};
 ghost use Rattle.reorder.specs.Spaces.{line_levels};
 ghost use Rattle.ucd.specs.Within.{AreWithin};
 ghost use Rattle.lines.specs.Engine.{counted, RisesBy};
 ghost use Rattle.lines.specs.Extents.{shown_from};
-ghost use Rattle.lines.specs.Filling.{columns, shown};
+ghost use Rattle.lines.specs.Filling.{before_tail, columns, text_len};
 ghost use Rattle.lines.specs.Kept.{AreStarts};
 ghost use Rattle.lines.specs.Layouts;
 ghost use Rattle.lines.specs.Buffers.{held_lines, AreSound};
 ghost use Rattle.reorder.specs.Mirroring.{visual_chars};
-ghost use Rattle.reorder.specs.Order.{is_odd, ltov_of, vtol_of};
-ghost use Rattle.lines.specs.Paragraphs.{IsLookedUp};
+ghost use Rattle.reorder.specs.Order.{is_odd};
+ghost use Rattle.lines.specs.Paragraphs.{HasEnds, IsLookedUp};
+ghost use Rattle.lines.specs.Reordering.{ltov_by, reorders, vtol_by};
 ghost use Rattle.lines.specs.Showing.{AreShown, IsShown};
+ghost use Rattle.lines.specs.ShownParts.{margin_of, shown};
 ghost use Rattle.lines.specs.Visual.{end_of, lines_from};
 ghost use Rattle.lines.specs.declared.char_info.CharInfo.{CharInfo};
 ghost use Rattle.lines.specs.declared.engine.TheConstants.{PARAGRAPH_LIMIT};
@@ -25,10 +27,12 @@ use crate::buffers::LineBuffers;
 use crate::char_info::CharInfo;
 use crate::counts::Count;
 use crate::fill::Shown;
+use crate::options::Options;
 use crate::paragraph::{LentExtents, Paragraph, Text};
 use crate::reserve::reserve;
 use reorder::{
-    identity, order_runs, reset_levels, visual_chars, visual_order, visual_places, visual_runs,
+    ClusterClasses, identity, order_runs, reset_levels, visual_chars, visual_order, visual_places,
+    visual_runs,
 };
 use std::alloc::AllocError;
 use ucd::{KnownClasses, Properties};
@@ -38,10 +42,12 @@ use ucd::{KnownClasses, Properties};
 pub(crate) fn show_lines(
     paragraph: &Paragraph<'_>,
     infos: &[CharInfo],
+    width: u16,
     lines: &mut LineBuffers,
     written: &mut Count,
 ) -> Result<(), AllocError>
     requires text { IsLookedUp paragraph.now.text }
+    requires ends { HasEnds paragraph.now.text }
     requires infos { length paragraph.now.text.characters.now ≡ length infos.now }
     requires limit { length paragraph.now.text.characters.now ≤ PARAGRAPH_LIMIT }
     requires levels { length paragraph.now.levels.now ≡ length paragraph.now.text.characters.now }
@@ -49,8 +55,8 @@ pub(crate) fn show_lines(
     ensures sound { OnOk result (AreSound lines.new) }
     ensures lines { OnOk result (held_lines lines.new
         ≡ lines_from paragraph.now.text.rules.tables.now paragraph.now.text.rules.options
-        paragraph.now.text.base paragraph.now.text.characters.now paragraph.now.levels.now infos.now
-        lines.old.starts.items) }
+        (margin_of paragraph.now.text.rules.options width) paragraph.now.text.base
+        paragraph.now.text.characters.now paragraph.now.levels.now infos.now lines.old.starts.items) }
     ensures within { OnOk result
         (Layouts.AreWithin (length paragraph.now.text.characters.now) (held_lines lines.new)) }
     ensures lines_len { OnOk result
@@ -61,7 +67,8 @@ pub(crate) fn show_lines(
     ensures at_most { RisesBy (length paragraph.now.text.characters.now) written.old written.new }
 {
     let len = paragraph.text.characters.len();
-    fill_shown(infos, &lines.starts, &mut lines.shown)?;
+    let margin = paragraph.text.rules.options.margin(width);
+    fill_shown(infos, margin, &lines.starts, &mut lines.shown)?;
     let visual = &mut lines.visual;
     copy(paragraph.levels, &mut visual.levels)?;
     make_numbers(&mut visual.ltov, len)?;
@@ -109,15 +116,18 @@ fn make_characters(list: &mut Vec<char>, len: usize) -> Result<(), AllocError>
     list.resize(len, '\0')
 }
 
-/// Replaces the contents of `shown` with how much of each line is shown.
+/// Replaces the contents of `shown` with how much of each line is shown: all but the tail, and the spaces of
+/// the tail that end within the margin.
 pub(crate) fn fill_shown(
     infos: &[CharInfo],
+    margin: Option<u16>,
     starts: &[u32],
     shown: &mut Vec<Shown>,
 ) -> Result<(), AllocError>
     requires len { length infos.now ≤ PARAGRAPH_LIMIT }
     requires starts { AreStarts (length infos.now) starts.now }
-    ensures { OnOk result (shown.new.items ≡ shown_from (length infos.now) infos.now starts.now) }
+    ensures { OnOk result (shown.new.items
+        ≡ shown_from margin (length infos.now) infos.now starts.now) }
 {
     shown.clear();
     reserve(shown, starts.len())?;
@@ -125,7 +135,7 @@ pub(crate) fn fill_shown(
     while k < starts.len() {
         let start = starts[k] as usize;
         let end = end_of(starts, k, infos.len());
-        shown.push(shown_of(&infos[start..end]))?;
+        shown.push(shown_of(&infos[start..end], margin))?;
         k += 1;
     }
     Ok(())
@@ -143,10 +153,11 @@ pub(crate) fn show_each(
     written: &mut Count,
 )
     requires text { IsLookedUp text.now }
+    requires ends { HasEnds text.now }
     requires limit { length text.now.characters.now ≤ PARAGRAPH_LIMIT }
     requires starts { AreStarts (length text.now.characters.now) spans.now.starts.now }
-    requires shown { (infos : List CharInfo) × (spans.now.shown.now
-        ≡ shown_from (length text.now.characters.now) infos spans.now.starts.now) }
+    requires shown { (margin : Option ℕ) × (infos : List CharInfo) × (spans.now.shown.now
+        ≡ shown_from margin (length text.now.characters.now) infos spans.now.starts.now) }
     requires levels { length levels.old ≡ length text.now.characters.now }
     requires ltov { length ltov.old ≡ length text.now.characters.now }
     requires vtol { length vtol.old ≡ length text.now.characters.now }
@@ -159,6 +170,7 @@ pub(crate) fn show_each(
 {
     let characters = text.characters;
     let properties = text.properties;
+    let ends = text.ends;
     let starts = spans.starts;
     let shown = spans.shown;
     written.raise(characters.len());
@@ -170,6 +182,7 @@ pub(crate) fn show_each(
             rules: text.rules,
             characters: &characters[start..end],
             properties: &properties[start..end],
+            ends: ends_between(ends, start, end),
             base: text.base,
         };
         show_line(
@@ -214,7 +227,7 @@ fn show_line(
     requires vtol { length vtol.old ≡ length line.now.characters.now }
     requires chars { length chars.old ≡ length line.now.characters.now }
     ensures { IsShown line.now.rules.tables.now line.now.rules.options line.now.base
-        line.now.characters.now levels.old shown levels.new ltov.new vtol.new chars.new }
+        line.now.ends.now line.now.characters.now levels.old shown levels.new ltov.new vtol.new chars.new }
 {
     let is_flat = reset_line(line.properties, line.base, levels);
     let n = shown.len as usize;
@@ -304,31 +317,81 @@ pub(crate) fn show_part(
     requires ltov { length ltov.old ≡ length levels.now }
     requires vtol { length vtol.old ≡ length levels.now }
     requires chars { length chars.old ≡ length levels.now }
-    ensures ltov { ltov.new ≡ ltov_of line.now.rules.options.reordernsm
-        (map class_in line.now.properties.now) levels.now }
-    ensures vtol { vtol.new ≡ vtol_of line.now.rules.options.reordernsm
-        (map class_in line.now.properties.now) levels.now }
+    ensures ltov { ltov.new ≡ ltov_by line.now.rules.options
+        (map class_in line.now.properties.now) line.now.ends.now levels.now }
+    ensures vtol { vtol.new ≡ vtol_by line.now.rules.options
+        (map class_in line.now.properties.now) line.now.ends.now levels.now }
     ensures chars { chars.new ≡ visual_chars line.now.rules.tables.now levels.now
         (take (length levels.now) line.now.characters.now)
-        (vtol_of line.now.rules.options.reordernsm (map class_in line.now.properties.now) levels.now) }
+        (vtol_by line.now.rules.options (map class_in line.now.properties.now) line.now.ends.now
+        levels.now) }
     ensures within { AreWithin (length levels.now) vtol.new }
 {
     let part = &line.characters[..levels.len()];
     if is_plain(levels, is_flat) {
         show_plain(part, ltov, vtol, chars);
     } else {
-        visual_order(
-            &KnownClasses {
-                properties: line.properties,
-            },
-            levels,
-            line.rules.options.reordernsm,
-            vtol,
-            ltov,
-        );
+        order_part(line, levels, vtol, ltov);
         let properties = &line.properties[..levels.len()];
         visual_chars(line.rules.tables, part, properties, levels, vtol, chars);
     }
+}
+
+// Writes the position maps of a line's shown part.
+fn order_part(line: &Text<'_>, levels: &[u8], vtol: &mut [u32], ltov: &mut [u32])
+    requires line { IsLookedUp line.now }
+    requires limit { length line.now.characters.now ≤ PARAGRAPH_LIMIT }
+    requires levels { length levels.now ≤ length line.now.characters.now }
+    requires vtol { length vtol.old ≡ length levels.now }
+    requires ltov { length ltov.old ≡ length levels.now }
+    ensures vtol { vtol.new ≡ vtol_by line.now.rules.options
+        (map class_in line.now.properties.now) line.now.ends.now levels.now }
+    ensures ltov { ltov.new ≡ ltov_by line.now.rules.options
+        (map class_in line.now.properties.now) line.now.ends.now levels.now }
+    ensures within { AreWithin (length levels.now) vtol.new }
+{
+    let (ends, properties) = (line.ends, line.properties);
+    if line.rules.options.reorder_clusters {
+        visual_order(&ClusterClasses { ends, levels }, levels, true, vtol, ltov);
+    } else {
+        let reordernsm = line.rules.options.reordernsm;
+        visual_order(&KnownClasses { properties }, levels, reordernsm, vtol, ltov);
+    }
+}
+
+// Writes the logical position of each visual position of a line's shown part, to which L3 is applied.
+fn place_part(line: &Text<'_>, levels: &[u8], places: &mut [u32])
+    requires line { IsLookedUp line.now }
+    requires limit { length line.now.characters.now ≤ PARAGRAPH_LIMIT }
+    requires reorders { reorders line.now.rules.options ≡ true }
+    requires levels { length levels.now ≤ length line.now.characters.now }
+    requires places { length places.old ≡ length levels.now }
+    ensures places { places.new ≡ vtol_by line.now.rules.options
+        (map class_in line.now.properties.now) line.now.ends.now levels.now }
+    ensures within { AreWithin (length levels.now) places.new }
+{
+    let (ends, properties) = (line.ends, line.properties);
+    if line.rules.options.reorder_clusters {
+        visual_places(&ClusterClasses { ends, levels }, levels, true, places);
+    } else {
+        visual_places(&KnownClasses { properties }, levels, true, places);
+    }
+}
+
+// Returns whether L3 is applied: to clusters, or else to marks.
+fn reorders(options: Options) -> bool
+    ensures { result ≡ reorders options }
+{
+    options.reorder_clusters || options.reordernsm
+}
+
+/// Returns what `ends` says of the characters from `start` up to `end`, or an empty list if `ends` is empty.
+pub(crate) fn ends_between(ends: &[bool], start: usize, end: usize) -> &[bool]
+    requires { start ≤ end }
+    ensures { result.now ≡ slice_range ends.now start end }
+{
+    let len = ends.len();
+    &ends[start.min(len)..end.min(len)]
 }
 
 /// Writes only the characters of a line's shown part, in visual order. `levels` are the levels of the shown
@@ -341,19 +404,13 @@ pub(crate) fn show_chars(line: &Text<'_>, levels: &[u8], places: &mut [u32], cha
     requires chars { length chars.old ≡ length levels.now }
     ensures { chars.new ≡ visual_chars line.now.rules.tables.now levels.now
         (take (length levels.now) line.now.characters.now)
-        (vtol_of line.now.rules.options.reordernsm (map class_in line.now.properties.now) levels.now) }
+        (vtol_by line.now.rules.options (map class_in line.now.properties.now) line.now.ends.now
+        levels.now) }
 {
     let part = &line.characters[..levels.len()];
     let properties = &line.properties[..levels.len()];
-    if line.rules.options.reordernsm {
-        visual_places(
-            &KnownClasses {
-                properties: line.properties,
-            },
-            levels,
-            true,
-            places,
-        );
+    if reorders(line.rules.options) {
+        place_part(line, levels, places);
         visual_chars(line.rules.tables, part, properties, levels, places, chars);
         return;
     }
@@ -366,26 +423,53 @@ pub(crate) fn show_chars(line: &Text<'_>, levels: &[u8], places: &mut [u32], cha
     }
 }
 
-// Returns how much of a line is shown: all but its tail.
-fn shown_of(line: &[CharInfo]) -> Shown
+// Returns how much of a line is shown, with the spaces of its tail up to the margin.
+fn shown_of(line: &[CharInfo], margin: Option<u16>) -> Shown
     requires { length line.now ≤ PARAGRAPH_LIMIT }
-    ensures len { result.len ≡ length (shown line.now) }
-    ensures columns { result.columns ≡ columns (shown line.now) }
+    ensures len { result.len ≡ length (shown margin line.now) }
+    ensures columns { result.columns ≡ columns (shown margin line.now) }
     ensures within { result.len ≤ length line.now }
 {
-    let len = shown_len(line);
-    Shown {
+    let len = text_len(line);
+    let text = Shown {
         len: len as u32,
         columns: columns(&line[..len]),
+    };
+    match margin {
+        Some(margin) => with_spaces(line, text, margin),
+        None => text,
+    }
+}
+
+// Adds to the characters before the tail the spaces that follow them, as many as end within the margin.
+fn with_spaces(line: &[CharInfo], text: Shown, margin: u16) -> Shown
+    requires limit { length line.now ≤ PARAGRAPH_LIMIT }
+    requires len { text.len ≡ text_len line.now }
+    requires columns { text.columns ≡ columns (before_tail line.now) }
+    requires few { text.columns ≤ 255 * text.len }
+    ensures len { result.len ≡ length (shown (Some margin) line.now) }
+    ensures columns { result.columns ≡ columns (shown (Some margin) line.now) }
+    ensures within { result.len ≤ length line.now }
+{
+    let mut len = text.len as usize;
+    let mut columns = text.columns;
+    while len < line.len() && line[len].is_space_within(columns, margin) {
+        columns += u32::from(line[len].columns);
+        len += 1;
+    }
+    Shown {
+        len: len as u32,
+        columns,
     }
 }
 
 // Returns the number of characters before the tail.
-fn shown_len(line: &[CharInfo]) -> usize
-    ensures { result ≡ length line.now - suffix_len (λ p. p.is_trailing) line.now }
+fn text_len(line: &[CharInfo]) -> usize
+    ensures len { result ≡ text_len line.now }
+    ensures within { result ≤ length line.now }
 {
     let mut len = line.len();
-    while len > 0 && line[len - 1].is_trailing {
+    while len > 0 && line[len - 1].trailing.may_trail() {
         len -= 1;
     }
     len
@@ -394,7 +478,8 @@ fn shown_len(line: &[CharInfo]) -> usize
 // Returns the width of a part of a line in columns.
 fn columns(piece: &[CharInfo]) -> u32
     requires { length piece.now ≤ PARAGRAPH_LIMIT }
-    ensures { result ≡ columns piece.now }
+    ensures sum { result ≡ columns piece.now }
+    ensures most { result ≤ 255 * length piece.now }
 {
     let mut columns = 0;
     for info in piece {

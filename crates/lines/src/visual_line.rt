@@ -187,8 +187,8 @@ impl<'a> VisualLine<'a> {
     }
 
     /// Returns the level runs of the shown part, from left to right: the longest ranges of characters at one
-    /// level after L1, in L2's order. They do not depend on the option `reordernsm`, since L3 moves marks
-    /// only inside runs. Costs as `reorder::level_runs`. Allocates nothing.
+    /// level after L1, in L2's order. They do not depend on `reordernsm` and `reorder_clusters`, since L3
+    /// moves characters only inside runs. Costs as `reorder::level_runs`. Allocates nothing.
     pub fn runs(&self) -> Runs<'a>
         ensures runs { result ≡ runs_of self.now.levels }
         ensures are { AreRuns self.now.levels result }

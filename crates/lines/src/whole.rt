@@ -1,19 +1,19 @@
 //! A fast path for paragraphs without a mandatory break before their end, used if lines end only at mandatory
-//! breaks and no characters are printed. Such a paragraph is one line. Neither its break marks nor its
-//! columns are computed.
+//! breaks, no spaces at the end of lines are shown, and no characters are printed. Such a paragraph is one
+//! line. Neither its break marks nor its columns are computed.
 ghost use Rattle.std.specs.Prelude.{◌≡◌, ◌<◌, ◌≤◌, Bool, true, false, length, IfOk, IfErr};
 ghost use Rattle.breaks.specs.Bases.{resolved};
 ghost use Rattle.lines.specs.Buffers.{CanHold};
 ghost use Rattle.lines.specs.Engine.{counted};
 ghost use Rattle.lines.specs.Pages.{lines_bytes};
-ghost use Rattle.lines.specs.Paragraphs.{IsLookedUp, lines_at};
+ghost use Rattle.lines.specs.Paragraphs.{HasEnds, IsLookedUp, lines_at};
 ghost use Rattle.lines.specs.Whole.{ends_line, IsShownLen, IsWhole};
 ghost use Rattle.lines.specs.Writing.{PassedOn, StoppedIn};
 ghost use Rattle.lines.specs.declared.engine.TheConstants.{PARAGRAPH_LIMIT};
 
 use crate::buffers::VisualBuffers;
 use crate::bytes::WriteFault;
-use crate::char_info::is_trailing;
+use crate::char_info::trailing_of;
 use crate::counts::{Count, Counted};
 use crate::fill::Shown;
 use crate::paragraph::{LogicalLine, Text};
@@ -60,7 +60,7 @@ fn shown_len(text: &Text<'_>) -> usize
 {
     let properties = text.properties;
     let mut len = properties.len();
-    while len > 0 && is_trailing(properties[len - 1].line_class()) {
+    while len > 0 && trailing_of(properties[len - 1].line_class()).may_trail() {
         len -= 1;
     }
     len
@@ -79,10 +79,12 @@ pub(crate) fn write_whole<W: Sink>(
 ) -> Result<u64, WriteFault>
     requires counted { _filled ≡ length text.now.characters.now }
     requires text { IsLookedUp text.now }
+    requires ends { HasEnds text.now }
     requires limit { length text.now.characters.now ≤ PARAGRAPH_LIMIT }
     requires some { 0 < length text.now.characters.now }
     requires whole { IsWhole text.now.rules.tables.now text.now.characters.now }
     requires nobreak { text.now.rules.options.nobreak ≡ true }
+    requires hidden { text.now.rules.options.show_spaces ≡ false }
     requires unseen { form.now.print.now.novisual ≡ true }
     requires levels { length levels.now ≡ length text.now.characters.now }
     requires visual { CanHold (length text.now.characters.now) visual.old }

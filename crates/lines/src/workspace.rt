@@ -6,10 +6,13 @@ ghost use Rattle.breaks.specs.Marks.{marks_of};
 ghost use Rattle.lines.specs.Engine.{counted};
 ghost use Rattle.lines.specs.Layouts.{base_of};
 ghost use Rattle.lines.specs.Paragraphs.{IsLookedUp, rules_in};
+ghost use Rattle.lines.specs.Reordering.{ends_by};
 
 use crate::buffers::LayoutBuffers;
 use crate::char_info::CharInfo;
+use crate::clusters::cluster_ends;
 use crate::counts::Count;
+use crate::options::Options;
 use crate::paragraph::{LentRules, Text};
 use crate::properties::fill_properties;
 use crate::reserve::reserve;
@@ -94,6 +97,23 @@ impl Analysis {
         self.resolver
             .resolve(rules.tables, text, &self.properties, base, levels)
     }
+}
+
+/// Replaces `ends` with where the grapheme clusters of a paragraph end, if its lines are ordered by clusters,
+/// or else with an empty list.
+pub(crate) fn fill_ends(
+    alloc: Global,
+    options: Options,
+    text: &[char],
+    ends: &mut Vec<bool>,
+) -> Result<(), AllocError>
+    ensures { OnOk result (ends.new.items ≡ ends_by options text.now) }
+{
+    ends.clear();
+    if options.reorder_clusters {
+        *ends = cluster_ends(alloc, text)?;
+    }
+    Ok(())
 }
 
 /// Replaces the contents of `marks` with the break marks of a paragraph.

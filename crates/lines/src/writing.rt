@@ -1,6 +1,7 @@
 //! Writes the lines of a paragraph one after another without keeping them. Computes only the parts of a line
 //! that are printed.
-ghost use Rattle.std.specs.Prelude.{◌≡◌, ◌≤◌, ℕ, List, true, false, length, slice_index, take, IfOk, IfErr};
+ghost use Rattle.std.specs.Prelude.{◌≡◌, ◌≤◌, ℕ, List, Option, true, false, length, slice_index, take};
+ghost use Rattle.std.specs.Prelude.{IfOk, IfErr};
 ghost use Rattle.ucd.specs.Within.{AreWithin};
 ghost use Rattle.lines.specs.Asked.{asks_places};
 ghost use Rattle.lines.specs.Buffers.{CanHold, SameLengths};
@@ -9,7 +10,8 @@ ghost use Rattle.lines.specs.Engine.{counted};
 ghost use Rattle.lines.specs.Extents.{shown_from};
 ghost use Rattle.lines.specs.Kept.{AreStarts};
 ghost use Rattle.lines.specs.Pages.{lines_bytes};
-ghost use Rattle.lines.specs.Paragraphs.{IsLookedUp, held_line, shown_by, shown_levels, shown_of};
+ghost use Rattle.lines.specs.Paragraphs.{HasEnds, IsLookedUp, held_line, shown_by, shown_levels};
+ghost use Rattle.lines.specs.Paragraphs.{shown_of};
 ghost use Rattle.lines.specs.Showing.{lines_shown};
 ghost use Rattle.lines.specs.Writing.{PassedOn, StoppedIn};
 ghost use Rattle.lines.specs.declared.char_info.CharInfo.{CharInfo};
@@ -20,7 +22,7 @@ use crate::bytes::WriteFault;
 use crate::counts::Count;
 use crate::paragraph::{LentExtents, LogicalLine, Text};
 use crate::print::Print;
-use crate::showing::{end_of, is_plain, reset_line, show_chars, show_part};
+use crate::showing::{end_of, ends_between, is_plain, reset_line, show_chars, show_part};
 use crate::visual_line::VisualLine;
 use device::Sink;
 
@@ -43,10 +45,11 @@ pub(crate) fn write_each<W: Sink>(
     count: &mut Count,
 ) -> Result<u64, WriteFault>
     requires text { IsLookedUp text.now }
+    requires ends { HasEnds text.now }
     requires limit { length text.now.characters.now ≤ PARAGRAPH_LIMIT }
     requires starts { AreStarts (length text.now.characters.now) spans.now.starts.now }
-    requires shown { (infos : List CharInfo) × (spans.now.shown.now
-        ≡ shown_from (length text.now.characters.now) infos spans.now.starts.now) }
+    requires shown { (margin : Option ℕ) × (infos : List CharInfo) × (spans.now.shown.now
+        ≡ shown_from margin (length text.now.characters.now) infos spans.now.starts.now) }
     requires levels { length levels.now ≡ length text.now.characters.now }
     requires visual { CanHold (length text.now.characters.now) visual.old }
     ensures ok { IfOk result (λ n. PassedOn (lines_bytes form.now.width form.now.print.now text.now.base
@@ -62,6 +65,7 @@ pub(crate) fn write_each<W: Sink>(
 {
     let characters = text.characters;
     let properties = text.properties;
+    let ends = text.ends;
     let starts = spans.starts;
     let shown = spans.shown;
     count.raise(characters.len());
@@ -75,6 +79,7 @@ pub(crate) fn write_each<W: Sink>(
                 rules: text.rules,
                 characters: &characters[start..end],
                 properties: &properties[start..end],
+                ends: ends_between(ends, start, end),
                 base: text.base,
             },
             levels: &levels[start..end],

@@ -26,11 +26,11 @@ fn digest_by(alloc: Global, engine: &mut Engine, rounds: u32) -> Result<u64, Wro
     let Ok(mut fill) = engine.refill(alloc, &laid, 4) else {
         return Err("not filled");
     };
-    let before = repeated(&laid, rounds);
+    let before = repeated(engine, &laid, rounds);
     if rounds > 0 {
         laid.exchange(&mut fill);
     }
-    Ok(mixed(before, repeated(&laid, rounds)))
+    Ok(mixed(before, repeated(engine, &laid, rounds)))
 }
 
 fn lay_out(alloc: Global, engine: &mut Engine, text: Vec<char>) -> Result<Laid, Wrong>
@@ -45,10 +45,10 @@ fn lay_out(alloc: Global, engine: &mut Engine, text: Vec<char>) -> Result<Laid, 
     }
 }
 
-fn repeated(laid: &Laid, rounds: u32) -> u64 {
+fn repeated(engine: &Engine, laid: &Laid, rounds: u32) -> u64 {
     let mut sum = 0;
     for _ in 0..rounds {
-        sum = of_laid(laid);
+        sum = mixed_flag(of_laid(laid), engine.keeps_lines(laid, 80));
     }
     sum
 }
@@ -65,7 +65,6 @@ pub fn of_laid(laid: &Laid) -> u64 {
     for start in laid.line_starts() {
         sum = mixed(sum, u64::from(*start));
     }
-    sum = mixed_flag(sum, laid.keeps_lines(80));
     for n in 0..laid.line_count() {
         if let Some(line) = laid.line(n) {
             sum = mixed(sum, of_line(&line));

@@ -9,6 +9,7 @@ pub mod LevelLemmas
 pub mod PlainLemmas
 pub mod WorkedOrder
 pub mod ChunkLemmas
+pub mod ClusterLemmas
 pub mod InPlaceLemmas
 pub mod LowestLemmas
 pub mod LeftmostLemmas

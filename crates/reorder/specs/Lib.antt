@@ -1,4 +1,5 @@
 pub mod Order
+pub mod Clusters
 pub mod Spaces
 pub mod Mirroring
 pub mod LevelRuns

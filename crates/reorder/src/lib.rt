@@ -19,12 +19,14 @@
 //! has no such limit.
 #![tactic(auto)]
 
+mod clusters;
 mod in_place;
 mod mirror;
 mod order;
 mod runs;
 mod spaces;
 
+pub use clusters::{ClusterClasses, clusters_stand_together, single_characters_stay};
 pub use in_place::{highest_and_lowest_odd, reorder_in_place};
 pub use mirror::{visual_chars, visual_runs};
 pub use order::{

@@ -93,7 +93,7 @@ module _ (rules : Rules) (kept : List Layout) (clusters : AllClusters kept) (car
       let tests = and_parts (nat_le (shown_begin line from cluster) j) (takes_columns line j) found.1 in
       let begin : shown_begin line from cluster ≤ j = leb-true (shown_begin line from cluster) j tests.0 in
       let held : IsHeld line from cluster j = record { begin = begin; end = omega arith; takes = tests.1 } in
-      let trailing = trailing_within line facts.ordered from cluster j held facts.adjoin in
+      let trailing = trailing_within line facts.ordered from cluster j held facts.adjoin.even in
       elim (unit_end line from cluster j == suc k) as (λ b. (if b then (unit_of line from cluster j).trailing else trailing_edge line k) ≤ line.columns) [
         | true ↦ omega (arith, trailing, facts.columns)
         | false ↦ trailing_edge_within k

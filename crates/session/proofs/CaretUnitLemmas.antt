@@ -4,7 +4,7 @@ use Rattle.std.proofs.lemmas.Bool.{and_from, and_parts, both_ways, cases_Bool, c
 use Rattle.bidi.specs.Brackets.{greatest}
 use Rattle.lines.specs.Clusters.{after}
 use Rattle.lines.specs.Columns.{columns_between, columns_left}
-use Rattle.lines.specs.Ordered.{AreInRun, IsOrdered, RunsAdjoin}
+use Rattle.lines.specs.Ordered.{AreInRun, IsOrdered}
 use Rattle.lines.specs.Visual.{Visual}
 use Rattle.reorder.specs.Order.{is_odd}
 use Rattle.ucd.specs.Least.{least}
@@ -13,7 +13,7 @@ use Rattle.session.specs.Steps.{left_of, right_of}
 use Rattle.session.specs.Units.{is_in_unit, leading_of, run_begin, run_end, shown_begin, shown_end, takes_columns, unit_end, unit_of, unit_start}
 use Rattle.session.specs.declared.clusters.Cluster.{Cluster}
 use Rattle.session.specs.declared.units.CaretUnit.{CaretUnit}
-use Rattle.session.proofs.CoveringLemmas.{between_at, between_more, between_rises, between_same, left_next, left_rises, takes, takes_if, width_at, width_of}
+use Rattle.session.proofs.CoveringLemmas.{between_at, between_more, between_rises, between_same, left_most, left_next, left_rises, takes, takes_if, width_at, width_of}
 use Rattle.session.proofs.FirstLemmas.{begin_fails, begin_to, first_is, first_only, greatest_back, greatest_is, last_from, least_over, IsFirst, IsLast}
 
 -- ---- level runs
@@ -86,6 +86,18 @@ module _ (line : Visual) where
               least_over (is_other (level_at k)) j k (length line.levels) early (omega arith)
               (λ c above below. not_other (level_at k) c (in_run c (omega arith) (omega (arith, run_after))))
         ])
+
+-- ---- how the characters of a level run follow each other
+
+-- whether those of each run at an even level are next to each other from left to right
+abbrev pub EvenAdjoins : Visual → Type 0
+EvenAdjoins line = (j k : ℕ) → AreInRun line j k → is_odd (get_or line.levels j 0) ≡ false
+    → columns_left line (get_or line.ltov k 0) ≡ columns_left line (get_or line.ltov j 0) + columns_between line j k
+
+-- whether those of each run at an odd level are next to each other from right to left
+abbrev pub OddAdjoins : Visual → Type 0
+OddAdjoins line = (j k : ℕ) → AreInRun line j k → is_odd (get_or line.levels j 0) ≡ true
+    → columns_left line (get_or line.ltov k 0 + 1) + columns_between line j k ≡ columns_left line (get_or line.ltov j 0 + 1)
 
 -- ---- the unit of a character that takes columns
 
@@ -271,173 +283,210 @@ module _ (line : Visual) (ordered : IsOrdered line) (start : ℕ) (cluster : Clu
     pub last_member : (m : ℕ) × (k ≤ m) × IsLast (takes_columns line) (to_end k) m
     last_member = last_from (takes_columns line) (to_end k) k end_above held.takes
 
-    module _ (adjoin : RunsAdjoin line) where
-      abbrev wide : ℕ → ℕ
-      wide n = columns_between line (from_start k) n
+    abbrev wide : ℕ → ℕ
+    wide n = columns_between line (from_start k) n
 
-      abbrev left_at : ℕ → ℕ
-      left_at j = columns_left line (get_or line.ltov j 0)
+    abbrev left_at : ℕ → ℕ
+    left_at j = columns_left line (get_or line.ltov j 0)
 
-      abbrev next_at : ℕ → ℕ
-      next_at j = columns_left line (get_or line.ltov j 0 + 1)
+    abbrev next_at : ℕ → ℕ
+    next_at j = columns_left line (get_or line.ltov j 0 + 1)
 
-      inner : (j : ℕ) → IsMember line start cluster k j → j < length line.levels
-      inner j is = omega (arith, is.shown)
+    inner : (j : ℕ) → IsMember line start cluster k j → j < length line.levels
+    inner j is = omega (arith, is.shown)
 
-      start_level : level_at line (from_start k) ≡ level_at line k
-      start_level = in_run line k shown (from_start k) (member_begins (from_start k) start_is) start_is.in_run
+    pub start_level : level_at line (from_start k) ≡ level_at line k
+    start_level = in_run line k shown (from_start k) (member_begins (from_start k) start_is) start_is.in_run
 
-      in_one_run : (j : ℕ) → IsMember line start cluster k j → AreInRun line (from_start k) j
-      in_one_run j is = record {
-        order = member_from j is;
-        within = inner j is;
-        level = λ i from to. in_run line k shown i (omega (arith, member_begins (from_start k) start_is, from)) (omega (arith, is.in_run, to)) ∙ sym start_level;
-        first = ltb-true 0 (columns_between line (from_start k) (suc (from_start k))) start_takes;
-        last = ltb-true 0 (columns_between line j (suc j)) is.takes;
+    pub in_one_run : (j : ℕ) → IsMember line start cluster k j → AreInRun line (from_start k) j
+    in_one_run j is = record {
+      order = member_from j is;
+      within = inner j is;
+      level = λ i from to. in_run line k shown i (omega (arith, member_begins (from_start k) start_is, from)) (omega (arith, is.in_run, to)) ∙ sym start_level;
+      first = ltb-true 0 (columns_between line (from_start k) (suc (from_start k))) start_takes;
+      last = ltb-true 0 (columns_between line j (suc j)) is.takes;
+    }
+
+    -- from one character to the next, by its columns
+    columns_of_member : (j : ℕ) → IsMember line start cluster k j
+        → (next_at j ≡ left_at j + width_at line j) × (wide (suc j) ≡ wide j + width_at line j) × (wide (suc j) ≤ wide (to_end k))
+    columns_of_member j is = (
+      left_next line ordered j (inner j is),
+      between_more line (from_start k) j (member_from j is) (omega (arith, inner j is, ordered.text)),
+      between_rises line (from_start k) (suc j) (to_end k) (omega (arith, member_from j is)) (member_to j is) (omega (arith, end_within, ordered.text)),
+    )
+
+    -- no columns follow those of its last character
+    same_wide : (m : ℕ) → k ≤ m → IsLast (takes_columns line) (to_end k) m → wide (to_end k) ≡ wide (suc m)
+    same_wide m after_k last =
+        between_same line (from_start k) (suc m) (to_end k) (omega (arith, start_first.to, after_k)) last.below (omega (arith, end_within, ordered.text))
+        (λ c above under. last.fails c above under)
+
+    -- the character that covers column `o`, counted from the unit's leading edge
+    owner_of : (o : ℕ) → o < wide (to_end k) → (j : ℕ) × IsMember line start cluster k j × (wide j ≤ o) × (o < wide (suc j))
+    owner_of o below =
+        let at : from_start k + (to_end k - from_start k) ≡ to_end k = omega (arith, start_first.to, end_above) in
+        let found = between_at line (from_start k) (to_end k - from_start k) o (omega (arith, end_within, ordered.text)) (subst (λ n. o < wide n) (sym at) below) in
+        let j : ℕ = found.0 in
+        let from : from_start k ≤ j = found.1 in
+        let to : j < to_end k = omega (arith, found.2) in
+        let size : j < length line.text = omega (arith, to, end_within, ordered.text) in
+        let has : 0 < width_at line j = omega (arith, found.3, found.4, between_more line (from_start k) j from size) in
+        (j, member j from to (takes_if line j size has), found.3, found.4)
+
+    -- the rightmost one of its characters
+    rightmost : (m : ℕ) → IsMember line start cluster k m
+        → (j : ℕ) × IsMember line start cluster k j × (next_at m ≤ next_at j) × (columns_left line (after (greatest is_of_unit (length line.vtol)) 0) ≡ next_at j)
+    rightmost m own =
+        let first : ℕ = get_or line.ltov m 0 in
+        let inside : first < length line.vtol = omega (arith, ordered.inverse.ltov_within m (inner m own), ordered.vtol) in
+        let found = last_from is_of_unit (length line.vtol) first inside (place_passes m own) in
+        let place : ℕ = found.0 in
+        let later : first ≤ place = found.1 in
+        let last : IsLast is_of_unit (length line.vtol) place = found.2 in
+        let below : place < length line.levels = omega (arith, last.below, ordered.vtol) in
+        let j : ℕ = get_or line.vtol place 0 in
+        let there : next_at j ≡ columns_left line (place + 1) = ap (λ p. columns_left line (p + 1)) (ordered.inverse.at_vtol place below) in (
+          j,
+          passes_member place last.passes,
+          omega (arith, there, left_rises line (first + 1) (place + 1) (omega (arith, later))),
+          ap (λ (o : Option ℕ). columns_left line (after o 0)) (greatest_is is_of_unit (length line.vtol) place last) ∙ sym there,
+        )
+
+    -- its characters are next to each other from left to right
+    module _ (at : (j : ℕ) → IsMember line start cluster k j → left_at j ≡ left_at (from_start k) + wide j)
+        (left_is : left_of (unit_of line start cluster k) ≡ left_at (from_start k))
+        (right_is : right_of (unit_of line start cluster k) ≡ left_at (from_start k) + wide (to_end k)) where
+      rising_columns : HasColumns line start cluster k
+      rising_columns = record {
+        inside = λ j is.
+            let has = columns_of_member j is in
+            (omega (arith, left_is, at j is), omega (arith, right_is, at j is, has.0, has.1, has.2));
+        owner = λ c from to.
+            let found = owner_of (c - left_at (from_start k)) (omega (arith, from, to, left_is, right_is)) in
+            let j : ℕ = found.0 in
+            let is : IsMember line start cluster k j = found.1 in
+            let has = columns_of_member j is in
+            (j, is, omega (arith, from, left_is, at j is, found.2), omega (arith, from, left_is, at j is, found.3, has.0, has.1));
       }
 
-      -- from one character to the next, by its columns
-      columns_of_member : (j : ℕ) → IsMember line start cluster k j
-          → (next_at j ≡ left_at j + width_at line j) × (wide (suc j) ≡ wide j + width_at line j) × (wide (suc j) ≤ wide (to_end k))
-      columns_of_member j is = (
-        left_next line ordered j (inner j is),
-        between_more line (from_start k) j (member_from j is) (omega (arith, inner j is, ordered.text)),
-        between_rises line (from_start k) (suc j) (to_end k) (omega (arith, member_from j is)) (member_to j is) (omega (arith, end_within, ordered.text)),
-      )
+    module _ (even : is_odd (level_at line k) ≡ false) where
+      even_lead : leading_edge line (from_start k) ≡ left_at (from_start k)
+      even_lead =
+          ap (columns_left line)
+          (cond-false (is_odd (level_at line (from_start k))) (get_or line.ltov (from_start k) 0 + 1) (get_or line.ltov (from_start k) 0) (ap is_odd start_level ∙ even))
 
-      -- the character that covers column `o`, counted from the unit's leading edge
-      owner_of : (o : ℕ) → o < wide (to_end k) → (j : ℕ) × IsMember line start cluster k j × (wide j ≤ o) × (o < wide (suc j))
-      owner_of o below =
-          let at : from_start k + (to_end k - from_start k) ≡ to_end k = omega (arith, start_first.to, end_above) in
-          let found = between_at line (from_start k) (to_end k - from_start k) o (omega (arith, end_within, ordered.text)) (subst (λ n. o < wide n) (sym at) below) in
-          let j : ℕ = found.0 in
-          let from : from_start k ≤ j = found.1 in
-          let to : j < to_end k = omega (arith, found.2) in
-          let size : j < length line.text = omega (arith, to, end_within, ordered.text) in
-          let has : 0 < width_at line j = omega (arith, found.3, found.4, between_more line (from_start k) j from size) in
-          (j, member j from to (takes_if line j size has), found.3, found.4)
+      even_ends : (unit_of line start cluster k).leading ≡ left_at (from_start k)
+      even_ends =
+          cond-false (is_odd (level_at line k)) (columns_left line (after (greatest is_of_unit (length line.vtol)) 0)) (leading_edge line (from_start k)) even
+          ∙ even_lead
 
-      module _ (even : is_odd (level_at line k) ≡ false) where
-        even_lead : leading_edge line (from_start k) ≡ left_at (from_start k)
-        even_lead =
-            ap (columns_left line)
-            (cond-false (is_odd (level_at line (from_start k))) (get_or line.ltov (from_start k) 0 + 1) (get_or line.ltov (from_start k) 0) (ap is_odd start_level ∙ even))
+      even_left : left_of (unit_of line start cluster k) ≡ left_at (from_start k)
+      even_left = cond-false (is_odd (level_at line k)) (unit_of line start cluster k).trailing (unit_of line start cluster k).leading even ∙ even_ends
 
-        even_ends : (unit_of line start cluster k).leading ≡ left_at (from_start k)
-        even_ends =
-            cond-false (is_odd (level_at line k)) (columns_left line (after (greatest is_of_unit (length line.vtol)) 0)) (leading_edge line (from_start k)) even
-            ∙ even_lead
+      even_right : right_of (unit_of line start cluster k) ≡ left_at (from_start k) + wide (to_end k)
+      even_right =
+          let lead : ℕ = (unit_of line start cluster k).leading in
+          cond-false (is_odd (level_at line k)) (unit_of line start cluster k).leading (unit_of line start cluster k).trailing even
+          ∙ cond-false (is_odd (level_at line k)) (lead - wide (to_end k)) (lead + wide (to_end k)) even
+          ∙ ap (λ n. n + wide (to_end k)) even_ends
 
-        even_left : left_of (unit_of line start cluster k) ≡ left_at (from_start k)
-        even_left = cond-false (is_odd (level_at line k)) (unit_of line start cluster k).trailing (unit_of line start cluster k).leading even ∙ even_ends
+      pub even_columns : EvenAdjoins line → HasColumns line start cluster k
+      even_columns adjoin = rising_columns (λ j is. adjoin (from_start k) j (in_one_run j is) (ap is_odd start_level ∙ even)) even_left even_right
 
-        even_right : right_of (unit_of line start cluster k) ≡ left_at (from_start k) + wide (to_end k)
-        even_right =
-            let lead : ℕ = (unit_of line start cluster k).leading in
-            cond-false (is_odd (level_at line k)) (unit_of line start cluster k).leading (unit_of line start cluster k).trailing even
-            ∙ cond-false (is_odd (level_at line k)) (lead - wide (to_end k)) (lead + wide (to_end k)) even
-            ∙ ap (λ n. n + wide (to_end k)) even_ends
+    module _ (odd : is_odd (level_at line k) ≡ true) where
+      odd_leads : (unit_of line start cluster k).leading ≡ columns_left line (after (greatest is_of_unit (length line.vtol)) 0)
+      odd_leads = cond-true (is_odd (level_at line k)) (columns_left line (after (greatest is_of_unit (length line.vtol)) 0)) (leading_edge line (from_start k)) odd
 
-        even_at : (j : ℕ) → IsMember line start cluster k j → left_at j ≡ left_at (from_start k) + wide j
-        even_at j is = adjoin.even (from_start k) j (in_one_run j is) (ap is_odd start_level ∙ even)
+      odd_right : right_of (unit_of line start cluster k) ≡ columns_left line (after (greatest is_of_unit (length line.vtol)) 0)
+      odd_right = cond-true (is_odd (level_at line k)) (unit_of line start cluster k).leading (unit_of line start cluster k).trailing odd ∙ odd_leads
 
-        pub even_columns : HasColumns line start cluster k
-        even_columns = record {
-          inside = λ j is.
-              let has = columns_of_member j is in
-              (omega (arith, even_left, even_at j is), omega (arith, even_right, even_at j is, has.0, has.1, has.2));
-          owner = λ c from to.
-              let found = owner_of (c - left_at (from_start k)) (omega (arith, from, to, even_left, even_right)) in
-              let j : ℕ = found.0 in
-              let is : IsMember line start cluster k j = found.1 in
-              let has = columns_of_member j is in
-              (j, is, omega (arith, from, even_left, even_at j is, found.2), omega (arith, from, even_left, even_at j is, found.3, has.0, has.1));
-        }
+      odd_left : left_of (unit_of line start cluster k) ≡ right_of (unit_of line start cluster k) - wide (to_end k)
+      odd_left =
+          let lead : ℕ = (unit_of line start cluster k).leading in
+          cond-true (is_odd (level_at line k)) (unit_of line start cluster k).trailing (unit_of line start cluster k).leading odd
+          ∙ cond-true (is_odd (level_at line k)) (lead - wide (to_end k)) (lead + wide (to_end k)) odd
+          ∙ ap (λ n. n - wide (to_end k)) (sym (cond-true (is_odd (level_at line k)) lead (unit_of line start cluster k).trailing odd))
 
-      module _ (odd : is_odd (level_at line k) ≡ true) where
+      -- from right to left: the first character is the rightmost one
+      module _ (adjoin : OddAdjoins line) where
         odd_at : (j : ℕ) → IsMember line start cluster k j → next_at j + wide j ≡ next_at (from_start k)
-        odd_at j is = adjoin.odd (from_start k) j (in_one_run j is) (ap is_odd start_level ∙ odd)
+        odd_at j is = adjoin (from_start k) j (in_one_run j is) (ap is_odd start_level ∙ odd)
 
-        -- its characters are next to each other, so the first one is the rightmost one
-        odd_rightmost : columns_left line (after (greatest is_of_unit (length line.vtol)) 0) ≡ next_at (from_start k)
-        odd_rightmost =
-            let first : ℕ = get_or line.ltov (from_start k) 0 in
-            let inside : first < length line.vtol = omega (arith, ordered.inverse.ltov_within (from_start k) (inner (from_start k) start_is), ordered.vtol) in
-            let found = last_from is_of_unit (length line.vtol) first inside (place_passes (from_start k) start_is) in
-            let place : ℕ = found.0 in
-            let later : first ≤ place = found.1 in
-            let last : IsLast is_of_unit (length line.vtol) place = found.2 in
-            let below : place < length line.levels = omega (arith, last.below, ordered.vtol) in
-            let j : ℕ = get_or line.vtol place 0 in
-            let is : IsMember line start cluster k j = passes_member place last.passes in
-            let there : next_at j ≡ columns_left line (place + 1) = ap (λ p. columns_left line (p + 1)) (ordered.inverse.at_vtol place below) in
-            ap (λ (o : Option ℕ). columns_left line (after o 0)) (greatest_is is_of_unit (length line.vtol) place last)
-            ∙ omega (arith, odd_at j is, there, left_rises line (first + 1) (place + 1) (omega (arith, later)))
-
-        odd_ends : (unit_of line start cluster k).leading ≡ next_at (from_start k)
-        odd_ends =
-            cond-true (is_odd (level_at line k)) (columns_left line (after (greatest is_of_unit (length line.vtol)) 0)) (leading_edge line (from_start k)) odd
-            ∙ odd_rightmost
-
-        odd_right : right_of (unit_of line start cluster k) ≡ next_at (from_start k)
-        odd_right = cond-true (is_odd (level_at line k)) (unit_of line start cluster k).leading (unit_of line start cluster k).trailing odd ∙ odd_ends
+        first_right : right_of (unit_of line start cluster k) ≡ next_at (from_start k)
+        first_right =
+            let found = rightmost (from_start k) start_is in
+            omega (arith, odd_right, found.2, found.3, odd_at found.0 found.1)
 
         odd_fits : wide (to_end k) ≤ next_at (from_start k)
         odd_fits =
             let m : ℕ = last_member.0 in
             let after_k : k ≤ m = last_member.1 in
             let last : IsLast (takes_columns line) (to_end k) m = last_member.2 in
-            let below : m < to_end k = last.below in
-            let is : IsMember line start cluster k m = member m (omega (arith, start_first.to)) below last.passes in
+            let is : IsMember line start cluster k m = member m (omega (arith, start_first.to, after_k)) last.below last.passes in
             let has = columns_of_member m is in
-            let same : wide (to_end k) ≡ wide (suc m) =
-            between_same line (from_start k) (suc m) (to_end k) (omega (arith, start_first.to)) below (omega (arith, end_within, ordered.text))
-            (λ c above under. last.fails c above under) in
-            omega (arith, same, has.0, has.1, odd_at m is)
+            omega (arith, same_wide m after_k last, has.0, has.1, odd_at m is)
 
-        odd_left : left_of (unit_of line start cluster k) + wide (to_end k) ≡ next_at (from_start k)
-        odd_left =
-            let lead : ℕ = (unit_of line start cluster k).leading in
-            let is : left_of (unit_of line start cluster k) ≡ lead - wide (to_end k) =
-            cond-true (is_odd (level_at line k)) (unit_of line start cluster k).trailing (unit_of line start cluster k).leading odd
-            ∙ cond-true (is_odd (level_at line k)) (lead - wide (to_end k)) (lead + wide (to_end k)) odd in
-            omega (arith, is, odd_ends, odd_fits)
-
-        pub odd_columns : HasColumns line start cluster k
-        odd_columns = record {
+        pub falling_columns : HasColumns line start cluster k
+        falling_columns = record {
           inside = λ j is.
               let has = columns_of_member j is in
-              (omega (arith, odd_left, odd_at j is, has.0, has.1, has.2), omega (arith, odd_right, odd_at j is));
+              (omega (arith, odd_left, first_right, odd_fits, odd_at j is, has.0, has.1, has.2), omega (arith, first_right, odd_at j is));
           owner = λ c from to.
-              let found = owner_of (next_at (from_start k) - suc c) (omega (arith, from, to, odd_left, odd_right)) in
+              let found = owner_of (next_at (from_start k) - suc c) (omega (arith, from, to, odd_left, first_right, odd_fits)) in
               let j : ℕ = found.0 in
               let is : IsMember line start cluster k j = found.1 in
               let has = columns_of_member j is in
-              (j, is, omega (arith, to, odd_right, odd_at j is, found.3, has.0, has.1), omega (arith, to, odd_right, odd_at j is, found.2));
+              (j, is, omega (arith, to, first_right, odd_at j is, found.3, has.0, has.1), omega (arith, to, first_right, odd_at j is, found.2));
         }
 
-      pub has_columns : HasColumns line start cluster k
-      has_columns = elim (cases_Bool (is_odd (level_at line k))) [ inl odd ↦ odd_columns odd | inr even ↦ even_columns even ]
+      -- from left to right: its last character is the rightmost one
+      module _ (at : (j : ℕ) → IsMember line start cluster k j → left_at j ≡ left_at (from_start k) + wide j) where
+        last_right : right_of (unit_of line start cluster k) ≡ left_at (from_start k) + wide (to_end k)
+        last_right =
+            let m : ℕ = last_member.0 in
+            let after_k : k ≤ m = last_member.1 in
+            let last : IsLast (takes_columns line) (to_end k) m = last_member.2 in
+            let own : IsMember line start cluster k m = member m (omega (arith, start_first.to, after_k)) last.below last.passes in
+            let ends_at = columns_of_member m own in
+            let found = rightmost m own in
+            let has = columns_of_member found.0 found.1 in
+            omega (arith, odd_right, found.2, found.3, at found.0 found.1, has.0, has.1, has.2, at m own, ends_at.0, ends_at.1, same_wide m after_k last)
 
-      -- it has columns, within the line
+        pub reading_columns : HasColumns line start cluster k
+        reading_columns = rising_columns at (omega (arith, odd_left, last_right)) last_right
+
+    -- it has columns, within the line
+    module _ (columns : HasColumns line start cluster k) where
       pub unit_some : left_of (unit_of line start cluster k) < right_of (unit_of line start cluster k)
       unit_some =
-          let around = has_columns.inside k itself in
+          let around = columns.inside k itself in
           let size : k < length line.text = omega (arith, shown, ordered.text) in
           omega (arith, around.0, around.1, left_next line ordered k shown, takes line k size held.takes)
 
       pub unit_within : right_of (unit_of line start cluster k) ≤ width_of line
       unit_within =
-          let found = has_columns.owner (right_of (unit_of line start cluster k) - 1) (omega (arith, unit_some)) (omega (arith, unit_some)) in
+          let found = columns.owner (right_of (unit_of line start cluster k) - 1) (omega (arith, unit_some)) (omega (arith, unit_some)) in
           let j : ℕ = found.0 in
           let inside : j < length line.levels = inner j found.1 in
           omega (arith, found.3, left_rises line (get_or line.ltov j 0 + 1) (length line.vtol) (omega (arith, ordered.inverse.ltov_within j inside, ordered.vtol)))
 
-      pub trailing_within : (unit_of line start cluster k).trailing ≤ width_of line
-      trailing_within =
-          elim (cases_Bool (is_odd (level_at line k))) [
-            | inl odd ↦
-                omega (arith, unit_some, unit_within, cond-true (is_odd (level_at line k)) (unit_of line start cluster k).trailing (unit_of line start cluster k).leading odd)
-            | inr even ↦
-                omega (arith, unit_within, cond-false (is_odd (level_at line k)) (unit_of line start cluster k).leading (unit_of line start cluster k).trailing even)
-          ]
+    -- the right edge of its rightmost character, or the end of its columns, is in the line
+    pub trailing_within : EvenAdjoins line → (unit_of line start cluster k).trailing ≤ width_of line
+    trailing_within adjoin =
+        elim (cases_Bool (is_odd (level_at line k))) [
+          | inl odd ↦
+              omega (
+                arith,
+                cond-true (is_odd (level_at line k)) (unit_of line start cluster k).trailing (unit_of line start cluster k).leading odd,
+                odd_left odd,
+                odd_right odd,
+                left_most line (after (greatest is_of_unit (length line.vtol)) 0),
+              )
+          | inr even ↦
+              omega (
+                arith,
+                unit_within (even_columns even adjoin),
+                cond-false (is_odd (level_at line k)) (unit_of line start cluster k).leading (unit_of line start cluster k).trailing even,
+              )
+        ]

@@ -1,8 +1,8 @@
 -- What holds of each line of a text that is laid out: its place, its order and its clusters.
-use Rattle.std.proofs.Common.{◌≡◌, ℕ, ◌+◌, ◌-◌, ◌<◌, ◌≤◌, Bool, true, false, List, [], ◌∷◌, ◌++◌, length, map, get_or, sum_by, Some, refl, sym, ap, subst, ◌∙◌, inl, inr, arith}
+use Rattle.std.proofs.Common.{◌≡◌, ℕ, ◌+◌, ◌-◌, ◌<◌, ◌≤◌, Bool, true, false, List, [], ◌∷◌, ◌++◌, length, map, get_or, sum_by, Some, refl, sym, ap, subst, ◌∙◌, ◌⊎◌, inl, inr, arith}
 use Rattle.std.specs.List.{concat, slice_get, All}
 use Rattle.std.specs.Option.{option_map}
-use Rattle.std.proofs.lemmas.Bool.{cases_lt}
+use Rattle.std.proofs.lemmas.Bool.{both_ways, cases_Bool, cases_lt}
 use Rattle.std.proofs.lemmas.List.{drop_at, length-map, take_at}
 use Rattle.std.proofs.lemmas.List.Elements.{All-cons, All-drop, All-map, All-nil, All-take}
 use Rattle.std.proofs.lemmas.List.Sums.{sum_by-append, sum_by-cons}
@@ -20,7 +20,7 @@ use Rattle.lines.specs.CharInfos.{columns_of}
 use Rattle.lines.specs.Clusters.{after, cluster_begin, cluster_end, cluster_ends, ends_at}
 use Rattle.lines.specs.Columns.{run_columns}
 use Rattle.lines.specs.Layouts.{Layout, Rules, cut_by, layout_of, lines_of as lines_at, start_of as begins, visuals}
-use Rattle.lines.specs.Ordered.{IsOrdered, MarksStay, RunsAdjoin}
+use Rattle.lines.specs.Ordered.{ClustersAdjoin, IsOrdered, MarksStay, RunsAdjoin}
 use Rattle.lines.specs.Visual.{Line, Visual, end_of, visual_of}
 use Rattle.store.specs.Finding.{Finds}
 use Rattle.store.specs.declared.found.Found.{Found}
@@ -40,6 +40,7 @@ use Rattle.session.proofs.LineWidthLemmas.{columns_fit}
 use Rattle.session.proofs.NearestLemmas.{steps_are_nearest}
 use Rattle.session.proofs.PlaceLemmas.{count_point, place-is, start_read, starts_sorted}
 use Rattle.session.proofs.UnitEdgeLemmas.{IsLineOf, IsPlaced}
+use Rattle.session.proofs.UnitTileLemmas.{OddReads}
 
 -- ---- the paragraph that has a character or a line
 
@@ -168,11 +169,15 @@ module _ (kept : List Layout) (lined : All IsLined kept) where
 
 -- ---- lines
 
+-- whether the characters of each part of a cluster are next to each other from left to right
+abbrev ReadsBy : Layout → Type 0
+ReadsBy l = (n : ℕ) (line : Visual) → slice_get (visuals l) n ≡ Some line → ClustersAdjoin line (cluster_ends l.text) (get_or (map begins l.lines) n 0)
+
 -- what is known of the layout of a paragraph
 pub record IsLaid (l : Layout) : Type 0 where
   pub lined : IsLined l
   pub ordered : All IsOrdered (visuals l)
-  pub adjoin : All RunsAdjoin (visuals l)
+  pub adjoin : All RunsAdjoin (visuals l) ⊎ ReadsBy l
   pub columns : All (λ (line : Visual). sum_by (run_columns line) (runs_of line.levels) ≡ line.columns) (visuals l)
 
 abbrev starts_in : Layout → List ℕ
@@ -249,6 +254,36 @@ module _ (kept : List Layout) (laid : All IsLaid kept) where
         offset = sym (ap (λ (p : Place). p.offset) is_place) ∙ ap (λ m. rest - get_or ss m 0) back ∙ omega arith;
       }
 
+  -- what holds by the cluster ends of a paragraph holds by the clusters of the text
+  reads_in : (n : ℕ) (i : IsIn lines_of kept n) (line : Visual) → slice_get (visuals i.item) i.rest ≡ Some line → (start : ℕ)
+      → sum_by chars_of i.before + get_or (starts_in i.item) i.rest 0 ≡ start → length line.levels ≤ line.len
+      → ClustersAdjoin line (cluster_ends i.item.text) (get_or (starts_in i.item) i.rest 0) → OddReads kept line start
+  reads_in n i line is start starts short by j k are odd cluster at before =
+      let l : Layout = i.item in
+      let s : ℕ = get_or (starts_in l) i.rest 0 in
+      let base : ℕ = sum_by chars_of i.before in
+      let ends : List Bool = cluster_ends l.text in
+      let one : IsLaid l = laid_item n i in
+      let few : i.rest < length (starts_in l) = omega (arith, i.within, length-map l.lines begins) in
+      let size : line.len ≡ end_of (length l.text) (starts_in l) i.rest - s = length_of l i.rest line is in
+      let ending = end_within (length l.text) (starts_in l) i.rest one.lined.lines.starts few in
+      let inside : s + j < length l.text = omega (arith, ending.0, ending.1, size, short, are.order, are.within) in
+      let there : IsIn chars_of kept (start + j) = record {
+        before = i.before;
+        item = l;
+        behind = i.behind;
+        place = i.place;
+        rest = s + j;
+        sum = omega (arith, starts);
+        within = inside;
+      } in
+      let placed : IsPlaced kept n start j = placed_in n i line is start starts j (omega (arith, short, are.order, are.within)) in
+      let known : cluster ≡ cluster_in base l.text (start + j) = same_Some cluster (cluster_in base l.text (start + j)) (sym at ∙ cluster_by kept all_lined (start + j) there placed.inside) in
+      let rest : start + j - base ≡ s + j = omega (arith, starts) in
+      let end : cluster.end ≡ base + cluster_end ends (s + j) = ap (λ (c : Cluster). c.end) known ∙ ap (λ m. base + cluster_end ends m) rest in
+      let goes : EndsBy (ends_at ends) (s + j) (length ends) (cluster_end ends (s + j)) = end_after ends (s + j) (omega (arith, inside, length-cluster_ends l.text)) in
+      by.odd j k are odd (λ c from below. goes.fails (s + c) (omega (arith, from)) (omega (arith, below, before, end, starts)))
+
   filled_in : (n : ℕ) (i : IsIn lines_of kept n) (line : Visual) → slice_get (visuals i.item) i.rest ≡ Some line → 0 < line.len
   filled_in n i line is =
       let l : Layout = i.item in
@@ -272,7 +307,12 @@ module _ (kept : List Layout) (laid : All IsLaid kept) where
       record {
         read = is;
         ordered = ordered;
-        adjoin = subst RunsAdjoin got (one.adjoin i.rest line few);
+        adjoin = elim one.adjoin [
+          | inl all ↦ let runs : RunsAdjoin line = subst RunsAdjoin got (all i.rest line few) in record { even = runs.even; odd = inl runs.odd }
+          | inr reads ↦
+              let by = reads i.rest line there in
+              record { even = by.even; odd = inr (reads_in n i line there start begin ordered.within by) }
+        ];
         clusters = λ k within. all_clusters kept all_lined (start + k) (placed k (omega (arith, within, ordered.within))).inside;
         some = filled_in n i line there;
         placed = placed;
@@ -308,19 +348,29 @@ marks_stay rules pieces (inr none) = λ k d within. inr (in_parts (λ c. is_mark
 pub steps_lead : ParagraphsArePieces
     → ((rules : Rules) (width : ℕ) (text : List ℕ) → BeginInOrder text (lines_at rules width text))
     → ((rules : Rules) (width : ℕ) (text : List ℕ) → All IsOrdered (visuals (layout_of rules width text)))
-    → ((rules : Rules) (width : ℕ) (text : List ℕ) → MarksStay rules text → All RunsAdjoin (visuals (layout_of rules width text)))
+    → ((rules : Rules) (width : ℕ) (text : List ℕ) → rules.options.reorder_clusters ≡ false → MarksStay rules text → All RunsAdjoin (visuals (layout_of rules width text)))
+    → ((rules : Rules) (width : ℕ) (text : List ℕ) → rules.options.reorder_clusters ≡ true → ReadsBy (layout_of rules width text))
     → ((rules : Rules) (width : ℕ) (text : List ℕ) → All (λ (line : Visual). sum_by (run_columns line) (runs_of line.levels) ≡ line.columns) (visuals (layout_of rules width text)))
-    → (rules : Rules) (width : ℕ) (text : List ℕ) → MarksStay rules text → StepsAreNearest rules (layouts_of rules width text)
-steps_lead pieces begin ordered adjoin columns rules width text stay =
+    → (rules : Rules) (width : ℕ) (text : List ℕ) → (rules.options.reorder_clusters ≡ true) ⊎ MarksStay rules text
+    → StepsAreNearest rules (layouts_of rules width text)
+steps_lead pieces begin ordered runs reads columns rules width text stay =
     let pars : List (List ℕ) = paragraphs (cut_by rules) text in
     let kept : List Layout = layouts_of rules width text in
     let some : All (λ p. 0 < length p) pars = filled (cut_by rules) pars (pieces.pieces (cut_by rules) text) in
-    let stays : All (MarksStay rules) pars = marks_stay rules pars (subst (MarksStay rules) (sym (pieces.whole (cut_by rules) text)) stay) in
+    let stays : MarksStay rules text → All (MarksStay rules) pars = λ marks. marks_stay rules pars (subst (MarksStay rules) (sym (pieces.whole (cut_by rules) text)) marks) in
+    let adjoin : (k : ℕ) (d : List ℕ) → k < length pars → All RunsAdjoin (visuals (layout_of rules width (get_or pars k d))) ⊎ ReadsBy (layout_of rules width (get_or pars k d)) =
+    λ k d within. elim (cases_Bool rules.options.reorder_clusters) [
+      | inl on ↦ inr (reads rules width (get_or pars k d) on)
+      | inr off ↦ inl (runs rules width (get_or pars k d) off (elim stay [
+        | inl on ↦ absurd (both_ways rules.options.reorder_clusters off on)
+        | inr marks ↦ stays marks k d within
+      ]))
+    ] in
     let laid : All IsLaid kept =
     All-map IsLaid (layout_of rules width) pars (λ k d within. record {
       lined = record { some = some k d within; lines = begin rules width (get_or pars k d) };
       ordered = ordered rules width (get_or pars k d);
-      adjoin = adjoin rules width (get_or pars k d) (stays k d within);
+      adjoin = adjoin k d within;
       columns = columns rules width (get_or pars k d);
     }) in
     steps_are_nearest rules kept (all_clusters kept (λ k d within. (laid k d within).lined)) (lines_are kept laid)

@@ -20,6 +20,7 @@ mod PlaceLemmas
 mod PrintLemmas
 mod ReadingLemmas
 mod RefusalLemmas
+mod RefusalSteps
 mod RegionParts
 mod ReplacementLemmas
 mod RunLemmas

@@ -154,16 +154,16 @@ RisesBy-exact : (n most old new : ℕ) → new ≡ counted old n → RisesBy mos
 RisesBy-exact n most old new exact r = record { least = r.least; most = omega (arith, exact) }
 
 width_counted : (width : ℕ) (old new : SessionState) (result : Result Damage EditFault) → IfOk result (SetsWidth width old new) → IfErr result (SetsWidthNot width old new)
-    → Works (width_refusal width) 0 (changed width old.kept) old.engine new.engine
+    → Works (width_refusal width) 0 (changed (rules_of old.engine) width old.kept) old.engine new.engine
 width_counted width old new (Ok damage) m r =
-    let n = changed width old.kept in
+    let n = changed (rules_of old.engine) width old.kept in
     works-filled (width_refusal width) n old.engine new.engine m.accepted (record {
       analysed = m.exact.analysed;
       filled = RisesBy-exact n _ (filled_of old.engine) (filled_of new.engine) m.exact.filled m.counts.filled;
       written = RisesBy-exact n _ (written_of old.engine) (written_of new.engine) m.exact.written m.counts.written;
     })
 width_counted width old new (Err fault) m r =
-    let n = changed width old.kept in
+    let n = changed (rules_of old.engine) width old.kept in
     works-counted (width_refusal width) 0 n (FindsExtentsAtMost n) old.engine new.engine fault r.answer r.counts
     (λ e counts. works-filled (width_refusal width) n old.engine new.engine e (record {
       analysed = counts.analysed;
@@ -172,9 +172,9 @@ width_counted width old new (Err fault) m r =
     }))
 
 pub width_works : (width : ℕ) (old new : SessionState) (result : Result Damage EditFault) → IsWholeLayout old → IfOk result (SetsWidth width old new) → IfErr result (SetsWidthNot width old new)
-    → Works (width_refusal width) 0 (changed width (layouts_of (rules_of old.engine) old.width (text_at old))) old.engine new.engine
+    → Works (width_refusal width) 0 (changed (rules_of old.engine) width (layouts_of (rules_of old.engine) old.width (text_at old))) old.engine new.engine
 width_works width old new result whole m r =
-    subst (λ kept. Works (width_refusal width) 0 (changed width kept) old.engine new.engine) whole.kept (width_counted width old new result m r)
+    subst (λ kept. Works (width_refusal width) 0 (changed (rules_of old.engine) width kept) old.engine new.engine) whole.kept (width_counted width old new result m r)
 
 -- whether a session is in the state after the first n edits
 pub record HasRun (start : SessionState) (edits : List Edit) (n : ℕ) (now : SessionState) : Type 0 where

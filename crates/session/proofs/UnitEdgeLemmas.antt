@@ -5,7 +5,7 @@ use Rattle.std.specs.Option.{option_and_then, option_map}
 use Rattle.std.proofs.lemmas.Bool.{and_from, and_right, cond-true, cond-false, eq-eqb, le-leb, lt-leb, lt-ltb}
 use Rattle.bidi.specs.Brackets.{greatest}
 use Rattle.lines.specs.Layouts.{Layout, Rules}
-use Rattle.lines.specs.Ordered.{IsOrdered, RunsAdjoin}
+use Rattle.lines.specs.Ordered.{IsOrdered}
 use Rattle.lines.specs.Visual.{Visual}
 use Rattle.reorder.specs.Order.{is_odd}
 use Rattle.session.specs.Carets.{caret_at, leading_edge, line_end, trailing_edge}
@@ -25,7 +25,7 @@ use Rattle.session.specs.declared.units.CaretUnit.{CaretUnit}
 use Rattle.session.proofs.CaretUnitLemmas.{end_above, end_within, last_member, member, same_unit, shown, start_first, start_is, IsHeld, IsMember}
 use Rattle.session.proofs.CoveringLemmas.{width_of}
 use Rattle.session.proofs.FirstLemmas.{greatest_is, IsLast}
-use Rattle.session.proofs.UnitTileLemmas.{HasCluster, HaveClusters}
+use Rattle.session.proofs.UnitTileLemmas.{Adjoins, HasCluster, HaveClusters}
 
 -- where the character k of a line from `start` is, on line n
 pub record IsPlaced (kept : List Layout) (n start k : ℕ) : Type 0 where
@@ -37,7 +37,7 @@ pub record IsPlaced (kept : List Layout) (n start k : ℕ) : Type 0 where
 pub record IsLineOf (kept : List Layout) (n : ℕ) (line : Visual) (start : ℕ) : Type 0 where
   pub read : slice_get (lines_in kept) n ≡ Some line
   pub ordered : IsOrdered line
-  pub adjoin : RunsAdjoin line
+  pub adjoin : Adjoins kept line start
   pub clusters : HaveClusters kept line start
   pub some : 0 < line.len
   pub placed : (k : ℕ) → k < line.len → IsPlaced kept n start k

@@ -1,20 +1,22 @@
 -- The units of a line tile its columns, and there is no boundary inside a unit.
-use Rattle.std.proofs.Common.{◌≡◌, ℕ, ◌+◌, ◌-◌, ◌<◌, ◌≤◌, true, List, length, get_or, Some, None, sym, ap, subst, ◌∙◌, inl, inr, arith}
+use Rattle.std.proofs.Common.{◌≡◌, ℕ, ◌+◌, ◌-◌, ◌<◌, ◌≤◌, true, List, length, get_or, Some, None, sym, ap, subst, ◌∙◌, ◌⊎◌, inl, inr, arith}
 use Rattle.std.specs.Option.{option_and_then, option_map}
-use Rattle.std.proofs.lemmas.Bool.{cases_lt}
+use Rattle.std.proofs.lemmas.Bool.{cases_Bool, cases_lt}
+use Rattle.reorder.specs.Order.{is_odd}
 use Rattle.std.proofs.lemmas.Option.{none-some, same_Some}
 use Rattle.lines.proofs.ColumnLemmas.{left_more}
-use Rattle.lines.specs.Columns.{columns_left}
+use Rattle.lines.specs.Columns.{columns_between, columns_left}
 use Rattle.lines.specs.Layouts.{Layout}
-use Rattle.lines.specs.Ordered.{IsOrdered, RunsAdjoin}
+use Rattle.lines.specs.Ordered.{AreInRun, IsOrdered}
 use Rattle.lines.specs.Visual.{Visual}
 use Rattle.session.specs.Clusters.{cluster_at}
 use Rattle.session.specs.Edges.{unit_at, unit_in}
 use Rattle.session.specs.Steps.{left_of, right_of, Covers, IsBoundary, UnitsTile}
-use Rattle.session.specs.Units.{takes_columns, unit_of}
+use Rattle.session.specs.Units.{takes_columns, unit_of, unit_start}
 use Rattle.session.specs.declared.clusters.Cluster.{Cluster}
 use Rattle.session.specs.declared.units.CaretUnit.{CaretUnit}
-use Rattle.session.proofs.CaretUnitLemmas.{has_columns, itself, same_unit, unit_within, HasColumns, IsHeld, IsMember}
+use Rattle.session.proofs.CaretUnitLemmas.{even_columns, falling_columns, in_one_run, itself, reading_columns, same_unit, start_is, start_level, unit_within}
+use Rattle.session.proofs.CaretUnitLemmas.{EvenAdjoins, HasColumns, IsHeld, IsMember, OddAdjoins}
 use Rattle.session.proofs.CoveringLemmas.{covered, covering_is, takes_if, uncovered, width_of, CoveredBy}
 
 -- the cluster of a position, which is that of each position in it
@@ -24,6 +26,17 @@ pub record HasCluster (kept : List Layout) (pos : ℕ) : Type 0 where
   pub begin : cluster.start ≤ pos
   pub end : pos < cluster.end
   pub same : (other : ℕ) → cluster.start ≤ other → other < cluster.end → cluster_at kept other ≡ Some cluster
+
+-- whether the characters of each cluster that are in a level run at an odd level are next to each other from left to right
+abbrev pub OddReads : List Layout → Visual → ℕ → Type 0
+OddReads kept line start = (j k : ℕ) → AreInRun line j k → is_odd (get_or line.levels j 0) ≡ true
+    → (cluster : Cluster) → cluster_at kept (start + j) ≡ Some cluster → start + k < cluster.end
+    → columns_left line (get_or line.ltov k 0) ≡ columns_left line (get_or line.ltov j 0) + columns_between line j k
+
+-- how the characters of the level runs of a line follow each other
+pub record Adjoins (kept : List Layout) (line : Visual) (start : ℕ) : Type 0 where
+  pub even : EvenAdjoins line
+  pub odd : OddAdjoins line ⊎ OddReads kept line start
 
 abbrev pub HaveClusters : List Layout → Visual → ℕ → Type 0
 HaveClusters kept line start = (k : ℕ) → k < length line.levels → HasCluster kept (start + k)
@@ -40,7 +53,7 @@ module _ (kept : List Layout) (line : Visual) (start : ℕ) where
   same_covers : (column : ℕ) (one other : CaretUnit) → unit_at kept line start column ≡ Some other → Covers kept line start column one → Covers kept line start column other
   same_covers column one other is covers = subst (Covers kept line start column) (same_Some one other (sym covers.found ∙ is)) covers
 
-  module _ (ordered : IsOrdered line) (adjoin : RunsAdjoin line) (clusters : HaveClusters kept line start) (fits : width_of line ≡ line.columns) where
+  module _ (ordered : IsOrdered line) (adjoin : Adjoins kept line start) (clusters : HaveClusters kept line start) (fits : width_of line ≡ line.columns) where
     -- the unit of a character whose place covers a column
     at_place : (column k : ℕ) → k < length line.levels → columns_left line (get_or line.ltov k 0) ≤ column → column < columns_left line (get_or line.ltov k 0 + 1)
         → (cluster : Cluster) → cluster_at kept (start + k) ≡ Some cluster → unit_at kept line start column ≡ Some (unit_of line start cluster k)
@@ -57,7 +70,20 @@ module _ (kept : List Layout) (line : Visual) (start : ℕ) where
       unit = unit_of line start has.cluster k
 
       columns : HasColumns line start has.cluster k
-      columns = has_columns line ordered start has.cluster k held adjoin
+      columns =
+          elim (cases_Bool (is_odd (get_or line.levels k 0))) [
+            | inr even ↦ even_columns line ordered start has.cluster k held even adjoin.even
+            | inl odd ↦ elim adjoin.odd [
+              | inl falls ↦ falling_columns line ordered start has.cluster k held odd falls
+              | inr reads ↦
+                  let first : ℕ = unit_start line start has.cluster k in
+                  let own : IsMember line start has.cluster k first = start_is line ordered start has.cluster k held in
+                  reading_columns line ordered start has.cluster k held odd
+                  (λ j is.
+                  reads first j (in_one_run line ordered start has.cluster k held j is) (ap is_odd (start_level line ordered start has.cluster k held) ∙ odd) has.cluster
+                  (has.same (start + first) (omega (arith, own.from)) (omega (arith, own.shown))) (omega (arith, is.shown)))
+            ]
+          ]
 
       whole_at : (c : ℕ) → left_of unit ≤ c → c < right_of unit → unit_at kept line start c ≡ Some unit
       whole_at c above under =
@@ -99,7 +125,7 @@ module _ (kept : List Layout) (line : Visual) (start : ℕ) where
             found = at_place column k inside from to has.cluster has.is;
             left = left;
             right = right;
-            within = omega (arith, unit_within line ordered start has.cluster k held adjoin, fits);
+            within = omega (arith, unit_within line ordered start has.cluster k held (columns k has held), fits);
             whole = whole_at k has held;
           };
         }

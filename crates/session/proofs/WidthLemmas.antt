@@ -8,12 +8,13 @@ use Rattle.std.proofs.lemmas.List.Sums.{sum_by_more, sum_by-cons, sum_by-take-le
 use Rattle.bidi.specs.Cuts.{paragraphs}
 use Rattle.bidi.specs.Pieces.{ArePieces, ParagraphsArePieces}
 use Rattle.lines.specs.Engine.{rules_of, filled_of, counted, RisesBy, SameRules, Fills, FillsAtMost, FindsExtents, FindsExtentsAtMost, Rewrites, RewritesAtMost}
-use Rattle.lines.specs.Extents.{extents_of, reflowed, LineExtents}
-use Rattle.lines.specs.Layouts.{Layout, Rules, IsLaidOut, IsParagraph, cut_by, is_line_within, layout_of, lines_of}
+use Rattle.lines.specs.Extents.{LineExtents}
+use Rattle.lines.specs.Layouts.{Layout, Rules, IsLaidOut, IsParagraph, cut_by, keeps_lines, layout_of, lines_of}
 use Rattle.lines.specs.declared.engine.Engine.{Engine}
 use Rattle.store.specs.Exchanging.{pairwise, total_cost}
 use Rattle.session.specs.Sessions.{IsWholeLayout, SetsWidth}
 use Rattle.session.specs.Edits.{are_within, text_refusal, width_refusal}
+use Rattle.lines.proofs.LayoutLemmas.{reflowed_by}
 use Rattle.session.specs.Kept.{changed, changed_in, text_of, layouts_of, put_into, written_for, BringsTo, CanBePut, Writer}
 use Rattle.session.specs.declared.edits.EditFault.TheVariants.{WidthOutOfRange}
 use Rattle.session.proofs.BorderLemmas.{chars_of, lines_of as line_number, length-text, length-lines}
@@ -121,13 +122,13 @@ none_or_all : (keeps : Bool) (n : ℕ) → (if keeps then 0 else n) ≤ n
 none_or_all true n = omega arith
 none_or_all false n = omega arith
 
-changed-within : (width : ℕ) (kept : List Layout) → changed width kept ≤ sum_by chars_of kept
-changed-within width [] = omega arith
-changed-within width (l ∷ kept) =
-    omega (arith, changed-within width kept, none_or_all (is_line_within width l.lines) (length l.text), sum_by-cons (changed_in width) l kept, sum_by-cons chars_of l kept)
+changed-within : (rules : Rules) (width : ℕ) (kept : List Layout) → changed rules width kept ≤ sum_by chars_of kept
+changed-within rules width [] = omega arith
+changed-within rules width (l ∷ kept) =
+    omega (arith, changed-within rules width kept, none_or_all (keeps_lines rules width l) (length l.text), sum_by-cons (changed_in rules width) l kept, sum_by-cons chars_of l kept)
 
-pub changed-le : (width : ℕ) (kept : List Layout) → changed width kept ≤ length (text_of kept)
-changed-le width kept = omega (arith, changed-within width kept, length-text kept)
+pub changed-le : (rules : Rules) (width : ℕ) (kept : List Layout) → changed rules width kept ≤ length (text_of kept)
+changed-le rules width kept = omega (arith, changed-within rules width kept, length-text kept)
 
 -- a count that rises by n and then by m rises by n + m
 counted_none : (count : ℕ) → count < 2 ^ 64 → count ≡ counted count 0
@@ -144,8 +145,8 @@ rises_twice n m k a b c r s e = record { least = omega (arith, r.least, s.least)
 pub record AreFilled (start : Engine) (width : ℕ) (kept : List Layout) (n : ℕ) (fills : List (Option LineExtents)) (now : Engine) : Type 0 where
   pub made : AllZip (BringsTo (rules_of start) width) (take n kept) fills
   pub rules : SameRules start now
-  pub exact : FindsExtents (changed width (take n kept)) start now
-  pub counts : FindsExtentsAtMost (changed width (take n kept)) start now
+  pub exact : FindsExtents (changed (rules_of start) width (take n kept)) start now
+  pub counts : FindsExtentsAtMost (changed (rules_of start) width (take n kept)) start now
 
 pub none_filled : (start : Engine) (width : ℕ) (kept : List Layout) (fills : List (Option LineExtents)) → filled_of start < 2 ^ 64 → fills ≡ []
     → AreFilled start width kept 0 fills start
@@ -160,18 +161,21 @@ module _ (start now : Engine) (width : ℕ) (kept : List Layout) (n : ℕ) (fill
   pub all_filled : length kept ≤ n → AllZip (BringsTo (rules_of start) width) kept fills
   all_filled last = subst (λ ks. AllZip (BringsTo (rules_of start) width) ks fills) (take_all n kept last) so_far.made
 
-  pub FindsExtents-all : length kept ≤ n → FindsExtents (changed width kept) start now
-  FindsExtents-all last = subst (λ ks. FindsExtents (changed width ks) start now) (take_all n kept last) so_far.exact
+  pub FindsExtents-all : length kept ≤ n → FindsExtents (changed (rules_of start) width kept) start now
+  FindsExtents-all last = subst (λ ks. FindsExtents (changed (rules_of start) width ks) start now) (take_all n kept last) so_far.exact
 
-  pub FindsExtentsAtMost-all : length kept ≤ n → FindsExtentsAtMost (changed width kept) start now
-  FindsExtentsAtMost-all last = subst (λ ks. FindsExtentsAtMost (changed width ks) start now) (take_all n kept last) so_far.counts
+  pub FindsExtentsAtMost-all : length kept ≤ n → FindsExtentsAtMost (changed (rules_of start) width kept) start now
+  FindsExtentsAtMost-all last = subst (λ ks. FindsExtentsAtMost (changed (rules_of start) width ks) start now) (take_all n kept last) so_far.counts
 
   module _ (l : Layout) (here : n < length kept) (item : get_or kept n l ≡ l) (next : Engine) (same : SameRules now next)
-      (counts : FindsExtentsAtMost (changed_in width l) now next) where
-    size : changed width (take (n + 1) kept) ≡ changed width (take n kept) + changed_in width l
-    size = sum_by_more (changed_in width) kept n l here ∙ ap (λ x. changed width (take n kept) + changed_in width x) item
+      (counts : FindsExtentsAtMost (changed_in (rules_of now) width l) now next) where
+    size : changed (rules_of start) width (take (n + 1) kept) ≡ changed (rules_of start) width (take n kept) + changed_in (rules_of now) width l
+    size =
+        sum_by_more (changed_in (rules_of start) width) kept n l here
+        ∙ ap (λ x. changed (rules_of start) width (take n kept) + changed_in (rules_of start) width x) item
+        ∙ ap (λ r. changed (rules_of start) width (take n kept) + changed_in r width l) (sym so_far.rules)
 
-    upto : (most : ℕ) → changed width (take (n + 1) kept) ≤ most → FindsExtentsAtMost most start next
+    upto : (most : ℕ) → changed (rules_of start) width (take (n + 1) kept) ≤ most → FindsExtentsAtMost most start next
     upto most within = record {
       analysed = counts.analysed ∙ so_far.counts.analysed;
       filled = rises_twice _ _ most _ _ _ so_far.counts.filled counts.filled (omega (arith, size, within));
@@ -179,10 +183,10 @@ module _ (start now : Engine) (width : ℕ) (kept : List Layout) (n : ℕ) (fill
     }
 
     -- if memory runs out after the next paragraph, the counters are still within their bound
-    pub FindsExtentsAtMost-next : FindsExtentsAtMost (changed width kept) start next
-    FindsExtentsAtMost-next = upto (changed width kept) (sum_by-take-le (changed_in width) kept (n + 1))
+    pub FindsExtentsAtMost-next : FindsExtentsAtMost (changed (rules_of start) width kept) start next
+    FindsExtentsAtMost-next = upto (changed (rules_of start) width kept) (sum_by-take-le (changed_in (rules_of start) width) kept (n + 1))
 
-    pub AreFilled-next : (part : Option LineExtents) (more : List (Option LineExtents)) → FindsExtents (changed_in width l) now next
+    pub AreFilled-next : (part : Option LineExtents) (more : List (Option LineExtents)) → FindsExtents (changed_in (rules_of now) width l) now next
         → BringsTo (rules_of now) width l part → more ≡ fills ++ part ∷ []
         → AreFilled start width kept (n + 1) more next
     AreFilled-next part more exact brings more-is = record {
@@ -194,7 +198,7 @@ module _ (start now : Engine) (width : ℕ) (kept : List Layout) (n : ℕ) (fill
         filled = counted_twice _ _ _ _ _ _ so_far.exact.filled exact.filled size;
         written = exact.written ∙ so_far.exact.written;
       };
-      counts = upto (changed width (take (n + 1) kept)) (omega arith);
+      counts = upto (changed (rules_of start) width (take (n + 1) kept)) (omega arith);
     }
 
 -- what an exchange of lines requires, and the layouts that result from it
@@ -226,12 +230,12 @@ all_fit rules same width capacity kept parts e laid has made =
 
 -- the number of characters whose lines are written is the number of characters that the width change fills
 -- again
-one_written : (rules : Rules) (width : ℕ) (l : Layout) (part : Option LineExtents) → BringsTo rules width l part → written_for l part ≡ changed_in width l
-one_written rules width l None brings = sym (cond-true (is_line_within width l.lines) 0 (length l.text) brings.0)
-one_written rules width l (Some extents) brings = sym (cond-false (is_line_within width l.lines) 0 (length l.text) brings.0)
+one_written : (rules : Rules) (width : ℕ) (l : Layout) (part : Option LineExtents) → BringsTo rules width l part → written_for l part ≡ changed_in rules width l
+one_written rules width l None brings = sym (cond-true (keeps_lines rules width l) 0 (length l.text) brings.0)
+one_written rules width l (Some extents) brings = sym (cond-false (keeps_lines rules width l) 0 (length l.text) brings.0)
 
 pub written_is_changed : (rules : Rules) (width : ℕ) (kept : List Layout) (parts : List (Option LineExtents)) → AllZip (BringsTo rules width) kept parts
-    → total_cost {P = Layout} {Part = Option LineExtents} written_for kept parts ≡ changed width kept
+    → total_cost {P = Layout} {Part = Option LineExtents} written_for kept parts ≡ changed rules width kept
 written_is_changed rules width [] [] made = refl
 written_is_changed rules width [] (part ∷ parts) made = absurd made
 written_is_changed rules width (l ∷ kept) [] made = absurd made
@@ -240,7 +244,7 @@ written_is_changed rules width (l ∷ kept) (part ∷ parts) made =
       arith,
       one_written rules width l part made.0,
       written_is_changed rules width kept parts made.1,
-      sum_by-cons (changed_in width) l kept,
+      sum_by-cons (changed_in rules width) l kept,
       sum_by-cons (λ (n : ℕ). n) (written_for l part) (pairwise {P = Layout} {Part = Option LineExtents} {A = ℕ} written_for kept parts),
     )
 
@@ -269,8 +273,8 @@ one_brought : (rules : Rules) (width capacity : ℕ) (l : Layout) (part : Option
     → put_into (record { rules = rules; capacity = capacity }) l part ≡ refilled_one rules width l
 one_brought rules width capacity l None laid brings = ap (λ ls. record l { lines = ls }) brings.1
 one_brought rules width capacity l (Some extents) laid brings =
-    ap (reflowed rules l) brings.1
-    ∙ subst (λ (m : Layout). reflowed rules m (extents_of rules width m.text) ≡ refilled_one rules width m) (sym laid.from_scratch) refl
+    reflowed_by rules width l extents laid brings.1
+    ∙ subst (λ (m : Layout). layout_of rules width m.text ≡ refilled_one rules width m) (sym laid.from_scratch) refl
 
 each_brought : (rules : Rules) (width capacity : ℕ) (kept : List Layout) (parts : List (Option LineExtents)) → Each (IsLaidOut rules) kept → AllZip (BringsTo rules width) kept parts
     → pairwise {P = Layout} {Part = Option LineExtents} {A = Layout} (put_into (record { rules = rules; capacity = capacity })) kept parts ≡ refilled rules width kept
@@ -316,7 +320,7 @@ module _ (law : ParagraphsArePieces) (few : LinesAreFew) (engine : Engine) (old 
       ∙ sym (ap length whole.kept ∙ length-map (paragraphs (cut_by (rules_of engine)) (text_of kept)) (layout_of (rules_of engine) old))
 
   module _ (new_engine : Engine) (same : SameRules engine new_engine) (counts : FillsAtMost (length (text_of kept)) engine new_engine)
-      (exact : Fills (changed width kept) engine new_engine) where
+      (exact : Fills (changed (rules_of engine) width kept) engine new_engine) where
     pub SetsWidth-after : (made : List Layout) (count lines lines_2 : ℕ) → made ≡ after → count ≡ length kept → lines ≡ sum_by line_number kept → lines_2 ≡ sum_by line_number made
         → SetsWidth width (record { engine = engine; width = old; kept = kept }) (record { engine = new_engine; width = width; kept = made })
         (record { first_line = 0; old_lines = lines; new_lines = lines_2; first_par = 0; old_pars = count; new_pars = count })

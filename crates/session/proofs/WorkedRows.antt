@@ -1,6 +1,8 @@
 -- Worked examples of touched paragraphs, of what a width change fills again, and of lists of edits.
-use Rattle.std.proofs.Common.{◌≡◌, ℕ, ◌==◌, Bool, List, [], ◌∷◌, Some, None, refl}
-use Rattle.lines.specs.Layouts.{Layout}
+use Rattle.std.proofs.Common.{◌≡◌, ℕ, ◌==◌, Bool, false, List, [], ◌∷◌, Some, None, refl}
+use Rattle.ucd.specs.declared.tables.Tables.{Tables}
+use Rattle.bidi.specs.declared.base.Base.TheVariants.{WeakLtr}
+use Rattle.lines.specs.Layouts.{Layout, Rules}
 use Rattle.lines.specs.Visual.{Line}
 use Rattle.session.specs.Edits.{after_all, deletion, insertion}
 use Rattle.session.specs.Kept.{changed}
@@ -37,7 +39,7 @@ abbrev line_of : ℕ → ℕ → Line
 line_of start columns = record { start = start; columns = columns; levels = []; ltov = []; vtol = []; chars = [] }
 
 abbrev laid : List ℕ → List Line → Layout
-laid text lines = record { text = text; base = 0; levels = []; marks = []; lines = lines }
+laid text lines = record { text = text; base = 0; levels = []; marks = []; ends = []; lines = lines }
 
 abbrev three_laid : List Layout
 three_laid =
@@ -45,8 +47,15 @@ three_laid =
     ∷ laid (99 ∷ 100 ∷ 10 ∷ []) (line_of 0 1 ∷ line_of 1 1 ∷ [])
     ∷ laid (101 ∷ 102 ∷ []) (line_of 0 2 ∷ []) ∷ []
 
-changed-of-three : (changed 2 three_laid ≡ 3) × (changed 1 three_laid ≡ 8) × (changed 2 [] ≡ 0)
-changed-of-three = (refl, refl, refl)
+abbrev default_rules : Tables → Rules
+default_rules tables = record {
+  tables = tables;
+  options = record { base = WeakLtr; nobreak = false; reordernsm = false; whole_numbers = false; reorder_clusters = false; show_spaces = false };
+}
+
+changed-of-three : (tables : Tables)
+    → (changed (default_rules tables) 2 three_laid ≡ 3) × (changed (default_rules tables) 1 three_laid ≡ 8) × (changed (default_rules tables) 2 [] ≡ 0)
+changed-of-three tables = (refl, refl, refl)
 
 -- their paragraphs start at 0, 3 and 6, on the lines 0, 1 and 3
 starts-of-three : (paragraph_starts three_laid ≡ 0 ∷ 3 ∷ 6 ∷ []) × (first_line_at three_laid 0 ≡ Some 0) × (first_line_at three_laid 1 ≡ Some 1)

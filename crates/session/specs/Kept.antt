@@ -3,7 +3,7 @@ use Rattle.std.specs.Prelude.{◌≡◌, ℕ, ◌-◌, ◌<◌, ◌≤◌, Bool,
 use Rattle.std.specs.List.{concat, flat_map}
 use Rattle.bidi.specs.Cuts.{paragraphs}
 use Rattle.lines.specs.Extents.{extents_in, extents_of, reflowed, LineExtents}
-use Rattle.lines.specs.Layouts.{Layout, Rules, IsLaidOut, cut_by, is_line_within, layout_of, lines_of, visuals}
+use Rattle.lines.specs.Layouts.{Layout, Rules, IsLaidOut, cut_by, keeps_lines, layout_of, lines_of, visuals}
 use Rattle.lines.specs.Visual.{Visual}
 
 -- whether there is a paragraph boundary between two texts, or one of them is empty
@@ -24,13 +24,13 @@ lines_in kept = flat_map visuals kept
 abbrev pub layouts_of : Rules → ℕ → List ℕ → List Layout
 layouts_of rules width text = map (layout_of rules width) (paragraphs (cut_by rules) text)
 
--- how many characters of a paragraph a width change fills again: all, or none if it has one line that fits
-abbrev pub changed_in : ℕ → Layout → ℕ
-changed_in width kept = if is_line_within width kept.lines then 0 else length kept.text
+-- how many characters of a paragraph a width change fills again: all, or none if it keeps its only line
+abbrev pub changed_in : Rules → ℕ → Layout → ℕ
+changed_in rules width kept = if keeps_lines rules width kept then 0 else length kept.text
 
 -- how many characters of a text a width change fills again
-abbrev pub changed : ℕ → List Layout → ℕ
-changed width kept = sum_by (changed_in width) kept
+abbrev pub changed : Rules → ℕ → List Layout → ℕ
+changed rules width kept = sum_by (changed_in rules width) kept
 
 -- what writing the lines of paragraphs depends on: the rules, and the capacity of the scratch space
 pub record Writer : Type 0 where
@@ -69,8 +69,7 @@ pub record CanBePut (writer : Writer) (kept : Layout) (extents : LineExtents) : 
   pub at_width : (width : ℕ) × (extents ≡ extents_of writer.rules width kept.text)
   pub capacity : length kept.text ≤ writer.capacity
 
--- The extents are those of the paragraph at a width. If the paragraph is one line that fits, there are no
--- extents, and the line is kept.
+-- The extents are those of the paragraph at a width. If the paragraph keeps its only line, there are no extents.
 abbrev pub BringsTo : Rules → ℕ → Layout → Option LineExtents → Type 0
-BringsTo rules width kept None = (is_line_within width kept.lines ≡ true) × (kept.lines ≡ lines_of rules width kept.text)
-BringsTo rules width kept (Some extents) = (is_line_within width kept.lines ≡ false) × (extents ≡ extents_of rules width kept.text)
+BringsTo rules width kept None = (keeps_lines rules width kept ≡ true) × (kept.lines ≡ lines_of rules width kept.text)
+BringsTo rules width kept (Some extents) = (keeps_lines rules width kept ≡ false) × (extents ≡ extents_of rules width kept.text)

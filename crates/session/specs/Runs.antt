@@ -29,7 +29,7 @@ module _ (rules : Rules) where
   abbrev pub filled_by : Held → Edit → ℕ
   filled_by held (Insert pos text) = fresh (paragraphs (cut_by rules) held.text) (insertion pos (chars text.now))
   filled_by held (Delete pos count) = fresh (paragraphs (cut_by rules) held.text) (deletion pos count)
-  filled_by held (SetWidth width) = changed width (layouts_of rules held.width held.text)
+  filled_by held (SetWidth width) = changed rules width (layouts_of rules held.width held.text)
 
   -- the work of an edit, which is 0 if the edit is refused
   abbrev pub work_of : (Held → Edit → ℕ) → Held → Edit → ℕ

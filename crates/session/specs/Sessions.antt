@@ -79,7 +79,7 @@ pub record Edits (edit : Replacement) (old new : SessionState) (answer : Damage)
   pub damage : IsDamage edit old.kept new.kept answer
   pub counts : LaysOutAtMost (fresh (pars_of old.kept) edit) old.engine new.engine
 
--- the width was set, and all paragraphs except those of one fitting line were filled again
+-- the width was set, and all paragraphs except those that keep their only line were filled again
 pub record SetsWidth (width : ℕ) (old new : SessionState) (answer : Damage) : Type 0 where
   pub accepted : width_refusal width ≡ None
   pub text : text_at new ≡ text_at old
@@ -88,7 +88,7 @@ pub record SetsWidth (width : ℕ) (old new : SessionState) (answer : Damage) : 
   pub rules : SameRules old.engine new.engine
   pub damage : NamesAll old.kept new.kept answer
   pub counts : FillsAtMost (length (text_at old)) old.engine new.engine
-  pub exact : Fills (changed width old.kept) old.engine new.engine
+  pub exact : Fills (changed (rules_of old.engine) width old.kept) old.engine new.engine
 
 -- a failed edit changes nothing except the counters, and these only after `NoMemory`
 pub record Stays (reason : Option EditFault) (bound : Engine → Engine → Type 0) (old new : SessionState) (fault : EditFault) : Type 0 where
@@ -103,4 +103,4 @@ abbrev pub EditsNot : Replacement → SessionState → SessionState → EditFaul
 EditsNot edit old = Stays (refusal (cuts_at old) (text_at old) edit) (LaysOutAtMost (fresh (pars_of old.kept) edit)) old
 
 abbrev pub SetsWidthNot : ℕ → SessionState → SessionState → EditFault → Type 0
-SetsWidthNot width old = Stays (width_refusal width) (FindsExtentsAtMost (changed width old.kept)) old
+SetsWidthNot width old = Stays (width_refusal width) (FindsExtentsAtMost (changed (rules_of old.engine) width old.kept)) old

@@ -18,8 +18,8 @@ use bidi::paragraphs_are_pieces;
 use lines::Engine;
 use std::alloc::{AllocError, Global};
 
-// Returns whether any paragraph of the joined text is too long. Allocates nothing.
-fn has_long(engine: &Engine, front: &[char], piece: &str, back: &[char]) -> bool
+/// Returns whether any paragraph of the joined text is too long. Allocates nothing.
+pub fn has_long(engine: &Engine, front: &[char], piece: &str, back: &[char]) -> bool
     ensures { result ≡ not (is_within_limit (cut_by (rules_of engine.now))
         (front.now ++ (chars piece.now ++ back.now))) }
 {

@@ -1,5 +1,5 @@
 //! Theorems about all texts.
-ghost use Rattle.std.specs.Prelude.{◌≡◌, ◌++◌, ℕ, List};
+ghost use Rattle.std.specs.Prelude.{◌≡◌, ◌++◌, ◌⊎◌, ℕ, List, true};
 ghost use Rattle.bidi.specs.Cuts.{paragraphs};
 ghost use Rattle.lines.specs.Layouts.{Rules, cut_by};
 ghost use Rattle.lines.specs.Ordered.{MarksStay};
@@ -9,7 +9,7 @@ ghost use Rattle.session.specs.Kept.{layouts_of, IsCutAt};
 ghost use Rattle.session.specs.Steps.{StepsAreNearest};
 
 use bidi::paragraphs_are_pieces;
-use lines::{Laid, lines_are_ordered, runs_adjoin, runs_have_all_columns};
+use lines::{Laid, clusters_adjoin, lines_are_ordered, runs_adjoin, runs_have_all_columns};
 
 /// States, as a theorem, that a text split at a paragraph boundary is laid out as its two parts are, for any
 /// tables, options and width. The layouts of the text are those of the first part, followed by those of the
@@ -32,16 +32,19 @@ pub fn texts_are_laid_out_in_parts()
 /// States, as a theorem, that the units of each line tile its columns, and that each step leads to the
 /// nearest boundary in its direction, on the same line, or there is no such boundary. So repeated steps meet
 /// every boundary in their direction. From a boundary, a step and a step back return to the same column. The
-/// edge at a column is at the last boundary up to that column. This holds at any width, by any rules under
-/// which marks stay in place or take no columns. Without `reordernsm`, marks stay in place; in Unicode's
-/// tables, all marks but U+2D7F and U+1171E take no columns. Costs nothing at run time.
+/// edge at a column is at the last boundary up to that column. This holds at any width, by any rules with
+/// `reorder_clusters`, and by any rules under which marks stay in place or take no columns. Without
+/// `reordernsm`, marks stay in place; in Unicode's tables, all marks but U+2D7F and U+1171E take no columns.
+/// Costs nothing at run time.
 pub fn steps_lead_to_boundaries()
-    ensures { (rules : Rules) (width : ℕ) (text : List ℕ) → MarksStay rules text
+    ensures { (rules : Rules) (width : ℕ) (text : List ℕ)
+        → (rules.options.reorder_clusters ≡ true) ⊎ MarksStay rules text
         → StepsAreNearest rules (layouts_of rules width text) }
 {
     paragraphs_are_pieces();
     Laid::lines_begin_in_order();
     lines_are_ordered();
     runs_adjoin();
+    clusters_adjoin();
     runs_have_all_columns();
 }

@@ -5,7 +5,7 @@ ghost use Rattle.std.specs.Prelude.{IfOk, IfErr, IfSome, IsErrOf, OnErr, OnOk};
 ghost use Rattle.std.specs.List.{All, AllZip};
 ghost use Rattle.lines.specs.Engine.{rules_of, FindsExtents, FindsExtentsAtMost, SameRules};
 ghost use Rattle.lines.specs.Engine.{Rewrites, RewritesAtMost};
-ghost use Rattle.lines.specs.Layouts.{is_line_within, IsLaidOut};
+ghost use Rattle.lines.specs.Layouts.{keeps_lines, IsLaidOut};
 ghost use Rattle.session.specs.Sessions.{IsWholeLayout, SetsWidth, SetsWidthNot};
 ghost use Rattle.session.specs.Kept.{changed, changed_in, put_into, written_for, BringsTo, CanBePut};
 ghost use Rattle.session.specs.declared.edits.EditFault.TheVariants.{NoMemory};
@@ -28,16 +28,20 @@ fn find_one(
     requires laid { IsLaidOut (rules_of engine.old) laid.now }
     requires width { 0 < width }
     ensures ok { IfOk result (BringsTo (rules_of engine.old) width laid.now) }
-    ensures kept { IfOk result (λ part. is_none part ≡ is_line_within width laid.now.lines) }
-    ensures memory { OnErr result (is_line_within width laid.now.lines ≡ false) }
-    ensures unfilled { is_line_within width laid.now.lines ≡ true → engine.new ≡ engine.old }
+    ensures kept { IfOk result (λ part.
+        is_none part ≡ keeps_lines (rules_of engine.old) width laid.now) }
+    ensures memory { OnErr result (keeps_lines (rules_of engine.old) width laid.now ≡ false) }
+    ensures unfilled { keeps_lines (rules_of engine.old) width laid.now ≡ true
+        → engine.new ≡ engine.old }
     ensures rules { SameRules engine.old engine.new }
-    ensures exact { OnOk result (FindsExtents (changed_in width laid.now) engine.old engine.new) }
-    ensures counts { FindsExtentsAtMost (changed_in width laid.now) engine.old engine.new }
+    ensures exact { OnOk result (FindsExtents (changed_in (rules_of engine.old) width laid.now)
+        engine.old engine.new) }
+    ensures counts { FindsExtentsAtMost (changed_in (rules_of engine.old) width laid.now)
+        engine.old engine.new }
 {
     // The contract of `filled` bounds the count.
     let _filled = engine.filled();
-    if laid.keeps_lines(width) {
+    if engine.keeps_lines(laid, width) {
         return Ok(None);
     }
     Ok(Some(engine.extents(alloc, laid, width)?))
@@ -57,10 +61,10 @@ fn find_each(
         AllZip (BringsTo (rules_of engine.old) width) (map (λ kept. kept.now) list.now) parts.items) }
     ensures memory { OnErr result (0 < length list.now) }
     ensures rules { SameRules engine.old engine.new }
-    ensures exact { OnOk result (FindsExtents (changed width (map (λ kept. kept.now) list.now))
-        engine.old engine.new) }
-    ensures counts { FindsExtentsAtMost (changed width (map (λ kept. kept.now) list.now))
-        engine.old engine.new }
+    ensures exact { OnOk result (FindsExtents
+        (changed (rules_of engine.old) width (map (λ kept. kept.now) list.now)) engine.old engine.new) }
+    ensures counts { FindsExtentsAtMost
+        (changed (rules_of engine.old) width (map (λ kept. kept.now) list.now)) engine.old engine.new }
 {
     // The contract of `filled` bounds the count.
     let _filled = engine.filled();
@@ -108,9 +112,10 @@ fn find_all<S: ParagraphStore<Kept>>(
     ensures unwritten { IfOk result (λ found. found.1.written ≡ 0) }
     ensures memory { OnErr result (0 < length (S.items store.now)) }
     ensures rules { SameRules engine.old engine.new }
-    ensures exact { OnOk result (FindsExtents (changed width (S.items store.now))
+    ensures exact { OnOk result (FindsExtents (changed (rules_of engine.old) width (S.items store.now))
         engine.old engine.new) }
-    ensures counts { FindsExtentsAtMost (changed width (S.items store.now)) engine.old engine.new }
+    ensures counts { FindsExtentsAtMost (changed (rules_of engine.old) width (S.items store.now))
+        engine.old engine.new }
 {
     // By this theorem, the text of each layout is one paragraph.
     paragraphs_are_pieces();

@@ -73,6 +73,8 @@ fn default_options_are_weak_ltr_and_no_flag(rt: HostRuntime) {
         nobreak: false,
         reordernsm: false,
         whole_numbers: false,
+        reorder_clusters: false,
+        show_spaces: false,
     };
     assert!(rt; lines::Options::default() == options);
 }

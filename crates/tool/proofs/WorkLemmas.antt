@@ -113,12 +113,12 @@ found_only n old new counts = record {
 }
 
 width_worked : (width : ℕ) (old new : SessionState) (result : Result Damage EditFault) → IfOk result (SetsWidth width old new) → IfErr result (SetsWidthNot width old new)
-    → Worked (width_refusal width) 0 (changed width old.kept) old.engine new.engine
+    → Worked (width_refusal width) 0 (changed (rules_of old.engine) width old.kept) old.engine new.engine
 width_worked width old new (Ok damage) m r =
-    let n = changed width old.kept in
+    let n = changed (rules_of old.engine) width old.kept in
     filled_anew (width_refusal width) n old.engine new.engine m.accepted (filled_exactly n (length (text_at old)) old.engine new.engine m.exact m.counts)
 width_worked width old new (Err fault) m r =
-    let n = changed width old.kept in
+    let n = changed (rules_of old.engine) width old.kept in
     counted_for (width_refusal width) 0 n (FindsExtentsAtMost n) old.engine new.engine fault r.answer r.counts
     (λ e counts. filled_anew (width_refusal width) n old.engine new.engine e (found_only n old.engine new.engine counts))
 
@@ -126,8 +126,8 @@ pub width_works : (width : ℕ) (old new : SessionState) (result : Result Damage
     → IfOk result (SetsWidth width old new) → IfErr result (SetsWidthNot width old new)
     → CommandWorks (rules_of old.engine) (held_at old) (SetWidth width) old.engine new.engine
 width_works width old new result small whole m r =
-    let n = changed width (layouts_at (rules_of old.engine) (held_at old)) in
-    let w = subst (λ kept. Worked (width_refusal width) 0 (changed width kept) old.engine new.engine) whole.kept (width_worked width old new result m r) in
+    let n = changed (rules_of old.engine) width (layouts_at (rules_of old.engine) (held_at old)) in
+    let w = subst (λ kept. Worked (width_refusal width) 0 (changed (rules_of old.engine) width kept) old.engine new.engine) whole.kept (width_worked width old new result m r) in
     let reason : command_refusal (rules_of old.engine) (held_at old) (SetWidth width) ≡ width_refusal width = ap (λ b. if b then Some WidthOutOfRange else width_refusal width) small in
     record {
       analysed = subst (λ (o : Option EditFault). RisesBy (if is_none o then 0 else 0) (analysed_of old.engine) (analysed_of new.engine)) (sym reason) w.analysed;

@@ -25,7 +25,7 @@ module _ (rules : Rules) where
   abbrev pub filled_by : Held → Command → ℕ
   filled_by held (Insert pos inserted) = fresh (paragraphs (cut_by rules) held.text) (insertion pos inserted)
   filled_by held (Delete pos count) = fresh (paragraphs (cut_by rules) held.text) (deletion pos count)
-  filled_by held (SetWidth width) = changed width (layouts_at rules held)
+  filled_by held (SetWidth width) = changed rules width (layouts_at rules held)
   filled_by held Show = 0
   filled_by held (Ask query) = 0
 

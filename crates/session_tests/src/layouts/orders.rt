@@ -13,6 +13,8 @@ const READ: Options = Options {
     nobreak: false,
     reordernsm: true,
     whole_numbers: false,
+    reorder_clusters: false,
+    show_spaces: false,
 };
 
 const REVERSED: Options = Options {

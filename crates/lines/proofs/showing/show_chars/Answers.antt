@@ -4,8 +4,9 @@ use Rattle.ucd.specs.Properties.{properties_of}
 use Rattle.ucd.specs.Classes.{class_in}
 use Rattle.ucd.specs.Within.{AreWithin}
 use Rattle.reorder.specs.Mirroring.{visual_chars}
-use Rattle.reorder.specs.Order.{vtol_of}
 use Rattle.reorder.proofs.OrderLemmas.{length-order, vtol_within}
+use Rattle.lines.specs.Reordering.{classes_by, reorders}
+use Rattle.lines.proofs.ReorderingLemmas.{not_reordered}
 use Rattle.lines.proofs.showing.show_chars.Goals as goal
 
 pub visual_chars-requires-clause-properties : goal.visual_chars-requires-clause-properties
@@ -30,29 +31,26 @@ visual_chars-requires-in-None-clause-properties c =
     ap (take n) c.requires.line ∙ take-map (properties_of line.rules.tables.now) n line.characters.now
 
 pub visual_chars-requires-in-None-clause-within : goal.visual_chars-requires-in-None-clause-within
-unfolding vtol_of
 visual_chars-requires-in-None-clause-within c =
     let line = c.args.line.now in
     let levels = c.args.levels.now in
     let classes = map class_in line.properties.now in
-    let is = c.order_runs.ensures.places c.in-None.is ∙ ap (λ asked. vtol_of asked classes levels) (sym c.if-line.false) in
+    let is = c.order_runs.ensures.places c.in-None.is ∙ not_reordered line.rules.options classes line.ends.now levels (sym c.reorders.ensures ∙ c.if-reorders.false) in
     let size : length (take (length levels) line.characters.now) ≡ length levels = length-take-le (length levels) line.characters.now c.requires.levels in
-    subst (λ (n : ℕ). AreWithin n c.order_runs.new.items) (sym size) (vtol_within line.rules.options.reordernsm classes levels c.order_runs.new.items is)
+    subst (λ (n : ℕ). AreWithin n c.order_runs.new.items) (sym size) (vtol_within (reorders line.rules.options) (classes_by line.rules.options classes line.ends.now levels) levels c.order_runs.new.items is)
 
 pub returns-in-Some : goal.returns-in-Some
-unfolding vtol_of
 returns-in-Some c =
     let line = c.args.line.now in
     let levels = c.args.levels.now in
     c.visual_runs.ensures
     ∙ ap (visual_chars line.rules.tables.now levels (take (length levels) line.characters.now))
-    (c.in-Some.ensures.runs ∙ ap (λ asked. vtol_of asked (map class_in line.properties.now) levels) (sym c.if-line.false))
+    (c.in-Some.ensures.runs ∙ not_reordered line.rules.options (map class_in line.properties.now) line.ends.now levels (sym c.reorders.ensures ∙ c.if-reorders.false))
 
 pub returns-in-None : goal.returns-in-None
-unfolding vtol_of
 returns-in-None c =
     let line = c.args.line.now in
     let levels = c.args.levels.now in
     c.visual_chars-in-None.ensures
     ∙ ap (visual_chars line.rules.tables.now levels (take (length levels) line.characters.now))
-    (c.order_runs.ensures.places c.in-None.is ∙ ap (λ asked. vtol_of asked (map class_in line.properties.now) levels) (sym c.if-line.false))
+    (c.order_runs.ensures.places c.in-None.is ∙ not_reordered line.rules.options (map class_in line.properties.now) line.ends.now levels (sym c.reorders.ensures ∙ c.if-reorders.false))

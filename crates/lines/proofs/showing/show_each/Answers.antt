@@ -1,13 +1,17 @@
-use Rattle.std.proofs.Common.{◌≡◌, ◌-◌, take, drop, get_or, length, slice_range, ap, refl, ◌∙◌, arith}
+use Rattle.std.proofs.Common.{◌≡◌, ◌-◌, ℕ, Bool, List, take, drop, get_or, length, slice_range, ap, refl, subst, ◌∙◌, arith}
 use Rattle.std.proofs.lemmas.List.{drop-map, take-map}
 use Rattle.ucd.specs.Properties.{properties_of}
-use Rattle.lines.specs.Showing.{nothing_shown}
+use Rattle.ucd.specs.declared.tables.Tables.{Tables}
+use Rattle.lines.specs.Reordering.{ends_by}
+use Rattle.lines.specs.Showing.{nothing_shown, IsShown}
+use Rattle.lines.specs.declared.fill.Shown.{Shown}
+use Rattle.lines.specs.declared.options.Options.{Options}
 use Rattle.lines.proofs.ShowLemmas.{length_range, length-shown_from, show_more, shown_within}
 use Rattle.lines.proofs.showing.show_each.Goals as goal
 
 pub bounds-shown-k : goal.bounds-shown-k
 bounds-shown-k c =
-    omega (arith, ap length c.requires.shown.1, length-shown_from (length c.args.text.now.characters.now) c.requires.shown.0 c.args.spans.now.starts.now, c.loop-k-test.true)
+    omega (arith, ap length c.requires.shown.2, length-shown_from c.requires.shown.0 (length c.args.text.now.characters.now) c.requires.shown.1 c.args.spans.now.starts.now, c.loop-k-test.true)
 
 pub show_line-requires-clause-shown : goal.show_line-requires-clause-shown
 show_line-requires-clause-shown c =
@@ -15,15 +19,25 @@ show_line-requires-clause-shown c =
     let starts = c.args.spans.now.starts.now in
     let start = get_or starts c.loop-k.k 0 in
     let ends = c.end_of-end.ensures.within c.requires.starts in
-    let within = shown_within (length text) c.requires.shown.0 starts c.args.spans.now.shown.now c.loop-k.k c.end_of-end.result _ nothing_shown
-    c.requires.starts c.loop-k-test.true c.end_of-end.ensures.end c.requires.shown.1 refl in
+    let within = shown_within c.requires.shown.0 (length text) c.requires.shown.1 starts c.args.spans.now.shown.now c.loop-k.k c.end_of-end.result _ nothing_shown
+    c.requires.starts c.loop-k-test.true c.end_of-end.ensures.end c.requires.shown.2 refl in
     let line : length (slice_range text start c.end_of-end.result) ≡ c.end_of-end.result - start =
     length_range text start c.end_of-end.result (omega (arith, ends.0)) ends.1 in
     omega (arith, within, line)
 
+same_ends : {tables : Tables} {options : Options} {base : ℕ} {line old : List ℕ} {part : Shown} {l t v h : List ℕ} (es fs : List Bool) → es ≡ fs
+    → IsShown tables options base es line old part l t v h → IsShown tables options base fs line old part l t v h
+same_ends {tables} {options} {base} {line} {old} {part} {l} {t} {v} {h} es fs e is = subst (λ (xs : List Bool). IsShown tables options base xs line old part l t v h) e is
+
 pub loop-k-preserved : goal.loop-k-preserved
 loop-k-preserved c =
-    show_more _ _ _ _ _ _ _ _ _ _ _ _ _ _ _ _ _ _ c.requires.starts c.loop-k-test.true c.end_of-end.ensures.end c.loop-k.invariant c.show_line.ensures
+    let text = c.args.text.now in
+    let options = text.rules.options in
+    let start = get_or c.args.spans.now.starts.now c.loop-k.k 0 in
+    let end = c.end_of-end.result in
+    let ends = c.ends_between.ensures ∙ ap (λ (es : List Bool). slice_range es start end) c.requires.ends in
+    let shown = same_ends c.ends_between.result.now (slice_range (ends_by options text.characters.now) start end) ends c.show_line.ensures in
+    show_more _ _ _ _ _ _ _ _ _ _ _ _ _ _ _ _ _ _ c.requires.starts c.loop-k-test.true c.end_of-end.ensures.end c.loop-k.invariant shown
     (omega arith) (omega arith) (omega arith) (omega arith) refl
 
 pub show_line-requires-clause-line : goal.show_line-requires-clause-line

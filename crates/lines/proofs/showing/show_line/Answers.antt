@@ -4,7 +4,7 @@ use Rattle.ucd.specs.Tables.{class_of}
 use Rattle.ucd.specs.Classes.{class_in}
 use Rattle.ucd.specs.Within.{AreWithin}
 use Rattle.reorder.specs.Mirroring.{visual_chars}
-use Rattle.reorder.specs.Order.{ltov_of, vtol_of}
+use Rattle.lines.specs.Reordering.{ltov_by, vtol_by}
 use Rattle.reorder.specs.Spaces.{line_levels}
 use Rattle.reorder.proofs.PlainLemmas.{classes_are, front_written, zero_take}
 use Rattle.lines.proofs.showing.show_line.Goals as goal
@@ -16,7 +16,8 @@ pub returns : goal.returns
 returns c =
     let n = c.args.shown.len in
     let tables = c.args.line.now.rules.tables.now in
-    let reordernsm = c.args.line.now.rules.options.reordernsm in
+    let options = c.args.line.now.rules.options in
+    let ends = c.args.line.now.ends.now in
     let line = c.args.line.now.characters.now in
     let within = c.requires.shown in
     let part = take n c.reset_line-is_flat.new.levels in
@@ -30,10 +31,10 @@ returns c =
     record {
       within = omega (arith, c.requires.shown);
       levels_are = ap (take n) (c.reset_line-is_flat.ensures.levels ∙ ap (λ cs. line_levels c.args.line.now.base cs c.args.levels.now) classes);
-      ltov_is = front_written c.show_part.new.ltov c.args.ltov.now n ltov ∙ c.show_part.ensures.ltov ∙ ap (λ cs. ltov_of reordernsm cs part) classes;
-      vtol_is = written ∙ c.show_part.ensures.vtol ∙ ap (λ cs. vtol_of reordernsm cs part) classes;
+      ltov_is = front_written c.show_part.new.ltov c.args.ltov.now n ltov ∙ c.show_part.ensures.ltov ∙ ap (λ cs. ltov_by options cs ends part) classes;
+      vtol_is = written ∙ c.show_part.ensures.vtol ∙ ap (λ cs. vtol_by options cs ends part) classes;
       chars_are = front_written c.show_part.new.chars c.args.chars.now n chars ∙ c.show_part.ensures.chars
-          ∙ ap (λ m. visual_chars tables part (take m line) (vtol_of reordernsm (map class_in c.args.line.now.properties.now) part)) len
-          ∙ ap (λ cs. visual_chars tables part (take n line) (vtol_of reordernsm cs part)) classes;
+          ∙ ap (λ m. visual_chars tables part (take m line) (vtol_by options (map class_in c.args.line.now.properties.now) ends part)) len
+          ∙ ap (λ cs. visual_chars tables part (take n line) (vtol_by options cs ends part)) classes;
       vtol_within = subst (AreWithin n) (sym written) (subst (λ m. AreWithin m c.show_part.new.vtol) len c.show_part.ensures.within);
     }

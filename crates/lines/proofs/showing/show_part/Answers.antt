@@ -5,6 +5,7 @@ use Rattle.ucd.specs.Properties.{properties_of}
 use Rattle.ucd.specs.Classes.{class_in}
 use Rattle.ucd.specs.Within.{AreWithin}
 use Rattle.reorder.proofs.PlainLemmas.{plain_chars, plain_ltov, plain_vtol, plain_within}
+use Rattle.lines.specs.Reordering.{classes_by, reorders}
 use Rattle.lines.proofs.showing.show_part.Goals as goal
 
 pub returns-then-is_plain-clause-ltov : goal.returns-then-is_plain-clause-ltov
@@ -13,7 +14,7 @@ returns-then-is_plain-clause-ltov c =
     let levels = c.args.levels.now in
     let len : length (take (length levels) line.characters.now) ≡ length levels = length-take-le (length levels) line.characters.now (omega (arith, c.requires.levels)) in
     c.show_plain.ensures.ltov ∙ ap (range_with_len 0) len
-    ∙ plain_ltov line.rules.options.reordernsm (map class_in line.properties.now) levels (c.is_plain.ensures c.if-is_plain.true)
+    ∙ plain_ltov (reorders line.rules.options) (classes_by line.rules.options (map class_in line.properties.now) line.ends.now levels) levels (c.is_plain.ensures c.if-is_plain.true)
 
 pub returns-then-is_plain-clause-vtol : goal.returns-then-is_plain-clause-vtol
 returns-then-is_plain-clause-vtol c =
@@ -21,7 +22,7 @@ returns-then-is_plain-clause-vtol c =
     let levels = c.args.levels.now in
     let len : length (take (length levels) line.characters.now) ≡ length levels = length-take-le (length levels) line.characters.now (omega (arith, c.requires.levels)) in
     c.show_plain.ensures.vtol ∙ ap (range_with_len 0) len
-    ∙ plain_vtol line.rules.options.reordernsm (map class_in line.properties.now) levels (c.is_plain.ensures c.if-is_plain.true)
+    ∙ plain_vtol (reorders line.rules.options) (classes_by line.rules.options (map class_in line.properties.now) line.ends.now levels) levels (c.is_plain.ensures c.if-is_plain.true)
 
 pub returns-then-is_plain-clause-chars : goal.returns-then-is_plain-clause-chars
 returns-then-is_plain-clause-chars c =
@@ -30,7 +31,7 @@ returns-then-is_plain-clause-chars c =
     let part = take (length levels) line.characters.now in
     let len : length part ≡ length levels = length-take-le (length levels) line.characters.now (omega (arith, c.requires.levels)) in
     c.show_plain.ensures.chars
-    ∙ plain_chars line.rules.tables.now line.rules.options.reordernsm (map class_in line.properties.now) levels part (sym len) (c.is_plain.ensures c.if-is_plain.true)
+    ∙ plain_chars line.rules.tables.now (reorders line.rules.options) (classes_by line.rules.options (map class_in line.properties.now) line.ends.now levels) levels part (sym len) (c.is_plain.ensures c.if-is_plain.true)
 
 pub returns-then-is_plain-clause-within : goal.returns-then-is_plain-clause-within
 returns-then-is_plain-clause-within c =

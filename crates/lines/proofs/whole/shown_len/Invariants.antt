@@ -1,5 +1,5 @@
 use Rattle.std.proofs.Common.{◌≡◌, ℕ, ◌<◌, ◌≤◌, true, get_or, length}
-use Rattle.lines.specs.CharInfos.{is_trailing_in}
+use Rattle.lines.specs.CharInfos.{may_trail, trailing_in}
 use Rattle.lines.proofs.whole.shown_len.Given as goal
 
 abbrev pub invariant-loop-len : goal.invariant-loop-len
@@ -8,7 +8,7 @@ invariant-loop-len l =
     let chars = l.text.characters.now in
     record {
       within : l.len ≤ length chars;
-      tail : (k : ℕ) → l.len ≤ k → k < length chars → is_trailing_in t (get_or chars k 0) ≡ true;
+      tail : (k : ℕ) → l.len ≤ k → k < length chars → may_trail (trailing_in t (get_or chars k 0)) ≡ true;
     }
 
 abbrev pub decreases-loop-len : goal.decreases-loop-len

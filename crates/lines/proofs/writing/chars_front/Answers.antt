@@ -2,7 +2,7 @@ use Rattle.std.proofs.Common.{◌∙◌, length, map, take, ap, arith}
 use Rattle.std.proofs.lemmas.List.{length-take-le}
 use Rattle.ucd.specs.Classes.{class_in}
 use Rattle.reorder.specs.Mirroring.{visual_chars}
-use Rattle.reorder.specs.Order.{vtol_of}
+use Rattle.lines.specs.Reordering.{vtol_by}
 use Rattle.reorder.proofs.PlainLemmas.{classes_are}
 use Rattle.lines.proofs.WrittenLemmas.{front_is}
 use Rattle.lines.proofs.writing.chars_front.Goals as goal
@@ -14,4 +14,4 @@ returns c =
     let levels = take n c.args.levels.now in
     let classes = ap (map class_in) c.requires.line ∙ classes_are text.rules.tables.now text.characters.now in
     front_is n c.show_chars.new.chars _ (omega (arith, length-take-le n c.args.chars.now c.requires.chars)) ∙ c.show_chars.ensures
-    ∙ ap (λ cs. visual_chars text.rules.tables.now levels (take (length levels) text.characters.now) (vtol_of text.rules.options.reordernsm cs levels)) classes
+    ∙ ap (λ cs. visual_chars text.rules.tables.now levels (take (length levels) text.characters.now) (vtol_by text.rules.options cs text.ends.now levels)) classes

@@ -3,7 +3,7 @@ use Rattle.std.proofs.lemmas.List.{length-take-le}
 use Rattle.ucd.specs.Classes.{class_in}
 use Rattle.ucd.specs.Within.{AreWithin}
 use Rattle.reorder.specs.Mirroring.{visual_chars}
-use Rattle.reorder.specs.Order.{ltov_of, vtol_of}
+use Rattle.lines.specs.Reordering.{ltov_by, vtol_by}
 use Rattle.reorder.proofs.PlainLemmas.{classes_are}
 use Rattle.lines.proofs.WrittenLemmas.{front_is}
 use Rattle.lines.proofs.writing.order_front.Goals as goal
@@ -11,7 +11,8 @@ use Rattle.lines.proofs.writing.order_front.Goals as goal
 pub returns : goal.returns
 returns c =
     let text = c.args.line.now.text in
-    let nsm = text.rules.options.reordernsm in
+    let options = text.rules.options in
+    let ends = text.ends.now in
     let n = c.args.line.now.shown.len in
     let levels = take n c.args.levels.now in
     let classes = ap (map class_in) c.requires.line ∙ classes_are text.rules.tables.now text.characters.now in
@@ -20,8 +21,8 @@ returns c =
     let vtol = front_is n c.show_part.new.vtol _ (omega (arith, length-take-le n c.args.vtol.now c.requires.vtol)) in
     let chars = front_is n c.show_part.new.chars _ (omega (arith, length-take-le n c.args.chars.now c.requires.chars)) in
     record {
-      ltov = ltov ∙ c.show_part.ensures.ltov ∙ ap (λ cs. ltov_of nsm cs levels) classes;
-      vtol = vtol ∙ c.show_part.ensures.vtol ∙ ap (λ cs. vtol_of nsm cs levels) classes;
-      chars = chars ∙ c.show_part.ensures.chars ∙ ap (λ cs. visual_chars text.rules.tables.now levels (take (length levels) text.characters.now) (vtol_of nsm cs levels)) classes;
+      ltov = ltov ∙ c.show_part.ensures.ltov ∙ ap (λ cs. ltov_by options cs ends levels) classes;
+      vtol = vtol ∙ c.show_part.ensures.vtol ∙ ap (λ cs. vtol_by options cs ends levels) classes;
+      chars = chars ∙ c.show_part.ensures.chars ∙ ap (λ cs. visual_chars text.rules.tables.now levels (take (length levels) text.characters.now) (vtol_by options cs ends levels)) classes;
       within = subst (AreWithin n) (sym vtol) (subst (λ (m : ℕ). AreWithin m c.show_part.new.vtol) size c.show_part.ensures.within);
     }

@@ -1,6 +1,13 @@
-use Rattle.std.proofs.Common.{◌≡◌, ◌-◌, ◌<◌, ◌∙◌, take, drop, get_or, length, slice_range, refl, ap, sym, arith}
+use Rattle.std.proofs.Common.{◌≡◌, ◌==◌, ◌-◌, ◌<◌, ◌∙◌, ℕ, Bool, List, take, drop, get_or, length, slice_range, refl, ap, sym, arith}
 use Rattle.std.proofs.lemmas.List.{drop-map, take-map}
 use Rattle.ucd.specs.Properties.{properties_of}
+use Rattle.lines.specs.Asked.{visual_shown}
+use Rattle.lines.specs.Bytes.{line_bytes}
+use Rattle.lines.specs.Paragraphs.{HasEnds}
+use Rattle.lines.specs.Reordering.{ends_by}
+use Rattle.lines.specs.declared.fill.Shown.{Shown}
+use Rattle.lines.specs.declared.paragraph.Text.{Text}
+use Rattle.lines.specs.declared.writing.Form.{Form}
 use Rattle.lines.specs.Showing.{lines_shown, nothing_shown}
 use Rattle.lines.specs.Writing.{StoppedIn}
 use Rattle.lines.proofs.PageLemmas.{pieces, piece_within, pieces_all, pieces_whole}
@@ -9,9 +16,19 @@ use Rattle.lines.proofs.WriteLemmas.{pieces-more, pieces-stopped, same_fault}
 use Rattle.lines.proofs.WrittenLemmas.{length-lines_shown, piece_is}
 use Rattle.lines.proofs.writing.write_each.Goals as goal
 
+-- the bytes of a line are those with its part of the paragraph's cluster ends
+part_bytes : (text : Text) (form : Form) (levels : List ℕ) (start end k : ℕ) (part : Shown) (ends : List Bool) → HasEnds text → ends ≡ slice_range text.ends.now start end
+    → line_bytes form.width form.print.now (visual_shown text.rules.tables.now text.rules.options text.base (k == 0) (slice_range text.characters.now start end) ends
+    (slice_range levels start end) part)
+    ≡ line_bytes form.width form.print.now (visual_shown text.rules.tables.now text.rules.options text.base (k == 0) (slice_range text.characters.now start end)
+    (slice_range (ends_by text.rules.options text.characters.now) start end) (slice_range levels start end) part)
+part_bytes text form levels start end k part ends known is =
+    ap (λ (es : List Bool). line_bytes form.width form.print.now (visual_shown text.rules.tables.now text.rules.options text.base (k == 0)
+    (slice_range text.characters.now start end) es (slice_range levels start end) part)) (is ∙ ap (λ (es : List Bool). slice_range es start end) known)
+
 pub bounds-shown-k : goal.bounds-shown-k
 bounds-shown-k g c =
-    omega (arith, ap length c.requires.shown.1, length-shown_from (length c.args.text.now.characters.now) c.requires.shown.0 c.args.spans.now.starts.now, c.loop-k-test.true)
+    omega (arith, ap length c.requires.shown.2, length-shown_from c.requires.shown.0 (length c.args.text.now.characters.now) c.requires.shown.1 c.args.spans.now.starts.now, c.loop-k-test.true)
 
 pub write_line-requires-clause-line : goal.write_line-requires-clause-line
 write_line-requires-clause-line g c =
@@ -27,8 +44,8 @@ write_line-requires-clause-shown g c =
     let starts = c.args.spans.now.starts.now in
     let start = get_or starts c.loop-k.k 0 in
     let ends = c.end_of-end.ensures.within c.requires.starts in
-    let within = shown_within (length text) c.requires.shown.0 starts c.args.spans.now.shown.now c.loop-k.k c.end_of-end.result _ nothing_shown
-    c.requires.starts c.loop-k-test.true c.end_of-end.ensures.end c.requires.shown.1 refl in
+    let within = shown_within c.requires.shown.0 (length text) c.requires.shown.1 starts c.args.spans.now.shown.now c.loop-k.k c.end_of-end.result _ nothing_shown
+    c.requires.starts c.loop-k-test.true c.end_of-end.ensures.end c.requires.shown.2 refl in
     let line : length (slice_range text start c.end_of-end.result) ≡ c.end_of-end.result - start =
     length_range text start c.end_of-end.result (omega (arith, ends.0)) ends.1 in
     omega (arith, within, line)
@@ -41,11 +58,12 @@ loop-k-preserved g c =
     let shown = c.args.spans.now.shown.now in
     let lines = lines_shown text.rules.tables.now text.rules.options text.base text.characters.now c.args.levels.now starts shown in
     let form = c.args.form.now in
-    let same = ap length c.requires.shown.1 ∙ length-shown_from (length text.characters.now) c.requires.shown.0 starts in
+    let same = ap length c.requires.shown.2 ∙ length-shown_from c.requires.shown.0 (length text.characters.now) c.requires.shown.1 starts in
     let ends = c.end_of-end.ensures.within c.requires.starts in
-    let within = shown_within (length text.characters.now) c.requires.shown.0 starts shown c.loop-k.k c.end_of-end.result _ nothing_shown
-    c.requires.starts c.loop-k-test.true c.end_of-end.ensures.end c.requires.shown.1 refl in
-    let next = piece_is text.rules.tables.now text.rules.options text.base text.characters.now c.args.levels.now form.width form.print.now starts shown c.loop-k.k
+    let within = shown_within c.requires.shown.0 (length text.characters.now) c.requires.shown.1 starts shown c.loop-k.k c.end_of-end.result _ nothing_shown
+    c.requires.starts c.loop-k-test.true c.end_of-end.ensures.end c.requires.shown.2 refl in
+    let next = part_bytes text form c.args.levels.now (get_or starts c.loop-k.k 0) c.end_of-end.result c.loop-k.k _ c.ends_between.result.now c.requires.ends c.ends_between.ensures
+    ∙ piece_is text.rules.tables.now text.rules.options text.base text.characters.now c.args.levels.now form.width form.print.now starts shown c.loop-k.k
     c.end_of-end.result _ same c.loop-k-test.true c.end_of-end.ensures.end refl within ends.1 c.requires.levels in
     let inside : c.loop-k.k < length lines = omega (arith, length-lines_shown text.rules.tables.now text.rules.options text.base text.characters.now c.args.levels.now starts shown same, c.loop-k-test.true) in
     record {
@@ -68,11 +86,12 @@ returns-in_err-written-clause-err g c =
     let shown = c.args.spans.now.shown.now in
     let lines = lines_shown text.rules.tables.now text.rules.options text.base text.characters.now c.args.levels.now starts shown in
     let form = c.args.form.now in
-    let same = ap length c.requires.shown.1 ∙ length-shown_from (length text.characters.now) c.requires.shown.0 starts in
+    let same = ap length c.requires.shown.2 ∙ length-shown_from c.requires.shown.0 (length text.characters.now) c.requires.shown.1 starts in
     let ends = c.end_of-end.ensures.within c.requires.starts in
-    let within = shown_within (length text.characters.now) c.requires.shown.0 starts shown c.loop-k.k c.end_of-end.result _ nothing_shown
-    c.requires.starts c.loop-k-test.true c.end_of-end.ensures.end c.requires.shown.1 refl in
-    let next = piece_is text.rules.tables.now text.rules.options text.base text.characters.now c.args.levels.now form.width form.print.now starts shown c.loop-k.k
+    let within = shown_within c.requires.shown.0 (length text.characters.now) c.requires.shown.1 starts shown c.loop-k.k c.end_of-end.result _ nothing_shown
+    c.requires.starts c.loop-k-test.true c.end_of-end.ensures.end c.requires.shown.2 refl in
+    let next = part_bytes text form c.args.levels.now (get_or starts c.loop-k.k 0) c.end_of-end.result c.loop-k.k _ c.ends_between.result.now c.requires.ends c.ends_between.ensures
+    ∙ piece_is text.rules.tables.now text.rules.options text.base text.characters.now c.args.levels.now form.width form.print.now starts shown c.loop-k.k
     c.end_of-end.result _ same c.loop-k-test.true c.end_of-end.ensures.end refl within ends.1 c.requires.levels in
     let inside : c.loop-k.k < length lines = omega (arith, length-lines_shown text.rules.tables.now text.rules.options text.base text.characters.now c.args.levels.now starts shown same, c.loop-k-test.true) in
     let stopped = pieces-stopped (pieces form.width form.print.now text.base text.characters.now lines) c.loop-k.k
@@ -88,7 +107,7 @@ returns-clause-ok g c =
     let shown = c.args.spans.now.shown.now in
     let lines = lines_shown text.rules.tables.now text.rules.options text.base text.characters.now c.args.levels.now starts shown in
     let form = c.args.form.now in
-    let same = ap length c.requires.shown.1 ∙ length-shown_from (length text.characters.now) c.requires.shown.0 starts in
+    let same = ap length c.requires.shown.2 ∙ length-shown_from c.requires.shown.0 (length text.characters.now) c.requires.shown.1 starts in
     let count = length-lines_shown text.rules.tables.now text.rules.options text.base text.characters.now c.args.levels.now starts shown same in
     let all = pieces_all form.width form.print.now text.base text.characters.now lines c.loop-k.k (omega (arith, count, c.loop-k-test.false)) in
     rw (sym all) c.loop-k.invariant.passed

@@ -5,6 +5,7 @@ use Rattle.lines.specs.Bytes.{line_bytes}
 use Rattle.lines.specs.Paragraphs.{shown_by}
 use Rattle.lines.specs.Writing.{PassedOn, StoppedIn}
 use Rattle.reorder.proofs.PlainLemmas.{plain_chars}
+use Rattle.lines.specs.Reordering.{classes_by, reorders}
 use Rattle.lines.proofs.writing.write_line.Goals as goal
 
 -- an empty shown part has no visual characters
@@ -12,7 +13,7 @@ pub write_ordered-requires-clause-chars : goal.write_ordered-requires-clause-cha
 write_ordered-requires-clause-chars g c = λ on.
     let text = c.args.line.now.text in
     let tables = text.rules.tables.now in
-    plain_chars tables text.rules.options.reordernsm (map (class_of tables) text.characters.now) [] [] refl (λ k. refl)
+    plain_chars tables (reorders text.rules.options) (classes_by text.rules.options (map (class_of tables) text.characters.now) text.ends.now []) [] [] refl (λ k. refl)
 
 pub returns-clause-ok : goal.returns-clause-ok
 returns-clause-ok g c =

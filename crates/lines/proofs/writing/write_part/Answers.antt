@@ -9,6 +9,7 @@ use Rattle.lines.specs.Visual.{Visual}
 use Rattle.lines.specs.Writing.{PassedOn, StoppedIn}
 use Rattle.reorder.proofs.PlainLemmas.{plain_chars}
 use Rattle.lines.proofs.WrittenLemmas.{is_part}
+use Rattle.lines.specs.Reordering.{classes_by, reorders}
 use Rattle.lines.proofs.writing.write_part.Goals as goal
 use Rattle.lines.proofs.writing.write_part.Goals.{then-form-via-then-form, then-form-via-else-form+then-is_plain}
 
@@ -25,7 +26,7 @@ returns-then-asks_places-clause-ok g c =
     let ltov = ap (take n) (with_items_is before.ltov c.order_front.new.ltov (omega arith)) ∙ order.ltov ∙ ap (λ (ls : List ℕ). (shown_by line (take n ls)).ltov) c.deref.ensures.value in
     let vtol = ap (take n) (with_items_is before.vtol c.order_front.new.vtol (omega arith)) ∙ order.vtol ∙ ap (λ (ls : List ℕ). (shown_by line (take n ls)).vtol) c.deref.ensures.value in
     let chars = ap (take n) (with_items_is before.chars c.order_front.new.chars (omega arith)) ∙ order.chars ∙ ap (λ (ls : List ℕ). (shown_by line (take n ls)).chars) c.deref.ensures.value in
-    let same = is_part line.text.rules.tables.now line.text.rules.options line.text.base line.is_first line.text.characters.now line.shown.columns (take n before.levels.items)
+    let same = is_part line.text.rules.tables.now line.text.rules.options line.text.base line.is_first line.text.characters.now line.text.ends.now line.shown.columns (take n before.levels.items)
     _ _ _ _ refl ltov vtol chars in
     subst (λ (view : Visual). IfOk c.write_visual.result (λ n. PassedOn (line_bytes c.args.form.now.width c.args.form.now.print.now view) c.args.before
     (g.W.Sink.state c.args.writer.now) (g.W.Sink.state c.write_visual.new.writer) n)) same c.write_visual.ensures.ok
@@ -39,7 +40,7 @@ returns-then-asks_places-clause-err g c =
     let ltov = ap (take n) (with_items_is before.ltov c.order_front.new.ltov (omega arith)) ∙ order.ltov ∙ ap (λ (ls : List ℕ). (shown_by line (take n ls)).ltov) c.deref.ensures.value in
     let vtol = ap (take n) (with_items_is before.vtol c.order_front.new.vtol (omega arith)) ∙ order.vtol ∙ ap (λ (ls : List ℕ). (shown_by line (take n ls)).vtol) c.deref.ensures.value in
     let chars = ap (take n) (with_items_is before.chars c.order_front.new.chars (omega arith)) ∙ order.chars ∙ ap (λ (ls : List ℕ). (shown_by line (take n ls)).chars) c.deref.ensures.value in
-    let same = is_part line.text.rules.tables.now line.text.rules.options line.text.base line.is_first line.text.characters.now line.shown.columns (take n before.levels.items)
+    let same = is_part line.text.rules.tables.now line.text.rules.options line.text.base line.is_first line.text.characters.now line.text.ends.now line.shown.columns (take n before.levels.items)
     _ _ _ _ refl ltov vtol chars in
     subst (λ (view : Visual). IfErr c.write_visual.result (λ fault. StoppedIn (line_bytes c.args.form.now.width c.args.form.now.print.now view) c.args.before
     (g.W.Sink.state c.args.writer.now) (g.W.Sink.state c.write_visual.new.writer) fault.written)) same c.write_visual.ensures.err
@@ -58,7 +59,7 @@ write_ordered-requires-clause-chars g c =
       | then-form-via-then-form w ↦ absurd (both_ways c.args.form.now.print.now.novisual on w.if-form.true)
       | then-form-via-else-form+then-is_plain w ↦
           ap (λ (m : ℕ). take m text.characters.now) (sym size)
-          ∙ plain_chars tables text.rules.options.reordernsm (map (class_of tables) text.characters.now) levels (take (length levels) text.characters.now) (sym len)
+          ∙ plain_chars tables (reorders text.rules.options) (classes_by text.rules.options (map (class_of tables) text.characters.now) text.ends.now levels) levels (take (length levels) text.characters.now) (sym len)
           (subst (λ (xs : List ℕ). (k : ℕ) → is_odd (slice_index (take n xs) k) ≡ false) (w.deref-else-form.ensures.value ∙ sym c.deref-then-form.ensures.value)
           (w.is_plain.ensures w.if-is_plain.true))
     ]

@@ -28,6 +28,6 @@ returns-clause-ok g c =
     SetsWidth-after c.paragraphs_are_pieces.ensures c.lines_are_few.ensures c.args.engine.now c.args.width.now c.args.new_width kept c.requires c.if-new_width-eq0.false
     c.reflow_all.new.engine (c.reflow_all.ensures.rules ∙ c.find_all.ensures.rules)
     (FillsAtMost-written _ _ (length (text_of kept)) c.args.engine.now c.find_all.new.engine c.reflow_all.new.engine
-    c.find_all.ensures.counts same (changed-le c.args.new_width kept) c.reflow_all.ensures.at_most)
+    c.find_all.ensures.counts same (changed-le (rules_of c.args.engine.now) c.args.new_width kept) c.reflow_all.ensures.at_most)
     (Fills-written _ _ c.args.engine.now c.find_all.new.engine c.reflow_all.new.engine c.in-Ok.ensures.exact same c.reflow_all.ensures.counts)
     _ _ _ _ made c.count-count.ensures c.total_lines-old_lines.ensures c.total_lines.ensures

@@ -24,7 +24,7 @@ invariant_of-self c =
     c.args.extents.now.shown c.deref-2.result.now (c.deref_mut.ensures.value ∙ c.copy_from_slice.ensures.items) (c.deref.ensures.value ∙ starts) (c.deref-2.ensures.value ∙ parts)
     c.show_each.ensures.shown in
     let count : length c.args.extents.now.shown ≡ length c.args.extents.now.starts =
-    ap length c.requires.shown.1 ∙ length-shown_from (length c.args.text.now.characters.now) c.requires.shown.0 c.args.extents.now.starts in
+    ap length c.requires.shown.2 ∙ length-shown_from c.requires.shown.0 (length c.args.text.now.characters.now) c.requires.shown.1 c.args.extents.now.starts in
     let levels_len : length c.show_each.new.levels ≡ length c.args.text.now.characters.now = omega (arith, len) in
     let ltov_len : length c.show_each.new.ltov ≡ length c.args.text.now.characters.now = omega (arith, len, c.self.invariant.ltov_len) in
     let vtol_len : length c.show_each.new.vtol ≡ length c.args.text.now.characters.now = omega (arith, len, c.self.invariant.vtol_len) in
@@ -32,7 +32,7 @@ invariant_of-self c =
     rw (l, t, v, h, starts, parts) (sound _ _ _ _ _ _ _ _ _ _ _ c.requires.starts count levels_len ltov_len vtol_len chars_len shown)
 
 pub returns-clause-lines : goal.returns-clause-lines
-returns-clause-lines c infos is =
+returns-clause-lines c =
     let starts : c.swap.new.x.items ≡ c.args.extents.now.starts = ap (λ (v : Vec ℕ Global). v.items) c.swap.ensures.x_after ∙ ap (λ (s : LineExtents). s.starts) c.extents.view_is in
     let parts : c.swap-2.new.x.items ≡ c.args.extents.now.shown = ap (λ (v : Vec Shown Global). v.items) c.swap-2.ensures.x_after ∙ ap (λ (s : LineExtents). s.shown) c.extents.view_is in
     let len : length c.self.inside.levels.items ≡ length c.args.text.now.characters.now = ap (λ (f : Filled). f.len) c.self.view_is ∙ c.requires.len in
@@ -44,7 +44,9 @@ returns-clause-lines c infos is =
     c.args.text.now.characters.now c.args.levels.now c.deref_mut.result.now c.args.extents.now.starts c.deref.result.now
     c.args.extents.now.shown c.deref-2.result.now (c.deref_mut.ensures.value ∙ c.copy_from_slice.ensures.items) (c.deref.ensures.value ∙ starts) (c.deref-2.ensures.value ∙ parts)
     c.show_each.ensures.shown in
-    rw (l, t, v, h, starts, parts) (all_shown _ _ _ _ _ _ _ _ _ _ _ _ is shown)
+    let count : length c.args.extents.now.shown ≡ length c.args.extents.now.starts =
+    ap length c.requires.shown.2 ∙ length-shown_from c.requires.shown.0 (length c.args.text.now.characters.now) c.requires.shown.1 c.args.extents.now.starts in
+    rw (l, t, v, h, starts, parts) (all_shown _ _ _ _ _ _ _ _ _ _ _ count shown)
 
 pub returns-clause-within : goal.returns-clause-within
 returns-clause-within c =
@@ -60,7 +62,7 @@ returns-clause-within c =
     c.args.extents.now.shown c.deref-2.result.now (c.deref_mut.ensures.value ∙ c.copy_from_slice.ensures.items) (c.deref.ensures.value ∙ starts) (c.deref-2.ensures.value ∙ parts)
     c.show_each.ensures.shown in
     let count : length c.args.extents.now.shown ≡ length c.args.extents.now.starts =
-    ap length c.requires.shown.1 ∙ length-shown_from (length c.args.text.now.characters.now) c.requires.shown.0 c.args.extents.now.starts in
+    ap length c.requires.shown.2 ∙ length-shown_from c.requires.shown.0 (length c.args.text.now.characters.now) c.requires.shown.1 c.args.extents.now.starts in
     let levels_len : length c.show_each.new.levels ≡ length c.args.text.now.characters.now = omega (arith, len) in
     let ltov_len : length c.show_each.new.ltov ≡ length c.args.text.now.characters.now = omega (arith, len, c.self.invariant.ltov_len) in
     let vtol_len : length c.show_each.new.vtol ≡ length c.args.text.now.characters.now = omega (arith, len, c.self.invariant.vtol_len) in

@@ -3,6 +3,7 @@ use Rattle.lines.specs.Extents.{extents_of, shown_from, LineExtents}
 use Rattle.lines.specs.Kept.{AreStarts}
 use Rattle.lines.specs.Layouts.{Layout, Rules}
 use Rattle.lines.specs.CharInfos.{infos_of}
+use Rattle.lines.specs.ShownParts.{margin_of}
 use Rattle.lines.proofs.VisualLemmas.{starts_within}
 use Rattle.lines.proofs.laid.Laid.reflow.Goals as goal
 
@@ -17,9 +18,11 @@ reflow-requires-clause-starts c =
 pub reflow-requires-clause-shown : goal.reflow-requires-clause-shown
 reflow-requires-clause-shown c =
     let text = c.args.self.now.text in
+    let margin = margin_of c.args.options c.requires.extents.0 in
     let infos = infos_of c.args.tables.now c.args.options.whole_numbers text in
     let len : length text ≡ length c.as_slice-text.result.now = sym (ap length (c.as_slice-text.ensures.value ∙ ap (λ (l : Layout). l.text) c.self.view_is)) in (
+      margin,
       infos,
       ap (λ (s : LineExtents). s.shown) c.requires.extents.1
-          ∙ ap₂ (λ (n : ℕ) (starts : List ℕ). shown_from n infos starts) len (sym (ap (λ (s : LineExtents). s.starts) c.requires.extents.1)),
+          ∙ ap₂ (λ (n : ℕ) (starts : List ℕ). shown_from margin n infos starts) len (sym (ap (λ (s : LineExtents). s.starts) c.requires.extents.1)),
     )

@@ -3,6 +3,7 @@ use Rattle.bidi.specs.Levels.{levels_of}
 use Rattle.breaks.specs.Marks.{marks_of}
 use Rattle.lines.specs.Layouts.{base_of, fill_of, Layout}
 use Rattle.lines.specs.Paragraphs.{rules_in}
+use Rattle.lines.specs.Reordering.{ends_by}
 use Rattle.lines.specs.declared.engine.TheConstants.{PARAGRAPH_LIMIT}
 use Rattle.lines.proofs.LayoutLemmas.{filled_as}
 use Rattle.lines.proofs.workspace.Workspace.fill.Goals as goal
@@ -15,6 +16,7 @@ fill_lines-requires-clause-paragraph c =
     record {
       text = record {
         looked_up = c.as_slice.ensures.value ∙ c.in_ok-fill_properties.ensures;
+        ends = c.ends.ensures ∙ ap (λ (l : Layout). l.ends) is ∙ ap (ends_by rules.options) text;
         limit = subst (λ (text : List ℕ). length text ≤ PARAGRAPH_LIMIT) text c.requires.paragraph.within;
         base = c.base.ensures ∙ ap (λ (l : Layout). l.base) is ∙ ap (base_of (rules_in rules)) text;
         levels_are = c.levels.ensures.levels ∙ ap (λ (l : Layout). l.levels) is ∙ ap (λ (text : List ℕ). levels_of rules.tables.now text rules.options.base) text;

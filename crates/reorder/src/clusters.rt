@@ -1,0 +1,67 @@
+//! The classes by which L3 keeps the characters of grapheme clusters in logical order.
+ghost use Rattle.std.specs.Prelude.{◌≡◌, ◌<◌, ◌≤◌, ℕ, Bool, List, length, slice_index, slice_index_or};
+ghost use Rattle.std.specs.Prelude.{false, true};
+ghost use Rattle.reorder.specs.Clusters.{cluster_classes, is_joined, IsSequence, IsSingle};
+ghost use Rattle.reorder.specs.Groups.{StandsTogether};
+ghost use Rattle.reorder.specs.Order.{vtol_of};
+
+use ucd::{BidiClass, Classes};
+
+/// Classes for [`visual_order`](crate::visual_order) and [`visual_places`](crate::visual_places) with
+/// `reordernsm`, by which L3 keeps grapheme clusters in logical order instead of marks. A character that
+/// continues a cluster, at the level of the character before it, is a mark, and all others are bases.
+#[derive(Clone, Copy)]
+pub struct ClusterClasses<'a> {
+    /// Whether a cluster ends after each character of the line.
+    pub ends: &'a [bool],
+    /// The levels of the characters to be ordered, after L1.
+    pub levels: &'a [u8],
+}
+
+impl Classes for ClusterClasses<'_> {
+    ghost all = { λ s. cluster_classes s.ends.now s.levels.now };
+
+    fn len(&self) -> usize {
+        self.levels.len()
+    }
+
+    fn class_at(&self, k: usize) -> BidiClass {
+        if is_joined(self.ends, self.levels, k) {
+            BidiClass::NSM
+        } else {
+            BidiClass::ON
+        }
+    }
+}
+
+// Returns whether a character and the one before it are in the same cluster and at the same level.
+fn is_joined(ends: &[bool], levels: &[u8], place: usize) -> bool
+    requires { place < length levels.now }
+    ensures { result ≡ is_joined ends.now levels.now place }
+{
+    place > 0 && !ends_after(ends, place - 1) && levels[place] == levels[place - 1]
+}
+
+// Returns whether a cluster ends after a character of a line.
+fn ends_after(ends: &[bool], place: usize) -> bool
+    ensures { result ≡ slice_index_or ends.now place false }
+{
+    place < ends.len() && ends[place]
+}
+
+/// States, as a theorem, that the characters of a cluster that are at one odd level, one after another, are
+/// adjacent in visual order. With `ClusterClasses` they are in logical order, and by L2 alone in reverse
+/// order. Costs nothing at run time.
+pub fn clusters_stand_together()
+    ensures { (ends : List Bool) (levels : List ℕ) (first n : ℕ) → IsSequence ends levels first n
+        → StandsTogether (cluster_classes ends levels) levels first n }
+{}
+
+/// States, as a theorem, that `ClusterClasses` move only characters at odd levels that have others of their
+/// cluster beside them at the same level. Costs nothing at run time.
+pub fn single_characters_stay()
+    ensures { (ends : List Bool) (levels : List ℕ) (k : ℕ) → k < length levels
+        → IsSingle ends levels (slice_index (vtol_of false (cluster_classes ends levels) levels) k)
+        → slice_index (vtol_of true (cluster_classes ends levels) levels) k
+        ≡ slice_index (vtol_of false (cluster_classes ends levels) levels) k }
+{}
