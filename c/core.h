@@ -80,6 +80,9 @@ uint32_t hordguli_core_paragraph(hordguli_session *session, size_t paragraph, ho
                                  uint32_t wanted, uint8_t *levels, size_t levels_room, uint8_t *marks,
                                  size_t marks_room);
 
+uint32_t hordguli_core_layout(hordguli_tables *tables, uint32_t options, uint16_t width, uint32_t print,
+                              const uint8_t *text, size_t length, uint8_t *bytes, size_t room, size_t *written);
+
 uint32_t hordguli_core_base(hordguli_tables *tables, uint32_t direction, const uint32_t *characters, size_t count,
                             uint32_t *base);
 uint32_t hordguli_core_levels(hordguli_tables *tables, uint32_t direction, const uint32_t *characters, size_t count,

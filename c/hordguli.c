@@ -330,6 +330,19 @@ PUBLIC hordguli_status hordguli_paragraph(hordguli_session *session, size_t para
                                                     LENGTH(marks, capacity));
 }
 
+/* ---- Layout without a session ---- */
+
+PUBLIC hordguli_status hordguli_layout(hordguli_tables *tables, uint32_t options, uint32_t width, uint32_t print,
+                                       const char *text, size_t length, size_t capacity, char *buffer,
+                                       size_t *written) {
+    uint8_t none[1];
+    if (tables == NULL || written == NULL || LACKS(text, length) || LACKS(buffer, capacity)) return HORDGULI_NULL;
+    if (OVERLAP(AT(tables), AT(written), ARRAY(buffer, capacity), ARRAY(text, length))) return HORDGULI_OVERLAP;
+    if (width > UINT16_MAX) return HORDGULI_WIDTH_OUT_OF_RANGE;
+    return (hordguli_status)hordguli_core_layout(tables, options, (uint16_t)width, print, BYTES(text), length,
+                                                 ROOM(uint8_t, buffer, none), capacity, written);
+}
+
 /* ---- Levels and breaks without a session ---- */
 
 /* Used instead of NULL if there are no characters. */

@@ -20,7 +20,7 @@
  * boundary fits either, the line is wider than the width.
  *
  * The tail of a line is all U+0020, U+000A to U+000D, U+0085, U+2028 and U+2029 at its end. It is not shown. The rest
- * of the line is its shown part.
+ * of the line is its shown part, to which HORDGULI_SHOW_SPACES adds spaces of the tail.
  *
  * COLUMNS
  *
@@ -48,9 +48,9 @@
  *
  * BUFFERS
  *
- * `hordguli_lines_utf8` and `hordguli_text` write to a buffer of `capacity` bytes and store the byte count in
- * `*length`. If the buffer is too small, they return NO_ROOM, leave it unchanged, and store the required size. So call
- * once with capacity 0, then again with a buffer of the required size.
+ * `hordguli_lines_utf8`, `hordguli_text` and `hordguli_layout` write to a buffer of `capacity` bytes and store the byte
+ * count in `*length` or `*written`. If the buffer is too small, they return NO_ROOM, leave it unchanged, and store the
+ * required size. So call once with capacity 0, then again with a buffer of the required size.
  *
  *     size_t length = 0;
  *     char *buffer = NULL;
@@ -164,10 +164,19 @@ const char *hordguli_unicode_version(void);
 /* Does not break inside a number, such as `$(1,200)`. This replaces LB25 (UAX #14): there is no break inside a match of
  * `(PR|PO)? (OP|HY)? NU (NU|SY|IS)* (CL|CP)? (PR|PO)?`. */
 #define HORDGULI_WHOLE_NUMBERS UINT32_C(16)
+/* Keeps the characters of a grapheme cluster that follow each other at one odd level in logical order. By default they
+ * are reversed, as is all RTL text. Use it if the terminal draws clusters as units, such as emoji families, skin tones,
+ * flags, and letters with marks. HORDGULI_REORDER_NSM then has no effect. For example, RLO `man ZWJ woman` is written
+ * as RLO `woman ZWJ man` by default, which no terminal draws as one emoji. */
+#define HORDGULI_REORDER_CLUSTERS UINT32_C(32)
+/* Shows the spaces with which the tail of a line begins, as many as fit in the width. So they have carets, hits and
+ * spans. Lines end where they end without this option. A line that is wider than the width shows none of these spaces,
+ * also with HORDGULI_NOBREAK. In RTL paragraphs, they are to the left of the text. */
+#define HORDGULI_SHOW_SPACES UINT32_C(64)
 
 /* ---- Print flags ----
  *
- * Flags that select what `hordguli_lines_utf8` writes for each line. Combine them with `|`. */
+ * Flags that select what `hordguli_lines_utf8` and `hordguli_layout` write for each line. Combine them with `|`. */
 
 /* The shown part in visual order. */
 #define HORDGULI_PRINT_VISUAL UINT32_C(1)
@@ -365,9 +374,10 @@ typedef struct hordguli_caret {
 } hordguli_caret;
 
 /* Stores in `*caret` where to draw the caret for `pos`:
- *   - Before a shown character: at its left edge if its level is even, else at its right edge.
- *   - Before the tail or inside it, and at the end of the text: at the end of the line. That is right of all columns in
- *     an LTR paragraph, and column 0 in an RTL one.
+ *   - Before a shown character: at its left edge if its level is even, else at its right edge. At an odd level, with
+ *     HORDGULI_REORDER_CLUSTERS, that is inside its cluster; `hordguli_edge_caret` stores the end of the cluster.
+ *   - Before a character that is not shown, and at the end of the text: at the end of the line. That is right of all
+ *     columns in an LTR paragraph, and column 0 in an RTL one.
  *   - At the start of a paragraph that does not exist yet (see `hordguli_place_of`): at column 0. `level` is then the
  *     base level of an empty paragraph. If it is odd, draw the caret at the right edge of the screen.
  *
@@ -493,9 +503,10 @@ typedef struct hordguli_run {
 } hordguli_run;
 
 /* Stores the directional runs of a line's shown part, from left to right, for shaping text: the longest ranges of
- * characters at one level after L1. They do not depend on HORDGULI_REORDER_NSM, which moves marks only inside runs. The
- * number of runs is stored in `*count`, and the runs in an array of `capacity` elements (see BUFFERS). Fails with
- * OUT_OF_RANGE if the line does not exist. For the characters of a run, in logical order:
+ * characters at one level after L1. They do not depend on HORDGULI_REORDER_NSM and HORDGULI_REORDER_CLUSTERS, which
+ * move characters only inside runs. The number of runs is stored in `*count`, and the runs in an array of `capacity`
+ * elements (see BUFFERS). Fails with OUT_OF_RANGE if the line does not exist. For the characters of a run, in logical
+ * order:
  *
  *     status = hordguli_line_start(&session, line, &start);
  *     if (!status) status = hordguli_text_utf32(&session, start + run.start, run.length, 80, characters, &length);
@@ -683,6 +694,27 @@ typedef struct hordguli_paragraph_info {
 hordguli_status hordguli_paragraph(hordguli_session *session, size_t paragraph, hordguli_paragraph_info *info,
                                    size_t capacity, uint8_t *levels, uint8_t *marks);
 
+/* ---- Layout without a session ---- */
+
+/* Lays out a text, and writes its lines to a buffer (see BUFFERS), as UTF-8. `*written` is the byte count. The bytes are
+ * those that `hordguli_lines_utf8` writes for all lines of a session with these `options`, this `width` and this text.
+ * `print` is as in that function. For example, the line of a log:
+ *
+ *     status = hordguli_layout(&tables, HORDGULI_WEAK_LTR, 80, HORDGULI_PRINT_DEFAULT, line, strlen(line),
+ *                              sizeof buffer, buffer, &written);
+ *
+ * The handle keeps the memory that a call used, so a call on a text that is no longer than one before it usually
+ * allocates nothing. Only grapheme clusters need new memory: with HORDGULI_REORDER_CLUSTERS, and for a line in which no
+ * break opportunity fits. The handle keeps at most 5 MB: memory for a text or for lines of more than 65,536 bytes is
+ * freed. `hordguli_tables_close` frees it. Calls at the same time in several threads need a handle of tables each.
+ *
+ * NO_MEMORY comes before NO_ROOM, because the lines are gathered before their size is known.
+ * Errors: NULL, OVERLAP, WIDTH_OUT_OF_RANGE (above 65,535), UNKNOWN_OPTION, NOT_UTF8, CLOSED, WIDTH_OUT_OF_RANGE (0),
+ * TEXT_TOO_LONG, PARAGRAPH_TOO_LONG, NO_MEMORY, NO_ROOM.
+ * Cost: time and memory proportional to `length` and to the lines, even with capacity 0. */
+hordguli_status hordguli_layout(hordguli_tables *tables, uint32_t options, uint32_t width, uint32_t print,
+                                const char *text, size_t length, size_t capacity, char *buffer, size_t *written);
+
 /* ---- Levels and breaks without a session ----
  *
  * These functions take one paragraph of `count` characters, and do not split it at separators. `direction` is a base
@@ -713,8 +745,9 @@ hordguli_status hordguli_marks(hordguli_tables *tables, uint32_t options, const 
 
 /* Puts a row of `count` characters into visual order. The caller chose where the row starts and ends. `base` is the
  * base level of its paragraph (`hordguli_base`), and `levels` are the levels of the row's characters in the whole
- * paragraph (`hordguli_levels`). `options` is 0 or HORDGULI_REORDER_NSM. Stores `count` elements in each array. Each
- * array has `capacity` elements. NULL arrays are skipped. Positions count from the start of the row.
+ * paragraph (`hordguli_levels`). `options` can have HORDGULI_REORDER_NSM and HORDGULI_REORDER_CLUSTERS. The clusters are
+ * those of these characters alone. Stores `count` elements in each array. Each array has `capacity` elements. NULL
+ * arrays are skipped. Positions count from the start of the row.
  *   visual      characters in visual order, mirrored (UAX #9, L4)
  *   row_levels  level of each character after L1, in logical order
  *   ltov        visual position of each logical position

@@ -130,12 +130,12 @@ static void opened(void) {
     IS(hordguli_session_open(&session, &no_tables, 0, 80, text, length), CLOSED);
     IS(hordguli_session_open(&session, &tables, 0, 0, text, length), WIDTH_OUT_OF_RANGE);
     IS(hordguli_session_open(&session, &tables, 0, 65536, text, length), WIDTH_OUT_OF_RANGE);
-    for (uint32_t bit = 5; bit < 32; bit++)
+    for (uint32_t bit = 7; bit < 32; bit++)
         IS(hordguli_session_open(&session, &tables, UINT32_C(1) << bit, 80, text, length), UNKNOWN_OPTION);
     IS(hordguli_session_open(&session, &tables, 0, 80, "a\xFF", 2), NOT_UTF8);
     IS(hordguli_session_open(&session, &tables, 0, 80, "\xED\xA0\x80", 3), NOT_UTF8);
     HOLDS(session.at == NULL);
-    for (uint32_t options = 0; options < 32; options++) {
+    for (uint32_t options = 0; options < 128; options++) {
         OK(hordguli_session_open(&session, &tables, options, 65535, text, length));
         hordguli_session_close(&session);
         HOLDS(session.at == NULL);
@@ -824,6 +824,79 @@ static void edges_of_lines(void) {
 
 /* ---- Lines, paragraphs and text ---- */
 
+static void line_is(int at, size_t line, size_t length, size_t visible, size_t columns, size_t padding) {
+    hordguli_line_info info = {7, 7, 7, 7, 7, 7, 7};
+    holds(hordguli_line(&shown, line, &info, 0, NULL, NULL, NULL, NULL, NULL) == HORDGULI_OK, __FILE__, at, "a line");
+    holds(info.length == length && info.shown == visible, __FILE__, at, "the length of a line and of its shown part");
+    holds(info.columns == columns && info.padding == padding, __FILE__, at, "the columns and the padding of a line");
+}
+#define LINE(...) line_is(__LINE__, __VA_ARGS__)
+
+/* HORDGULI_SHOW_SPACES: spaces at a line's end have carets as far as they fit. */
+static void spaces_at_line_ends(void) {
+    show("abc  ", HORDGULI_SHOW_SPACES, 80);
+    LINE(0, 5, 5, 5, 0);
+    CARET(4, BEFORE, 0, 4, 0);
+    CARET(5, BEFORE, 0, 5, 0);
+    STEPS(RIGHT, {2, 'B', 2}, {3, 'A', 3}, {4, 'A', 4}, {5, 'A', 5});
+    EDGE_AT(0, 4, 4, BEFORE);
+    ENDS(0, 0, 5, BEFORE);
+    /* each width shows what fits it */
+    OK(hordguli_set_width(&shown, 4, NULL));
+    LINE(0, 5, 4, 4, 0);
+    CARET(4, BEFORE, 0, 4, 0);
+    CARET(5, BEFORE, 0, 4, 0);
+    STEPS(RIGHT, {3, 'B', 3}, {4, 'A', 4});
+    OK(hordguli_set_width(&shown, 3, NULL));
+    LINE(0, 5, 3, 3, 0);
+    CARET(4, BEFORE, 0, 3, 0);
+    OK(hordguli_set_width(&shown, 80, NULL));
+    LINE(0, 5, 5, 5, 0);
+    show("abc  ", 0, 80);
+    LINE(0, 5, 3, 3, 0);
+    /* spaces alone */
+    show("   ", HORDGULI_SHOW_SPACES, 2);
+    LINE(0, 3, 2, 2, 0);
+    STEPS(RIGHT, {0, 'B', 0}, {1, 'A', 1}, {2, 'A', 2});
+    ENDS(0, 0, 3, BEFORE);
+    /* a wrapped line: what fits is judged without the spaces, of which one fits, and then all */
+    show("ab   cd", HORDGULI_SHOW_SPACES, 3);
+    LINE(0, 5, 3, 3, 0);
+    LINE(1, 2, 2, 2, 0);
+    CARET(4, BEFORE, 0, 3, 0);
+    ENDS(0, 0, 3, BEFORE);
+    OK(hordguli_set_width(&shown, 5, NULL));
+    LINE(0, 5, 5, 5, 0);
+    CARET(5, AFTER, 0, 5, 0);
+    CARET(5, BEFORE, 1, 0, 0);
+    ENDS(0, 0, 5, AFTER);
+    /* a right-to-left paragraph: the spaces are to the left of the text */
+    show("\u05d0  ", HORDGULI_SHOW_SPACES, 5);
+    LINE(0, 3, 3, 3, 2);
+    for (size_t pos = 0; pos <= 3; pos++) CARET(pos, BEFORE, 0, 3 - pos, 1);
+    STEPS(LEFT, {0, 'B', 3}, {1, 'A', 2}, {2, 'A', 1}, {3, 'A', 0});
+    EDGE_AT(0, 0, 3, AFTER);
+    show("\u05d0  \u2028\u05d1", HORDGULI_SHOW_SPACES, 5);
+    LINE(0, 4, 3, 3, 2);
+    CARET(2, BEFORE, 0, 1, 1);
+    CARET(3, BEFORE, 0, 0, 1);
+    ENDS(0, 0, 3, BEFORE);
+    /* U+3000 is in no tail */
+    for (uint32_t options = 0; options <= HORDGULI_SHOW_SPACES; options += HORDGULI_SHOW_SPACES) {
+        show("abc\u3000", options, 5);
+        LINE(0, 4, 4, 5, 0);
+    }
+    /* a shown part that is wider than the width */
+    show("\u6f22 ", HORDGULI_SHOW_SPACES, 1);
+    LINE(0, 1, 1, 2, 0);
+    LINE(1, 1, 1, 1, 0);
+    show("abcdef  ", HORDGULI_SHOW_SPACES | HORDGULI_NOBREAK, 4);
+    LINE(0, 8, 6, 6, 0);
+    OK(hordguli_set_width(&shown, 7, NULL));
+    LINE(0, 8, 7, 7, 0);
+    hordguli_session_close(&shown);
+}
+
 static void lines(void) {
     hordguli_line_info info = {7, 7, 7, 7, 7, 7, 7};
     uint32_t characters[8], ltov[8], vtol[8];
@@ -904,6 +977,89 @@ static void printed(void) {
     /* laying out and filling are counted, printing is not */
     OK(hordguli_session_work(&session, &works[1]));
     HOLDS(memcmp(&works[0], &works[1], sizeof works[0]) == 0);
+}
+
+/* A text, how it is laid out, and its lines. */
+typedef struct page_row {
+    const char *text;
+    uint32_t options, width, print;
+    const char *lines;
+} page_row;
+
+static void laid_out_without_session(void) {
+    enum { SHOWN = HORDGULI_PRINT_VISUAL | HORDGULI_PRINT_MIRRORED, BASE = HORDGULI_PRINT_BASEDIR };
+    enum { MAPS = SHOWN | HORDGULI_PRINT_LTOV | HORDGULI_PRINT_VTOL, LEVELS = HORDGULI_PRINT_LEVELS };
+    static const page_row rows[] = {
+        {"", 0, 80, 127, ""},
+        {"abc\n", 0, 80, BASE, "LTR\n"},
+        {"\u05d0\na", 0, 80, BASE, "RTL\nLTR\n"},
+        {"1", HORDGULI_WEAK_RTL, 80, BASE, "RTL\n"},
+        {"\u2067a\u2069\u05d0", 0, 80, BASE, "RTL\n"},
+        {"\u2067a\nb", HORDGULI_WEAK_RTL, 80, BASE, "RTL\nLTR\n"},
+        {"\r\n", 0, 80, BASE, "LTR\n"},
+        {"\n\r", 0, 80, BASE, "LTR\nLTR\n"},
+        {"\u0627 1", 0, 80, LEVELS, "1 1 2\n"},
+        {"\u05d01++2", 0, 80, LEVELS, "1 2 1 1 2\n"},
+        {"a1$\u05d0", HORDGULI_RTL, 80, LEVELS, "2 2 2 1\n"},
+        {"\u05d0(\u05d1(a)", HORDGULI_LTR, 80, LEVELS, "1 1 1 0 0 0\n"},
+        {"abcdefgh", 0, 3, SHOWN, "abc\ndef\ngh\n"},
+        {"ab cd ef", 0, 1, SHOWN, "a\nb\nc\nd\ne\nf\n"},
+        {"   a", 0, 1, SHOWN, "\na\n"},
+        {"a\u2028b", 0, 80, SHOWN, "a\nb\n"},
+        {"ab cd", HORDGULI_NOBREAK, 1, SHOWN, "ab cd\n"},
+        {"$(a", 0, 2, SHOWN, "$(\na\n"},
+        {"$(a", HORDGULI_WHOLE_NUMBERS, 2, SHOWN, "$\n(a\n"},
+        {"ab\u05d0\u05d1c", 0, 80, MAPS, "ab\u05d1\u05d0c\n0 1 3 2 4\n0 1 3 2 4\n"},
+        {"\u05d0  ", 0, 5, HORDGULI_PRINT_DEFAULT | LEVELS, "    \u05d0\n1\n"},
+        {"\u05d0(", HORDGULI_RTL, 2, HORDGULI_PRINT_VISUAL, "(\u05d0\n"},
+        {"\u05d0(", HORDGULI_RTL, 2, SHOWN, ")\u05d0\n"},
+        {"\u05d0\u0300\u05d1", 0, 80, MAPS, "\u05d1\u0300\u05d0\n2 1 0\n2 1 0\n"},
+        {"\u05d0\u0300\u05d1", HORDGULI_REORDER_NSM, 80, MAPS, "\u05d1\u05d0\u0300\n1 2 0\n2 0 1\n"},
+        {text, 0, 80, SHOWN, "abc \u05d2\u05d1\u05d0\n12 (\u05d0)\nx y\n"},
+        {"a", 0, 65535, 0, ""},
+    };
+    char bytes[200];
+    size_t written = 77;
+    for (size_t k = 0; k < sizeof rows / sizeof *rows; k++) {
+        const page_row *row = &rows[k];
+        size_t length = strlen(row->text), wanted = strlen(row->lines);
+        memset(bytes, '?', sizeof bytes);
+        OK(hordguli_layout(&tables, row->options, row->width, row->print, row->text, length, wanted, bytes, &written));
+        HOLDS(bytes[wanted] == '?');
+        same(bytes, written, row->lines);
+    }
+    written = 77;
+    bytes[0] = '?';
+    IS(hordguli_layout(NULL, 0, 80, SHOWN, "ab", 2, 200, bytes, &written), NULL);
+    IS(hordguli_layout(&tables, 0, 80, SHOWN, NULL, 2, 200, bytes, &written), NULL);
+    IS(hordguli_layout(&tables, 0, 80, SHOWN, "ab", 2, 200, NULL, &written), NULL);
+    IS(hordguli_layout(&tables, 0, 80, SHOWN, "ab", 2, 200, bytes, NULL), NULL);
+    IS(hordguli_layout(&tables, 0, 80, SHOWN, "ab", 2, 4, (char *)&written, &written), OVERLAP);
+    IS(hordguli_layout(&tables, 0, 80, SHOWN, "ab", 2, 4, (char *)&tables, &written), OVERLAP);
+    IS(hordguli_layout(&tables, 0, 80, SHOWN, "ab", 2, 200, bytes, (size_t *)&tables), OVERLAP);
+    IS(hordguli_layout(&tables, 0, 80, SHOWN, bytes, 2, 200, bytes, &written), OVERLAP);
+    IS(hordguli_layout(&tables, 0, 80, SHOWN, "ab", 2, SIZE_MAX, bytes, &written), OVERLAP);
+    IS(hordguli_layout(&tables, 0, 65536, SHOWN, "ab", 2, 200, bytes, &written), WIDTH_OUT_OF_RANGE);
+    for (uint32_t bit = 7; bit < 32; bit++)
+        IS(hordguli_layout(&tables, UINT32_C(1) << bit, 80, SHOWN, "ab", 2, 200, bytes, &written), UNKNOWN_OPTION);
+    for (uint32_t bit = 7; bit < 32; bit++)
+        IS(hordguli_layout(&tables, 0, 80, UINT32_C(1) << bit, "ab", 2, 200, bytes, &written), UNKNOWN_OPTION);
+    IS(hordguli_layout(&tables, 0, 80, SHOWN, "a\nb\xFF", 4, 200, bytes, &written), NOT_UTF8);
+    IS(hordguli_layout(&tables, 0, 80, SHOWN, "a\n\xE4\xB8", 4, 200, bytes, &written), NOT_UTF8);
+    IS(hordguli_layout(&no_tables, 0, 80, SHOWN, "ab", 2, 200, bytes, &written), CLOSED);
+    IS(hordguli_layout(&tables, 0, 0, SHOWN, "ab", 2, 200, bytes, &written), WIDTH_OUT_OF_RANGE);
+    IS(hordguli_layout(&tables, 0, 0, SHOWN, "", 0, 200, bytes, &written), WIDTH_OUT_OF_RANGE);
+    HOLDS(written == 77 && bytes[0] == '?');
+    IS(hordguli_layout(&tables, 0, 80, SHOWN, "ab\nc", 4, 4, bytes, &written), NO_ROOM);
+    HOLDS(written == 5 && bytes[0] == '?');
+    written = 77;
+    IS(hordguli_layout(&tables, 0, 80, SHOWN, "ab\nc", 4, 0, NULL, &written), NO_ROOM);
+    HOLDS(written == 5);
+    /* nothing of the longer text before is left */
+    OK(hordguli_layout(&tables, 0, 80, SHOWN, "x", 1, 200, bytes, &written));
+    same(bytes, written, "x\n");
+    OK(hordguli_layout(&tables, 0, 80, SHOWN, NULL, 0, 0, NULL, &written));
+    HOLDS(written == 0);
 }
 
 static void text_of_ranges(void) {
@@ -1165,6 +1321,30 @@ static void rows(void) {
          {0x5D1, 0x5D0, 0x5B8}},
         {"a mark whose base is in the row before", 1, HORDGULI_REORDER_NSM, "11", "11", "10", "10", {0x5B8, 0x5D1},
          {0x5D1, 0x5B8}},
+        {"a family in an override by default", 0, 0, "0111", "0111", "0321", "0321", {0x202E, 0x1F468, 0x200D, 0x1F469},
+         {0x202E, 0x1F469, 0x200D, 0x1F468}},
+        {"a family in an override", 0, HORDGULI_REORDER_CLUSTERS, "0111", "0111", "0123", "0123",
+         {0x202E, 0x1F468, 0x200D, 0x1F469}, {0x202E, 0x1F468, 0x200D, 0x1F469}},
+        {"a letter with points", 1, HORDGULI_REORDER_CLUSTERS, "1111", "1111", "1230", "3012",
+         {0x5D0, 0x5B8, 0x5BC, 0x5D1}, {0x5D1, 0x5D0, 0x5B8, 0x5BC}},
+        {"a letter with points with both options", 1, HORDGULI_REORDER_CLUSTERS | HORDGULI_REORDER_NSM, "1111", "1111",
+         "1230", "3012", {0x5D0, 0x5B8, 0x5BC, 0x5D1}, {0x5D1, 0x5D0, 0x5B8, 0x5BC}},
+        {"a skin tone", 1, HORDGULI_REORDER_CLUSTERS, "111", "111", "120", "201", {0x1F44D, 0x1F3FD, 0x5D0},
+         {0x5D0, 0x1F44D, 0x1F3FD}},
+        {"a flag and half a flag", 1, HORDGULI_REORDER_CLUSTERS, "111", "111", "120", "201",
+         {0x1F1E9, 0x1F1EA, 0x1F1E9}, {0x1F1E9, 0x1F1E9, 0x1F1EA}},
+        {"a cluster of two levels", 1, HORDGULI_REORDER_CLUSTERS, "211", "211", "201", "120", {0x600, 0x627, 0x64B},
+         {0x627, 0x64B, 0x600}},
+        {"a cluster of two odd levels", 1, HORDGULI_REORDER_CLUSTERS, "133", "133", "201", "120",
+         {0x1F468, 0x200D, 0x1F469}, {0x200D, 0x1F469, 0x1F468}},
+        {"a cluster at an even level", 1, HORDGULI_REORDER_CLUSTERS, "122", "122", "201", "120", {0x5D0, 'a', 0x301},
+         {'a', 0x301, 0x5D0}},
+        {"a cluster that starts in the row before", 1, HORDGULI_REORDER_CLUSTERS, "11", "11", "10", "10", {0x5B8, 0x5D1},
+         {0x5D1, 0x5B8}},
+        {"a carriage return and a line feed", 1, HORDGULI_REORDER_CLUSTERS, "111", "111", "201", "120", {'a', '\r', '\n'},
+         {'\r', '\n', 'a'}},
+        {"a mark after a control", 1, HORDGULI_REORDER_CLUSTERS, "111", "111", "210", "210", {0x200F, 0x5B8, 0x5D1},
+         {0x5D1, 0x5B8, 0x200F}},
     };
     static const uint32_t characters[] = {'a', 0x5D0, ' '}, no_character[] = {'a', 0xD800, ' '};
     static const uint8_t levels[] = {0, 1, 1}, too_high[] = {0, 127, 1};
@@ -1178,7 +1358,7 @@ static void rows(void) {
     IS(hordguli_row(&tables, 0, 0, 3, both, levels, 4, both, NULL, NULL, NULL), OVERLAP);
     IS(hordguli_row(&tables, 0, 0, 3, characters, (uint8_t *)both, 4, NULL, NULL, NULL, both), OVERLAP);
     IS(hordguli_row(&tables, 0, 0, 3, characters, levels, 4, visual, NULL, visual + 3, NULL), OVERLAP);
-    for (uint32_t bit = 0; bit < 32; bit += bit == 2 ? 2 : 1) /* all but HORDGULI_REORDER_NSM */
+    for (uint32_t bit = 0; bit < 32; bit += bit == 2 || bit == 4 ? 2 : 1) /* all but those of rows */
         IS(hordguli_row(&tables, UINT32_C(1) << bit, 0, 3, characters, levels, 4, visual, NULL, NULL, NULL),
            UNKNOWN_OPTION);
     IS(hordguli_row(&no_tables, 0, 0, 3, characters, levels, 4, visual, NULL, NULL, NULL), CLOSED);
@@ -1250,8 +1430,10 @@ int main(int count, char **words) {
     edges_where_the_direction_changes();
     edges_of_clusters();
     edges_of_lines();
+    spaces_at_line_ends();
     lines();
     printed();
+    laid_out_without_session();
     text_of_ranges();
     characters_of_ranges();
     paragraphs();

@@ -1,7 +1,8 @@
 /* Tests carets, steps, selections, words and offsets. Usage: edges FOLDER TEXTS SESSIONS, where FOLDER has the table files.
  *
  * - Lays out TEXTS random texts, and compares each call with a reference implementation: the definition in the header,
- *   computed from the levels, the order and the widths of `hordguli_line` and from the grapheme clusters.
+ *   computed from the levels, the order and the widths of `hordguli_line` and from the grapheme clusters. With
+ *   HORDGULI_SHOW_SPACES, what lines show is computed from their shown parts without this option.
  * - Opens SESSIONS sessions and edits them. Each call must then return what it returns in a new session on the same
  *   text. */
 #include "test.h"
@@ -119,6 +120,38 @@ static void read_layout(hordguli_session *session) {
     }
 }
 
+/* With HORDGULI_REORDER_CLUSTERS, the order is that of a session without options of the order, but each maximal sequence
+ * of characters of one cluster at one odd level is reversed once more. Lines, levels and columns stay. */
+static void clusters_are_ordered(hordguli_session *session, uint32_t width) {
+    hordguli_session by_l2 = HORDGULI_SESSION_INIT;
+    if ((options & HORDGULI_REORDER_CLUSTERS) == 0) return;
+    if (!OK(hordguli_session_open(&by_l2, &tables, options & ~(HORDGULI_REORDER_CLUSTERS | HORDGULI_REORDER_NSM), width, bytes,
+                                  encoded(text, length, bytes))))
+        return;
+    for (size_t line = 0; line < line_count; line++) {
+        hordguli_line_info infos[2];
+        uint8_t levels[2][MOST];
+        uint32_t vtol[2][MOST], ltov[MOST];
+        OK(hordguli_line(session, line, &infos[0], MOST, NULL, levels[0], ltov, vtol[0], NULL));
+        OK(hordguli_line(&by_l2, line, &infos[1], MOST, NULL, levels[1], NULL, vtol[1], NULL));
+        if (!HOLDS(memcmp(&infos[0], &infos[1], sizeof infos[0]) == 0)) break;
+        HOLDS(memcmp(levels[0], levels[1], infos[0].shown) == 0);
+        for (size_t from = 0, to; from < infos[1].shown; from = to) {
+            const character *c = characters + infos[1].start;
+            to = from + 1; /* a sequence, by L2 from its last character to its first one */
+            while (to < infos[1].shown && vtol[1][to] + 1 == vtol[1][to - 1] && levels[1][vtol[1][to]] % 2 == 1
+                   && levels[1][vtol[1][to]] == levels[1][vtol[1][from]]
+                   && c[vtol[1][to]].cluster == c[vtol[1][from]].cluster)
+                to++;
+            for (size_t k = from; k < to; k++) {
+                HOLDS(vtol[0][k] == vtol[1][from + to - 1 - k]);
+                HOLDS(ltov[vtol[0][k]] == k);
+            }
+        }
+    }
+    hordguli_session_close(&by_l2);
+}
+
 static int takes_columns(size_t pos) { return characters[pos].is_shown && characters[pos].right > characters[pos].left; }
 
 /* Whether two characters are in the same cluster, on the same line */
@@ -179,6 +212,36 @@ static void units_tile_lines(void) {
         HOLDS(columns == lines[line].columns);
         for (size_t column = 0; column < columns; column++) HOLDS(covering(line, column) != NULL);
     }
+}
+
+/* ---- Shown spaces ---- */
+
+/* Compares the lines with those of a session without HORDGULI_SHOW_SPACES. They start at the same positions. Each shown
+ * part has as many spaces more as follow it and fit. All spaces of Unicode's tables are U+0020. */
+static void shown_spaces_are_right(uint32_t width) {
+    hordguli_session session = HORDGULI_SESSION_INIT;
+    hordguli_counts counts;
+    size_t size = encoded(text, length, bytes);
+    if (!OK(hordguli_session_open(&session, &tables, options - HORDGULI_SHOW_SPACES, width, bytes, size))) return;
+    OK(hordguli_session_counts(&session, &counts));
+    HOLDS(counts.lines == line_count);
+    for (size_t line = 0; line < counts.lines && line < line_count; line++) {
+        hordguli_line_info without, with = lines[line];
+        uint8_t levels[MOST];
+        size_t spaces = 0, tail;
+        OK(hordguli_line(&session, line, &without, MOST, NULL, levels, NULL, NULL, NULL));
+        HOLDS(with.start == without.start && with.length == without.length && with.base == without.base);
+        tail = without.start + without.shown;
+        while (tail + spaces < without.start + without.length && text[tail + spaces] == ' '
+               && without.columns + spaces + 1 <= width)
+            spaces++;
+        HOLDS(with.shown == without.shown + spaces);
+        HOLDS(with.columns == without.columns + spaces);
+        HOLDS(with.padding == (with.base == 1 && with.columns < width ? width - with.columns : 0));
+        for (size_t k = 0; k < with.shown; k++)
+            HOLDS(characters[with.start + k].level == (k < without.shown ? levels[k] : with.base));
+    }
+    hordguli_session_close(&session);
 }
 
 /* ---- The definitions ---- */
@@ -335,8 +398,13 @@ static void carets_and_steps_are_right(hordguli_session *session) {
         OK(hordguli_edge_caret(session, edge, &caret));
         HOLDS(memcmp(&caret, &wanted, sizeof caret) == 0);
         if (edge.side == HORDGULI_BEFORE) {
+            /* the character's own edge, which is inside its unit if that is in logical order at an odd level */
+            const character *c = &characters[edge.pos];
+            hordguli_caret own = wanted;
+            if (edge.pos < length && c->is_shown && (options & HORDGULI_REORDER_CLUSTERS) != 0)
+                own.column = c->level % 2 == 0 ? c->left : c->right;
             OK(hordguli_caret_at(session, edge.pos, &caret));
-            HOLDS(memcmp(&caret, &wanted, sizeof caret) == 0);
+            HOLDS(memcmp(&caret, &own, sizeof caret) == 0);
         }
         step_is_right(session, edge, wanted, HORDGULI_LEFT);
         step_is_right(session, edge, wanted, HORDGULI_RIGHT);
@@ -492,12 +560,14 @@ static void texts_are_right(long count) {
         hordguli_session session = HORDGULI_SESSION_INIT;
         long failed_before = failed;
         uint32_t width = random_width();
-        options = (uint32_t)below(32);
+        options = (uint32_t)below(128);
         length = random_text(text, below(8) == 0 ? MOST : 25);
         if (!OK(hordguli_session_open(&session, &tables, options, width, bytes, encoded(text, length, bytes)))) return;
         read_layout(&session);
+        clusters_are_ordered(&session, width);
         find_units();
         units_tile_lines();
+        if (options & HORDGULI_SHOW_SPACES) shown_spaces_are_right(width);
         carets_and_steps_are_right(&session);
         lines_are_right(&session);
         words_are_right(&session);
@@ -649,7 +719,7 @@ static void sessions_equal_new_ones(long count) {
         long failed_before = failed;
         uint32_t width = random_width();
         size_t edits = 1 + below(8), size;
-        options = (uint32_t)below(32);
+        options = (uint32_t)below(128);
         length = random_text(text, below(8) == 0 ? MOST / 2 : 20);
         if (!OK(hordguli_session_open(&kept, &tables, options, width, bytes, encoded(text, length, bytes)))) return;
         for (size_t times = 0; times < edits; times++) edit(&kept, &width);

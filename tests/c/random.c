@@ -4,16 +4,6 @@
 
 enum { MOST = 300, BYTES = 1 << 20 };
 
-/* Letters, digits and spaces of both directions, separators, brackets, isolates, embeddings, marks, wide characters, and
- * emoji of several characters. */
-static const char *const pieces[] = {
-    "a", "word ", " ", "1", "2,3", "$", "%", "(", ")", "[", "-", "\n", "\r\n", "\r", "\u2029", "\xC2\x85", "\t",
-    "\u05d0", "\u05d1\u05b0", "\u0627\u0628 ", "\u0661", "\u0300", "\u200d", "\u2066", "\u2067", "\u2068", "\u2069",
-    "\u202a", "\u202b", "\u202d", "\u202e", "\u202c", "\u4e00\u4e01", "\u3002", "\uac00", "\U0001f468\u200d\U0001f469",
-    "\U0001f1e9\U0001f1ea", "\u00ad", "\u200b", "\u00a0", "the quick brown fox ", "\u05e9\u05dc\u05d5\u05dd \u05e2\u05d5\u05dc\u05dd ",
-};
-enum { PIECES = sizeof pieces / sizeof *pieces };
-
 static char pages[2][BYTES];
 
 #define OK(call) HOLDS((call) == HORDGULI_OK)
@@ -79,6 +69,7 @@ static void lines_are_rows(hordguli_session *session, hordguli_tables *tables, c
         OK(hordguli_paragraph(session, paragraph, &of, BYTES, all_levels, NULL));
         for (size_t end = line + of.lines; line < end; line++) {
             hordguli_line_info info;
+            hordguli_cluster cluster = {0, 0};
             size_t run_counts[2], count, at;
             OK(hordguli_line(session, line, &info, BYTES, characters[0], levels[0], ltov[0], vtol[0], NULL));
             OK(hordguli_runs(session, line, MOST * 4, runs[0], &run_counts[0]));
@@ -86,8 +77,10 @@ static void lines_are_rows(hordguli_session *session, hordguli_tables *tables, c
             at = info.start - start;
             OK(hordguli_text_utf32(session, info.start, count, BYTES, text, &count));
             if (info.length != count) continue;
-            OK(hordguli_row(tables, options & HORDGULI_REORDER_NSM, of.base, count, text, all_levels + at, BYTES,
-                            characters[1], levels[1], ltov[1], vtol[1]));
+            OK(hordguli_cluster_at(session, info.start, &cluster));
+            if (cluster.start != info.start) continue; /* the row alone may have other clusters */
+            OK(hordguli_row(tables, options & (HORDGULI_REORDER_NSM | HORDGULI_REORDER_CLUSTERS), of.base, count, text,
+                            all_levels + at, BYTES, characters[1], levels[1], ltov[1], vtol[1]));
             OK(hordguli_row_runs(tables, of.base, count, text, all_levels + at, MOST * 4, runs[1], &run_counts[1]));
             HOLDS(memcmp(characters[0], characters[1], count * sizeof **characters) == 0);
             HOLDS(memcmp(levels[0], levels[1], count) == 0);
@@ -169,14 +162,14 @@ int main(int count, char **words) {
         hordguli_status status;
         if (change % 500 == 0) { /* a session with other options */
             hordguli_session_close(&kept);
-            options = (uint32_t)below(32);
+            options = (uint32_t)below(128);
             size = encoded(text, length, bytes);
             OK(hordguli_session_open(&kept, &tables, options, width, bytes, size));
         }
         OK(hordguli_session_counts(&kept, &counts));
         old_lines = counts.lines;
         old_paragraphs = counts.paragraphs;
-        if (below(3) != 0 || length == 0) piece_length = decoded(pieces[below(PIECES)], piece);
+        if (below(3) != 0 || length == 0) piece_length = decoded(text_pieces[below(TEXT_PIECES)], piece);
         if (length > 0 && (below(2) == 0 || length > MOST - 40)) taken = below(length - pos < 30 ? length - pos + 1 : 30);
         size = encoded(piece, piece_length, piece_bytes);
         if (below(12) == 0) {

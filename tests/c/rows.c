@@ -2,16 +2,57 @@
  * paragraphs. Usage: rows FOLDER ROWS, where FOLDER has the table files. */
 #include "test.h"
 
-enum { MOST = 60, LETTERS = 42 };
+enum { MOST = 60, LETTERS = 56 };
 
 #define OK(call) HOLDS((call) == HORDGULI_OK)
 
-/* Letters, digits, marks, spaces, separators, brackets, and controls of embeddings and isolates. */
+/* Letters, digits, marks, spaces, separators, brackets, controls of embeddings and isolates, and parts of grapheme
+ * clusters. */
 static const uint32_t letters[LETTERS] = {
     'a', 'b', ' ', ' ', '1', '2', ',', '$', '(', ')', '[', ']', '<', '\t', 0x5D0, 0x5D1, 0x5B0, 0x5B8, 0x627, 0x628,
     0x661, 0x64B, 0x300, 0x200D, 0x2066, 0x2067, 0x2068, 0x2069, 0x202A, 0x202B, 0x202D, 0x202E, 0x202C, 0x4E00,
     0x3008, 0x3009, 0x1F468, 0x1F469, 0xAD, 0x200B, 0x2028, 0x200F,
+    0x200D, 0x1F3FD, 0xFE0F, 0x1F1E9, 0x1F1EA, 0x600, 0x903, 0x915, 0x94D, 0x1100, 0x1161, 0x11A8, '\r', '\n',
 };
+
+/* Returns the grapheme class of a letter (UAX #29): a Return, a line Feed, a Control, an Extending character, a ZWJ (J),
+ * a Prepended or a Spacing mark, the parts of a Hangul syllable (1, 2, 3), a regional Indicator, a Pictograph, or a virama and
+ * a consonant that it joins (V, K); or O for others. */
+static char cluster_class(uint32_t c) {
+    static const struct { uint32_t c; char class; } known[] = {
+        {'\r', 'R'}, {'\n', 'F'}, {'\t', 'C'}, {0xAD, 'C'}, {0x200B, 'C'}, {0x200F, 'C'}, {0x2028, 'C'}, {0x200D, 'J'},
+        {0x5B0, 'E'}, {0x5B8, 'E'}, {0x64B, 'E'}, {0x300, 'E'}, {0x1F3FD, 'E'}, {0xFE0F, 'E'}, {0x94D, 'V'}, {0x915, 'K'},
+        {0x903, 'S'}, {0x600, 'P'}, {0x1100, '1'}, {0x1161, '2'}, {0x11A8, '3'}, {0x1F1E9, 'I'}, {0x1F1EA, 'I'},
+        {0x1F468, 'X'}, {0x1F469, 'X'},
+    };
+    for (size_t k = 0; k < sizeof known / sizeof *known; k++)
+        if (known[k].c == c) return known[k].class;
+    return (c >= 0x202A && c <= 0x202E) || (c >= 0x2066 && c <= 0x2069) ? 'C' : 'O';
+}
+
+/* Returns whether a character continues the grapheme cluster of the one before it. `classes` has those of the characters
+ * up to and including it. */
+static int continues_cluster(const char *classes, size_t k) {
+    char last = k == 0 ? 'C' : classes[k - 1], next = classes[k];
+    size_t at = k, indicators = 0;
+    if (k == 0) return 0;
+    if (last == 'R' && next == 'F') return 1;                                         /* GB3 */
+    if (strchr("RFC", last) != NULL || strchr("RFC", next) != NULL) return 0;         /* GB4, GB5 */
+    if (last == '1' && (next == '1' || next == '2')) return 1;                        /* GB6 */
+    if (last == '2' && (next == '2' || next == '3')) return 1;                        /* GB7 */
+    if (last == '3' && next == '3') return 1;                                         /* GB8 */
+    if (strchr("EVJS", next) != NULL || last == 'P') return 1;                        /* GB9, GB9a, GB9b */
+    if (next == 'K') {                                                                /* GB9c */
+        while (at > 0 && strchr("EJ", classes[at - 1]) != NULL) at--;
+        return at > 0 && classes[at - 1] == 'V';
+    }
+    if (next == 'X' && last == 'J') {                                                 /* GB11 */
+        for (at = k - 1; at > 0 && strchr("EV", classes[at - 1]) != NULL;) at--;
+        return at > 0 && classes[at - 1] == 'X';
+    }
+    while (at > 0 && classes[at - 1] == 'I') at--, indicators++;
+    return next == 'I' && indicators % 2 == 1;                                        /* GB12, GB13 */
+}
 
 static hordguli_tables tables = HORDGULI_TABLES_INIT;
 
@@ -45,6 +86,23 @@ static void reset(row *r, const hordguli_character *records, const uint8_t *leve
                                || records[to].bidi_class == HORDGULI_BIDI_CLASS_B
                            ? (uint8_t)base
                            : levels[k];
+    }
+}
+
+/* Reverses, in visual order, each maximal sequence of one cluster at one odd level. */
+static void order_clusters(row *r, const uint32_t *characters, size_t count) {
+    char classes[MOST];
+    for (size_t k = 0; k < count; k++) classes[k] = cluster_class(characters[k]);
+    for (size_t from = 0, to; from < count; from = to) {
+        to = from + 1; /* in logical order */
+        while (to < count && r->levels[to] == r->levels[from] && continues_cluster(classes, to)) to++;
+        if (r->levels[from] % 2 == 0) continue;
+        for (size_t k = 0; k < count; k++) {
+            if (r->vtol[k] != to - 1) continue;
+            for (size_t j = 0; j < to - from; j++) HOLDS(r->vtol[k + j] == to - 1 - j); /* they are neighbours */
+            reverse(r->vtol, k, k + (to - from));
+            break;
+        }
     }
 }
 
@@ -89,7 +147,8 @@ static void plain_row(row *r, uint32_t options, uint32_t base, const uint32_t *c
     reset(r, records, levels, base, count);
     order(r, records, 0, count);
     find_runs(r, count);
-    order(r, records, options, count);
+    order(r, records, (options & HORDGULI_REORDER_CLUSTERS) != 0 ? 0 : options, count);
+    if ((options & HORDGULI_REORDER_CLUSTERS) != 0) order_clusters(r, characters, count);
     for (size_t k = 0; k < count; k++) {
         size_t place = r->vtol[k];
         r->ltov[place] = (uint32_t)k;
@@ -126,7 +185,8 @@ int main(int count, char **words) {
         OK(hordguli_levels(&tables, direction, characters, length, length, levels));
         if (below(20) == 0) /* levels of no paragraph */
             for (size_t k = 0; k < length; k++) levels[k] = (uint8_t)below(127);
-        same_row(below(2) == 0 ? 0 : HORDGULI_REORDER_NSM, base, characters + from, levels + from, to - from);
+        same_row((uint32_t)below(2) * HORDGULI_REORDER_NSM | (uint32_t)below(2) * HORDGULI_REORDER_CLUSTERS, base,
+                 characters + from, levels + from, to - from);
     }
     hordguli_tables_close(&tables);
     return finish("rows");

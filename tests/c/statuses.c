@@ -48,6 +48,7 @@ static void constants_have_their_numbers(void) {
 #define NUMBER(name, number) HOLDS(HORDGULI_##name == (number))
     NUMBER(WEAK_LTR, 0), NUMBER(WEAK_RTL, 1), NUMBER(LTR, 2), NUMBER(RTL, 3);
     NUMBER(NOBREAK, 4), NUMBER(REORDER_NSM, 8), NUMBER(WHOLE_NUMBERS, 16);
+    NUMBER(REORDER_CLUSTERS, 32), NUMBER(SHOW_SPACES, 64);
     NUMBER(PRINT_VISUAL, 1), NUMBER(PRINT_BASEDIR, 2), NUMBER(PRINT_LTOV, 4), NUMBER(PRINT_VTOL, 8);
     NUMBER(PRINT_LEVELS, 16), NUMBER(PRINT_PADDED, 32), NUMBER(PRINT_MIRRORED, 64), NUMBER(PRINT_DEFAULT, 97);
     NUMBER(BEFORE, 0), NUMBER(AFTER, 1), NUMBER(LEFT, 0), NUMBER(RIGHT, 1);
@@ -500,7 +501,7 @@ typedef struct arguments {
     hordguli_table_fault *fault;
     const char *folder;
     uint32_t flags; /* options, print flags, a base direction or a side */
-    uint32_t direction; /* left or right */
+    uint32_t direction; /* left or right, or print flags if `flags` has options */
     uint32_t width;
     const char *text;
     size_t length;
@@ -626,6 +627,7 @@ WAY(array_at_session, a->arrays[which] = a->session)
 WAY(array_at_tables, a->arrays[which] = a->tables)
 WAY(array_at_out, a->arrays[which] = a->out)
 WAY(array_at_characters, a->arrays[which] = (void *)(uintptr_t)a->characters)
+WAY(array_at_text, a->arrays[which] = (void *)(uintptr_t)a->text)
 WAY(array_at_levels, a->arrays[which] = (void *)(uintptr_t)a->levels)
 WAY(array_at_other, a->arrays[which / 5] = a->arrays[which % 5 == which / 5 ? (which + 1) % 5 : which % 5])
 WAY(array_at_other_of_4, a->arrays[which / 4] = a->arrays[which % 4 == which / 4 ? (which + 1) % 4 : which % 4])
@@ -750,27 +752,53 @@ static const way of_set_width[] = {
     END,
 };
 
+/* Tables, and a text that is laid out at a width */
+#define OF_TABLES_AND_TEXT                                                              \
+    {"NULL", TABLES | TABLES_IS, null_tables, 0, 0},                                    \
+    {"NULL", TEXT, null_text, 1, 2},                                                    \
+    {"NULL, OVERLAP", TEXT, long_null_text, 0, 0},                                      \
+    {"OVERLAP", TEXT, long_text, 0, 1},                                                 \
+    {"OVERLAP", TEXT | TABLES_IS, text_in_tables, 0, sizeof(hordguli_tables) - 1},      \
+    {"WIDTH_OUT_OF_RANGE (above 65,535)", WIDTH, width_above, 0, 2},                    \
+    {"UNKNOWN_OPTION", FLAGS, unknown_option, 7, 31},                                   \
+    {"NOT_UTF8", TEXT, not_utf8, 0, 5},                                                 \
+    {"WIDTH_OUT_OF_RANGE (0)", WIDTH, width_0, 0, 0},                                   \
+    {"TEXT_TOO_LONG", TEXT, many_newlines, 0, 0},                                       \
+    {"PARAGRAPH_TOO_LONG", TEXT, long_paragraph, 0, 0},                                 \
+    {"TEXT_TOO_LONG, PARAGRAPH_TOO_LONG", TEXT, many_letters, 0, 0},                    \
+    {"NOT_UTF8, TEXT_TOO_LONG", TEXT, many_newlines_not_utf8, 0, 0},                    \
+    {"NOT_UTF8, PARAGRAPH_TOO_LONG", TEXT, long_paragraph_not_utf8, 0, 0},              \
+    {"NOT_UTF8, TEXT_TOO_LONG, PARAGRAPH_TOO_LONG", TEXT, many_letters_not_utf8, 0, 0}, \
+    END
+
 static const way of_open[] = {
     {"NULL", SESSION | SESSION_IS, null_session, 0, 0},
-    {"NULL", TABLES | TABLES_IS, null_tables, 0, 0},
-    {"NULL", TEXT, null_text, 1, 2},
-    {"NULL, OVERLAP", TEXT, long_null_text, 0, 0},
-    {"OVERLAP", TEXT, long_text, 0, 1},
     {"OVERLAP", TEXT | SESSION_IS, text_in_session, 0, sizeof(hordguli_session) - 1},
-    {"OVERLAP", TEXT | TABLES_IS, text_in_tables, 0, sizeof(hordguli_tables) - 1},
     {"OVERLAP", SESSION | TABLES_IS, session_at_tables, 0, 0},
-    {"WIDTH_OUT_OF_RANGE (above 65,535)", WIDTH, width_above, 0, 2},
-    {"UNKNOWN_OPTION", FLAGS, unknown_option, 5, 31},
-    {"NOT_UTF8", TEXT, not_utf8, 0, 5},
     {"ALREADY_OPEN (the session)", SESSION, open_session, 0, 0},
     {"CLOSED (the tables)", TABLES, closed_tables, 0, 0},
-    {"WIDTH_OUT_OF_RANGE (0)", WIDTH, width_0, 0, 0},
-    {"TEXT_TOO_LONG", TEXT, many_newlines, 0, 0},
-    {"PARAGRAPH_TOO_LONG", TEXT, long_paragraph, 0, 0},
-    {"TEXT_TOO_LONG, PARAGRAPH_TOO_LONG", TEXT, many_letters, 0, 0},
-    {"NOT_UTF8, TEXT_TOO_LONG", TEXT, many_newlines_not_utf8, 0, 0},
-    {"NOT_UTF8, PARAGRAPH_TOO_LONG", TEXT, long_paragraph_not_utf8, 0, 0},
-    {"NOT_UTF8, TEXT_TOO_LONG, PARAGRAPH_TOO_LONG", TEXT, many_letters_not_utf8, 0, 0},
+    OF_TABLES_AND_TEXT,
+};
+
+static const way of_layout[] = {
+    {"NULL", OUT | OUT_IS, null_out, 0, 0},
+    {"OVERLAP", OUT | TABLES_IS, out_at_tables, 0, 0},
+    {"OVERLAP, NOT_UTF8", TEXT | OUT_IS, text_in_out, 0, 1},
+    {"UNKNOWN_OPTION", DIRECTION, unknown_direction, 7, 31},
+    {"CLOSED", TABLES, closed_tables, 0, 0},
+    OF_TABLES_AND_TEXT,
+};
+
+static const way of_layout_buffer[] = {
+    {"NULL", ARRAYS, null_array, 0, 0},
+    {"NULL, OVERLAP", ARRAYS | CAPACITY, long_null_array, 0, 0},
+    {"OVERLAP", ARRAYS | OUT_IS, array_at_out, 0, 0},
+    {"OVERLAP", ARRAYS | TABLES_IS, array_at_tables, 0, 0},
+    {"OVERLAP", ARRAYS | TEXT, array_at_text, 0, 0},
+    {"OVERLAP", CAPACITY, long_arrays, 0, 1},
+    {"NO_ROOM", CAPACITY, one_too_few, 0, 0},
+    {"NO_ROOM", CAPACITY | ARRAYS, no_elements, 0, 0},
+    {"NO_ROOM", CAPACITY | ARRAYS, no_elements_null, 0, 0},
     END,
 };
 
@@ -895,7 +923,8 @@ static const way of_row[] = {
 
 static const way of_row_options[] = {
     {"UNKNOWN_OPTION", FLAGS, unknown_option, 0, 2},
-    {"UNKNOWN_OPTION", FLAGS, unknown_option, 4, 31},
+    {"UNKNOWN_OPTION", FLAGS, unknown_option, 4, 4},
+    {"UNKNOWN_OPTION", FLAGS, unknown_option, 6, 31},
     END,
 };
 
@@ -991,6 +1020,7 @@ MAKE(utf8_length, a->session, a->at, a->count, a->out)
 MAKE(count_utf8, a->text, a->length, a->out)
 MAKE(valid_utf8, a->text, a->length, a->out)
 MAKE(paragraph, a->session, a->at, a->out, a->capacity, a->arrays[0], a->arrays[1])
+MAKE(layout, a->tables, a->flags, a->width, a->direction, a->text, a->length, a->capacity, a->arrays[0], a->out)
 MAKE(base, a->tables, a->flags, a->characters, a->count, a->out)
 MAKE(levels, a->tables, a->flags, a->characters, a->count, a->capacity, a->arrays[0])
 MAKE(marks, a->tables, a->flags, a->characters, a->count, a->capacity, a->arrays[0])
@@ -1085,6 +1115,12 @@ static const call calls[] = {
     CALL(valid_utf8, "NULL, OVERLAP", .ways = {of_valid_utf8}, .out_size = sizeof(size_t)),
     CALL(paragraph, READING ", NO_ROOM", .ways = {of_session, of_at, of_paragraph},
          .out_size = sizeof(hordguli_paragraph_info), .at = 1, .end = 3, .needed = 7),
+    /* NO_ROOM does not allocate: the handle of the tables keeps the memory of the first call. */
+    CALL(layout,
+         "NULL, OVERLAP, WIDTH_OUT_OF_RANGE (above 65,535), UNKNOWN_OPTION, NOT_UTF8, CLOSED, WIDTH_OUT_OF_RANGE (0), "
+         "TEXT_TOO_LONG, PARAGRAPH_TOO_LONG, NO_MEMORY, NO_ROOM",
+         .ways = {of_layout, of_layout_buffer}, .out_size = sizeof(size_t), .needed = 4,
+         .never = "WIDTH_OUT_OF_RANGE (above 65,535) + WIDTH_OUT_OF_RANGE (0)"),
     CALL(base, "NULL, OVERLAP, UNKNOWN_OPTION, CLOSED, NOT_A_CHARACTER, NO_MEMORY",
          .ways = {of_characters, of_base, of_direction}, .out_size = sizeof(uint32_t), .count = 5),
     CALL(levels, COMPUTING, .ways = {of_characters, of_elements, of_direction}, .count = 5, .needed = 5),

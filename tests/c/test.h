@@ -71,4 +71,14 @@ static inline size_t decoded(const char *bytes, uint32_t *into) {
     return count;
 }
 
+/* Letters, digits and spaces of both directions, separators, brackets, isolates, embeddings, marks, wide characters, and
+ * emoji of several characters. */
+static const char *const text_pieces[] = {
+    "a", "word ", " ", "1", "2,3", "$", "%", "(", ")", "[", "-", "\n", "\r\n", "\r", "\u2029", "\xC2\x85", "\t",
+    "\u05d0", "\u05d1\u05b0", "\u0627\u0628 ", "\u0661", "\u0300", "\u200d", "\u2066", "\u2067", "\u2068", "\u2069",
+    "\u202a", "\u202b", "\u202d", "\u202e", "\u202c", "\u4e00\u4e01", "\u3002", "\uac00", "\U0001f468\u200d\U0001f469",
+    "\U0001f1e9\U0001f1ea", "\u00ad", "\u200b", "\u00a0", "the quick brown fox ", "\u05e9\u05dc\u05d5\u05dd \u05e2\u05d5\u05dc\u05dd ",
+};
+enum { TEXT_PIECES = sizeof text_pieces / sizeof *text_pieces };
+
 #endif

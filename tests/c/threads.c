@@ -1,5 +1,5 @@
 /* Makes the same edits on several threads at the same time, each in a session of its own. All sessions must end with the
- * same lines. Half of them are opened on tables that the threads share, under a lock. Then the threads hand sessions over
+ * same lines, and so must the layout of their text without a session, with tables of each thread. Half of them are opened on tables that the threads share, under a lock. Then the threads hand sessions over
  * to each other: each edit of a session is made by whichever thread is free, and the last one closes the session. Usage:
  * threads FOLDER THREADS CHANGES. */
 #include "test.h"
@@ -53,6 +53,24 @@ static hordguli_status print(hordguli_session *session, work *at) {
     return hordguli_lines_utf8(session, 0, counts.lines, 127, BYTES, at->bytes, &at->length);
 }
 
+/* Lays out the text of a session without a session, several times, with tables of this thread. */
+static hordguli_status lay_out_alone(hordguli_session *session, const work *at) {
+    hordguli_tables tables = HORDGULI_TABLES_INIT;
+    hordguli_counts counts;
+    static _Thread_local char text[BYTES], page[BYTES];
+    size_t length, written = 0;
+    int same = 1;
+    hordguli_status status = hordguli_session_counts(session, &counts);
+    if (status == HORDGULI_OK) status = hordguli_text(session, 0, counts.characters, BYTES, text, &length);
+    if (status == HORDGULI_OK) status = hordguli_tables_open_folder(&tables, folder, NULL);
+    for (int k = 0; k < 20 && status == HORDGULI_OK && same; k++) {
+        status = hordguli_layout(&tables, 0, 30, 127, text, length, BYTES, page, &written);
+        same = written == at->length && memcmp(page, at->bytes, written) == 0;
+    }
+    hordguli_tables_close(&tables);
+    return same ? status : -1;
+}
+
 /* Runs one thread. Every other thread uses the shared tables. */
 static void *run(void *given) {
     work *at = given;
@@ -68,6 +86,7 @@ static void *run(void *given) {
     }
     for (long k = 0; k < changes && at->status == HORDGULI_OK; k++) at->status = edit(&session, &mixed, k);
     if (at->status == HORDGULI_OK) at->status = print(&session, at);
+    if (at->status == HORDGULI_OK) at->status = lay_out_alone(&session, at);
     hordguli_session_close(&session);
     return NULL;
 }

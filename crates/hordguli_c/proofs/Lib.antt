@@ -1,3 +1,4 @@
+mod PageLemmas
 mod PartLemmas
 mod RowLemmas
 mod RunLemmas

@@ -1,14 +1,14 @@
 -- A row is a line of its paragraph of which all characters are shown.
-use Rattle.std.proofs.Common.{◌≡◌, ℕ, suc, List, [], ◌∷◌, length, map, refl, sym, ap, ap₂, ◌∙◌, arith}
+use Rattle.std.proofs.Common.{◌≡◌, ℕ, suc, Bool, Option, List, take, [], ◌∷◌, length, map, refl, sym, ap, ap₂, ◌∙◌, arith}
 use Rattle.std.specs.List.{slice_range}
 use Rattle.std.proofs.lemmas.List.{length-map, take_all}
 use Rattle.ucd.specs.Tables.{class_of}
 use Rattle.ucd.specs.declared.bidi_class.BidiClass.{BidiClass}
 use Rattle.ucd.specs.declared.tables.Tables.{Tables}
 use Rattle.reorder.specs.Mirroring.{visual_chars}
-use Rattle.reorder.specs.Order.{ltov_of, vtol_of}
+use Rattle.lines.specs.Reordering.{ends_by, ltov_by, vtol_by}
 use Rattle.reorder.specs.Spaces.{line_levels}
-use Rattle.lines.specs.Filling.{shown}
+use Rattle.lines.specs.ShownParts.{shown}
 use Rattle.lines.specs.Visual.{Line, line_between}
 use Rattle.lines.specs.declared.char_info.CharInfo.{CharInfo}
 use Rattle.lines.specs.declared.options.Options.{Options}
@@ -24,20 +24,24 @@ length-line_levels base (class ∷ classes) (level ∷ levels) same = ap suc (le
 abbrev row_in_line : Line → Row
 row_in_line line = record { levels = line.levels; ltov = line.ltov; vtol = line.vtol; chars = line.chars }
 
-pub row_is_line : (tables : Tables) (options : Options) (base : ℕ) (text levels : List ℕ) (infos : List CharInfo) (s e : ℕ)
-    → length (shown (slice_range infos s e)) ≡ length (slice_range text s e) → length (slice_range levels s e) ≡ length (slice_range text s e)
-    → row_in_line (line_between tables options base text levels infos s e)
-    ≡ row_of tables options.reordernsm base (slice_range text s e) (slice_range levels s e)
+pub row_is_line : (tables : Tables) (options : Options) (margin : Option ℕ) (base : ℕ) (text levels : List ℕ) (infos : List CharInfo) (s e : ℕ)
+    → slice_range (ends_by options text) s e ≡ ends_by options (slice_range text s e)
+    → length (shown margin (slice_range infos s e)) ≡ length (slice_range text s e) → length (slice_range levels s e) ≡ length (slice_range text s e)
+    → row_in_line (line_between tables options margin base text levels infos s e)
+    ≡ row_of tables options base (slice_range text s e) (slice_range levels s e)
 unfolding row_levels
-row_is_line tables options base text levels infos s e all same =
+row_is_line tables options margin base text levels infos s e own_clusters all same =
     let row = slice_range text s e in
-    let n = length (shown (slice_range infos s e)) in
+    let n = length (shown margin (slice_range infos s e)) in
     let classes = map (class_of tables) row in
     let own = line_levels base classes (slice_range levels s e) in
     let size = length-line_levels base classes (slice_range levels s e) (same ∙ sym (length-map row (class_of tables))) in
-    ap₂ (λ (ls : List ℕ) (front : List ℕ). record {
+    let row_with : List Bool → List ℕ → List ℕ → Row =
+    λ ends ls front. record {
       levels = ls;
-      ltov = ltov_of options.reordernsm classes ls;
-      vtol = vtol_of options.reordernsm classes ls;
-      chars = visual_chars tables ls front (vtol_of options.reordernsm classes ls);
-    }) (take_all n own (omega (arith, all, size, length-map row (class_of tables)))) (take_all n row (omega (arith, all)))
+      ltov = ltov_by options classes ends ls;
+      vtol = vtol_by options classes ends ls;
+      chars = visual_chars tables ls front (vtol_by options classes ends ls);
+    } in
+    ap (λ (ends : List Bool). row_with ends (take n own) (take n row)) own_clusters
+    ∙ ap₂ (row_with (ends_by options row)) (take_all n own (omega (arith, all, size, length-map row (class_of tables)))) (take_all n row (omega (arith, all)))

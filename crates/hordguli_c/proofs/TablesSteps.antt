@@ -26,17 +26,17 @@ use Rattle.std_alloc.proofs.BoxSteps.Form.{Bx}
 use Rattle.std_heap.specs.contracts.Global as heap
 use Rattle.std_heap.proofs.Global.TheLaws as heap_laws
 use Rattle.std_heap.specs.contracts.GlobalAllocator.TheImpl.{ghosts, dict}
-use Rattle.ucd.proofs.tables.Tables.TheLaws as tables_laws
 use Rattle.hordguli_c.specs.Held.{the_global}
 use Rattle.hordguli_c.specs.TablesHeld.{Value, object_at, object_row}
+use Rattle.hordguli_c.proofs.tables_object.TablesObject.TheLaws as object_laws
 use Rattle.hordguli_c.specs.contracts.tables_handle.TablesHandle as handle
 use Rattle.hordguli_c.specs.contracts.raw_box.RawBox as raw
 
--- a box that contains tables
+-- a box that contains the object of a handle
 abbrev pub E : Bx
 E = record {
   row = object_row;
-  laws = tables_laws.the_row_laws;
+  laws = object_laws.the_row_laws;
   al = record { row = heap.the_row; laws = heap_laws.the_row_laws; g = ghosts; d = dict; drops = impl [] tnil dnil };
 }
 

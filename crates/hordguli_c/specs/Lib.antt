@@ -18,3 +18,4 @@ pub mod Runs
 pub mod Properties
 pub mod Rows
 pub mod Offsets
+pub mod Pages

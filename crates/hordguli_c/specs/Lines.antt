@@ -1,5 +1,5 @@
 -- What is stored for a line and for a paragraph: numbers, and lists in optional arrays.
-use Rattle.std.specs.Prelude.{◌≡◌, ℕ, ◌&&◌, Bool, List, length, map, slice_index, Option, Some, None, MatchBool}
+use Rattle.std.specs.Prelude.{◌≡◌, ℕ, ◌&&◌, Bool, List, length, map, slice_index, Option, Some, MatchBool}
 use Rattle.lines.specs.Columns.{padding_of}
 use Rattle.lines.specs.Layouts.{Layout}
 use Rattle.lines.specs.CharInfos.{columns_of}

@@ -1,9 +1,10 @@
 -- What the bits of options and of print flags mean.
-use Rattle.std.specs.Prelude.{not, ℕ, ◌/◌, ◌%◌, ◌==◌, nat_lt, Bool, false, true, Option, Some, None, if◌then◌else◌}
+use Rattle.std.specs.Prelude.{not, ℕ, ◌/◌, ◌%◌, ◌==◌, ◌||◌, nat_lt, Bool, false, true, option_and_then, option_map, Option, Some, None, if◌then◌else◌}
 use Rattle.bidi.specs.declared.base.Base.{Base}
 use Rattle.bidi.specs.declared.base.Base.TheVariants.{Rtl, Ltr, WeakRtl, WeakLtr}
 use Rattle.lines.specs.declared.options.Options.{Options}
 use Rattle.lines.specs.declared.print.Print.{Print}
+use Rattle.hordguli_c.specs.declared.options.PageForm.{PageForm}
 
 abbrev pub has_bit : ℕ → ℕ → Bool
 has_bit bits value = bits / value % 2 == 1
@@ -21,19 +22,21 @@ direction_of bits = if nat_lt bits 4 then Some (base_of bits) else None
 abbrev pub tailoring_of : ℕ → Option Bool
 tailoring_of bits = if bits == 0 then Some false else if bits == 16 then Some true else None
 
--- whether L3 is applied to a row, or `None` if another bit is set
-abbrev pub row_options_of : ℕ → Option Bool
-row_options_of bits = if bits == 0 then Some false else if bits == 8 then Some true else None
-
 -- the options of a session, or `None` if an unknown bit is set
 abbrev pub options_of : ℕ → Option Options
 options_of bits =
-    if nat_lt bits 32 then Some (record {
+    if nat_lt bits 128 then Some (record {
       base = base_of bits;
       nobreak = has_bit bits 4;
       reordernsm = has_bit bits 8;
       whole_numbers = has_bit bits 16;
+      reorder_clusters = has_bit bits 32;
+      show_spaces = has_bit bits 64;
     }) else None
+
+-- the options of a row, which have only these two bits, or `None` if another bit is set
+abbrev pub row_options_of : ℕ → Option Options
+row_options_of bits = if bits == 0 || (bits == 8 || (bits == 32 || bits == 40)) then options_of bits else None
 
 -- the print options of a line, or `None` if an unknown bit is set
 abbrev pub print_of : ℕ → Option Print
@@ -47,3 +50,8 @@ print_of bits =
       nopad = not (has_bit bits 32);
       nomirror = not (has_bit bits 64);
     }) else None
+
+-- how a text is laid out and printed, or `None` if an unknown bit is set
+abbrev pub page_form_of : ℕ → ℕ → ℕ → Option PageForm
+page_form_of options width print =
+    option_and_then (λ options. option_map (λ print. record { options = options; width = width; print = print }) (print_of print)) (options_of options)

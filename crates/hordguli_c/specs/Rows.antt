@@ -6,7 +6,8 @@ use Rattle.ucd.specs.Tables.{class_of}
 use Rattle.ucd.specs.Within.{AreWithin}
 use Rattle.ucd.specs.declared.tables.Tables.{Tables}
 use Rattle.reorder.specs.Mirroring.{visual_chars}
-use Rattle.reorder.specs.Order.{ltov_of, vtol_of}
+use Rattle.lines.specs.Reordering.{ends_by, ltov_by, vtol_by}
+use Rattle.lines.specs.declared.options.Options.{Options}
 use Rattle.reorder.specs.Spaces.{line_levels}
 use Rattle.hordguli_c.specs.Arrays.{has_room, put_if, PutsItems}
 use Rattle.hordguli_c.specs.Calls.{Given, OrNoMemory}
@@ -37,19 +38,26 @@ pub record Row : Type 0 where
 unfoldable pub row_levels : Tables → ℕ → List ℕ → List ℕ → List ℕ
 row_levels tables base text levels = line_levels base (map (class_of tables) text) levels
 
--- L2, L3 if requested, and L4, from the levels after L1
-abbrev pub row_by : Tables → Bool → List ℕ → List ℕ → Row
-row_by tables reordernsm text levels =
-    let vtol = vtol_of reordernsm (map (class_of tables) text) levels in
+-- the position maps by L2 and by L3, if requested, for the clusters of the row's own characters or for marks
+abbrev pub row_vtol : Tables → Options → List ℕ → List ℕ → List ℕ
+row_vtol tables options text levels = vtol_by options (map (class_of tables) text) (ends_by options text) levels
+
+abbrev pub row_ltov : Tables → Options → List ℕ → List ℕ → List ℕ
+row_ltov tables options text levels = ltov_by options (map (class_of tables) text) (ends_by options text) levels
+
+-- L2, L3 and L4, from the levels after L1
+abbrev pub row_by : Tables → Options → List ℕ → List ℕ → Row
+row_by tables options text levels =
+    let vtol = row_vtol tables options text levels in
     record {
       levels = levels;
-      ltov = ltov_of reordernsm (map (class_of tables) text) levels;
+      ltov = row_ltov tables options text levels;
       vtol = vtol;
       chars = visual_chars tables levels text vtol;
     }
 
-abbrev pub row_of : Tables → Bool → ℕ → List ℕ → List ℕ → Row
-row_of tables reordernsm base text levels = row_by tables reordernsm text (row_levels tables base text levels)
+abbrev pub row_of : Tables → Options → ℕ → List ℕ → List ℕ → Row
+row_of tables options base text levels = row_by tables options text (row_levels tables base text levels)
 
 -- what `LaidRow` holds: the levels after L1 and the maps, of a length
 pub record IsSized (row : LaidRow) : Type 0 where
@@ -66,9 +74,9 @@ row_in tables row = record {
   chars = visual_chars tables row.levels.items row.text.items row.vtol.items;
 }
 
-pub record IsLaid (tables : Tables) (reordernsm : Bool) (base : ℕ) (text levels : List ℕ) (row : LaidRow) : Type 0 where
+pub record IsLaid (tables : Tables) (options : Options) (base : ℕ) (text levels : List ℕ) (row : LaidRow) : Type 0 where
   pub text_is : row.text.items ≡ text
-  pub row_is : row_in tables row ≡ row_of tables reordernsm base text levels
+  pub row_is : row_in tables row ≡ row_of tables options base text levels
   pub sized : IsSized row
 
 pub record RowArrays : Type 0 where
@@ -111,11 +119,11 @@ RowNot base text levels status =
     ⊎ (All IsScalar text × IsRow base text levels × (status ≡ is.NoMemory) × (0 < length text)))
 
 -- the requested arrays of a row are written
-abbrev pub PutsRow : ℕ → ℕ → List ℕ → List ℕ → Bool → Status → Tables → RowArrays → RowArrays → Type 0
-PutsRow wanted base text levels reordernsm status tables old new =
+abbrev pub PutsRow : ℕ → ℕ → List ℕ → List ℕ → Options → Status → Tables → RowArrays → RowArrays → Type 0
+PutsRow wanted base text levels options status tables old new =
     Given (row_fits wanted (length text) old ≡ true) is.NoRoom status (new ≡ old)
     (OfRow base text levels status (new ≡ old)
-    ((status ≡ is.Ok) × (new ≡ row_put wanted (row_of tables reordernsm base text levels) old)))
+    ((status ≡ is.Ok) × (new ≡ row_put wanted (row_of tables options base text levels) old)))
 
 -- the runs of a row are stored
 abbrev pub PutsRowRuns : ℕ → List ℕ → List ℕ → Status → Tables → List RunOut × ℕ → List RunOut × ℕ → Type 0

@@ -1,21 +1,20 @@
--- What a handle of tables owns: nothing if it is null, and otherwise the block that has tables with this
--- value.
+-- What a handle of tables owns: nothing if it is null, and otherwise the block of an object whose tables have this value.
 use Rattle.std.specs.Prelude.{◌≡◌, Option, Some, None}
 use base.Fml.{Fml, ftrue, fex}
 use denote.RattleType.{RattleType}
 use denote.RawPtr.{Ptr, null_ptr}
 use Rattle.std.specs.Box.Ownership.{box_owns}
 use Rattle.std.specs.contracts.impls.GlobalAllocator.TheImpl.{ghosts}
-use Rattle.ucd.specs.contracts.tables.Tables as tables
 use Rattle.ucd.specs.declared.tables.Tables.{Tables}
 use Rattle.hordguli_c.specs.Held.{the_global}
+use Rattle.hordguli_c.specs.contracts.tables_object.TablesObject as object
 
 -- the value that stands for tables in contracts
 abbrev pub Value : Type 0
 Value = Tables
 
 abbrev pub object_row : RattleType
-object_row = tables.the_row
+object_row = object.the_row
 
 -- what the pointer of a handle owns
 abbrev pub object_at : Ptr → Option Value → Fml

@@ -2,7 +2,7 @@
 ghost use Rattle.std.specs.Prelude.{◌≡◌, ◌<◌, ◌≤◌, All, length, map, true};
 ghost use Rattle.std.specs.Prelude.{IfErr, IfOk, IsFalse, IsTrue, OnErr};
 ghost use Rattle.std.specs.Char.{IsScalar};
-ghost use Rattle.hordguli_c.specs.Arrays.{has_room, put, put_if};
+ghost use Rattle.hordguli_c.specs.Arrays.{has_room, put, put_if, PutsItems};
 ghost use Rattle.hordguli_c.specs.Lines.{columns_in};
 ghost use Rattle.hordguli_c.specs.Paragraphs.{CharactersNot, mark_number};
 
@@ -188,4 +188,16 @@ pub fn put_columns_if(wanted: bool, line: &VisualLine<'_>, array: &mut [usize])
     if wanted {
         put_columns(line, array);
     }
+}
+
+/// Copies bytes to an array, if they fit, and stores the number of bytes.
+pub fn put_bytes(bytes: &[u8], array: &mut [u8], len: &mut usize) -> Status
+    ensures { PutsItems bytes.now result (array.old, len.old) (array.new, len.new) }
+{
+    *len = bytes.len();
+    if array.len() < bytes.len() {
+        return Status::NoRoom;
+    }
+    array[..bytes.len()].copy_from_slice(bytes);
+    Status::Ok
 }

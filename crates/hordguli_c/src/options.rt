@@ -5,6 +5,7 @@ ghost use Rattle.hordguli_c.specs.Options.{
   direction_of,
   has_bit,
   options_of,
+  page_form_of,
   print_of,
   row_options_of,
   tailoring_of,
@@ -21,7 +22,14 @@ const REORDER_NSM: u32 = 8;
 
 const WHOLE_NUMBERS: u32 = 16;
 
-const ALL_OPTIONS: u32 = 31;
+const REORDER_CLUSTERS: u32 = 32;
+
+const SHOW_SPACES: u32 = 64;
+
+// Both options of a row.
+const REORDERS: u32 = 40;
+
+const ALL_OPTIONS: u32 = 127;
 
 const PRINT_VISUAL: u32 = 1;
 
@@ -81,14 +89,12 @@ pub fn tailoring_of(bits: u32) -> Option<bool>
     }
 }
 
-/// Returns whether L3 is applied to a row, or `None` if any other bit is set.
-pub fn row_options_of(bits: u32) -> Option<bool>
+/// Returns the options of a row, or `None` if any other bit is set.
+pub fn row_options_of(bits: u32) -> Option<Options>
     ensures { result ≡ row_options_of bits }
 {
-    if bits == 0 {
-        Some(false)
-    } else if bits == REORDER_NSM {
-        Some(true)
+    if bits == 0 || bits == REORDER_NSM || bits == REORDER_CLUSTERS || bits == REORDERS {
+        options_of(bits)
     } else {
         None
     }
@@ -104,6 +110,8 @@ pub fn options_of(bits: u32) -> Option<Options>
             nobreak: has_bit(bits, NOBREAK),
             reordernsm: has_bit(bits, REORDER_NSM),
             whole_numbers: has_bit(bits, WHOLE_NUMBERS),
+            reorder_clusters: has_bit(bits, REORDER_CLUSTERS),
+            show_spaces: has_bit(bits, SHOW_SPACES),
         })
     } else {
         None
@@ -127,4 +135,23 @@ pub fn print_of(bits: u32) -> Option<Print>
     } else {
         None
     }
+}
+
+/// How a text is laid out and printed.
+#[derive(Clone, Copy)]
+pub struct PageForm {
+    pub options: Options,
+    pub width: u16,
+    pub print: Print,
+}
+
+/// Returns how a text is laid out and printed, or `None` if a bit is unknown.
+pub fn page_form_of(options: u32, width: u16, print: u32) -> Option<PageForm>
+    ensures { result ≡ page_form_of options width print }
+{
+    Some(PageForm {
+        options: options_of(options)?,
+        width,
+        print: print_of(print)?,
+    })
 }

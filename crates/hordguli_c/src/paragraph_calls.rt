@@ -51,7 +51,7 @@ pub extern "C" fn hordguli_core_base(
     };
     match tables.swap(alloc, None) {
         Some(object) => {
-            let status = find_base(alloc, &object, base, characters, level);
+            let status = find_base(alloc, object.tables(), base, characters, level);
             tables.swap(alloc, Some(object));
             number_of(status)
         }
@@ -117,7 +117,7 @@ pub extern "C" fn hordguli_core_levels(
     };
     match tables.swap(alloc, None) {
         Some(object) => {
-            let status = find_levels(alloc, &object, base, characters, levels);
+            let status = find_levels(alloc, object.tables(), base, characters, levels);
             tables.swap(alloc, Some(object));
             number_of(status)
         }
@@ -169,7 +169,7 @@ pub extern "C" fn hordguli_core_marks(
     };
     match tables.swap(alloc, None) {
         Some(object) => {
-            let status = find_marks(alloc, &object, whole_numbers, characters, marks);
+            let status = find_marks(alloc, object.tables(), whole_numbers, characters, marks);
             tables.swap(alloc, Some(object));
             number_of(status)
         }

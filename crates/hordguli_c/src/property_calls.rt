@@ -139,7 +139,7 @@ pub extern "C" fn hordguli_core_properties(
 {
     match tables.swap(alloc, None) {
         Some(object) => {
-            let status = put_properties(&object, characters, records);
+            let status = put_properties(object.tables(), characters, records);
             tables.swap(alloc, Some(object));
             number_of(status)
         }

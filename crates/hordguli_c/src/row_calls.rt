@@ -1,13 +1,13 @@
 //! Functions on a row that the caller broke: L1 to L4, from the levels of its paragraph.
 ghost use Rattle.std.specs.Prelude.{◌≡◌, ◌<◌, ◌≤◌, length, true, All};
-ghost use Rattle.std.specs.Prelude.{IfErr, IfOk, IsFalse, IsTrue, OnErr};
+ghost use Rattle.std.specs.Prelude.{IfErr, IfOk, IsFalse, IsTrue, OnErr, OnOk};
 ghost use Rattle.std.specs.Char.{IsScalar};
 ghost use Rattle.ucd.specs.Within.{AreWithin};
 ghost use Rattle.reorder.specs.Mirroring.{mirrored, visual_chars};
 ghost use Rattle.hordguli_c.specs.Arrays.{has_room, put_if};
 ghost use Rattle.hordguli_c.specs.Calls.{Asks, AsksBy};
 ghost use Rattle.hordguli_c.specs.Options.{has_bit, row_options_of};
-ghost use Rattle.hordguli_c.specs.Rows.{row_fits, row_in, row_levels, row_put};
+ghost use Rattle.hordguli_c.specs.Rows.{row_fits, row_in, row_levels, row_ltov, row_put, row_vtol};
 ghost use Rattle.hordguli_c.specs.Rows.{IsLaid, IsRow, IsSized, PutsRow, PutsRowRuns, RowNot};
 ghost use Rattle.hordguli_c.specs.Statuses.{Returns};
 
@@ -16,7 +16,8 @@ use crate::options::{has_bit, row_options_of};
 use crate::run_calls::{RunOut, put_runs};
 use crate::status::{Status, number_of};
 use crate::tables_handle::TablesHandle;
-use reorder::{reset_levels, visual_order};
+use lines::{Options, cluster_ends};
+use reorder::{ClusterClasses, reset_levels, visual_order};
 use std::alloc::{AllocError, Global};
 use ucd::{Tables, TextClasses};
 
@@ -117,28 +118,57 @@ fn zeros(alloc: Global, len: usize) -> Result<Vec<u32>, AllocError>
     Ok(list)
 }
 
+// Writes the position maps of a row, given its levels after L1.
+fn order_row(
+    alloc: Global,
+    tables: &Tables,
+    options: Options,
+    text: &[char],
+    levels: &[u8],
+    vtol: &mut [u32],
+    ltov: &mut [u32],
+) -> Result<(), AllocError>
+    requires len { length levels.now ≡ length text.now }
+    requires few { length text.now ≤ u32.MAX }
+    requires vtol { length vtol.old ≡ length text.now }
+    requires ltov { length ltov.old ≡ length text.now }
+    ensures vtol { OnOk result (vtol.new ≡ row_vtol tables.now options text.now levels.now) }
+    ensures ltov { OnOk result (ltov.new ≡ row_ltov tables.now options text.now levels.now) }
+    ensures within { OnOk result (AreWithin (length text.now) vtol.new) }
+    ensures memory { OnErr result (0 < length text.now) }
+{
+    if options.reorder_clusters {
+        let ends = cluster_ends(alloc, text)?;
+        let classes = ClusterClasses {
+            ends: &ends,
+            levels,
+        };
+        visual_order(&classes, levels, true, vtol, ltov);
+    } else {
+        let classes = TextClasses { tables, text };
+        visual_order(&classes, levels, options.reordernsm, vtol, ltov);
+    }
+    Ok(())
+}
+
 // Lays out a row whose levels are in range.
 fn laid_row(
     alloc: Global,
     tables: &Tables,
-    reordernsm: bool,
+    options: Options,
     base: u8,
     text: Vec<char>,
     levels: &[u8],
 ) -> Result<LaidRow, AllocError>
     requires len { length levels.now ≡ length text.items }
     requires few { length text.items ≤ u32.MAX }
-    ensures ok { IfOk result (IsLaid tables.now reordernsm base text.items levels.now) }
+    ensures ok { IfOk result (IsLaid tables.now options base text.items levels.now) }
     ensures memory { OnErr result (0 < length text.items) }
 {
     let own = levels_after_l1(alloc, tables, base, &text, levels)?;
     let mut ltov = zeros(alloc, text.len())?;
     let mut vtol = zeros(alloc, text.len())?;
-    let line = TextClasses {
-        tables,
-        text: &text,
-    };
-    visual_order(&line, &own, reordernsm, &mut vtol, &mut ltov);
+    order_row(alloc, tables, options, &text, &own, &mut vtol, &mut ltov)?;
     Ok(LaidRow {
         text,
         levels: own,
@@ -150,20 +180,20 @@ fn laid_row(
 fn find_row(
     alloc: Global,
     tables: &Tables,
-    reordernsm: bool,
+    options: Options,
     base: u32,
     characters: &[u32],
     levels: &[u8],
 ) -> Result<LaidRow, Status>
     ensures valid { IfOk result (λ row. All IsScalar characters.now × IsRow base characters.now levels.now) }
-    ensures ok { IfOk result (IsLaid tables.now reordernsm base characters.now levels.now) }
+    ensures ok { IfOk result (IsLaid tables.now options base characters.now levels.now) }
     ensures err { IfErr result (RowNot base characters.now levels.now) }
 {
     let text = match row_text(alloc, base, characters, levels) {
         Ok(text) => text,
         Err(status) => return Err(status),
     };
-    match laid_row(alloc, tables, reordernsm, base as u8, text, levels) {
+    match laid_row(alloc, tables, options, base as u8, text, levels) {
         Ok(row) => Ok(row),
         Err(_) => Err(Status::NoMemory),
     }
@@ -266,7 +296,7 @@ fn put_row(
 fn show_row(
     alloc: Global,
     tables: &Tables,
-    reordernsm: bool,
+    options: Options,
     base: u32,
     characters: &[u32],
     levels: &[u8],
@@ -276,7 +306,7 @@ fn show_row(
     ltov: &mut [u32],
     vtol: &mut [u32],
 ) -> Status
-    ensures { PutsRow wanted base characters.now levels.now reordernsm result tables.now (record {
+    ensures { PutsRow wanted base characters.now levels.now options result tables.now (record {
       visual = visual.old;
       levels = row_levels.old;
       ltov = ltov.old;
@@ -291,7 +321,7 @@ fn show_row(
     if !row_fits(characters.len(), wanted, visual, row_levels, ltov, vtol) {
         return Status::NoRoom;
     }
-    match find_row(alloc, tables, reordernsm, base, characters, levels) {
+    match find_row(alloc, tables, options, base, characters, levels) {
         Ok(row) => {
             put_row(tables, &row, wanted, visual, row_levels, ltov, vtol);
             Status::Ok
@@ -330,14 +360,23 @@ pub extern "C" fn hordguli_core_row(
           vtol = vtol.new;
         })) result }
 {
-    let Some(reordernsm) = row_options_of(options) else {
+    let Some(options) = row_options_of(options) else {
         return number_of(Status::UnknownOption);
     };
     match tables.swap(alloc, None) {
         Some(object) => {
             let status = show_row(
-                alloc, &object, reordernsm, base, characters, levels, wanted, visual, row_levels,
-                ltov, vtol,
+                alloc,
+                object.tables(),
+                options,
+                base,
+                characters,
+                levels,
+                wanted,
+                visual,
+                row_levels,
+                ltov,
+                vtol,
             );
             tables.swap(alloc, Some(object));
             number_of(status)
@@ -386,7 +425,15 @@ pub extern "C" fn hordguli_core_row_runs(
 {
     match tables.swap(alloc, None) {
         Some(object) => {
-            let status = find_row_runs(alloc, &object, base, characters, levels, array, count);
+            let status = find_row_runs(
+                alloc,
+                object.tables(),
+                base,
+                characters,
+                levels,
+                array,
+                count,
+            );
             tables.swap(alloc, Some(object));
             number_of(status)
         }

@@ -91,7 +91,7 @@ pub extern "C" fn hordguli_core_session_open(
     }
     match tables.swap(alloc, None) {
         Some(object) => {
-            let status = open_at(alloc, session, &object, options, text, width);
+            let status = open_at(alloc, session, object.tables(), options, text, width);
             tables.swap(alloc, Some(object));
             number_of(status)
         }

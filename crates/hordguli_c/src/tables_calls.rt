@@ -1,12 +1,13 @@
 //! Functions that open and close a handle of tables.
-ghost use Rattle.std.specs.Prelude.{◌≡◌, None};
+ghost use Rattle.std.specs.Prelude.{◌≡◌, IfOk, None};
 ghost use Rattle.ucd.specs.declared.tables.UcdFiles.{UcdFiles};
 ghost use Rattle.hordguli_c.specs.Statuses.{Returns};
 ghost use Rattle.hordguli_c.specs.TablesCalls.{cause_number, fault_out, ReadsTables, TellsFault};
 
 use crate::status::{Status, number_of};
 use crate::tables_handle::TablesHandle;
-use std::alloc::Global;
+use crate::tables_object::TablesObject;
+use std::alloc::{AllocError, Global};
 use ucd::{Cause, TableFault, Tables, UcdFiles};
 
 /// The first malformed line (`hordguli_table_fault` in C).
@@ -47,6 +48,13 @@ fn tell(fault: TableFault, out: &mut TableFaultOut) -> Status
     Status::TableFault
 }
 
+// Makes the object of a handle.
+fn boxed(alloc: Global, tables: Tables) -> Result<Box<TablesObject>, AllocError>
+    ensures { IfOk result (λ object. object.value ≡ tables) }
+{
+    Ok(Box::new(alloc, TablesObject::new(alloc, tables)?)?)
+}
+
 /// Opens tables from the contents of the files, each in its own slice.
 #[unsafe(no_mangle)]
 pub extern "C" fn hordguli_core_tables_read(
@@ -85,7 +93,7 @@ pub extern "C" fn hordguli_core_tables_read(
         emoji_data,
     };
     match Tables::read(alloc, &files) {
-        Ok(read) => match Box::new(alloc, read) {
+        Ok(read) => match boxed(alloc, read) {
             Ok(object) => {
                 tables.swap(alloc, Some(object));
                 number_of(Status::Ok)

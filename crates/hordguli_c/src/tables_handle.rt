@@ -4,14 +4,11 @@ ghost use Rattle.hordguli_c.specs.Held.{box_held, raw_held};
 ghost use Rattle.hordguli_c.specs.TablesHeld.{Value, object_at};
 
 use crate::raw_box::RawBox;
+use crate::tables_object::TablesObject;
 use std::alloc::Global;
 use std::marker::Model;
 use std::mem::replace;
 use std::ptr::null_mut;
-use ucd::Tables;
-
-/// The object at the address.
-pub type TablesObject = Tables;
 
 /// A handle. Only `of_raw` and `into_raw` use its pointer, and `empty` makes a handle without an object.
 #[repr(C)]

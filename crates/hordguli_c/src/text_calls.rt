@@ -9,11 +9,10 @@ ghost use Rattle.session.specs.Sessions.{text_at};
 ghost use Rattle.hordguli_c.specs.Calls.{Asks, AsksBy, Gives, OfText};
 ghost use Rattle.hordguli_c.specs.Statuses.{Returns};
 ghost use Rattle.hordguli_c.specs.Options.{print_of};
-ghost use Rattle.hordguli_c.specs.Arrays.{PutsItems};
 ghost use Rattle.hordguli_c.specs.Texts.{PutsCharacters, PutsLines, PutsText, RangeNot};
 ghost use Rattle.hordguli_c.specs.declared.status.Status.TheVariants.{Ok};
 
-use crate::arrays::put_each_character;
+use crate::arrays::{put_bytes, put_each_character};
 use crate::options::print_of;
 use crate::session_handle::{SessionHandle, SessionObject};
 use crate::status::{Status, number_of};
@@ -22,18 +21,6 @@ use session::RangeFault;
 use std::alloc::Global;
 use std::str::from_utf8;
 use stream::Page;
-
-// Copies bytes to an array, if they fit, and stores the number of bytes.
-fn put_bytes(bytes: &[u8], array: &mut [u8], len: &mut usize) -> Status
-    ensures { PutsItems bytes.now result (array.old, len.old) (array.new, len.new) }
-{
-    *len = bytes.len();
-    if array.len() < bytes.len() {
-        return Status::NoRoom;
-    }
-    array[..bytes.len()].copy_from_slice(bytes);
-    Status::Ok
-}
 
 // Returns lines in the form in which they are printed.
 fn printed(

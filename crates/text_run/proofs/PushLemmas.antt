@@ -14,7 +14,7 @@ use Rattle.lines.specs.declared.engine.Engine.{Engine}
 use Rattle.lines.specs.declared.print.Print.{Print}
 use Rattle.text_run.specs.Counts.{PrintsAtMost}
 use Rattle.text_run.specs.TextRun.{are_within, is_within}
-use Rattle.text_run.specs.Streaming.{IsFront, Pushed}
+use Rattle.text_run.specs.Streaming.{IsFront, IsOpen, Pushed}
 use Rattle.text_run.proofs.CountLemmas.{at_most_more, prints_more}
 use Rattle.text_run.proofs.Fronts.{front_none, front_one, front_join}
 
@@ -83,6 +83,22 @@ module _ (rules : Rules) (width : ℕ) (print : Print) (text : List ℕ) (before
   pushed_at_most rest seen n after engine engine_new so_far at_most few =
       at_most_more print engine_old engine engine_new (length (concat so_far.pars)) n (length text) so_far.at_most at_most
       (omega (arith, few, ap length so_far.front.whole, length-append (concat so_far.pars) rest))
+
+-- if the rest of a text is its last paragraph, the lines of the first paragraphs and of the rest are the page of the text
+pub page_whole : (rules : Rules) (width : ℕ) (print : Print) (text rest before after more : List ℕ) (pars : List (List ℕ))
+    → IsFront (cut_by rules) pars text rest → IsOpen (cut_by rules) rest → 0 < length rest
+    → after ≡ before ++ page rules width print pars → more ≡ after ++ paragraph_bytes rules width print rest
+    → more ≡ before ++ page rules width print (paragraphs (cut_by rules) text)
+page_whole rules width print text rest before after more pars front left some after_is more_is =
+    let is_cut = cut_by rules in
+    let bytes = paragraph_bytes rules width print in
+    let parts : paragraphs is_cut text ≡ pars ++ rest ∷ [] =
+    ap (paragraphs is_cut) (sym (append-nil text)) ∙ front.cuts [] ∙ ap (λ t. pars ++ paragraphs is_cut t) (append-nil rest)
+    ∙ ap (λ ps. pars ++ ps) (left.uncut some) in
+    let lines : page rules width print pars ++ bytes rest ≡ page rules width print (pars ++ rest ∷ []) =
+    ap (λ t. page rules width print pars ++ t) (sym (append-nil (bytes rest))) ∙ sym (flat_map-append bytes pars (rest ∷ [])) in
+    more_is ∙ ap (λ t. t ++ bytes rest) after_is ∙ append_assoc before (page rules width print pars) (bytes rest)
+    ∙ ap (λ t. before ++ t) lines ∙ ap (λ ps. before ++ page rules width print ps) (sym parts)
 
 -- if a text has no paragraph boundary, the text after its first paragraphs has none
 pub rest_uncut : ParagraphsArePieces → (is_cut : ℕ → ℕ → Bool) (text rest : List ℕ) (pars : List (List ℕ)) (k : ℕ)

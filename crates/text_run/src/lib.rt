@@ -23,4 +23,5 @@ mod paragraphs;
 mod text;
 
 pub use faults::RunFault;
+pub use paragraphs::push_page;
 pub use text::run_text;

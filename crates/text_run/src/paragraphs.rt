@@ -7,6 +7,7 @@ ghost use Rattle.std.specs.Str.{chars};
 ghost use Rattle.bidi.specs.Cuts.{paragraphs, SplitsAt};
 ghost use Rattle.lines.specs.Engine.{rules_of, SameRules};
 ghost use Rattle.lines.specs.Layouts.{cut_by};
+ghost use Rattle.lines.specs.Pages.{page};
 ghost use Rattle.text_run.specs.Counts.{PrintsAtMost};
 ghost use Rattle.text_run.specs.Pages.{prints_some};
 ghost use Rattle.text_run.specs.Streaming.{IsEnded, IsFaultAhead, IsOpen, Pushed, StartsLong};
@@ -194,4 +195,32 @@ fn push_ended(
         rest = after;
     }
     push_characters(rest, held)
+}
+
+/// Adds the lines of all paragraphs of a text to a page. No paragraph may be too long. Uses `held` as a
+/// buffer, and allocates only if it or the page or the engine's buffers have to grow.
+pub fn push_page(
+    alloc: Global,
+    lines: &mut Page,
+    engine: &mut Engine,
+    width: u16,
+    print: &Print,
+    held: &mut Vec<char>,
+    text: &str,
+) -> Result<(), AllocError>
+    requires width { 0 < width }
+    requires within { are_within (paragraphs (cut_by (rules_of engine.old)) (chars text.now)) ≡ true }
+    ensures ok { OnOk result (lines.new.bytes.items ≡ lines.old.bytes.items
+        ++ page (rules_of engine.old) width print.now
+        (paragraphs (cut_by (rules_of engine.old)) (chars text.now))) }
+    ensures memory { OnErr result (0 < length text.now) }
+    ensures rules { SameRules engine.old engine.new }
+{
+    held.clear();
+    push_text(alloc, lines, engine, width, print, held, text)?;
+    if held.is_empty() {
+        return Ok(());
+    }
+    push_paragraph(alloc, lines, engine, width, print, held)?;
+    Ok(())
 }

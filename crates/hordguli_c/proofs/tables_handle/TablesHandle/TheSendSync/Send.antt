@@ -10,17 +10,17 @@ use Rattle.std.proofs.Crossing as heap
 use Rattle.std.specs.declared.option.Option.{Option}
 use Rattle.std.specs.declared.option.Option.TheVariants.{None, Some}
 use Rattle.std_alloc.proofs.SendSync.{quiet, lies}
-use Rattle.ucd.proofs.tables.Tables.TheSendSync as tables
 use Rattle.hordguli_c.specs.Held.{the_global}
+use Rattle.hordguli_c.proofs.tables_object.TablesObject.TheSendSync as object
 use Rattle.hordguli_c.specs.TablesHeld.{Value, object_at, object_row}
 use Rattle.hordguli_c.specs.contracts.tables_handle.TablesHandle.{the_row, the_type}
 
-tables_send : IsSend object_row
-tables_send = tables.the_send
+object_send : IsSend object_row
+object_send = object.the_send
 
 crosses : (p : Ptr) (x : Option Value) → Keyless (object_at p x)
 crosses p None = λ _. tt
-crosses p (Some x) = (lies object_row tables_send p x, heap.frees.frees the_global (raw (lone object_row.mir)) p)
+crosses p (Some x) = (lies object_row object_send p x, heap.frees.frees the_global (raw (lone object_row.mir)) p)
 
 pub send : IsSend the_row
 send =
