@@ -1,83 +1,94 @@
-/* Prints a text in the rows of a terminal: rows COLUMNS < TEXT
+/* Prints a text in the rows of a terminal: rows COLUMNS < TEXT, built by
  *
- * A terminal breaks a line where it is full, not between words. So the levels are found for the whole paragraph, and then
- * each row is reordered separately. The functions are FriBidi's, and come from the library that is linked first:
+ *     cc -o rows examples/rows.c $(pkg-config --cflags --libs hordguli) \
+ *         -DUCDDIR=\"$(pkg-config --variable=ucddir hordguli)\"
  *
- *     cc -o rows examples/rows.c $(pkg-config --cflags fribidi) -Lbin -Wl,-rpath,$PWD/bin -lhordguli_fribidi -lfribidi
- */
+ * A terminal ends a row where it is full, not between words. So levels are found for the whole paragraph, and then each
+ * row is put into visual order separately. fribidi_rows.c does the same by FriBidi's functions. */
 #define _XOPEN_SOURCE 700
-#include <fribidi.h>
+#include <hordguli.h>
 #include <locale.h>
 #include <stdio.h>
 #include <stdlib.h>
 #include <wchar.h>
+#include <wctype.h>
 
-/* A paragraph, with the properties of its characters. */
-static FriBidiChar *text, *visual;
-static FriBidiCharType *types;
-static FriBidiBracketType *brackets;
-static FriBidiLevel *levels;
-static FriBidiStrIndex length, room;
+static hordguli_tables tables = HORDGULI_TABLES_INIT;
+
+/* A paragraph: its characters, their properties and levels, and a row in visual order. */
+static uint32_t *text, *visual;
+static hordguli_character *properties;
+static uint8_t *levels;
+static size_t length, capacity;
+
+static void fail(const char *what) {
+    fprintf(stderr, "rows: %s\n", what);
+    exit(1);
+}
+
+static void check(hordguli_status status) {
+    if (status != HORDGULI_OK) fail(hordguli_status_text(status));
+}
 
 static void *sure(void *block) {
-    if (block == NULL) exit((fputs("rows: out of memory\n", stderr), 1));
+    if (block == NULL) fail("out of memory");
     return block;
 }
 
-static void add(FriBidiChar c) {
-    if (length == room) {
-        size_t more = room == 0 ? 1000 : (size_t)room * 2;
-        text = sure(realloc(text, more * sizeof *text));
-        visual = sure(realloc(visual, more * sizeof *visual));
-        types = sure(realloc(types, more * sizeof *types));
-        brackets = sure(realloc(brackets, more * sizeof *brackets));
-        levels = sure(realloc(levels, more * sizeof *levels));
-        room = (FriBidiStrIndex)more;
+static void add(uint32_t c) {
+    if (length == capacity) {
+        capacity = capacity == 0 ? 1000 : capacity * 2;
+        text = sure(realloc(text, capacity * sizeof *text));
+        visual = sure(realloc(visual, capacity * sizeof *visual));
+        properties = sure(realloc(properties, capacity * sizeof *properties));
+        levels = sure(realloc(levels, capacity * sizeof *levels));
     }
     text[length++] = c;
 }
 
-/* Returns the width of a character in columns. Control characters, which a terminal would execute, have width 0. */
-static int cells(FriBidiChar c) {
-    int width = wcwidth((wchar_t)c);
-    return width < 0 ? 0 : width;
-}
-
-static void print_row(FriBidiStrIndex start, FriBidiStrIndex end, int left) {
-    for (; left > 0; left--) putwchar(L' ');
-    for (; start < end; start++)
-        if (wcwidth((wchar_t)visual[start]) >= 0) putwchar((wchar_t)visual[start]);
+/* Prints a row after `padding` spaces. Leaves out control characters, which a terminal would execute. */
+static void print_row(size_t count, size_t padding) {
+    for (; padding > 0; padding--) putwchar(L' ');
+    for (size_t k = 0; k < count; k++)
+        if (!iswcntrl((wint_t)visual[k])) putwchar((wchar_t)visual[k]);
     putwchar(L'\n');
 }
 
-static void print_paragraph(int columns) {
-    FriBidiParType base = FRIBIDI_PAR_ON;
-    FriBidiStrIndex start = 0, end = 0;
-    fribidi_get_bidi_types(text, length, types);
-    fribidi_get_bracket_types(text, length, types, brackets);
-    if (length > 0 && fribidi_get_par_embedding_levels_ex(types, brackets, length, &base, levels) == 0) sure(NULL);
-    for (FriBidiStrIndex k = 0; k < length; k++) {
-        visual[k] = text[k];
-        if (levels[k] % 2 == 1) fribidi_get_mirror_char(text[k], &visual[k]);
-    }
+static void print_paragraph(size_t columns) {
+    uint32_t base;
+    size_t start = 0, end = 0;
+    check(hordguli_properties(&tables, length, text, properties));
+    check(hordguli_base(&tables, HORDGULI_WEAK_LTR, text, length, &base));
+    check(hordguli_levels(&tables, HORDGULI_WEAK_LTR, text, length, capacity, levels));
     do {
-        int taken = 0;
-        for (; end < length && (taken + cells(text[end]) <= columns || end == start); end++) taken += cells(text[end]);
-        if (end > start && fribidi_reorder_line(FRIBIDI_FLAGS_DEFAULT, types, end - start, start, base, levels, visual, NULL) == 0) sure(NULL);
-        print_row(start, end, base == FRIBIDI_PAR_RTL ? columns - taken : 0);
+        size_t used = 0;
+        while (end < length && (end == start || used + properties[end].columns <= columns))
+            used += properties[end++].columns;
+        check(hordguli_row(&tables, 0, base, end - start, text + start, levels + start, capacity, visual, NULL, NULL,
+                           NULL));
+        print_row(end - start, base == 1 && used < columns ? columns - used : 0);
         start = end;
     } while (start < length);
     length = 0;
 }
 
 int main(int count, char **words) {
-    int columns = count == 2 ? atoi(words[1]) : 0;
+    size_t columns = count == 2 ? strtoul(words[1], NULL, 10) : 0;
     wint_t c;
-    if (columns < 1 || setlocale(LC_CTYPE, "C.UTF-8") == NULL) exit((fputs("rows COLUMNS < TEXT\n", stderr), 2));
+    if (columns < 1 || columns > 65535 || setlocale(LC_CTYPE, "C.UTF-8") == NULL) {
+        fprintf(stderr, "rows COLUMNS < TEXT\n");
+        return 2;
+    }
+    check(hordguli_tables_open_folder(&tables, UCDDIR, NULL));
     while ((c = getwchar()) != WEOF)
         if (c == L'\n') print_paragraph(columns);
-        else add((FriBidiChar)c);
-    if (ferror(stdin)) exit((fputs("rows: cannot read, or not UTF-8\n", stderr), 1));
+        else add((uint32_t)c);
+    if (ferror(stdin)) fail("cannot read, or not UTF-8");
     if (length > 0) print_paragraph(columns);
+    free(text);
+    free(visual);
+    free(properties);
+    free(levels);
+    hordguli_tables_close(&tables);
     return fflush(stdout) != 0;
 }
