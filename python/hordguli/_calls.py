@@ -1,0 +1,157 @@
+"""How calls of the C library are made: handles with their locks, buffers, and results."""
+
+import ctypes
+import operator
+import os
+import threading
+import weakref
+from ctypes import byref, c_size_t
+from struct import calcsize
+from typing import Any, Callable, Optional, SupportsIndex, TypeVar
+
+from ._errors import check
+from ._library import NO_ROOM, OK, SIZE_MAX, RawHandle
+from ._records import FORMATS
+
+Record = TypeVar("Record", bound=tuple[Any, ...])
+Call = Callable[..., int]  # a function of the C library, or `Handle.call`
+
+
+class Handle:
+    """A handle of the C library, which is in one call at a time. The object's finalizer closes it, on any thread."""
+
+    def __init__(self, close: Callable[[Any], None]) -> None:
+        self._close = close
+        # (a signal handler or a finalizer may use the handle while its own thread is between two calls)
+        self.lock = threading.RLock()
+        self._reset()
+        _handles.add(self)
+
+    def _reset(self) -> None:
+        self.closed, self.pointer = True, byref(RawHandle())
+
+    def open(self, function: Call, *arguments: Any) -> int:
+        """Calls a function that opens the handle, and returns the status."""
+        status = self.call(function, *arguments)
+        self.closed = status != OK
+        return status
+
+    def call(self, function: Call, *arguments: Any) -> int:
+        """Calls a function with the handle as its first argument, and returns the status."""
+        with self.lock:
+            return function(self.pointer, *arguments)
+
+    def close(self) -> None:
+        with self.lock:
+            self.closed = True
+            self._close(self.pointer)
+
+    __del__ = close
+
+    def close_if_in_use(self) -> None:
+        """Closes the handle in a forked child if another thread was using it. What the handle held is not freed."""
+        if self.lock.acquire(blocking=False):
+            self.lock.release()
+        else:
+            self.lock = threading.RLock()
+            self._reset()
+
+
+_handles: "weakref.WeakSet[Handle]" = weakref.WeakSet()
+
+
+def _after_fork() -> None:
+    for handle in list(_handles):
+        handle.close_if_in_use()
+
+
+os.register_at_fork(after_in_child=_after_fork)
+
+
+def size(number: SupportsIndex) -> int:
+    """Returns a position, count, line or column as an `int`. Raises `IndexError` if it does not fit a `size_t`."""
+    value = operator.index(number)
+    if not 0 <= value <= SIZE_MAX:
+        raise IndexError(f"{value} is out of range")
+    return value
+
+
+def uint32(number: SupportsIndex, name: str) -> int:
+    """Returns a number as an `int`. Raises `ValueError` if it does not fit a `uint32_t`."""
+    value = operator.index(number)
+    if not 0 <= value < 1 << 32:
+        raise ValueError(f"{name} {value} is out of range")
+    return value
+
+
+def address(buffer: bytearray) -> Optional[Any]:
+    """Returns a pointer to a buffer, for the C library to write to, or `None` if the buffer is empty."""
+    return byref(ctypes.c_char.from_buffer(buffer)) if buffer else None
+
+
+def numbers(buffer: bytearray, code: str) -> tuple[int, ...]:
+    """Returns the numbers in a buffer. `code` is their type, as in `struct`."""
+    return tuple(memoryview(buffer).cast(code))
+
+
+def utf32(text: str) -> bytes:
+    """Returns the characters as an array of `uint32_t`. Raises `UnicodeEncodeError` for a lone surrogate."""
+    return text.encode("utf-32-le")
+
+
+def text_of(buffer: bytes) -> str:
+    """Returns the text of an array of `uint32_t`."""
+    return buffer.decode("utf-32-le")
+
+
+# Each of the following makes a call and returns what it stores through its last parameters.
+
+
+def get_size(call: Call, *arguments: Any) -> int:
+    result = c_size_t()
+    check(call(*arguments, byref(result)))
+    return result.value
+
+
+def get_record(kind: type[Record], call: Call, *arguments: Any) -> Record:
+    layout = FORMATS[kind]
+    buffer = bytearray(layout.size)
+    check(call(*arguments, address(buffer)))
+    return kind(*layout.unpack(buffer))
+
+
+def get_array(item_size: int, call: Call, *arguments: Any, capacity: int = 16) -> bytearray:
+    """For calls whose last parameters are a capacity, a buffer and a length. Repeats a call that needs more capacity."""
+    length = c_size_t()
+    while True:
+        buffer = bytearray(capacity * item_size)
+        status = call(*arguments, capacity, address(buffer), byref(length))
+        if status != NO_ROOM:
+            check(status)
+            return buffer[: length.value * item_size]
+        capacity = length.value
+
+
+def get_records(kind: type[Record], call: Call, *arguments: Any) -> list[Record]:
+    layout = FORMATS[kind]
+    return [kind(*fields) for fields in layout.iter_unpack(get_array(layout.size, call, *arguments))]
+
+
+def get_info(kind: type[Record], length: str, codes: str, call: Call, *arguments: Any) -> tuple[Record, list[bytearray]]:
+    """For calls whose last parameters are a record, a capacity, and arrays of as many items as the record's field `length`.
+
+    `codes` has the type of each array, as in `struct`.
+    """
+    layout = FORMATS[kind]
+    buffer = bytearray(layout.size)
+    capacity = 0
+    while True:
+        arrays = [bytearray(capacity * calcsize(code)) for code in codes]
+        status = call(*arguments, address(buffer), capacity, *map(address, arrays))
+        if status != NO_ROOM:
+            check(status)
+        record = kind(*layout.unpack(buffer))
+        needed: int = getattr(record, length)
+        if needed == capacity:
+            return record, arrays
+        capacity = needed

@@ -1,0 +1,302 @@
+"""What the calls take and return: flags, enumerations and named tuples, and how the C library stores these."""
+
+import enum
+from struct import Struct
+from typing import Any, NamedTuple
+
+
+class Options(enum.IntFlag):
+    """Options of a layout: one base direction and any of the others, combined by `|`.
+
+    `WEAK_LTR`, `WEAK_RTL`: a paragraph has the direction of its first strong character, else the one named.
+    `LTR`, `RTL`: all paragraphs have this direction.
+    `NOBREAK`: lines end at mandatory breaks only.
+    `REORDER_NSM`: in right-to-left text, nonspacing marks come after their base in visual order (UAX #9, L3).
+    `WHOLE_NUMBERS`: lines do not end inside a number such as `$1,234.56`.
+    `REORDER_CLUSTERS`: in right-to-left text, the characters of a grapheme cluster stay in logical order.
+    `SHOW_SPACES`: spaces at the end of a line are shown, as far as they fit in the width.
+    """
+
+    WEAK_LTR = 0
+    WEAK_RTL = 1
+    LTR = 2
+    RTL = 3
+    NOBREAK = 4
+    REORDER_NSM = 8
+    WHOLE_NUMBERS = 16
+    REORDER_CLUSTERS = 32
+    SHOW_SPACES = 64
+
+
+class Print(enum.IntFlag):
+    """What to write for each line, in this order. Combine by `|`.
+
+    `VISUAL`: the line in visual order. `BASEDIR`: `LTR` or `RTL`, after the first line of a paragraph.
+    `LTOV`, `VTOL`: the position maps. `LEVELS`: the levels after L1.
+    `PADDED` pads lines of right-to-left paragraphs with spaces on the left, up to the width.
+    `MIRRORED` mirrors characters at odd levels (UAX #9, L4).
+    """
+
+    VISUAL = 1
+    BASEDIR = 2
+    LTOV = 4
+    VTOL = 8
+    LEVELS = 16
+    PADDED = 32
+    MIRRORED = 64
+    DEFAULT = VISUAL | PADDED | MIRRORED
+
+
+class Break(enum.IntEnum):
+    """Whether a line ends after a character."""
+
+    NEVER = 0
+    MAY = 1
+    MUST = 2
+
+
+class Side(enum.IntEnum):
+    """`BEFORE`: the leading edge of the character at a position. `AFTER`: the trailing edge of the one before it."""
+
+    BEFORE = 0
+    AFTER = 1
+
+
+class Direction(enum.IntEnum):
+    """A direction on the screen."""
+
+    LEFT = 0
+    RIGHT = 1
+
+
+class Damage(NamedTuple):
+    """What an edit replaced: `old_lines` lines from `first_line` on became `new_lines` lines; likewise for paragraphs."""
+
+    first_line: int
+    old_lines: int
+    new_lines: int
+    first_paragraph: int
+    old_paragraphs: int
+    new_paragraphs: int
+
+
+class Counts(NamedTuple):
+    """The size of a session. `width` is in columns."""
+
+    characters: int
+    lines: int
+    paragraphs: int
+    width: int
+
+
+class Work(NamedTuple):
+    """The characters that a session has analysed, filled into lines and put into visual order since it was opened."""
+
+    analysed: int
+    filled: int
+    written: int
+
+
+class Place(NamedTuple):
+    """The place of a position: its paragraph, its line, and the characters of the line before it."""
+
+    paragraph: int
+    line: int
+    offset: int
+
+
+class Caret(NamedTuple):
+    """Where to draw a caret: columns left of it, without padding. `level` is that of its character, or the base level."""
+
+    line: int
+    column: int
+    level: int
+
+
+class Hit(NamedTuple):
+    """The character at a column. `trailing`: the caret goes after it."""
+
+    pos: int
+    trailing: bool
+
+
+class Cluster(NamedTuple):
+    """The characters from `start` up to but not including `end`."""
+
+    start: int
+    end: int
+
+
+class Word(NamedTuple):
+    """The characters from `start` up to but not including `end`. `kind` is 1 if one of them is a letter or digit, else 0."""
+
+    start: int
+    end: int
+    kind: int
+
+
+class Position(NamedTuple):
+    """The character that has an offset, and how many of its own bytes or code units come before the offset."""
+
+    pos: int
+    rest: int
+
+
+class Span(NamedTuple):
+    """The columns from `left` up to but not including `right`, from the left edge of a line's shown part."""
+
+    left: int
+    right: int
+
+
+class Run(NamedTuple):
+    """The `length` characters of a line from `start` on, counted from the start of the line, all at one level."""
+
+    start: int
+    length: int
+    level: int
+
+
+class Edge(NamedTuple):
+    """One of the two edges of a position. They are apart where the direction changes or a line wraps."""
+
+    pos: int
+    side: Side = Side.BEFORE
+
+
+class Line(NamedTuple):
+    """A line. The tuples have one item per shown character; positions count from the start of the line.
+
+    `text`: the shown part in visual order, mirrored. `start`: position of the line's first character in the text.
+    `length`: characters, including those that are not shown. `shown`: shown characters. `width`: their columns.
+    `padding`: spaces left of the shown part if it is padded. `base_level`: 0 or 1. `is_first`: the first of its paragraph.
+    `levels`: after L1, in logical order. `logical_to_visual`, `visual_to_logical`: the position maps.
+    `columns`: the columns at each visual position. `runs`: the directional runs, from left to right.
+    """
+
+    text: str
+    start: int
+    length: int
+    shown: int
+    width: int
+    padding: int
+    base_level: int
+    is_first: bool
+    levels: tuple[int, ...]
+    logical_to_visual: tuple[int, ...]
+    visual_to_logical: tuple[int, ...]
+    columns: tuple[int, ...]
+    runs: tuple[Run, ...]
+
+
+class Paragraph(NamedTuple):
+    """A paragraph, with its separator.
+
+    `start`: position of its first character. `length`: characters. `first_line`, `lines`: its lines. `base_level`: 0 or 1.
+    `levels`: the level of each character before L1. `breaks`: the break mark after each character (see `Break`).
+    """
+
+    start: int
+    length: int
+    first_line: int
+    lines: int
+    base_level: int
+    levels: tuple[int, ...]
+    breaks: tuple[int, ...]
+
+
+class Row(NamedTuple):
+    """A row in visual order, with the fields that have the same names in `Line`."""
+
+    text: str
+    levels: tuple[int, ...]
+    logical_to_visual: tuple[int, ...]
+    visual_to_logical: tuple[int, ...]
+
+
+class Character(NamedTuple):
+    """The properties of a character.
+
+    `mirror`: its mirror, or `""`. `pair`: the other bracket of its pair, or `""`. `bracket`: `"open"`, `"close"` or `""`.
+    `is_mark`: general category Mn or Mc. `is_wide`: East Asian width F, W or H. `columns`: its width, 0 to 3.
+    `bidi_class`, `line_class`: by their short names.
+    """
+
+    mirror: str
+    pair: str
+    is_mark: bool
+    is_wide: bool
+    bidi_class: str
+    line_class: str
+    columns: int
+    bracket: str
+
+
+BIDI_CLASSES = "L R AL EN ES ET AN CS NSM BN B S WS ON LRE LRO RLE RLO PDF LRI RLI FSI PDI".split()
+LINE_CLASSES = (
+    "BK CM CR GL LF NL SP WJ ZW ZWJ B2 BA BB CB HY CL CP EX IN NS OP QU IS NU PO PR SY AI AL CJ EB EM H2 H3 HL ID JL JT JV"
+    " RI SA SG XX"
+).split()
+BRACKETS = ["", "open", "close"]
+
+
+class TableFault(NamedTuple):
+    """`hordguli_table_fault`."""
+
+    file: int
+    line: int
+    cause: int
+
+
+class LineInfo(NamedTuple):
+    """`hordguli_line_info`."""
+
+    start: int
+    length: int
+    shown: int
+    columns: int
+    padding: int
+    base: int
+    first: int
+
+
+class ParagraphInfo(NamedTuple):
+    """`hordguli_paragraph_info`."""
+
+    length: int
+    lines: int
+    base: int
+    start: int
+    first_line: int
+
+
+class RawCharacter(NamedTuple):
+    """`hordguli_character`."""
+
+    mirror: int
+    pair: int
+    flags: int
+    bidi_class: int
+    line_class: int
+    columns: int
+    bracket: int
+
+
+# How C stores each record: N is a size_t, I a uint32_t, Q a uint64_t, B a uint8_t, and 4x the member `zero`.
+FORMATS: dict[Any, Struct] = {
+    TableFault: Struct("3N"),
+    Damage: Struct("6N"),
+    Counts: Struct("4N"),
+    Work: Struct("3Q"),
+    Place: Struct("3N"),
+    Caret: Struct("2NI4x"),
+    Hit: Struct("NI4x"),
+    Cluster: Struct("2N"),
+    Word: Struct("2NI4x"),
+    Position: Struct("2N"),
+    Span: Struct("2N"),
+    Run: Struct("2NI4x"),
+    LineInfo: Struct("5N2I"),
+    ParagraphInfo: Struct("2NI4x2N"),
+    RawCharacter: Struct("3I4B"),
+}

@@ -1,0 +1,354 @@
+"""Editing sessions."""
+
+import operator
+from collections.abc import Iterator
+from ctypes import byref, c_uint32
+from struct import calcsize
+from types import TracebackType
+from typing import Optional, SupportsIndex
+
+from ._calls import Handle, get_array, get_info, get_record, get_records, get_size, numbers, size, text_of, uint32
+from ._errors import check
+from ._library import RawEdge, library
+from ._records import (
+    Caret,
+    Cluster,
+    Counts,
+    Damage,
+    Direction,
+    Edge,
+    Hit,
+    Line,
+    LineInfo,
+    Options,
+    Paragraph,
+    ParagraphInfo,
+    Place,
+    Position,
+    Print,
+    Run,
+    Side,
+    Span,
+    Word,
+    Work,
+)
+from .tables import Tables, default_tables
+
+
+class Session:
+    """A text and its layout in lines, which is kept up to date when the text is edited or the width changes.
+
+    `text[0]` is the first line, and `len(text)` the number of lines. Positions, lines, paragraphs and columns are counted from
+    0. Positions are indexes into the text as a `str`. A column is a terminal cell.
+
+    `width` is in columns, from 1 to 65,535. `options` are `Options`. Without `tables`, `default_tables()` are used.
+
+    Methods raise `IndexError` if a position, line or paragraph is past the end, `ValueError` if the text would be too long or
+    has a lone surrogate, `MemoryError`, and `ClosedError` after `close`. After an exception, the session is unchanged.
+
+    Several threads may use a session; it is in one call at a time.
+
+    >>> with hordguli.Session("one two three", width=7) as text:
+    ...     text.insert(4, "and ")
+    ...     text.lines()
+    Damage(first_line=0, old_lines=2, new_lines=3, first_paragraph=0, old_paragraphs=1, new_paragraphs=1)
+    ['one and', 'two', 'three']
+    """
+
+    def __init__(
+        self,
+        text: str = "",
+        width: SupportsIndex = 80,
+        options: SupportsIndex = Options.WEAK_LTR,
+        *,
+        tables: Optional[Tables] = None,
+    ) -> None:
+        self._handle = Handle(library.hordguli_session_close)
+        self._call = self._handle.call
+        data = text.encode()
+        arguments = uint32(options, "options"), uint32(width, "width"), data, len(data)
+        shared = (tables or default_tables())._handle
+        with shared.lock:
+            check(self._handle.open(library.hordguli_session_open, shared.pointer, *arguments))
+
+    def close(self) -> None:
+        """Frees the session. Safe to call again. Other calls then raise `ClosedError`."""
+        self._handle.close()
+
+    @property
+    def closed(self) -> bool:
+        """Whether the session is closed."""
+        return self._handle.closed
+
+    def __enter__(self) -> "Session":
+        return self
+
+    def __exit__(
+        self, kind: Optional[type[BaseException]], error: Optional[BaseException], traceback: Optional[TracebackType]
+    ) -> None:
+        self.close()
+
+    # ---- Edits ----
+
+    def insert(self, pos: SupportsIndex, text: str) -> Damage:
+        """Inserts text before the character at `pos`, or at the end of the text. Returns which lines were replaced."""
+        data = text.encode()
+        return get_record(Damage, self._call, library.hordguli_insert, size(pos), data, len(data))
+
+    def delete(self, pos: SupportsIndex, count: SupportsIndex) -> Damage:
+        """Deletes `count` characters from `pos` on. Returns which lines were replaced."""
+        return get_record(Damage, self._call, library.hordguli_delete, size(pos), size(count))
+
+    def replace(self, pos: SupportsIndex, count: SupportsIndex, text: str) -> Damage:
+        """Replaces the `count` characters from `pos` on by text, in one edit. Returns which lines were replaced.
+
+        >>> with hordguli.Session("ab\\ncd") as text:
+        ...     text.replace(1, 2, "--").new_lines, text.text()
+        (1, 'a--cd')
+        """
+        data = text.encode()
+        return get_record(Damage, self._call, library.hordguli_replace, size(pos), size(count), data, len(data))
+
+    def set_width(self, width: SupportsIndex) -> Damage:
+        """Sets the width, in columns, and rewraps all paragraphs. Raises `ValueError` if it is not from 1 to 65,535."""
+        return get_record(Damage, self._call, library.hordguli_set_width, uint32(width, "width"))
+
+    @property
+    def width(self) -> int:
+        """The width, in columns. Assigning to it calls `set_width`."""
+        return self.counts.width
+
+    @width.setter
+    def width(self, width: SupportsIndex) -> None:
+        self.set_width(width)
+
+    # ---- Sizes ----
+
+    @property
+    def counts(self) -> Counts:
+        """The number of characters, lines and paragraphs, and the width."""
+        return get_record(Counts, self._call, library.hordguli_session_counts)
+
+    @property
+    def work(self) -> Work:
+        """Work counters, for checking that edits stay incremental."""
+        return get_record(Work, self._call, library.hordguli_session_work)
+
+    def __len__(self) -> int:
+        return self.counts.lines
+
+    def __bool__(self) -> bool:
+        return True
+
+    # ---- Text and lines ----
+
+    def text(self, pos: SupportsIndex = 0, count: Optional[SupportsIndex] = None) -> str:
+        """Returns `count` characters from `pos` on, or all that follow, in logical order."""
+        with self._handle.lock:
+            first, number = self._range(pos, count, self.counts.characters)
+            return text_of(get_array(4, self._call, library.hordguli_text_utf32, first, number, capacity=number))
+
+    def utf8(self, pos: SupportsIndex = 0, count: Optional[SupportsIndex] = None) -> bytes:
+        """Returns the same characters as `text`, in UTF-8."""
+        with self._handle.lock:
+            first, number = self._range(pos, count, self.counts.characters)
+            return bytes(get_array(1, self._call, library.hordguli_text, first, number, capacity=4 * number))
+
+    def utf8_length(self, pos: SupportsIndex = 0, count: Optional[SupportsIndex] = None) -> int:
+        """Returns how many bytes of UTF-8 the same characters need."""
+        with self._handle.lock:
+            return get_size(self._call, library.hordguli_utf8_length, *self._range(pos, count, self.counts.characters))
+
+    def lines(
+        self, first: SupportsIndex = 0, count: Optional[SupportsIndex] = None, show: SupportsIndex = Print.DEFAULT
+    ) -> list[str]:
+        """Returns `count` lines from line `first` on, or all that follow, as strings.
+
+        `show` selects, as `Print` flags, the items of a line. Each item is a string of its own in the result. Numbers are decimal,
+        with a space between them. By default, there is one item: the line in visual order, padded and mirrored.
+
+        >>> with hordguli.Session("a \\u05d0\\u05d1") as text:
+        ...     text.lines(show=hordguli.Print.LEVELS | hordguli.Print.VTOL)
+        ['0 1 3 2', '0 0 1 1']
+        """
+        with self._handle.lock:
+            start, number = self._range(first, count, len(self))
+            flags = uint32(show, "show")
+            shown = get_array(1, self._call, library.hordguli_lines_utf8, start, number, flags, capacity=4096)
+        return shown.decode().split("\n")[:-1]
+
+    @staticmethod
+    def _range(first: SupportsIndex, count: Optional[SupportsIndex], length: int) -> tuple[int, int]:
+        """Returns the start and the number of items of a range, which by default ends at the end."""
+        start = size(first)
+        number = length - start if count is None else size(count)
+        if not 0 <= number <= length - start:
+            raise IndexError(f"{number} from {start} on is out of range")
+        return start, number
+
+    def __getitem__(self, line: SupportsIndex) -> Line:
+        """Returns a line. As in a list, -1 is the last line."""
+        with self._handle.lock:
+            number = operator.index(line)
+            number = size(number + len(self) if number < 0 else number)
+            info, arrays = get_info(LineInfo, "shown", "IBIIN", self._call, library.hordguli_line, number)
+            runs = self.runs(number)
+        characters, levels, ltov, vtol, columns = arrays
+        return Line(
+            text_of(characters),
+            info.start,
+            info.length,
+            info.shown,
+            info.columns,
+            info.padding,
+            info.base,
+            bool(info.first),
+            tuple(levels),
+            numbers(ltov, "I"),
+            numbers(vtol, "I"),
+            numbers(columns, "N"),
+            tuple(runs),
+        )
+
+    def __iter__(self) -> Iterator[Line]:
+        """Yields each line."""
+        number = 0
+        while number < len(self):
+            yield self[number]
+            number += 1
+
+    def paragraph(self, index: SupportsIndex) -> Paragraph:
+        """Returns a paragraph.
+
+        >>> with hordguli.Session("a b\\nc") as text:
+        ...     text.paragraph(0).breaks, text.paragraph(1).start
+        ((0, 1, 0, 2), 4)
+        """
+        info, (levels, breaks) = get_info(
+            ParagraphInfo, "length", "BB", self._call, library.hordguli_paragraph, size(index)
+        )
+        return Paragraph(
+            info.start, info.length, info.first_line, info.lines, info.base, tuple(levels), tuple(breaks)
+        )
+
+    # ---- Carets and hit testing ----
+
+    def line_start(self, line: SupportsIndex) -> int:
+        """Returns the position of a line's first character."""
+        return get_size(self._call, library.hordguli_line_start, size(line))
+
+    def place(self, pos: SupportsIndex) -> Place:
+        """Returns the paragraph and the line of a position.
+
+        At the end of a text that is empty or ends with a separator, these are the numbers of paragraphs and lines.
+        """
+        return get_record(Place, self._call, library.hordguli_place_of, size(pos))
+
+    def caret(self, pos: SupportsIndex) -> Caret:
+        """Returns where to draw the caret for a position: at the leading edge of its character, if that is shown.
+
+        Before a character that is not shown, and at the end of the text, the caret is at the end of the line.
+        """
+        return get_record(Caret, self._call, library.hordguli_caret_at, size(pos))
+
+    def hit(self, line: SupportsIndex, column: SupportsIndex) -> Hit:
+        """Returns the character at a column of a line. Column 0 is the left edge of the shown part, right of padding.
+
+        Right of the shown part, it is the rightmost character of nonzero width.
+
+        >>> with hordguli.Session("abc") as text:
+        ...     text.hit(0, 1), text.hit(0, 9)
+        (Hit(pos=1, trailing=False), Hit(pos=2, trailing=True))
+        """
+        pos, trailing = get_record(Hit, self._call, library.hordguli_hit_at, size(line), size(column))
+        return Hit(pos, bool(trailing))
+
+    def cluster(self, pos: SupportsIndex) -> Cluster:
+        """Returns the grapheme cluster of the character at `pos`."""
+        return get_record(Cluster, self._call, library.hordguli_cluster_at, size(pos))
+
+    def word(self, pos: SupportsIndex) -> Word:
+        """Returns the word of the character at `pos`: the segment between two word boundaries (UAX #29)."""
+        return get_record(Word, self._call, library.hordguli_word_at, size(pos))
+
+    def spans(self, line: SupportsIndex, start: SupportsIndex, end: SupportsIndex) -> list[Span]:
+        """Returns the columns that the characters from `start` up to but not including `end` cover in a line.
+
+        >>> with hordguli.Session("ab \\u05d0\\u05d1") as text:
+        ...     text.spans(0, 1, 4)
+        [Span(left=1, right=3), Span(left=4, right=5)]
+        """
+        return get_records(Span, self._call, library.hordguli_spans, size(line), size(start), size(end))
+
+    def runs(self, line: SupportsIndex) -> list[Run]:
+        """Returns the directional runs of a line's shown part, from left to right, for shaping text."""
+        return get_records(Run, self._call, library.hordguli_runs, size(line))
+
+    # ---- Edges ----
+
+    def edge_caret(self, edge: Edge) -> Caret:
+        """Returns where to draw the caret at an edge."""
+        return get_record(Caret, self._call, library.hordguli_edge_caret, _raw(edge))
+
+    def step(self, edge: Edge, direction: Direction) -> Optional[Edge]:
+        """Returns the nearest edge to the left or right on the line, one caret unit away, or `None` at the end of the line.
+
+        >>> with hordguli.Session("abc") as text:
+        ...     text.step(hordguli.Edge(1), hordguli.Direction.RIGHT)
+        Edge(pos=2, side=<Side.AFTER: 1>)
+        """
+        moved, found = c_uint32(), RawEdge()
+        arguments = _raw(edge), uint32(direction, "direction"), byref(found), byref(moved)
+        check(self._call(library.hordguli_step, *arguments))
+        return _edge(found) if moved.value else None
+
+    def edge_at(self, line: SupportsIndex, column: SupportsIndex) -> Edge:
+        """Returns the edge at a column of a line, for mouse clicks and for moves to another line.
+
+        Columns 0 and `sys.maxsize` are the two ends of the line on the screen.
+        """
+        found = RawEdge()
+        check(self._call(library.hordguli_edge_at, size(line), size(column), byref(found)))
+        return _edge(found)
+
+    def line_edges(self, line: SupportsIndex) -> tuple[Edge, Edge]:
+        """Returns the first and the last edge of a line in logical order, for the keys Home and End."""
+        first, last = RawEdge(), RawEdge()
+        check(self._call(library.hordguli_line_edges, size(line), byref(first), byref(last)))
+        return _edge(first), _edge(last)
+
+    def line_clusters(self, line: SupportsIndex) -> list[int]:
+        """Returns where the grapheme clusters of a line end, counted from the start of the line."""
+        ends = get_array(calcsize("N"), self._call, library.hordguli_line_clusters, size(line))
+        return list(numbers(ends, "N"))
+
+    # ---- Offsets ----
+
+    def byte_offset(self, pos: SupportsIndex) -> int:
+        """Returns how many bytes of UTF-8 the text before `pos` needs."""
+        return get_size(self._call, library.hordguli_byte_of, size(pos))
+
+    def utf16_offset(self, pos: SupportsIndex) -> int:
+        """Returns how many UTF-16 code units the text before `pos` needs, as the Language Server Protocol counts.
+
+        >>> with hordguli.Session("a\U0001d11eb") as text:
+        ...     text.utf16_offset(2), text.position_of_utf16(2)
+        (3, Position(pos=1, rest=1))
+        """
+        return get_size(self._call, library.hordguli_utf16_of, size(pos))
+
+    def position_of_byte(self, byte: SupportsIndex) -> Position:
+        """Returns the character that has a byte of the text in UTF-8, and how many of its own bytes come before."""
+        return get_record(Position, self._call, library.hordguli_position_of_byte, size(byte))
+
+    def position_of_utf16(self, unit: SupportsIndex) -> Position:
+        """Returns the character that has a UTF-16 code unit of the text, and how many of its own units come before."""
+        return get_record(Position, self._call, library.hordguli_position_of_utf16, size(unit))
+
+
+def _raw(edge: Edge) -> RawEdge:
+    return RawEdge(size(edge.pos), uint32(edge.side, "side"))
+
+
+def _edge(found: RawEdge) -> Edge:
+    return Edge(found.pos, Side(found.side))

@@ -1,0 +1,274 @@
+"""Functions on a text, without a session."""
+
+import re
+from codecs import utf_32_le_decode, utf_32_le_encode
+from collections.abc import Iterable
+from ctypes import byref, c_size_t, c_uint32
+from typing import Optional, SupportsIndex, Union, overload
+
+from ._calls import Call, address, get_array, get_records, get_size, numbers, text_of, uint32, utf32
+from ._errors import check
+from ._library import library, quick_base, quick_levels, quick_row
+from ._records import BIDI_CLASSES, BRACKETS, FORMATS, LINE_CLASSES, Character, Options, Print, RawCharacter, Row, Run
+from .tables import Buffers, Tables, default_tables
+
+_BASE_DIRECTIONS = {None: 0, "L": 2, "R": 3, "AL": 3}  # (plain numbers, for speed)
+_FIXED = (2, 3)  # the direction LTR or RTL for each base level
+_SEPARATORS = re.compile("(\r\n|[\n\r\x1c-\x1e\x85\u2029])")  # (UAX #9, P1)
+_MARK, _WIDE = 1, 2  # flags of a character
+_HIGHEST_LEVEL = 126
+
+# In private functions, characters are in UTF-32, 4 bytes each.
+
+
+@overload
+def display(
+    text: str, encoding: str = "utf-8", *, base_dir: Optional[str] = None, tables: Optional[Tables] = None
+) -> str: ...
+
+
+@overload
+def display(
+    text: bytes, encoding: str = "utf-8", *, base_dir: Optional[str] = None, tables: Optional[Tables] = None
+) -> bytes: ...
+
+
+def display(
+    text: Union[str, bytes],
+    encoding: str = "utf-8",
+    *,
+    base_dir: Optional[str] = None,
+    tables: Optional[Tables] = None,
+) -> Union[str, bytes]:
+    """Returns a text in visual order, for a program that draws each character to the right of the one before it.
+
+    Takes the place of `bidi.algorithm.get_display` of python-bidi. Each paragraph is one row, and its separator stays at its
+    end. No character is added or removed. `bytes` are decoded, and the result is encoded.
+
+    `base_dir` is `"L"` or `"R"`. By default, each paragraph has the direction of its first strong character, else `"L"`.
+
+    Raises `ValueError` for another `base_dir`, for a lone surrogate, and for `bytes` that cannot be decoded.
+
+    What differs from python-bidi 0.4.2 (Debian 12):
+
+    - It has the parameters `upper_is_rtl` and `debug`, and its exception for a wrong `base_dir` is no `ValueError`.
+    - Its classes and mirrors are those of Python's `unicodedata` and of an older table.
+    - It raises `AssertionError` for isolates and for unassigned characters, and removes embeddings, overrides and BN.
+    - It does not apply N0 (brackets). All paragraphs have one direction, and rules W1 to N2 go on from one to the next.
+
+    What differs from pyfribidi 0.12.0 (Debian 12):
+
+    - Its base direction is RTL by default, and it puts marks after their base by default.
+    - Its classes and mirrors are those of Unicode 10.0, and it joins Arabic letters.
+    - The whole text is one row, in which separators are ordered like other characters. Isolates are ordered as FriBidi does.
+
+    >>> hordguli.display("\\u05d0\\u05d1 (abc)") == "(abc) \\u05d1\\u05d0"
+    True
+    """
+    if not isinstance(text, str):
+        return display(text.decode(encoding), base_dir=base_dir, tables=tables).encode(encoding)
+    if base_dir not in _BASE_DIRECTIONS:
+        raise ValueError(f"base_dir is {base_dir!r} and not 'L', 'R' or None")
+    direction, tables = _BASE_DIRECTIONS[base_dir], tables or default_tables()
+    if text.isprintable():  # (separators are not)
+        return _visual(tables, direction, text)
+    # (of the pieces, every second one is a separator)
+    pieces = _SEPARATORS.split(text)
+    return "".join(piece if at % 2 else _visual(tables, direction, piece) for at, piece in enumerate(pieces))
+
+
+def _visual(tables: Tables, direction: int, text: str) -> str:
+    """Returns a paragraph in visual order. Written for speed: a short text costs little more than the calls."""
+    length, characters = len(text), utf_32_le_encode(text)[0]
+    count = c_size_t(length)
+    handle, buffers = tables._handle, tables._buffers
+    if length > buffers.capacity:
+        buffers = Buffers(length)
+    with handle.lock:
+        pointer, levels = handle.pointer, buffers.levels
+        status = quick_base(pointer, direction, characters, count, buffers.base_pointer)
+        base: int = buffers.base.value
+        status = (
+            status
+            or quick_levels(pointer, _FIXED[base], characters, count, count, levels)
+            or quick_row(pointer, 0, base, count, characters, levels, count, buffers.visual, None, None, None)
+        )
+        if status:
+            check(status)
+        return utf_32_le_decode(buffers.view[: 4 * length])[0]
+
+
+def wrap(
+    text: str,
+    width: SupportsIndex = 70,
+    options: SupportsIndex = Options.WEAK_LTR,
+    show: SupportsIndex = Print.DEFAULT,
+    *,
+    tables: Optional[Tables] = None,
+) -> list[str]:
+    """Breaks a text into lines of at most `width` columns, and returns them in visual order.
+
+    `options` are those of a `Session`. `show` selects what is returned for each line, as in `Session.lines`.
+
+    Raises `ValueError` if the width is not from 1 to 65,535, or the text is too long or has a lone surrogate.
+
+    >>> hordguli.wrap("The quick brown fox", width=10)
+    ['The quick', 'brown fox']
+    """
+    data = text.encode()
+    arguments = uint32(options, "options"), uint32(width, "width"), uint32(show, "show"), data, len(data)
+    call = (tables or default_tables())._handle.call
+    return get_array(1, call, library.hordguli_layout, *arguments, capacity=4096).decode().split("\n")[:-1]
+
+
+def base_level(
+    text: str, direction: SupportsIndex = Options.WEAK_LTR, *, tables: Optional[Tables] = None
+) -> int:
+    """Returns the base level of a paragraph: 0 (left-to-right) or 1 (right-to-left).
+
+    >>> hordguli.base_level("1. \\u05d0"), hordguli.base_level("1."), hordguli.base_level("1.", hordguli.Options.WEAK_RTL)
+    (1, 0, 1)
+    """
+    return _base(tables or default_tables(), direction, utf32(text))
+
+
+def levels(
+    text: str, direction: SupportsIndex = Options.WEAK_LTR, *, tables: Optional[Tables] = None
+) -> list[int]:
+    """Returns the level of each character of a paragraph, before L1 (UAX #9). The text is not split at separators.
+
+    >>> hordguli.levels("ab \\u05d0\\u05d1 12")
+    [0, 0, 0, 1, 1, 1, 2, 2]
+    """
+    return list(_per_character(library.hordguli_levels, tables or default_tables(), direction, utf32(text)))
+
+
+def breaks(text: str, options: SupportsIndex = 0, *, tables: Optional[Tables] = None) -> list[int]:
+    """Returns the break mark after each character of a paragraph (UAX #14), a number of `Break`. The text is not split.
+
+    `options` is 0 or `Options.WHOLE_NUMBERS`.
+
+    >>> hordguli.breaks("a b\\n")
+    [0, 1, 0, 2]
+    """
+    return list(_per_character(library.hordguli_marks, tables or default_tables(), options, utf32(text)))
+
+
+def row(
+    text: str,
+    levels: Iterable[int],
+    base_level: int = 0,
+    options: SupportsIndex = 0,
+    *,
+    tables: Optional[Tables] = None,
+) -> Row:
+    """Puts a row, whose start and end the caller has chosen, into visual order.
+
+    `base_level` is that of its paragraph, and `levels` are the levels of the row's characters in the whole paragraph.
+    `options` is 0 or any of `Options.REORDER_NSM` and `Options.REORDER_CLUSTERS`. White space at the end of the row gets the base level (L1).
+
+    Raises `ValueError` if there is not one level per character, or a level is out of range.
+
+    >>> hordguli.row("ab\\u05d0\\u05d1", [0, 0, 1, 1]).visual_to_logical
+    (0, 1, 3, 2)
+    """
+    characters, level_bytes = _checked(text, levels, base_level)
+    visual, row_levels, ltov, vtol = (bytearray(size * len(text)) for size in (4, 1, 4, 4))
+    _put_row(tables or default_tables(), options, base_level, characters, level_bytes, visual, row_levels, ltov, vtol)
+    return Row(text_of(visual), tuple(row_levels), numbers(ltov, "I"), numbers(vtol, "I"))
+
+
+def row_runs(
+    text: str, levels: Iterable[int], base_level: int = 0, *, tables: Optional[Tables] = None
+) -> list[Run]:
+    """Returns the directional runs of a row, from left to right. The parameters and errors are those of `row`.
+
+    >>> hordguli.row_runs("ab\\u05d0\\u05d1", [0, 0, 1, 1])
+    [Run(start=0, length=2, level=0), Run(start=2, length=2, level=1)]
+    """
+    characters, level_bytes = _checked(text, levels, base_level)
+    call = (tables or default_tables())._handle.call
+    return get_records(Run, call, library.hordguli_row_runs, base_level, len(text), characters, level_bytes)
+
+
+def properties(text: str, *, tables: Optional[Tables] = None) -> list[Character]:
+    """Returns the properties of each character.
+
+    >>> hordguli.properties("(")[0].mirror, hordguli.properties("(")[0].bidi_class
+    (')', 'ON')
+    """
+    return [
+        Character(
+            chr(mirror) if mirror else "",
+            chr(pair) if pair else "",
+            bool(flags & _MARK),
+            bool(flags & _WIDE),
+            BIDI_CLASSES[bidi_class],
+            LINE_CLASSES[line_class],
+            columns,
+            BRACKETS[bracket],
+        )
+        for mirror, pair, flags, bidi_class, line_class, columns, bracket in FORMATS[RawCharacter].iter_unpack(
+            _properties(tables or default_tables(), utf32(text))
+        )
+    ]
+
+
+def count_utf8(data: bytes) -> int:
+    """Returns the number of characters in UTF-8 text. Raises `ValueError` if it is not valid.
+
+    >>> hordguli.count_utf8("\\u05d0b".encode())
+    2
+    """
+    return get_size(library.hordguli_count_utf8, data, len(data))
+
+
+def valid_utf8(data: bytes) -> int:
+    """Returns the length of the longest prefix that is valid UTF-8, in bytes.
+
+    >>> hordguli.valid_utf8(b"ab\\xff")
+    2
+    """
+    return get_size(library.hordguli_valid_utf8, data, len(data))
+
+
+def _base(tables: Tables, direction: SupportsIndex, characters: bytes) -> int:
+    result = c_uint32()
+    arguments = uint32(direction, "direction"), characters, len(characters) // 4, byref(result)
+    check(tables._handle.call(library.hordguli_base, *arguments))
+    return result.value
+
+
+def _per_character(function: Call, tables: Tables, options: SupportsIndex, characters: bytes) -> bytearray:
+    """Returns the levels or the break marks."""
+    count = len(characters) // 4
+    result = bytearray(count)
+    check(tables._handle.call(function, uint32(options, "options"), characters, count, count, address(result)))
+    return result
+
+
+def _put_row(
+    tables: Tables, options: SupportsIndex, base: int, characters: bytes, levels: bytes, *arrays: bytearray
+) -> None:
+    """Stores a row in the arrays, of which the last ones may be left out."""
+    count = len(characters) // 4
+    pointers = [*map(address, arrays), None, None, None][:4]
+    arguments = uint32(options, "options"), base, count, characters, levels, count, *pointers
+    check(tables._handle.call(library.hordguli_row, *arguments))
+
+
+def _checked(text: str, levels: Iterable[int], base_level: int) -> tuple[bytes, bytes]:
+    """Returns the characters and the levels of a row as the C library takes them."""
+    level_bytes = bytes(levels)
+    if len(level_bytes) != len(text):
+        raise ValueError(f"{len(level_bytes)} levels are given for {len(text)} characters")
+    if base_level not in (0, 1) or any(level > _HIGHEST_LEVEL for level in level_bytes):
+        raise ValueError("a level is out of range")
+    return utf32(text), level_bytes
+
+
+def _properties(tables: Tables, characters: bytes) -> bytearray:
+    count = len(characters) // 4
+    result = bytearray(count * FORMATS[RawCharacter].size)
+    check(tables._handle.call(library.hordguli_properties, count, characters, address(result)))
+    return result

@@ -1,0 +1,30 @@
+"""What several tests use."""
+
+import os
+import pathlib
+
+import hordguli
+import pytest
+from hypothesis import settings
+
+# The same examples in each run.
+settings.register_profile("fixed", derandomize=True, database=None, deadline=None)
+settings.load_profile("fixed")
+
+
+@pytest.fixture
+def folder():
+    """The folder of the table files."""
+    return pathlib.Path(os.path.dirname(hordguli.__file__), "ucd")
+
+
+@pytest.fixture
+def files(folder):
+    """The contents of the table files."""
+    return [(folder / name).read_bytes() for name in hordguli.TABLE_FILES]
+
+
+def state_of(text):
+    """Returns all that a session holds, except its work counters."""
+    paragraphs = tuple(text.paragraph(index) for index in range(text.counts.paragraphs))
+    return text.counts, text.text(), tuple(text), paragraphs

@@ -1,0 +1,30 @@
+/* Makes a chosen allocation of libhordguli.so.1 fail, in a program that preloads this library (LD_PRELOAD). */
+#define _GNU_SOURCE
+#include <dlfcn.h>
+#include <stdlib.h>
+#include <string.h>
+
+static long left;
+
+/* The next allocation but `number` - 1 fails, once. With 0, none does. */
+void refuse(long number);
+void refuse(long number) { left = number; }
+
+/* Whether the allocation with this return address is the one that fails. */
+static int fails(const void *caller) {
+    Dl_info info;
+    if (left == 0 || dladdr(caller, &info) == 0 || info.dli_fname == NULL || strstr(info.dli_fname, "libhordguli.so") == NULL) return 0;
+    return --left == 0;
+}
+
+void *malloc(size_t size) {
+    static void *(*real)(size_t);
+    if (real == NULL) real = (void *(*)(size_t))dlsym(RTLD_NEXT, "malloc");
+    return fails(__builtin_return_address(0)) ? NULL : real(size);
+}
+
+void *realloc(void *block, size_t size) {
+    static void *(*real)(void *, size_t);
+    if (real == NULL) real = (void *(*)(void *, size_t))dlsym(RTLD_NEXT, "realloc");
+    return fails(__builtin_return_address(0)) ? NULL : real(block, size);
+}
