@@ -6,6 +6,7 @@
 #   make program    Proves and builds the command, bin/fribidi.
 #   make c          Proves and builds the C library, bin/libhordguli.a and bin/libhordguli.so.1 (CC, CXX, CFLAGS, LDFLAGS).
 #   make fribidi    Proves and builds FriBidi's interface, bin/libhordguli_fribidi.so, for LD_PRELOAD.
+#   make python     Builds the Python wheel, hordguli-VERSION-py3-none-manylinux2014_x86_64.whl, from what make c has built (DIST=dist).
 #   make ucd        Copies the seven Unicode table files into ucd/: from Debian's package unicode-data, which it installs,
 #                   or from another folder by UNICODE=FOLDER. crates/ucd/src/version.rt names the Unicode version.
 #   make install    Installs what make, make c, make fribidi and make ucd have built (PREFIX=/usr/local, LIBDIR, DESTDIR,
@@ -22,10 +23,12 @@
 #   make fribidi-compare  Compares FriBidi's interface with FriBidi on a million random lists.
 #   make callers    Runs pyfribidi, Pango, a VTE terminal and libass with FriBidi's interface (installs Debian packages).
 #   make deb        Builds the Debian packages of packaging/debian from what make install needs, and runs lintian (DIST=dist).
-#   make dist       Builds hordguli-VERSION-linux-x86_64.tar.gz from the same files (DIST=dist).
+#   make dist       Builds hordguli-VERSION-linux-x86_64.tar.gz and the Python wheel from the same files (DIST=dist).
 #   make test-packages  Tests the packages in new Debian 12 and 13 systems (debootstrap, as root): four minutes.
 #   make test-reproducible  Compiles and builds all packages in two folders, and compares them byte by byte.
 #   make test-threads  Runs the C library's test of threads under ThreadSanitizer and helgrind, after make c: a minute.
+#   make test-draw  Tests examples/draw.c with HarfBuzz, cairo and Noto fonts (installs Debian packages): 20 seconds.
+#   make test-python  Tests the Python package, compares it with python-bidi and pyfribidi, and runs its mutants, after make c.
 #   make test-hosts Runs examples/many on three hosts on the loopback address, and kills one during a run.
 #   make release    Checks the version, runs CI, builds and tests all packages, and writes them to dist/.
 #   make bench      Runs all benchmarks of bench/, which compare with Debian's fribidi, with ICU and with Rust crates.
@@ -36,7 +39,7 @@ TABLES = DerivedBidiClass BidiBrackets BidiMirroring LineBreak DerivedGeneralCat
 OPTIONS = --width 44 --basedir
 
 .PHONY: all program quick ucd demo check tmux parallel test attack bench-program conformance-program conformance bench c fribidi fribidi-compare \
-	callers install uninstall deb dist test-packages test-reproducible test-threads test-hosts release
+	callers install uninstall python deb dist test-packages test-reproducible test-threads test-draw test-python test-hosts release
 
 DIST = dist
 
@@ -60,7 +63,7 @@ lib-text_run: lib-stream
 lib-program_input: lib-command_line lib-text_run
 lib-tool: lib-session lib-command_line lib-script_commands lib-text_run
 lib-oom_calls lib-hordguli_c: lib-session
-lib-hordguli_c: lib-stream
+lib-hordguli_c: lib-text_run
 lib-oom_calls: lib-test_tables
 lib-hordguli_fribidi: lib-bidi lib-reorder
 run-dump_properties: lib-ucd lib-tables
@@ -140,7 +143,10 @@ install uninstall: export ZSHDIR := $(ZSHDIR)
 install uninstall:
 	@tools/install $@
 
-deb dist: export DIST := $(DIST)
+python: ucd
+	@tools/build_wheel "$$DIST"
+
+python deb dist: export DIST := $(DIST)
 deb dist:
 	@tools/build_packages $@ "$$DIST"
 
@@ -154,6 +160,12 @@ test-reproducible:
 
 test-threads: c ucd
 	tests/c/thread_checks
+
+test-draw: program c ucd
+	@tests/examples/draw
+
+test-python: ucd
+	tests/python/run --all
 
 test-hosts: parallel ucd
 	@tests/examples/many_hosts
@@ -178,6 +190,8 @@ bench: bench-program c fribidi ucd parallel
 	bench/stream
 	bench/script
 	bench/c
+	bench/strings
+	bench/python
 	bench/many
 	bench/callers
 	bench/hostile
