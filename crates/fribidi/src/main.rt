@@ -14,9 +14,10 @@ use std::io;
 use std::io::{ErrorKind, Stdout};
 use std::process::ExitCode;
 use store::TreeStore;
-use tables::{FolderFault, in_folder};
+use tables::{FolderFault, in_folder, installed};
 use text_run::RunFault;
 use tool::{ProgramFault, ScriptOptions, open_text, run_script_in};
+use ucd::Tables;
 
 fn main(rt: HostRuntime) -> ExitCode {
     let Err(fault) = run(&rt) else {
@@ -72,13 +73,21 @@ fn run_over(rt: &HostRuntime, folder: &str, words: &[&str]) -> Result<(), Progra
         return Err(ProgramFault::Line(LineFault::NoMemory));
     };
     let settings = settings(rt.alloc(), &words).map_err(ProgramFault::Line)?;
-    run_settings(rt, &settings)
+    let tables = installed(rt, folder).map_err(table_fault)?;
+    run_tables(rt, tables, &settings)
 }
 
+// Executes arguments with `--ucd`, which names the folder of the files.
 fn run_settings(rt: &HostRuntime, settings: &Settings<'_>) -> Result<(), ProgramFault>
     requires { 0 < settings.now.width }
 {
     let tables = in_folder(rt, settings.ucd).map_err(table_fault)?;
+    run_tables(rt, tables, settings)
+}
+
+fn run_tables(rt: &HostRuntime, tables: Tables, settings: &Settings<'_>) -> Result<(), ProgramFault>
+    requires { 0 < settings.now.width }
+{
     let mut engine = Engine::new(tables, settings.options);
     let mut output = ToWrite::new(rt.stdout());
     match settings.script {
@@ -100,6 +109,7 @@ fn table_fault(fault: FolderFault) -> ProgramFault {
     match fault {
         FolderFault::Unread(name) => ProgramFault::TableFile(name),
         FolderFault::Table(fault) => ProgramFault::Table(fault),
+        FolderFault::Image(fault) => ProgramFault::TableImage(fault),
         FolderFault::Memory => ProgramFault::Run(RunFault::Memory),
     }
 }

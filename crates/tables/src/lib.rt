@@ -1,60 +1,89 @@
-//! Reads the tables from the seven files of a folder, for programs.
+//! Reads the tables from a folder, for programs: from seven files, or from a compiled image.
 #![tactic(auto)]
 
-use std::fs;
-use std::io::ErrorKind;
-use thiserror::Error;
-use ucd::{FILE_NAMES, TableFault, Tables, UcdFiles};
+ghost use Rattle.std.specs.Prelude.{IfOk, IfErr};
+ghost use Rattle.ucd.specs.Imaged.{IsImageOf};
+ghost use Rattle.ucd.specs.Tables.{AreTablesOf};
+ghost use Rattle.tables.specs.Folders.{AreFromFiles, AreInstalled, IsFileFault, IsInstalledFault};
+ghost use Rattle.tables.specs.Folders.{IsFaultFor, IsUnusable};
 
-/// Why the tables cannot be read.
-#[derive(Clone, Copy, Debug, PartialEq, Eq, Error)]
-pub enum FolderFault {
-    /// The file of this name cannot be read.
-    #[error("cannot read {0}")]
-    Unread(&'static str),
-    /// A file is malformed, or memory ran out while it was parsed.
-    #[error("{0}")]
-    Table(TableFault),
-    /// Memory ran out while the files were read.
-    #[error("out of memory")]
-    Memory,
-}
+mod fault;
+mod folder;
 
-/// Reads the tables from the files of a folder, whose names are `ucd::FILE_NAMES`. Reads all files before it
-/// parses the first.
+pub use fault::FolderFault;
+pub use folder::{DiskFolder, IMAGE_NAME, TableFolder};
+use std::alloc::Global;
+use ucd::{ImageFault, Tables, UcdFiles};
+
+/// Reads the tables from the seven files of a folder, as `from_files`.
 pub fn in_folder(rt: &HostRuntime, folder: &str) -> Result<Tables, FolderFault> {
-    let alloc = rt.alloc();
-    let mut files = [
-        Vec::new(alloc),
-        Vec::new(alloc),
-        Vec::new(alloc),
-        Vec::new(alloc),
-        Vec::new(alloc),
-        Vec::new(alloc),
-        Vec::new(alloc),
-    ];
-    for (k, name) in FILE_NAMES.iter().enumerate() {
-        files[k] = file(rt, folder, name)?;
-    }
-    let files = UcdFiles {
-        bidi_class: &files[0],
-        bidi_brackets: &files[1],
-        bidi_mirroring: &files[2],
-        line_break: &files[3],
-        general_category: &files[4],
-        east_asian_width: &files[5],
-        emoji_data: &files[6],
-    };
-    Tables::read(alloc, &files).map_err(FolderFault::Table)
+    from_files(rt.alloc(), &DiskFolder::new(rt, folder))
 }
 
-fn file(rt: &HostRuntime, folder: &str, name: &'static str) -> Result<Vec<u8>, FolderFault> {
-    let Ok(path) = format!(in rt.alloc(); "{folder}/{name}") else {
-        return Err(FolderFault::Memory);
-    };
-    match fs::read(rt, path.as_str()) {
-        Ok(bytes) => Ok(bytes),
-        Err(error) if error.kind() == ErrorKind::OutOfMemory => Err(FolderFault::Memory),
-        Err(_) => Err(FolderFault::Unread(name)),
+/// Reads the tables of an installed folder, as `from_installed`.
+pub fn installed(rt: &HostRuntime, folder: &str) -> Result<Tables, FolderFault> {
+    from_installed(rt.alloc(), &DiskFolder::new(rt, folder))
+}
+
+/// Reads the tables from the seven files, and reads no image. Reads all files before it parses the first.
+pub fn from_files<F: TableFolder>(alloc: Global, folder: &F) -> Result<Tables, FolderFault>
+    ensures ok { IfOk result (AreFromFiles (F.has_file folder.now)) }
+    ensures err { IfErr result (IsFileFault (F.has_file folder.now)) }
+{
+    let bidi_class = folder.file(alloc, 0)?;
+    let bidi_brackets = folder.file(alloc, 1)?;
+    let bidi_mirroring = folder.file(alloc, 2)?;
+    let line_break = folder.file(alloc, 3)?;
+    let general_category = folder.file(alloc, 4)?;
+    let east_asian_width = folder.file(alloc, 5)?;
+    let emoji_data = folder.file(alloc, 6)?;
+    of_files(
+        alloc,
+        &UcdFiles {
+            bidi_class: &bidi_class,
+            bidi_brackets: &bidi_brackets,
+            bidi_mirroring: &bidi_mirroring,
+            line_break: &line_break,
+            general_category: &general_category,
+            east_asian_width: &east_asian_width,
+            emoji_data: &emoji_data,
+        },
+    )
+}
+
+/// Reads the tables from the image, or from the seven files if there is no image. If the image cannot be read
+/// or used, nothing is read in its place.
+pub fn from_installed<F: TableFolder>(alloc: Global, folder: &F) -> Result<Tables, FolderFault>
+    ensures ok { IfOk result (AreInstalled (F.has_file folder.now) (F.has_image folder.now)
+        (F.has_no_image folder.now)) }
+    ensures err { IfErr result (IsInstalledFault (F.has_file folder.now) (F.has_image folder.now)
+        (F.has_no_image folder.now)) }
+{
+    match folder.image(alloc)? {
+        Some(bytes) => of_image(alloc, &bytes),
+        None => from_files(alloc, folder),
+    }
+}
+
+/// Decodes an image.
+pub fn of_image(alloc: Global, bytes: &[u8]) -> Result<Tables, FolderFault>
+    ensures ok { IfOk result (IsImageOf bytes.now) }
+    ensures err { IfErr result (IsUnusable bytes.now) }
+{
+    match Tables::from_image(alloc, bytes) {
+        Ok(tables) => Ok(tables),
+        Err(ImageFault::Memory) => Err(FolderFault::Memory),
+        Err(fault) => Err(FolderFault::Image(fault)),
+    }
+}
+
+// Reads the tables from the contents of the files.
+fn of_files(alloc: Global, files: &UcdFiles<'_>) -> Result<Tables, FolderFault>
+    ensures ok { IfOk result (AreTablesOf files.now) }
+    ensures err { IfErr result (IsFaultFor files.now) }
+{
+    match Tables::read(alloc, files) {
+        Ok(tables) => Ok(tables),
+        Err(fault) => Err(FolderFault::Table(fault)),
     }
 }

@@ -1,6 +1,7 @@
 pub mod Cuts
 pub mod Trims
 pub mod Parts
+pub mod PlainLines
 pub mod Ranges
 pub mod FileLines
 pub mod Setting

@@ -19,6 +19,7 @@ pub mod Least
 pub mod LineClasses
 pub mod Paged
 pub mod Pages
+pub mod PlainLines
 pub mod Properties
 pub mod Puts
 pub mod Rising

@@ -1,5 +1,5 @@
 //! The bidi classes (UAX #9, section 3.2, table 4).
-ghost use Rattle.std.specs.Prelude.{◌≡◌, ◌<◌, codes, slice_index_or};
+ghost use Rattle.std.specs.Prelude.{◌≡◌, ◌<◌, IfSome, codes, slice_index_or};
 ghost use Rattle.ucd.specs.BidiClasses.{name_of, class_named, all_classes, bidi_class_form};
 ghost use Rattle.ucd.specs.declared.bidi_class.BidiClass.TheVariants.{L};
 ghost use Rattle.ucd.specs.declared.bidi_class.TheConstants.{BIDI_CLASS_COUNT};
@@ -67,6 +67,9 @@ impl BidiClass {
     pub fn from_name(name: &[u8]) -> Option<BidiClass>
         ensures { result ≡ class_named name.now }
     {
+        if let Some(class) = frequent(name) {
+            return Some(class);
+        }
         ALL.iter().copied().find(|class| class.name() == name)
     }
 
@@ -75,13 +78,54 @@ impl BidiClass {
         requires { place < BIDI_CLASS_COUNT }
         ensures { result ≡ slice_index_or all_classes place L }
     {
-        ALL[place]
+        // The compiler turns these arms into a copy of the number. A table would need a load for each
+        // character.
+        match place {
+            0 => BidiClass::L,
+            1 => BidiClass::R,
+            2 => BidiClass::AL,
+            3 => BidiClass::EN,
+            4 => BidiClass::ES,
+            5 => BidiClass::ET,
+            6 => BidiClass::AN,
+            7 => BidiClass::CS,
+            8 => BidiClass::NSM,
+            9 => BidiClass::BN,
+            10 => BidiClass::B,
+            11 => BidiClass::S,
+            12 => BidiClass::WS,
+            13 => BidiClass::ON,
+            14 => BidiClass::LRE,
+            15 => BidiClass::LRO,
+            16 => BidiClass::RLE,
+            17 => BidiClass::RLO,
+            18 => BidiClass::PDF,
+            19 => BidiClass::LRI,
+            20 => BidiClass::RLI,
+            21 => BidiClass::FSI,
+            _ => BidiClass::PDI,
+        }
     }
 
     fn name(self) -> &'static [u8]
         ensures { result.now ≡ name_of self }
     {
         NAMES[self as usize].as_bytes()
+    }
+}
+
+// Returns the class with this short name, if it is one of those that nearly all lines of DerivedBidiClass.txt
+// name.
+fn frequent(name: &[u8]) -> Option<BidiClass>
+    ensures { IfSome result (λ class. name.now ≡ name_of class) }
+{
+    match name {
+        b"L" => Some(BidiClass::L),
+        b"R" => Some(BidiClass::R),
+        b"AL" => Some(BidiClass::AL),
+        b"ON" => Some(BidiClass::ON),
+        b"NSM" => Some(BidiClass::NSM),
+        _ => None,
     }
 }
 

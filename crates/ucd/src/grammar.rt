@@ -5,7 +5,9 @@ ghost use Rattle.std.specs.Char.{is_ascii_hexdigit};
 ghost use Rattle.ucd.specs.Grammar.{is_mark, is_one_of, trimmed, fields_of, hex_value, code_point};
 ghost use Rattle.ucd.specs.Grammar.{both, points_of, by_points, by_fields, reading_of, rest_after, parts_of};
 
+use crate::digits::digit_of;
 use crate::fault::Cause;
+use crate::plain::plain_line;
 use crate::properties::Properties;
 use memchr::memchr;
 use std::alloc::AllocError;
@@ -105,13 +107,11 @@ fn hex_number(digits: &[u8]) -> Option<u32>
 {
     let mut number = 0;
     for digit in digits {
-        let value = match *digit {
-            b'0'..=b'9' => *digit - b'0',
-            b'A'..=b'F' => *digit - b'A' + 10,
-            b'a'..=b'f' => *digit - b'a' + 10,
-            _ => return None,
-        };
-        number = 16 * number + u32::from(value);
+        let value = digit_of(*digit);
+        if value > 15 {
+            return None;
+        }
+        number = 16 * number + value;
     }
     Some(number)
 }
@@ -198,7 +198,21 @@ const SPACES: &[u8] = b" \t";
 const BLANKS: &[u8] = b" \t\r";
 
 /// Parses one line. Returns `None` if the line has no entry.
+#[inline(always)]
 pub fn read_line<V: Property>(line: &[u8]) -> Result<Option<Entry<V>>, Cause>
+    ensures { result ≡ reading_of V.form line.now }
+{
+    if V::has_ranges() && !V::has_third() {
+        if let Some(plain) = plain_line(line) {
+            let value = V::read_value(plain.name, b"");
+            return entry_of(Some((plain.first, plain.last)), value);
+        }
+    }
+    read_any_line(line)
+}
+
+// Parses a line of any form.
+fn read_any_line<V: Property>(line: &[u8]) -> Result<Option<Entry<V>>, Cause>
     ensures { result ≡ reading_of V.form line.now }
 {
     let (line, _) = cut(line, b'#');

@@ -109,22 +109,24 @@ impl LineClass {
     }
 }
 
-// Returns the class with this short name, if it is one of the five that most lines of LineBreak.txt name.
+// Returns the class with this short name, if it is one of those that nearly all lines of LineBreak.txt name.
 fn frequent(name: &[u8]) -> Option<LineClass>
     ensures { IfSome result (λ class. name.now ≡ name_of class) }
 {
-    if b"AL".as_slice() == name {
-        Some(LineClass::AL)
-    } else if b"CM".as_slice() == name {
-        Some(LineClass::CM)
-    } else if b"H2".as_slice() == name {
-        Some(LineClass::H2)
-    } else if b"H3".as_slice() == name {
-        Some(LineClass::H3)
-    } else if b"ID".as_slice() == name {
-        Some(LineClass::ID)
-    } else {
-        None
+    match name {
+        b"AI" => Some(LineClass::AI),
+        b"AL" => Some(LineClass::AL),
+        b"BA" => Some(LineClass::BA),
+        b"CL" => Some(LineClass::CL),
+        b"CM" => Some(LineClass::CM),
+        b"EB" => Some(LineClass::EB),
+        b"H2" => Some(LineClass::H2),
+        b"H3" => Some(LineClass::H3),
+        b"ID" => Some(LineClass::ID),
+        b"NU" => Some(LineClass::NU),
+        b"OP" => Some(LineClass::OP),
+        b"SA" => Some(LineClass::SA),
+        _ => None,
     }
 }
 

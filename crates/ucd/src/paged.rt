@@ -1,5 +1,5 @@
 //! Lookup tables for the properties of all characters.
-ghost use Rattle.std.specs.Prelude.{◌≡◌, ◌≢◌, ◌<◌, ℕ, true, false, IfOk, IfErr};
+ghost use Rattle.std.specs.Prelude.{◌≡◌, ◌≢◌, ◌<◌, ℕ, length, map, true, false, IfOk, IfErr};
 ghost use Rattle.ucd.specs.Separators.{may_separate};
 ghost use Rattle.ucd.specs.declared.bidi_class.BidiClass.TheVariants.{B};
 ghost use Rattle.ucd.specs.Tables.{class_of, bracket_of, mirror_of};
@@ -11,7 +11,7 @@ use crate::image_fault::ImageFault;
 use crate::image_frame::check_frame;
 use crate::image_parts::point_bytes;
 use crate::image_write::{joined, page_bytes};
-use crate::pages::{Pages, pages_of};
+use crate::pages::{Pages, entry_of, pages_of};
 use crate::points::points_of;
 use crate::properties::Properties;
 use std::alloc::{AllocError, Global};
@@ -137,5 +137,18 @@ impl PagedTables {
         ensures { result ≡ properties_of self.now c }
     {
         self.pages.get(c)
+    }
+
+    /// Overwrites `properties` with the properties of each character of a text.
+    pub fn look_up(&self, text: &[char], properties: &mut [Properties])
+        requires { length properties.old ≡ length text.now }
+        ensures { properties.new ≡ map (properties_of self.now) text.now }
+    {
+        // Lists that are borrowed once stay in registers. Otherwise, each write could change where they are.
+        let index = self.pages.index.as_slice();
+        let entries = self.pages.entries.as_slice();
+        for k in 0..text.len() {
+            properties[k] = entry_of(index, entries, text[k]);
+        }
     }
 }

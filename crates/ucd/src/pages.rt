@@ -41,8 +41,7 @@ impl Pages {
     pub fn get(&self, c: char) -> Properties
         ensures { result ≡ answers_at self.now.index.items self.now.entries.items c }
     {
-        let point = c as usize;
-        self.entries[self.index[point / PAGE] as usize * PAGE + point % PAGE]
+        entry_of(&self.index, &self.entries, c)
     }
 }
 
@@ -54,6 +53,18 @@ impl Pages {
     {
         self.entries[self.index[point / PAGE] as usize * PAGE + point % PAGE]
     }
+}
+
+/// Returns the properties of a character, given the page number of each block and the pages.
+#[inline]
+pub fn entry_of(index: &[u16], entries: &[Properties], c: char) -> Properties
+    requires places { length index.now ≡ 4352 }
+    requires within { (p : ℕ) → p < 4352 → slice_index index.now p * 256 + 256 ≤ length entries.now }
+    ensures answers { result ≡ answers_at index.now entries.now c }
+    ensures point { c < 1114112 }
+{
+    let point = c as usize;
+    entries[index[point / PAGE] as usize * PAGE + point % PAGE]
 }
 
 /// Returns the pages of all code points. Blocks inside one run are not looked at: they have the page of the

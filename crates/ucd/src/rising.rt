@@ -48,7 +48,10 @@ impl<V: Property> RisingEntries<V> {
         let Ok(mut entries) = collect(alloc, file) else {
             return None;
         };
-        entries.sort_unstable_by_key(|entry| entry.first);
+        // A file has few runs of rising lines, which a stable sort merges.
+        if entries.sort_by_key(|entry| entry.first).is_err() {
+            return None;
+        }
         if !are_rising(&entries) {
             return None;
         }

@@ -1,5 +1,5 @@
 //! The tables read from the files.
-ghost use Rattle.std.specs.Prelude.{◌≡◌, ◌≢◌, ◌<◌, ℕ, true, false, IfOk, IfErr};
+ghost use Rattle.std.specs.Prelude.{◌≡◌, ◌≢◌, ◌<◌, ℕ, length, map, true, false, IfOk, IfErr};
 ghost use Rattle.ucd.specs.Separators.{may_separate};
 ghost use Rattle.ucd.specs.declared.bidi_class.BidiClass.TheVariants.{B};
 ghost use Rattle.ucd.specs.Tables.{AreTablesOf, IsFaultOf};
@@ -173,5 +173,14 @@ impl Tables {
         ensures { result ≡ properties_of self.now c }
     {
         self.shared.properties(c)
+    }
+
+    /// Overwrites `properties` with the properties of each character of a text. Faster than a call for each
+    /// character.
+    pub fn look_up(&self, text: &[char], properties: &mut [Properties])
+        requires { length properties.old ≡ length text.now }
+        ensures { properties.new ≡ map (properties_of self.now) text.now }
+    {
+        self.shared.look_up(text, properties);
     }
 }

@@ -1,7 +1,6 @@
-use Rattle.std.proofs.Common.{◌≤◌, ◌<◌, ◌^◌, arith, lit<}
+use Rattle.std.proofs.Common.{◌≤◌, ◌^◌, arith, lit<}
 use Rattle.std.proofs.Math.Nat.{pow-le-pow_right}
 use Rattle.ucd.proofs.grammar.hex_number.Goals as goal
-use Rattle.ucd.proofs.grammar.hex_number.Goals.{in-48-to-57, in-65-to-70, in-97-to-102}
 
 pub overflow_mul-number : goal.overflow_mul-number
 overflow_mul-number c =
@@ -13,5 +12,4 @@ pub overflow_add-number : goal.overflow_add-number
 overflow_add-number c =
     let few : c.loop-digit.digit-index ≤ 5 = omega arith in
     let small : 16 ^ c.loop-digit.digit-index ≤ 16 ^ 5 = pow-le-pow_right (lit< tt) few in
-    let digit : c.if-digit-lt58.value < 16 = elim c.if-digit-lt58.branch [ in-48-to-57 w ↦ omega arith | in-65-to-70 w ↦ omega arith | in-97-to-102 w ↦ omega arith ] in
     omega (arith, small)

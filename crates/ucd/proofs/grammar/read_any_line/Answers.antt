@@ -5,7 +5,7 @@ use Rattle.std.proofs.lemmas.Bool.{lt-ltb}
 use Rattle.std.proofs.lemmas.List.Elements.{All-from_get_or}
 use Rattle.std.proofs.lemmas.List.Sums.{list_all-from_AllPass}
 use Rattle.ucd.specs.Grammar.{Form, before_comment, trimmed, is_one_of, blanks, by_fields, fields_of, reading_of}
-use Rattle.ucd.proofs.grammar.read_line.Goals as goal
+use Rattle.ucd.proofs.grammar.read_any_line.Goals as goal
 
 all_ascii : (bytes : List ℕ) → ((i : ℕ) → get_or bytes i 0 < 128) → list_all is_ascii bytes ≡ true
 all_ascii bytes low = list_all-from_AllPass is_ascii bytes (All-from_get_or (λ b. is_ascii b ≡ true) bytes 0 (λ i lt. lt-ltb _ _ (low i)))

@@ -1,0 +1,56 @@
+-- The tables of a folder, by what it holds: its files by their index in `FILE_NAMES`, and maybe an image.
+use Rattle.std.specs.Prelude.{ℕ, ◌⊎◌, List, ⊤}
+use Rattle.ucd.specs.Imaged.{IsImageOf}
+use Rattle.ucd.specs.Images.{IsImageFault}
+use Rattle.ucd.specs.Tables.{AreTablesOf, IsFaultOf}
+use Rattle.ucd.specs.declared.tables.Tables.{Tables}
+use Rattle.ucd.specs.declared.tables.UcdFiles.{UcdFiles}
+use Rattle.tables.specs.declared.fault.FolderFault.{FolderFault}
+use Rattle.tables.specs.declared.fault.FolderFault.TheVariants.{Unread, Table, Image, Memory}
+
+-- a file cannot be read, or an allocation failed
+abbrev pub IsUnread : FolderFault → Type 0
+IsUnread (Unread name) = ⊤
+IsUnread Memory = ⊤
+IsUnread other = ⊥
+
+-- the first fault of the image, or an allocation failure
+abbrev pub IsUnusable : List ℕ → FolderFault → Type 0
+IsUnusable bytes (Image why) = IsImageFault bytes why
+IsUnusable bytes Memory = ⊤
+IsUnusable bytes other = ⊥
+
+-- the first fault of the files
+abbrev pub IsFaultFor : UcdFiles → FolderFault → Type 0
+IsFaultFor files (Table fault) = IsFaultOf files fault
+IsFaultFor files other = ⊥
+
+module _ (has_file : ℕ → List ℕ → Type 0) where
+  -- the contents of the seven files
+  pub record AreFiles (files : UcdFiles) : Type 0 where
+    pub bidi_class : has_file 0 files.bidi_class.now
+    pub bidi_brackets : has_file 1 files.bidi_brackets.now
+    pub bidi_mirroring : has_file 2 files.bidi_mirroring.now
+    pub line_break : has_file 3 files.line_break.now
+    pub general_category : has_file 4 files.general_category.now
+    pub east_asian_width : has_file 5 files.east_asian_width.now
+    pub emoji_data : has_file 6 files.emoji_data.now
+
+  -- the tables are those of the files
+  abbrev pub AreFromFiles : Tables → Type 0
+  AreFromFiles tables = (files : UcdFiles) × AreFiles files × AreTablesOf files tables
+
+  -- a file cannot be read, or this is the first fault of the files
+  abbrev pub IsFileFault : FolderFault → Type 0
+  IsFileFault why = IsUnread why ⊎ ((files : UcdFiles) × AreFiles files × IsFaultFor files why)
+
+  module _ (has_image : List ℕ → Type 0) (has_no_image : Type 0) where
+    -- the tables are those of the image, or there is none and they are those of the files
+    abbrev pub AreInstalled : Tables → Type 0
+    AreInstalled tables = ((bytes : List ℕ) × has_image bytes × IsImageOf bytes tables) ⊎ (has_no_image × AreFromFiles tables)
+
+    -- Something cannot be read, or this is the first fault of the image, or there is none and this is the first
+    -- fault of the files.
+    abbrev pub IsInstalledFault : FolderFault → Type 0
+    IsInstalledFault why =
+        IsUnread why ⊎ (((bytes : List ℕ) × has_image bytes × IsUnusable bytes why) ⊎ (has_no_image × IsFileFault why))

@@ -1,0 +1,20 @@
+//! Why the tables of a folder cannot be read.
+use thiserror::Error;
+use ucd::{ImageFault, TableFault};
+
+/// Why the tables cannot be read.
+#[derive(Clone, Copy, Debug, PartialEq, Eq, Error)]
+pub enum FolderFault {
+    /// The file of this name cannot be read.
+    #[error("cannot read {0}")]
+    Unread(&'static str),
+    /// A file is malformed, or memory ran out while it was parsed.
+    #[error("{0}")]
+    Table(TableFault),
+    /// The image is damaged, or of another format or Unicode version.
+    #[error("cannot use tables.image: {0}")]
+    Image(ImageFault),
+    /// Memory ran out while the files or the image were read.
+    #[error("out of memory")]
+    Memory,
+}

@@ -1,0 +1,101 @@
+//! Folders of tables.
+ghost use Rattle.std.specs.Prelude.{ℕ, List, ◌<◌, IfOk, IfErr, MatchOption, ⊤};
+ghost use Rattle.tables.specs.Folders.{IsUnread};
+
+use crate::fault::FolderFault;
+use std::alloc::Global;
+use std::fs::File;
+use std::io;
+use std::io::{ErrorKind, Read};
+use ucd::FILE_NAMES;
+
+/// The name of the compiled image in a folder of installed tables.
+pub const IMAGE_NAME: &str = "tables.image";
+
+/// A folder of tables. The contracts of its readers say from which of its contents the tables come.
+pub trait TableFolder {
+    // The file with this index in `FILE_NAMES` has these bytes.
+    ghost has_file: { Self → ℕ → List ℕ → Type 0 };
+
+    // The image has these bytes, or there is none.
+    ghost has_image: { Self → List ℕ → Type 0 };
+
+    ghost has_no_image: { Self → Type 0 };
+
+    /// Reads the file with this index in `FILE_NAMES`.
+    fn file(&self, alloc: Global, index: usize) -> Result<Vec<u8>, FolderFault>
+        requires { index < 7 }
+        ensures ok { IfOk result (λ bytes. has_file self.now index bytes.items) }
+        ensures err { IfErr result IsUnread };
+
+    /// Reads the image, if there is one.
+    fn image(&self, alloc: Global) -> Result<Option<Vec<u8>>, FolderFault>
+        ensures ok { IfOk result (λ image. MatchOption image (has_no_image self.now)
+            (λ bytes. has_image self.now bytes.items)) }
+        ensures err { IfErr result IsUnread };
+}
+
+/// A folder of the file system.
+#[derive(Drop)]
+pub struct DiskFolder<'a> {
+    rt: &'a HostRuntime,
+    path: &'a str,
+}
+
+impl<'a> DiskFolder<'a> {
+    /// Returns the folder at a path.
+    pub fn new(rt: &'a HostRuntime, path: &'a str) -> DiskFolder<'a> {
+        DiskFolder { rt, path }
+    }
+
+    fn read(&self, alloc: Global, name: &str) -> io::Result<Vec<u8>> {
+        let folder = self.path;
+        let path = format!(in alloc; "{folder}/{name}")?;
+        let mut file = File::open(self.rt, path.as_str())?;
+        let mut bytes = Vec::with_capacity(alloc, capacity_for(&file)?)?;
+        file.read_to_end(&mut bytes)?;
+        Ok(bytes)
+    }
+}
+
+// No contract covers what the file system holds.
+impl TableFolder for DiskFolder<'_> {
+    ghost has_file = { λ _ _ _. ⊤ };
+
+    ghost has_image = { λ _ _. ⊤ };
+
+    ghost has_no_image = { λ _. ⊤ };
+
+    fn file(&self, alloc: Global, index: usize) -> Result<Vec<u8>, FolderFault> {
+        let name = FILE_NAMES[index];
+        match self.read(alloc, name) {
+            Ok(bytes) => Ok(bytes),
+            Err(error) => Err(unread(error.kind(), name)),
+        }
+    }
+
+    fn image(&self, alloc: Global) -> Result<Option<Vec<u8>>, FolderFault> {
+        match self.read(alloc, IMAGE_NAME) {
+            Ok(bytes) => Ok(Some(bytes)),
+            Err(error) if error.kind() == ErrorKind::NotFound => Ok(None),
+            Err(error) => Err(unread(error.kind(), IMAGE_NAME)),
+        }
+    }
+}
+
+// Returns one byte more than a file has, so that its vector does not grow for the read that finds the end.
+// Not inlined, since reading the metadata needs 4 KB of stack.
+#[inline(never)]
+fn capacity_for(file: &File) -> io::Result<usize> {
+    Ok((file.metadata()?.len() as usize).saturating_add(1))
+}
+
+fn unread(kind: ErrorKind, name: &'static str) -> FolderFault
+    ensures { IsUnread result }
+{
+    if kind == ErrorKind::OutOfMemory {
+        FolderFault::Memory
+    } else {
+        FolderFault::Unread(name)
+    }
+}

@@ -1,0 +1,15 @@
+use Rattle.std.proofs.Common.{◌≤◌, ◌^◌, arith, lit<}
+use Rattle.std.proofs.Math.Nat.{pow-le-pow_right}
+use Rattle.ucd.proofs.plain.leading_code_point.Goals as goal
+
+pub overflow_mul-number : goal.overflow_mul-number
+overflow_mul-number c =
+    let few : c.loop-count.count ≤ 5 = omega arith in
+    let small : 16 ^ c.loop-count.count ≤ 16 ^ 5 = pow-le-pow_right (lit< tt) few in
+    omega (arith, small)
+
+pub overflow_add-number : goal.overflow_add-number
+overflow_add-number c =
+    let few : c.loop-count.count ≤ 5 = omega arith in
+    let small : 16 ^ c.loop-count.count ≤ 16 ^ 5 = pow-le-pow_right (lit< tt) few in
+    omega (arith, small)
