@@ -27,7 +27,7 @@ use Rattle.bidi.proofs.PlainLemmas.{directed-none, level_at-base, map-agree, map
 use Rattle.bidi.proofs.WeakLemmas.{any, ends_row, left_type, separator_type, terminator_type, weak-later}
 
 -- whether all types of a list pass a test
-abbrev Passes : (BidiClass → Bool) → List BidiClass → Type 0
+abbrev pub Passes : (BidiClass → Bool) → List BidiClass → Type 0
 Passes test types = All (λ type. test type ≡ true) types
 
 -- the types that can occur in a paragraph of flat characters before W1, after W1, after W6, and after W7
@@ -75,7 +75,7 @@ carry-passes rule test kept passes makes step next before (type ∷ types) k p =
     All-cons (λ t. makes t ≡ true) (rule before type types) (carry rule test (if test type then type else before) types) (step before type types k first)
     (carry-passes rule test kept passes makes step next (if test type then type else before) types (next before type k first) (All-tail (λ t. passes t ≡ true) type types p))
 
-length-carry : (rule : BidiClass → BidiClass → List BidiClass → BidiClass) (test : BidiClass
+pub length-carry : (rule : BidiClass → BidiClass → List BidiClass → BidiClass) (test : BidiClass
     → Bool) (before : BidiClass) (types : List BidiClass) → length (carry rule test before types) ≡ length types
 length-carry rule test before [] = refl
 length-carry rule test before (type ∷ types) = ap suc (length-carry rule test (if test type then type else before) types)
@@ -175,18 +175,18 @@ weak-calm types first =
     subst (Passes is_calm) (sym (weak-later L types))
     (carry-passes left_type is_strong is_left is_joined is_calm left-step left-next L (map w6_type terminated) refl six)
 
-length-weak : (types : List BidiClass) → length (weak L types) ≡ length types
-length-weak types =
+pub length-weak : (sos : BidiClass) (types : List BidiClass) → length (weak sos types) ≡ length types
+length-weak sos types =
     let mark = λ (b type : BidiClass) (after : List BidiClass). mark_type b type in
     let digit = λ (s type : BidiClass) (after : List BidiClass). digit_type s type in
-    let unmarked = carry mark (λ type. not (is_mark type)) L types in
-    let digits = carry digit is_strong L unmarked in
+    let unmarked = carry mark (λ type. not (is_mark type)) sos types in
+    let digits = carry digit is_strong sos unmarked in
     let read = map w3_type digits in
     let separated = carry separator_type any ON read in
     let terminated = carry terminator_type ends_row ON separated in
-    ap length (weak-later L types) ∙ length-carry left_type is_strong L (map w6_type terminated) ∙ length-map terminated w6_type
+    ap length (weak-later sos types) ∙ length-carry left_type is_strong sos (map w6_type terminated) ∙ length-map terminated w6_type
     ∙ length-carry terminator_type ends_row ON separated ∙ length-carry separator_type any ON read ∙ length-map digits w3_type
-    ∙ length-carry digit is_strong L unmarked ∙ length-carry mark (λ type. not (is_mark type)) L types
+    ∙ length-carry digit is_strong sos unmarked ∙ length-carry mark (λ type. not (is_mark type)) sos types
 
 -- if all types are L or neutral, they still are after N0
 calm_at : (types : List BidiClass) → Passes is_calm types → (k : ℕ) → is_calm (class_at types k) ≡ true
@@ -270,7 +270,7 @@ sequence_levels-zero bracket characters types first =
     let paired = brackets bracket L L characters types (weak L types) in
     let now : IsCalm (length types) paired =
     fold-calm (length types) (map is_mark types) (closer_of (pairs_of bracket characters (weak L types))) (range_with_len 0 (length (weak L types))) (weak L types)
-    (record { calm = weak-calm types first; size = length-weak types }) in
+    (record { calm = weak-calm types first; size = length-weak L types }) in
     sym (levels_after-is 0 L L paired) ∙ calm_levels 0 paired now.calm ∙ ap zeros (zero-add (length paired) ∙ now.size)
 
 -- if all kept characters have level 0, so do the characters that X9 removed

@@ -5,6 +5,7 @@ mod BracketTypeLemmas
 mod CutLemmas
 mod ExplicitLemmas
 mod FlatLemmas
+mod FlatRtlLemmas
 pub mod FrontLemmas
 mod IsolateLemmas
 mod JumpLemmas
@@ -26,6 +27,7 @@ mod RunLemmas
 pub mod TextCutLemmas
 mod WaitingLemmas
 mod WeakLemmas
+mod WeakTableLemmas
 mod WorkedBrackets
 mod WorkedLevels
 mod WorkedRows

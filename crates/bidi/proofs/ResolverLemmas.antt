@@ -1,11 +1,12 @@
 -- The properties of a text's characters, as the resolver reads them from the tables.
-use Rattle.std.proofs.Common.{◌≡◌, ℕ, ◌<◌, Bool, true, false, List, [], ◌∷◌, length, get_or, map, replicate, Option, Some, None, is_some, refl, sym, ap, ◌∙◌, inl, inr}
+use Rattle.std.proofs.Common.{◌≡◌, ℕ, zero, suc, ◌<◌, ◌≤◌, arith, Bool, true, false, List, [], ◌∷◌, length, get_or, map, replicate, Option, Some, None, is_some, refl, sym, ap, ◌∙◌, inl, inr}
 use Rattle.std.specs.List.{All, list_all, list_any}
 use Rattle.std.proofs.lemmas.Bool.{cases_Bool, cond-true, cond-false, both_ways}
 use Rattle.std.proofs.lemmas.List.{get_or-map, length-map}
 use Rattle.std.proofs.lemmas.List.Folds.{list_all-map, list_all_at, list_any_at}
 use Rattle.ucd.specs.Properties.{properties_of}
 use Rattle.ucd.specs.Tables.{bracket_of, class_of}
+use Rattle.ucd.specs.declared.bidi_class.BidiClass.{BidiClass}
 use Rattle.ucd.specs.declared.bracket.Bracket.{Bracket}
 use Rattle.ucd.specs.declared.properties.Properties.{Properties}
 use Rattle.ucd.specs.declared.tables.Tables.{Tables}
@@ -16,8 +17,9 @@ use Rattle.bidi.specs.Base.{base_level_of}
 use Rattle.bidi.specs.BracketTypes.{bracket_types, is_bracket, type_by}
 use Rattle.ucd.specs.Classes.{class_in}
 use Rattle.bidi.specs.Levels.{levels_of, paragraph_levels}
-use Rattle.bidi.specs.Plain.{has_bracket_in, is_flat}
+use Rattle.bidi.specs.Plain.{has_bracket_in, is_flat, is_flat_at, is_flat_rtl}
 use Rattle.bidi.proofs.FlatLemmas.{zero_levels}
+use Rattle.bidi.proofs.FlatRtlLemmas.{one_levels}
 
 pub all_from : {X : Type 0} (p : X → Bool) (xs : List X) → list_all p xs ≡ true → All (λ x. p x ≡ true) xs
 all_from p xs e k d within =
@@ -78,6 +80,13 @@ pub none_are : (look : ℕ → Option Bracket) (text : List ℕ) (brackets : Lis
     → list_any is_bracket brackets ≡ false → All (λ c. look c ≡ None) text
 none_are look text brackets are none = none-by look text (ap (list_any is_bracket) (sym are) ∙ none)
 
+-- if no character raises a level above the paragraph level, all levels equal it
+pub flat_levels : (look : ℕ → Option Bracket) (text : List ℕ) (classes : List BidiClass) (level : ℕ) → level ≤ 1 → list_all (is_flat_at level) classes ≡ true
+    → paragraph_levels look text classes level ≡ replicate (length classes) level
+flat_levels look text classes zero low flat = zero_levels look text classes (all_from is_flat classes flat)
+flat_levels look text classes (suc zero) low flat = one_levels look text classes (all_from is_flat_rtl classes flat)
+flat_levels look text classes (suc (suc level)) low flat = absurd (omega arith)
+
 module _ (tables : Tables) (text : List ℕ) (properties : List Properties) (base : Base) (level : ℕ) (are : properties ≡ map (properties_of tables) text)
     (is : level ≡ base_level_of (map class_in properties) base) where
   classes : map class_in properties ≡ map (class_of tables) text
@@ -90,11 +99,10 @@ module _ (tables : Tables) (text : List ℕ) (properties : List Properties) (bas
   raised-are levels e =
       e ∙ ap (λ cs. paragraph_levels (bracket_of tables) text cs level) classes ∙ ap (paragraph_levels (bracket_of tables) text (map (class_of tables) text)) level-is
 
-  pub zeros-are : (levels : List ℕ) → levels ≡ replicate (length properties) 0 → level ≡ 0 → list_all (λ one. is_flat (class_in one)) properties ≡ true → levels ≡ levels_of tables text base
-  zeros-are levels e low flat =
-      let all : list_all is_flat (map (class_of tables) text) ≡ true = ap (list_all is_flat) (sym classes) ∙ list_all-map is_flat class_in properties ∙ flat in
+  pub flat-are : (levels : List ℕ) → levels ≡ replicate (length properties) level → level ≤ 1 → list_all (λ one. is_flat_at level (class_in one)) properties ≡ true → levels ≡ levels_of tables text base
+  flat-are levels e low flat =
+      let all : list_all (is_flat_at level) (map (class_of tables) text) ≡ true = ap (list_all (is_flat_at level)) (sym classes) ∙ list_all-map (is_flat_at level) class_in properties ∙ flat in
       let size : length properties ≡ length (map (class_of tables) text) = sym (length-map properties class_in) ∙ ap length classes in
-      let zeros : ℕ → List ℕ = λ n. replicate n 0 in
-      e ∙ ap zeros size
-      ∙ sym (zero_levels (bracket_of tables) text (map (class_of tables) text) (all_from is_flat (map (class_of tables) text) all))
-      ∙ ap (paragraph_levels (bracket_of tables) text (map (class_of tables) text)) (sym low ∙ level-is)
+      e ∙ ap (λ n. replicate n level) size
+      ∙ sym (flat_levels (bracket_of tables) text (map (class_of tables) text) level low all)
+      ∙ ap (paragraph_levels (bracket_of tables) text (map (class_of tables) text)) level-is

@@ -1,15 +1,15 @@
 -- One step of the pass for the weak rules, W1 to W7.
 use Rattle.std.proofs.Common.{◌≡◌, ℕ, ◌+◌, ◌-◌, ◌<◌, ◌≤◌, Bool, true, false, not, if◌then◌else◌, List, [], ◌∷◌, ◌++◌, length, get_or, set, take, drop, replicate, refl, sym, ap, subst, ◌∙◌, inl, inr, arith, append_assoc}
-use Rattle.std.proofs.lemmas.Bool.{cond-true, cond-false, cases_Bool, not_from_false}
+use Rattle.std.proofs.lemmas.Bool.{cond-true, cond-false, cases_Bool}
 use Rattle.std.proofs.lemmas.List.{append-nil, length-set, length-take-le, drop-drop, drop-set-lt, drop_more, drop_all, take-take, take-append-le, take-set, take-set-le, take_all, take_more_set, replicate_more}
 use Rattle.ucd.specs.declared.bidi_class.BidiClass.{BidiClass}
-use Rattle.ucd.specs.declared.bidi_class.BidiClass.TheVariants.{L, R, AL, EN, ES, ET, AN, CS, NSM, ON}
-use Rattle.bidi.specs.declared.weak.Row.{Row}
-use Rattle.bidi.specs.declared.weak.Row.TheVariants.{Nothing, European, Arabic, EuropeanTerminators, EuropeanSeparator, ArabicSeparator, Terminators}
-use Rattle.ucd.specs.Classes.{class_at, is_strong}
+use Rattle.ucd.specs.declared.bidi_class.BidiClass.TheVariants.{L, R, AL, EN, ES, ET, AN, CS, ON}
+use Rattle.bidi.specs.declared.weak_table.Row.{Row}
+use Rattle.bidi.specs.declared.weak_table.Row.TheVariants.{Nothing, European, Arabic, EuropeanTerminators, EuropeanSeparator, ArabicSeparator, Terminators}
+use Rattle.ucd.specs.Classes.{is_strong}
 use Rattle.ucd.specs.Classes.{is_mark}
 use Rattle.bidi.specs.Weak.{is_left, w3_type, weak}
-use Rattle.bidi.specs.Waiting.{is_settled, is_weak, mark_type, digit_type, read_types, waits, lengthens, completes, written, row_after, start_after, types_after, AreTypesSoFar, SettlesRow}
+use Rattle.bidi.specs.Waiting.{mark_type, digit_type, read_types, waits, lengthens, completes, written, row_after, start_after, types_after, AreTypesSoFar}
 use Rattle.bidi.proofs.WeakLemmas.{left-w3, weak-is}
 
 -- the nearest strong type is the same whether AL is replaced by R (W3) before or after the next type is read
@@ -218,107 +218,6 @@ module _ (sos : BidiClass) (old current : List BidiClass) (before strong : BidiC
           | inr w ↦ subst P (sym (cond-false (waits (row_after row type)) at (at + 1) w)) (settled e w)
         ])
       ])
-
--- a type that W4 to W7 do not change is written unchanged, and ends the run
-other-written : (row : Row) (left : Bool) (type : BidiClass) → is_weak type ≡ false → written row left type ≡ type
-other-written row left EN e = absurd (cc)
-other-written row left ES e = absurd (cc)
-other-written row left ET e = absurd (cc)
-other-written row left AN e = absurd (cc)
-other-written row left CS e = absurd (cc)
-other-written row left _ e = refl
-
-other-completes : (row : Row) (type : BidiClass) → is_weak type ≡ false → completes row type ≡ false
-other-completes EuropeanSeparator EN e = absurd (cc)
-other-completes EuropeanSeparator _ e = refl
-other-completes ArabicSeparator AN e = absurd (cc)
-other-completes ArabicSeparator _ e = refl
-other-completes Terminators EN e = absurd (cc)
-other-completes Terminators _ e = refl
-other-completes _ type e = refl
-
-other-lengthens : (row : Row) (type : BidiClass) → is_weak type ≡ false → lengthens row type ≡ false
-other-lengthens Terminators ET e = absurd (cc)
-other-lengthens Terminators _ e = refl
-other-lengthens _ type e = refl
-
-other-row : (row : Row) (type : BidiClass) → is_weak type ≡ false → row_after row type ≡ Nothing
-other-row row EN e = absurd (cc)
-other-row row ES e = absurd (cc)
-other-row row ET e = absurd (cc)
-other-row row AN e = absurd (cc)
-other-row row CS e = absurd (cc)
-other-row row _ e = refl
-
-pub types-other : (sos : BidiClass) (old current : List BidiClass) (before strong : BidiClass) (row : Row) (start at : ℕ) → AreTypesSoFar sos old current before strong row start at
-    → (d : BidiClass) → at < length current → (marked type : BidiClass) → marked ≡ mark_type before (get_or current at d) → type ≡ w3_type (digit_type strong marked) → is_weak type ≡ false
-    → AreTypesSoFar sos old (set current at type) (if not (is_mark (get_or current at d)) then get_or current at d else before) (if is_strong marked then marked else strong) Nothing (at + 1) (at + 1)
-types-other sos old current before strong row start at so_far d within marked type is_marked is_type other =
-    let P : Row → Type 0 =
-    λ r. AreTypesSoFar sos old (set current at type) (if not (is_mark (get_or current at d)) then get_or current at d else before) (if is_strong marked then marked else strong) r (at + 1) (at + 1) in
-    let begins : start_after row type start at ≡ at + 1 =
-    ap (λ b. if b then start else (if waits (row_after row type) then at else at + 1)) (other-lengthens row type other)
-    ∙ ap (λ r. if waits r then at else at + 1) (other-row row type other) in
-    let front : take at current ≡ take start current ++ replicate (at - start) (if completes row type then type else ON) =
-    so_far.waiting ∙ ap (λ t. take start current ++ replicate (at - start) t) (sym (cond-false (completes row type) type ON (other-completes row type other))) in
-    subst P (other-row row type other) (
-    types-next sos old current before strong row start at so_far d within marked type type current is_marked is_type (sym (other-written row (is_left strong) type other))
-    refl refl front (at + 1) (sym begins))
-
-twice : {X : Type 0} (b : Bool) (x y : X) → (if b then x else (if b then x else y)) ≡ (if b then x else y)
-twice true x y = refl
-twice false x y = refl
-
--- for a type that only W3 can change, the pass writes the type after W3, and no type waits
-not_mark : (class : BidiClass) → is_settled class ≡ true → is_mark class ≡ false
-not_mark NSM e = absurd (cc)
-not_mark _ e = refl
-
-settled-mark : (before class : BidiClass) → is_settled class ≡ true → class ≡ mark_type before class
-settled-mark before NSM e = absurd (cc)
-settled-mark before _ e = refl
-
-settled-type : (strong class : BidiClass) → is_settled class ≡ true → w3_type class ≡ w3_type (digit_type strong class)
-settled-type strong EN e = absurd (cc)
-settled-type strong _ e = refl
-
-settled-other : (class : BidiClass) → is_settled class ≡ true → is_weak (w3_type class) ≡ false
-settled-other EN e = absurd (cc)
-settled-other ES e = absurd (cc)
-settled-other ET e = absurd (cc)
-settled-other AN e = absurd (cc)
-settled-other CS e = absurd (cc)
-settled-other _ e = refl
-
-pub types-settled : (sos : BidiClass) (old current : List BidiClass) (before strong : BidiClass) (row : Row) (start at : ℕ) → AreTypesSoFar sos old current before strong row start at
-    → (d : BidiClass) → at < length current → is_settled (get_or current at d) ≡ true
-    → AreTypesSoFar sos old (set current at (w3_type (get_or current at d))) (get_or current at d) (if is_strong (get_or current at d) then get_or current at d else strong) Nothing (at + 1) (at + 1)
-types-settled sos old current before strong row start at so_far d within e =
-    let class = get_or current at d in
-    let type = w3_type class in
-    let P : BidiClass → Type 0 = λ b. AreTypesSoFar sos old (set current at type) b (if is_strong class then class else strong) Nothing (at + 1) (at + 1) in
-    subst P (cond-true (not (is_mark class)) class before (not_from_false (is_mark class) (not_mark class e))) (
-    types-other sos old current before strong row start at so_far d within class type (settled-mark before class e) (settled-type strong class e) (settled-other class e))
-
--- in a run of equal types that only W3 can change, the pass writes the first type
-pub types-row-first : (current : List BidiClass) (at : ℕ) (class type : BidiClass) → at < length current → class_at current at ≡ class → is_settled class ≡ true → type ≡ w3_type class
-    → SettlesRow current at class (set current at type) (at + 1)
-types-row-first current at class type within here e is sos old before strong row start so_far =
-    let P : BidiClass → BidiClass → Type 0 = λ c t. AreTypesSoFar sos old (set current at t) c (if is_strong c then c else strong) Nothing (at + 1) (at + 1) in
-    let there : is_settled (class_at current at) ≡ true = ap is_settled here ∙ e in
-    subst (λ t. P class t) (sym is) (subst (λ c. P c (w3_type c)) here (types-settled sos old current before strong row start at so_far ON within there))
-
--- in a run of equal types that only W3 can change, the pass writes one more type
-pub types-row-next : (first : List BidiClass) (start : ℕ) (class type : BidiClass) (current : List BidiClass) (at : ℕ)
-    → at < length current → get_or current at L ≡ class → is_settled class ≡ true → type ≡ w3_type class → SettlesRow first start class current at
-    → SettlesRow first start class (set current at type) (at + 1)
-types-row-next first start class type current at within here e is settled sos old before strong row begins so_far =
-    let s = if is_strong class then class else strong in
-    let now = settled sos old before strong row begins so_far in
-    let P : BidiClass → BidiClass → Type 0 = λ c t. AreTypesSoFar sos old (set current at t) c (if is_strong c then c else s) Nothing (at + 1) (at + 1) in
-    let there : is_settled (get_or current at L) ≡ true = ap is_settled here ∙ e in
-    let next = subst (λ t. P class t) (sym is) (subst (λ c. P c (w3_type c)) here (types-settled sos old current class s Nothing at at now L within there)) in
-    subst (λ x. AreTypesSoFar sos old (set current at type) class x Nothing (at + 1) (at + 1)) (twice (is_strong class) class strong) next
 
 -- at the end of the sequence, the types that still wait stay ON, and the list has the types after W7
 pub types-end : (sos : BidiClass) (old current : List BidiClass) (before strong : BidiClass) (row : Row) (start at : ℕ) → AreTypesSoFar sos old current before strong row start at

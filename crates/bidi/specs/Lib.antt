@@ -21,3 +21,4 @@ pub mod Stayed
 pub mod TextCuts
 pub mod Waiting
 pub mod Weak
+pub mod WeakTable

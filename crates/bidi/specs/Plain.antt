@@ -1,8 +1,8 @@
 -- Paragraphs that need fewer rules than others (UAX #9, X1 to X10 and N0).
-use Rattle.std.specs.Prelude.{Bool, true, false}
+use Rattle.std.specs.Prelude.{ℕ, ◌==◌, Bool, true, false, if◌then◌else◌}
 use Rattle.ucd.specs.declared.bidi_class.BidiClass.{BidiClass}
 use Rattle.ucd.specs.declared.properties.Properties.{Properties}
-use Rattle.ucd.specs.declared.bidi_class.BidiClass.TheVariants.{R, AL, AN, BN, LRE, LRO, RLE, RLO, PDF, LRI, RLI, FSI, PDI}
+use Rattle.ucd.specs.declared.bidi_class.BidiClass.TheVariants.{L, R, AL, EN, AN, BN, LRE, LRO, RLE, RLO, PDF, LRI, RLI, FSI, PDI}
 
 -- Whether a character is plain: neither an opener nor a closer, and kept by X9. A paragraph of plain
 -- characters is one isolating run sequence.
@@ -35,6 +35,27 @@ is_flat RLI = false
 is_flat FSI = false
 is_flat PDI = false
 is_flat class = true
+
+-- Whether a character is flat in a right-to-left paragraph: it raises no level above 1. In a paragraph of such
+-- characters at paragraph level 1, all levels are 1.
+abbrev pub is_flat_rtl : BidiClass → Bool
+is_flat_rtl L = false
+is_flat_rtl EN = false
+is_flat_rtl AN = false
+is_flat_rtl LRE = false
+is_flat_rtl LRO = false
+is_flat_rtl RLE = false
+is_flat_rtl RLO = false
+is_flat_rtl PDF = false
+is_flat_rtl LRI = false
+is_flat_rtl RLI = false
+is_flat_rtl FSI = false
+is_flat_rtl PDI = false
+is_flat_rtl class = true
+
+-- whether a character raises no level above the paragraph level, 0 or 1
+abbrev pub is_flat_at : ℕ → BidiClass → Bool
+is_flat_at level class = if level == 0 then is_flat class else is_flat_rtl class
 
 -- whether a character is a bracket, according to its properties
 abbrev pub has_bracket_in : Properties → Bool

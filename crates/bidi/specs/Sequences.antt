@@ -1,10 +1,10 @@
 -- Level runs and isolating run sequences (UAX #9, X9, X10, BD7 and BD13). An index refers to the list of
 -- characters that X9 keeps. This list has all isolate initiators and PDIs of the paragraph, so they match in
 -- the same way as in the paragraph.
-use Rattle.std.specs.Prelude.{ℕ, ◌+◌, ◌-◌, ◌%◌, ◌==◌, max, Bool, true, false, ◌&&◌, not, List, [], ◌∷◌, ◌++◌, length, filter, slice_index, Option, Some, None, is_none, if◌then◌else◌}
+use Rattle.std.specs.Prelude.{ℕ, ◌+◌, ◌-◌, ◌%◌, ◌==◌, max, Bool, false, ◌&&◌, not, List, [], ◌∷◌, ◌++◌, length, filter, slice_index, Option, Some, None, is_none, if◌then◌else◌}
 use Rattle.std.specs.List.{list_any, range_with_len}
 use Rattle.ucd.specs.declared.bidi_class.BidiClass.{BidiClass}
-use Rattle.ucd.specs.declared.bidi_class.BidiClass.TheVariants.{L, R, RLE, LRE, RLO, LRO, PDF, BN}
+use Rattle.ucd.specs.declared.bidi_class.BidiClass.TheVariants.{L, R}
 use Rattle.ucd.specs.Classes.{class_at, is_initiator, is_removed}
 use Rattle.bidi.specs.Base.{match_of}
 use Rattle.bidi.specs.Cuts.{paragraphs}

@@ -2,9 +2,9 @@
 -- earlier types that W1 to W3 and W7 look back at.
 use Rattle.std.specs.Prelude.{◌≡◌, ℕ, ◌+◌, ◌-◌, ◌≤◌, Bool, true, false, ◌&&◌, not, List, [], ◌∷◌, ◌++◌, length, map, take, drop, replicate, if◌then◌else◌}
 use Rattle.ucd.specs.declared.bidi_class.BidiClass.{BidiClass}
-use Rattle.ucd.specs.declared.bidi_class.BidiClass.TheVariants.{L, EN, ES, ET, AN, CS, NSM, ON}
-use Rattle.bidi.specs.declared.weak.Row.{Row}
-use Rattle.bidi.specs.declared.weak.Row.TheVariants.{Nothing, European, Arabic, EuropeanTerminators, EuropeanSeparator, ArabicSeparator, Terminators}
+use Rattle.ucd.specs.declared.bidi_class.BidiClass.TheVariants.{L, EN, ES, ET, AN, CS, ON}
+use Rattle.bidi.specs.declared.weak_table.Row.{Row}
+use Rattle.bidi.specs.declared.weak_table.Row.TheVariants.{Nothing, European, Arabic, EuropeanTerminators, EuropeanSeparator, ArabicSeparator, Terminators}
 use Rattle.ucd.specs.Classes.{is_strong}
 use Rattle.ucd.specs.Classes.{is_mark}
 use Rattle.bidi.specs.Weak.{mark_after, is_number, is_arabic, is_left, w3_type}
@@ -39,11 +39,6 @@ is_weak ET = true
 is_weak AN = true
 is_weak CS = true
 is_weak type = false
-
--- whether W1, W2 and W4 to W7 leave a type as it is
-abbrev pub is_settled : BidiClass → Bool
-is_settled NSM = false
-is_settled type = not (is_weak type)
 
 -- whether an ET that comes next is in a run of ET that follows a European number
 abbrev pub is_after_number : Row → Bool
@@ -118,9 +113,3 @@ pub record AreTypesSoFar (sos : BidiClass) (old current : List BidiClass) (befor
   pub waiting : take at current ≡ take start current ++ replicate (at - start) ON
   pub whole : take start current ++ types_after row (at - start) (w3_type strong) (read_types before strong (drop at old))
       ≡ types_after Nothing 0 (w3_type sos) (read_types sos sos old)
-
--- if `current` is the state of the pass at `at`, `settled` is its state at `next`, where the run of equal types ends
-abbrev pub SettlesRow : List BidiClass → ℕ → BidiClass → List BidiClass → ℕ → Type 0
-SettlesRow current at class settled next =
-    (sos : BidiClass) (old : List BidiClass) (before strong : BidiClass) (row : Row) (start : ℕ) → AreTypesSoFar sos old current before strong row start at
-    → AreTypesSoFar sos old settled class (if is_strong class then class else strong) Nothing next next

@@ -27,6 +27,7 @@ mod sequence_levels;
 mod sequences;
 mod text_cuts;
 mod weak;
+mod weak_table;
 
 pub use base::{Base, base_level, base_level_by, base_level_of, first_strong_level};
 pub use bracket_type::BracketType;

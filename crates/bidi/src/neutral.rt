@@ -13,6 +13,7 @@ use ucd::BidiClass;
 /// Applies N1, N2, I1 and I2 in one pass. A run of neutrals gets the direction of the types on both sides if
 /// they have the same direction, or else the embedding direction. Its levels are written after the type that
 /// follows it has been read.
+#[inline(never)] // so that the loop has all registers
 pub(crate) fn resolve_neutral(
     types: &[BidiClass],
     level: u8,

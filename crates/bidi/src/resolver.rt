@@ -14,7 +14,7 @@ ghost use Rattle.bidi.specs.KnownBrackets.{AreKnown};
 ghost use Rattle.ucd.specs.Classes.{class_in};
 ghost use Rattle.bidi.specs.Levels.{levels_of, paragraph_levels};
 ghost use Rattle.bidi.specs.Paragraphs.{AreFor, OfAllTexts};
-ghost use Rattle.bidi.specs.Plain.{has_bracket_in, is_flat, is_plain};
+ghost use Rattle.bidi.specs.Plain.{has_bracket_in, is_flat, is_flat_at, is_flat_rtl, is_plain};
 
 use crate::base::{Base, base_level_by, base_level_of};
 use crate::bracket_type::{BracketType, bracket_type, is_bracket, next_bracket};
@@ -23,45 +23,35 @@ use crate::sequence_levels::Brackets;
 use std::alloc::{AllocError, Global};
 use ucd::{BidiClass, Properties, Tables};
 
+// The loops over classes below have no branches, so that the compiler tests many characters at a time. That
+// is why these three functions compare and do not match.
+
 // Returns whether a character of this class is kept by X9, and neither opens nor closes an embedding,
 // override or isolate.
 fn is_plain(class: BidiClass) -> bool
     ensures { result ≡ is_plain class }
 {
-    !matches!(
-        class,
-        BidiClass::BN
-            | BidiClass::LRE
-            | BidiClass::LRO
-            | BidiClass::RLE
-            | BidiClass::RLO
-            | BidiClass::PDF
-            | BidiClass::LRI
-            | BidiClass::RLI
-            | BidiClass::FSI
-            | BidiClass::PDI
-    )
+    (class as u8 <= BidiClass::ON as u8) & (class as u8 != BidiClass::BN as u8)
 }
 
 // Returns whether a character of this class raises no level above 0.
 fn is_flat(class: BidiClass) -> bool
     ensures { result ≡ is_flat class }
 {
-    !matches!(
-        class,
-        BidiClass::R
-            | BidiClass::AL
-            | BidiClass::AN
-            | BidiClass::LRE
-            | BidiClass::LRO
-            | BidiClass::RLE
-            | BidiClass::RLO
-            | BidiClass::PDF
-            | BidiClass::LRI
-            | BidiClass::RLI
-            | BidiClass::FSI
-            | BidiClass::PDI
-    )
+    let number = class as u8;
+    (number <= BidiClass::ON as u8)
+        & ((number != BidiClass::R as u8)
+            & ((number != BidiClass::AL as u8) & (number != BidiClass::AN as u8)))
+}
+
+// Returns whether a character of this class raises no level above 1.
+fn is_flat_rtl(class: BidiClass) -> bool
+    ensures { result ≡ is_flat_rtl class }
+{
+    let number = class as u8;
+    (number <= BidiClass::ON as u8)
+        & ((number != BidiClass::L as u8)
+            & ((number != BidiClass::EN as u8) & (number != BidiClass::AN as u8)))
 }
 
 fn are_plain(classes: &[BidiClass]) -> bool
@@ -70,17 +60,84 @@ fn are_plain(classes: &[BidiClass]) -> bool
     classes.iter().all(|class| is_plain(*class))
 }
 
-fn are_flat(classes: &[BidiClass]) -> bool
-    ensures { result ≡ list_all is_flat classes.now }
+// Returns whether no character raises a level above the base level.
+fn are_flat(classes: &[BidiClass], base: u8) -> bool
+    requires { base ≤ 1 }
+    ensures { result ≡ list_all (is_flat_at base) classes.now }
 {
-    classes.iter().all(|class| is_flat(*class))
+    if base == 0 {
+        classes.iter().all(|class| is_flat(*class))
+    } else {
+        classes.iter().all(|class| is_flat_rtl(*class))
+    }
 }
 
-// Returns whether no character raises a level above 0, given the properties of the characters.
-fn are_flat_by(properties: &[Properties]) -> bool
+// The number of characters whose classes are tested together.
+const AT_ONCE: usize = 128;
+
+// Fewer characters than these are tested one after another.
+const FEW: usize = 8;
+
+// Returns whether no character raises a level above the base level, given the properties of the characters.
+fn are_flat_by(properties: &[Properties], base: u8) -> bool
+    requires { base ≤ 1 }
+    ensures { result ≡ list_all (λ one. is_flat_at base (class_in one)) properties.now }
+{
+    if properties.len() < FEW {
+        return are_few_flat(properties, base);
+    }
+    let mut at = 0;
+    while at < properties.len() {
+        let end = properties.len().min(at + AT_ONCE);
+        if !are_flat_in(&properties[at..end], base) {
+            return false;
+        }
+        at = end;
+    }
+    true
+}
+
+fn are_flat_in(properties: &[Properties], base: u8) -> bool
+    requires { base ≤ 1 }
+    ensures { result ≡ list_all (λ one. is_flat_at base (class_in one)) properties.now }
+{
+    if base == 0 {
+        are_flat_ltr(properties)
+    } else {
+        are_flat_rtl(properties)
+    }
+}
+
+// Does the same as `are_flat_by`, one character after another.
+fn are_few_flat(properties: &[Properties], base: u8) -> bool
+    requires { base ≤ 1 }
+    ensures { result ≡ list_all (λ one. is_flat_at base (class_in one)) properties.now }
+{
+    if base == 0 {
+        properties.iter().all(|one| is_flat(one.bidi_class()))
+    } else {
+        properties.iter().all(|one| is_flat_rtl(one.bidi_class()))
+    }
+}
+
+fn are_flat_ltr(properties: &[Properties]) -> bool
     ensures { result ≡ list_all (λ one. is_flat (class_in one)) properties.now }
 {
-    properties.iter().all(|one| is_flat(one.bidi_class()))
+    let mut flat = true;
+    for at in 0..properties.len() {
+        flat &= is_flat(properties[at].bidi_class());
+    }
+    flat
+}
+
+fn are_flat_rtl(properties: &[Properties]) -> bool
+    ensures { result ≡ list_all (λ one. is_flat_rtl (class_in one)) properties.now }
+{
+    let mut flat = true;
+    for at in 0..properties.len() {
+        flat &= is_flat_rtl(properties[at].bidi_class());
+    }
+    flat
 }
 
 fn has_brackets(brackets: &[BracketType]) -> bool
@@ -121,17 +178,17 @@ fn put_classes(properties: &[Properties], classes: &mut [BidiClass]) -> Summary
     ensures brackets { result.has_brackets ≡ list_any has_bracket_in properties.now }
 {
     let mut all_plain = true;
-    let mut any_bracket = false;
+    let mut no_bracket = true;
     for at in 0..properties.len() {
         let one = properties[at];
         let class = one.bidi_class();
         classes[at] = class;
         all_plain &= is_plain(class);
-        any_bracket |= one.has_bracket();
+        no_bracket &= !one.has_bracket();
     }
     Summary {
         is_plain: all_plain,
-        has_brackets: any_bracket,
+        has_brackets: !no_bracket,
     }
 }
 
@@ -232,13 +289,13 @@ fn fill_any_brackets(
     fill_brackets(tables, text, properties, brackets)
 }
 
-// Replaces the contents of `levels` with `len` zeros.
-fn put_zeros(levels: &mut Vec<u8>, len: usize) -> Result<(), AllocError>
-    ensures ok { OnOk result (levels.new.items ≡ replicate len 0) }
+// Replaces the contents of `levels` with `len` times the base level.
+fn put_base(levels: &mut Vec<u8>, len: usize, base: u8) -> Result<(), AllocError>
+    ensures ok { OnOk result (levels.new.items ≡ replicate len base) }
     ensures full { OnErr result (vec_capacity levels.old < len) }
 {
     levels.clear();
-    levels.resize(len, 0)?;
+    levels.resize(len, base)?;
     Ok(())
 }
 
@@ -298,15 +355,15 @@ impl Resolver {
             levels.clear();
             return Ok(level);
         }
-        if level == 0 && are_flat_by(properties) {
-            put_zeros(levels, properties.len())?;
+        if are_flat_by(properties, level) {
+            put_base(levels, properties.len(), level)?;
         } else {
             self.resolve_raised(tables, text, properties, level, levels)?;
         }
         Ok(level)
     }
 
-    // Finds the levels of a paragraph with a given base level, without the fast path for level 0.
+    // Finds the levels of a paragraph with a given base level, without the fast path for equal levels.
     fn resolve_raised(
         &mut self,
         tables: &Tables,
@@ -365,8 +422,8 @@ impl Resolver {
             levels.clear();
             return Ok(level);
         }
-        if level == 0 && are_flat(classes) {
-            put_zeros(levels, classes.len())?;
+        if are_flat(classes, level) {
+            put_base(levels, classes.len(), level)?;
             return Ok(level);
         }
         let paragraph = Classified {
@@ -419,7 +476,10 @@ pub(crate) fn properties_of(
 ) -> Result<Vec<Properties>, AllocError>
     ensures { IfOk result (λ properties. properties.items ≡ map (properties_of tables.now) text.now) }
 {
-    text.iter().map(|c| tables.properties(*c)).collect(alloc)
+    // All items are overwritten below, so their values do not matter.
+    let mut properties = vec![in alloc; tables.properties('\0'); text.len()]?;
+    tables.look_up(text, &mut properties);
+    Ok(properties)
 }
 
 /// Returns the level, from 0 to 126, of each character of one paragraph before L1 (UAX #9, X1 to I2). The

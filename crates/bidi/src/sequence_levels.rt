@@ -9,6 +9,7 @@ ghost use Rattle.bidi.specs.Paragraphs.{AreFor, AreSides, AreSidesBetween, IsRea
 ghost use Rattle.bidi.specs.Paragraphs.{resolved_by, sequence_in, write_by};
 ghost use Rattle.ucd.specs.Within.{AreWithin};
 ghost use Rattle.bidi.specs.Runs.{IsRunEnd, marked};
+ghost use Rattle.bidi.specs.WeakTable.{is_side};
 
 use crate::bracket_type::BracketType;
 use crate::brackets::{Pairs, copy_types};
@@ -50,6 +51,7 @@ fn sides_of(paragraph: &Paragraph<'_>, places: &[usize]) -> Sides
     requires within { AreWithin (length paragraph.now.stayed.now.levels.items) places.now }
     ensures sides { AreSides paragraph.now places.now result }
     ensures bounded { result.level ≤ 125 }
+    ensures side { is_side result.sos ≡ true }
 {
     let first = places[0];
     let last = places[places.len() - 1];
@@ -63,6 +65,7 @@ fn sides_between(paragraph: &Paragraph<'_>, first: usize, last: usize) -> Sides
     requires last { last < length paragraph.now.stayed.now.levels.items }
     ensures sides { AreSidesBetween paragraph.now first last result }
     ensures bounded { result.level ≤ 125 }
+    ensures side { is_side result.sos ≡ true }
 {
     let levels = paragraph.stayed.levels.as_slice();
     let classes = paragraph.stayed.classes.as_slice();
@@ -86,6 +89,7 @@ pub(crate) fn resolve_types(
     requires explicit { explicit.now ≡ types.old }
     requires levels { length levels.old ≡ length types.old }
     requires bounded { sides.level ≤ 125 }
+    requires side { is_side sides.sos ≡ true }
     ensures { OnOk result (OfAllTexts brackets.now (length types.old) (λ look text.
         levels.new ≡ sequence_levels look sides.level sides.sos sides.eos text types.old)) }
 {

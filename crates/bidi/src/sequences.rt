@@ -1,12 +1,13 @@
 //! Level runs and isolating run sequences (UAX #9, X10, BD7 and BD13) of the characters that X9 keeps.
 ghost use Rattle.std.specs.Prelude.{◌≡◌, ◌+◌, ◌-◌, ◌<◌, ◌≤◌, ◌==◌, ◌&&◌, ◌++◌, if◌then◌else◌};
-ghost use Rattle.std.specs.Prelude.{length, max, slice_index, OnOk};
+ghost use Rattle.std.specs.Prelude.{length, max, slice_index, true, OnOk};
 ghost use Rattle.std.specs.List.{range_with_len};
 ghost use Rattle.ucd.specs.Classes.{class_at, is_initiator};
 ghost use Rattle.bidi.specs.Isolates.{matches_of};
 ghost use Rattle.bidi.specs.Sequences.{direction, level_before, level_after};
 ghost use Rattle.ucd.specs.Within.{AreWithin};
 ghost use Rattle.bidi.specs.Runs.{IsRunEnd, next_start, sequence_at};
+ghost use Rattle.bidi.specs.WeakTable.{is_side};
 
 use crate::classes::is_initiator;
 use std::alloc::AllocError;
@@ -14,7 +15,8 @@ use ucd::BidiClass;
 
 /// Returns the direction of a level.
 pub(crate) fn direction(level: u8) -> BidiClass
-    ensures { result ≡ direction level }
+    ensures direction { result ≡ direction level }
+    ensures side { is_side result ≡ true }
 {
     if level % 2 == 1 {
         BidiClass::R
@@ -95,7 +97,9 @@ pub(crate) fn gather(
 /// Returns the direction before a sequence's first character (X10).
 pub(crate) fn sos(levels: &[u8], base: u8, first: usize) -> BidiClass
     requires { first < length levels.now }
-    ensures { result ≡ direction (max (slice_index levels.now first) (level_before base levels.now first)) }
+    ensures direction { result
+        ≡ direction (max (slice_index levels.now first) (level_before base levels.now first)) }
+    ensures side { is_side result ≡ true }
 {
     let before = if first == 0 { base } else { levels[first - 1] };
     direction(levels[first].max(before))

@@ -24,7 +24,7 @@ returns c look text are =
     } in
     let made : written ≡ sequence_levels look base c.direction-side.result c.direction-side.result text c.deref_mut.result.now = c.in_ok-resolve_types.ensures look text same in
     let is : written ≡ sequence_levels look base (direction base) (direction base) text classes =
-    made ∙ ap (λ d. sequence_levels look base d d text c.deref_mut.result.now) c.direction-side.ensures ∙ ap (sequence_levels look base (direction base) (direction base) text) types in
+    made ∙ ap (λ d. sequence_levels look base d d text c.deref_mut.result.now) c.direction-side.ensures.direction ∙ ap (sequence_levels look base (direction base) (direction base) text) types in
     let kept = c.resolve_types.auto.levels ∙ c.deref_mut-2.ensures.len in
     let size : length written ≡ length classes = kept ∙ c.in_ok-resize.ensures.len in
     with_items_is c.resize.new.self written kept ∙ is

@@ -15,7 +15,7 @@ returns c look text are =
     let paired : c.if-brackets.types ≡ brackets look embedding sides.sos text old (weak sides.sos old) =
     elim c.if-brackets.branch [
       | then-brackets+in_ok-resolve w ↦ w.types-is
-          ∙ rw (w.direction-embedding.ensures, c.requires.explicit, c.resolve_weak.ensures) at w.in_ok-resolve.ensures look text (are.types w.if-brackets.true)
+          ∙ rw (w.direction-embedding.ensures.direction, c.requires.explicit, c.resolve_weak.ensures) at w.in_ok-resolve.ensures look text (are.types w.if-brackets.true)
       | else-brackets w ↦ w.types-is ∙ c.resolve_weak.ensures
           ∙ sym (brackets-none look text (weak sides.sos old) (are.none w.if-brackets.false) embedding sides.sos old
           (are.size ∙ sym c.resolve_weak.auto.types ∙ ap length c.resolve_weak.ensures))

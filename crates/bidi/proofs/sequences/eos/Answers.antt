@@ -24,5 +24,5 @@ returns c =
     let levels = c.args.levels.now in
     let last = c.args.last in
     let is_open = c.is_open.ensures ∙ open_there c.args.classes.now c.args.matches.now last (length levels) c.requires.matches c.requires.length c.requires.within in
-    c.direction.ensures ∙ ap direction (c.max.ensures ∙ ap (max (get_or levels last 0)) (c.level_after-after.ensures
+    c.direction.ensures.direction ∙ ap direction (c.max.ensures ∙ ap (max (get_or levels last 0)) (c.level_after-after.ensures
     ∙ ap (λ b. if b then c.args.base else (if last + 1 == length levels then c.args.base else get_or levels (last + 1) 0)) is_open))
