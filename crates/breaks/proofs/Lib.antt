@@ -1,6 +1,7 @@
 pub mod BoolLemmas
 pub mod Computed
 pub mod NumberLemmas
+pub mod OrdinaryLemmas
 pub mod PassLemmas
 pub mod StepLemmas
 pub mod SymbolLemmas

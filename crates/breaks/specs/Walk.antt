@@ -1,14 +1,15 @@
 -- The state of the single pass over the characters: what the rules need to know about the bases before a
 -- position. A state belongs to all bases that the rules cannot distinguish from its example bases
 -- (`bases_at`). Only the code depends on states. The contract of `marks` refers to Marks.antt instead.
-use Rattle.std.specs.Prelude.{◌≡◌, ℕ, ◌*◌, ◌<◌, Bool, true, false, ◌||◌, ◌&&◌, ◌==◌, ◌++◌, List, [], ◌∷◌, map, MatchBool, get_or, if◌then◌else◌}
+use Rattle.std.specs.Prelude.{◌≡◌, ℕ, ◌*◌, ◌<◌, Bool, true, false, not, ◌||◌, ◌&&◌, ◌==◌, ◌++◌, List, [], ◌∷◌, map, MatchBool, get_or, if◌then◌else◌}
 use Rattle.ucd.specs.declared.line_class.LineClass.{LineClass}
 use Rattle.ucd.specs.declared.line_class.LineClass.TheVariants as class
+use Rattle.ucd.specs.declared.properties.Properties.{Properties}
 use Rattle.breaks.specs.Bases.{Base, Character, alone, bases_of, class_of, end_of, stays_with}
 use Rattle.breaks.specs.Classes.{is_same, is_one_of}
 use Rattle.breaks.specs.Numbers.{affix, closing, middle, opening}
 use Rattle.breaks.specs.Rules.{Row, rules, rows_before_numbers, rows_of_numbers, rows_after_numbers, mark_by, never, is, is_spaced, ends_in_odd_run}
-use Rattle.breaks.specs.Symbols.{narrow}
+use Rattle.breaks.specs.Symbols.{character_by, narrow}
 use Rattle.breaks.specs.declared.mark.Mark.{Mark}
 use Rattle.breaks.specs.declared.mark.Mark.TheVariants.{Never}
 use Rattle.breaks.specs.declared.table.TheConstants.{NEVER, STATE_COUNT, UNLESS, WAITS}
@@ -72,6 +73,16 @@ bases_at number = get_or states number []
 -- pictograph
 abbrev pub decided_at : ℕ → Bool → Bool → ℕ
 decided_at outcome is_joined is_pictograph = if is_joined || ((outcome == UNLESS) && is_pictograph) then NEVER else outcome
+
+-- whether a character is neither a ZWJ nor a future pictograph, so that LB8a and LB30b for pictographs say nothing about the position
+-- after it
+abbrev pub is_ordinary : Properties → Bool
+is_ordinary p = not (is_same (character_by p).class class.ZWJ) && not p.is_future_pictograph
+
+-- whether the characters before a position are ordinary, as far as the rules look back
+pub record FollowsOrdinary (walk : Walk) : Type 0 where
+  pub unjoined : walk.is_joined ≡ false
+  pub no_pictograph : walk.is_pictograph ≡ false
 
 -- the mark of an outcome that does not wait for the base after next
 abbrev pub marks_alone : Bool → List Mark

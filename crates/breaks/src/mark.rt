@@ -1,16 +1,17 @@
 //! The break marks of a paragraph.
-ghost use Rattle.std.specs.Prelude.{◌≡◌, ◌+◌, ◌-◌, ◌<◌, ◌≤◌, ℕ, Bool, List, Some, drop, length, map};
+ghost use Rattle.std.specs.Prelude.{◌≡◌, ◌+◌, ◌-◌, ◌<◌, ◌≤◌, ℕ, Bool, List, Some, true, drop, length, map};
+ghost use Rattle.std.specs.List.{list_all};
 ghost use Rattle.std.specs.Prelude.{slice_get, slice_index_or, vec_capacity, IfOk, OnErr, OnOk};
 ghost use Rattle.ucd.specs.Properties.{properties_of};
 ghost use Rattle.breaks.specs.Marks.{marks_of};
 ghost use Rattle.breaks.specs.Symbols.{character_by};
-ghost use Rattle.breaks.specs.Walk.{is_before_digit, mark_of};
+ghost use Rattle.breaks.specs.Walk.{is_before_digit, is_ordinary, mark_of};
 ghost use Rattle.breaks.specs.declared.mark.Mark.TheVariants.{Must};
 
 use crate::characters::{Characters, Known, LookedUp};
 use crate::symbol::{ATTACHED, DIGIT, symbol_of};
 use crate::table::WAITS;
-use crate::walk::{Walk, mark_alone};
+use crate::walk::{Walk, is_ordinary, mark_alone};
 use std::alloc::{AllocError, Global};
 use ucd::{Properties, Tables};
 
@@ -68,8 +69,25 @@ pub fn marks_into(
     ensures full { OnErr result (vec_capacity marks.old < length text.now) }
 {
     marks.resize(properties.len(), Mark::Must)?;
-    mark_all(tables, text, Known { properties }, whole_numbers, marks);
+    let characters = Known { properties };
+    if are_ordinary(properties) {
+        mark_ordinary(tables, text, characters, whole_numbers, marks);
+    } else {
+        mark_all(tables, text, characters, whole_numbers, marks);
+    }
     Ok(())
+}
+
+// Returns whether no character is a ZWJ or a future pictograph. The loop has no branches, so that the
+// compiler tests many characters at a time.
+fn are_ordinary(properties: &[Properties]) -> bool
+    ensures { result ≡ list_all is_ordinary properties.now }
+{
+    let mut ordinary = true;
+    for at in 0..properties.len() {
+        ordinary &= is_ordinary(properties[at]);
+    }
+    ordinary
 }
 
 fn mark_all<C: Characters>(
@@ -95,6 +113,31 @@ fn mark_all<C: Characters>(
     marks[last] = Mark::Must;
 }
 
+// Does the same as `mark_all` for ordinary characters, in fewer steps.
+fn mark_ordinary<C: Characters>(
+    tables: &Tables,
+    text: &[char],
+    characters: C,
+    whole_numbers: bool,
+    marks: &mut [Mark],
+)
+    requires len { length marks.old ≡ length text.now }
+    requires characters { C.all characters ≡ map (properties_of tables.now) text.now }
+    requires ordinary { list_all is_ordinary (C.all characters) ≡ true }
+    ensures { marks.new ≡ marks_of tables.now whole_numbers text.now }
+{
+    let Some((first, rest)) = characters.split_first() else {
+        return;
+    };
+    let mut walk = Walk::start(first);
+    let end = rest.len();
+    for i in 0..end {
+        let outcome = walk.pass_ordinary(rest.get(i));
+        marks[i] = mark_before(rest, i + 1, outcome, whole_numbers);
+    }
+    marks[end] = Mark::Must;
+}
+
 // Returns the mark before a character, given its outcome. If the outcome is `WAITS`, the mark also depends on
 // the characters after that character.
 fn mark_before<C: Characters>(
@@ -108,7 +151,7 @@ fn mark_before<C: Characters>(
     ensures { result ≡ mark_of whole_numbers decided
         (is_before_digit (map character_by (drop after (C.all characters)))) }
 {
-    if whole_numbers && decided == WAITS && is_before_digit(characters, after) {
+    if decided == WAITS && whole_numbers && is_before_digit(characters, after) {
         Mark::Never
     } else {
         mark_alone(decided, whole_numbers)

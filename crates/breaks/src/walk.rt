@@ -1,10 +1,10 @@
 //! The single pass over the characters of a paragraph.
-ghost use Rattle.std.specs.Prelude.{◌≡◌, ◌<◌, ◌≤◌, ◌==◌, Bool, get_or, if◌then◌else◌, List, []};
+ghost use Rattle.std.specs.Prelude.{◌≡◌, ◌<◌, ◌≤◌, ◌==◌, Bool, true, get_or, if◌then◌else◌, List, []};
 ghost use Rattle.breaks.specs.Bases.{Base, alone};
 ghost use Rattle.breaks.specs.Symbols.{character_by};
 ghost use Rattle.breaks.specs.declared.mark.Mark.TheVariants.{Never};
 ghost use Rattle.breaks.specs.declared.table.TheConstants.{LAST_ROW};
-ghost use Rattle.breaks.specs.Walk.{Stands, Passes, decided_at, marks_alone};
+ghost use Rattle.breaks.specs.Walk.{FollowsOrdinary, Stands, Passes, decided_at, is_ordinary, marks_alone};
 
 use crate::mark::Mark;
 use crate::symbol::{JOINER, symbol_of};
@@ -27,6 +27,7 @@ impl Walk {
     pub fn start(first: Properties) -> Walk
         ensures stands { (whole_numbers : Bool)
             → Stands whole_numbers result (alone (character_by first)) [] }
+        ensures ordinary { is_ordinary first ≡ true → FollowsOrdinary result }
         ensures within { result.row ≤ LAST_ROW }
     {
         let symbol = symbol_of(first);
@@ -56,6 +57,30 @@ impl Walk {
         self.is_pictograph = is_now_pictograph(outcome, self.is_pictograph, is_pictograph);
         decided
     }
+
+    /// Does the same as `pass` between ordinary characters, for which the table decides alone.
+    pub fn pass_ordinary(&mut self, next: Properties) -> u16
+        requires row { self.old.row ≤ LAST_ROW }
+        requires before { FollowsOrdinary self.old }
+        requires next { is_ordinary next ≡ true }
+        ensures passes { (whole_numbers : Bool) (last : Base) (others : List Base)
+            → Stands whole_numbers self.old last others
+            → Passes whole_numbers self.new last others (character_by next) result }
+        ensures before { FollowsOrdinary self.new }
+        ensures within { self.new.row ≤ LAST_ROW }
+        ensures below { result < 8 }
+    {
+        let found = entry(self.row, symbol_of(next));
+        self.row = (found / PARTS) as usize;
+        found % PARTS
+    }
+}
+
+/// Returns whether a character is neither a ZWJ nor a future pictograph.
+pub fn is_ordinary(one: Properties) -> bool
+    ensures { result ≡ is_ordinary one }
+{
+    (symbol_of(one) != JOINER) & !one.is_future_pictograph()
 }
 
 // Returns whether the last base is a future pictograph after the next character has been read. An attached

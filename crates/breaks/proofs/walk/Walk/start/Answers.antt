@@ -1,5 +1,6 @@
 use Rattle.std.proofs.Common.{◌+◌, ◌<◌, arith}
 use Rattle.breaks.specs.Symbols.{character_by}
+use Rattle.breaks.proofs.OrdinaryLemmas.{starts_ordinary}
 use Rattle.breaks.proofs.PassLemmas.{starts, row_within}
 use Rattle.breaks.proofs.walk.Walk.start.Goals as goal
 use Rattle.breaks.specs.declared.table.TheConstants.{ENTRY_COUNT}
@@ -11,3 +12,7 @@ pub returns-clause-within : goal.returns-clause-within
 returns-clause-within c =
     let below : 0 + c.symbol_of-symbol.result < ENTRY_COUNT = omega arith in
     row_within _ _ below c.entry.ensures
+
+pub returns-clause-ordinary : goal.returns-clause-ordinary
+returns-clause-ordinary c =
+    λ ordinary. rw c.is_future_pictograph.ensures (starts_ordinary _ _ c.args.first c.symbol_of-symbol.ensures.below c.symbol_of-symbol.ensures.shown ordinary)

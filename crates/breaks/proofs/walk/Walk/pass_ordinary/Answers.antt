@@ -1,0 +1,14 @@
+use Rattle.std.proofs.Common.{◌+◌, ◌<◌, arith}
+use Rattle.breaks.proofs.OrdinaryLemmas.{passes_ordinary}
+use Rattle.breaks.proofs.PassLemmas.{row_within}
+use Rattle.breaks.proofs.walk.Walk.pass_ordinary.Goals as goal
+use Rattle.breaks.specs.declared.table.TheConstants.{ENTRY_COUNT}
+
+pub returns-clause-passes : goal.returns-clause-passes
+returns-clause-passes c =
+    passes_ordinary c.args.self.now _ _ c.args.next c.symbol_of.ensures.below c.symbol_of.ensures.shown c.entry-found.ensures c.requires.before c.requires.next
+
+pub returns-clause-within : goal.returns-clause-within
+returns-clause-within c =
+    let below : c.args.self.now.row + c.symbol_of.result < ENTRY_COUNT = omega arith in
+    row_within _ _ below c.entry-found.ensures
