@@ -1,5 +1,5 @@
 -- The result of parsing an argument that has a default, and of parsing a number in a range.
-use Rattle.std.proofs.Common.{◌≡◌, ◌∙◌, ◌<◌, ◌≤◌, ◌==◌, ◌^◌, ap, ℕ, Result, Ok, Err, zero, suc, Bool, true, false, List, [], ◌∷◌, length, drop, cond, is_some, Option, Some, None, refl, sym, subst, inl, inr, arith}
+use Rattle.std.proofs.Common.{◌≡◌, ◌∙◌, ◌<◌, ◌≤◌, ◌==◌, ◌^◌, ◌⊎◌, ap, ℕ, Result, Ok, Err, zero, suc, Bool, true, false, List, [], ◌∷◌, length, drop, cond, is_some, Option, Some, None, refl, sym, subst, inl, inr, arith}
 use Rattle.std.specs.Prelude.{find, option_map, slice_get, unwrap_or, pos}
 use Rattle.std.specs.Borrow.{Bor}
 use Rattle.std.specs.List.{All, slice_index_or}
@@ -53,7 +53,7 @@ pub record HasValue (a : Arg) (q : ValueParser) (f : Found) : Type 0 where
   pub accepted : Accepts a.ignore_case q text
 
 module _ (old : Command) (m : ArgMatches) (p : IsParsedFrom old m) (plain : IsPlain old) (globals : (out-Command old).has_globals ≡ false)
-    (k : ℕ) (d : Arg) (lt : k < length (args_of old)) (wants : WantsDefault (slice_index_or (args_of old) k d))
+    (k : ℕ) (d : Arg) (lt : k < length (args_of old))
     (set : (slice_index_or (args_of old) k d).action ≡ Some Set) (delim : (slice_index_or (args_of old) k d).val_delim ≡ None)
     (least : 1 ≤ least_values (slice_index_or (args_of old) k d))
     (unique : (j : ℕ) (e : Arg) → j < length (args_of old)
@@ -138,8 +138,9 @@ module _ (old : Command) (m : ArgMatches) (p : IsParsedFrom old m) (plain : IsPl
           accepted = accepts v.0 v.3;
         }
 
-  pub default_value : HasValue arg q (found_of m)
-  default_value =
+  -- an argument with a default has a value
+  pub default_value : WantsDefault arg → HasValue arg q (found_of m)
+  default_value wants =
       let has = default_present old m p globals k d lt wants in
       go (matched_of (found_of m) arg.id.now) refl (has_entry (found_of m).entries.items arg.id.now has.0 has.1 has.2)
     where
@@ -151,6 +152,18 @@ module _ (old : Command) (m : ArgMatches) (p : IsParsedFrom old m) (plain : IsPl
           let parsed = p.parsed (p.from.globals ∙ globals) in
           let entry = entry_by_id (EntryPasses p.built) (found_of m).entries.items arg.id.now x parsed.values found in
           entry_value x found entry.0 entry.1 ((bytes_eq-Decides entry.0.0.now arg.id.now).0 entry.2) entry.3
+
+  -- another argument has a value or is absent
+  pub optional_value : ((first_value (found_of m) arg.id.now ≡ None) × (one_text (found_of m) arg.id.now ≡ None)) ⊎ HasValue arg q (found_of m)
+  optional_value = go (matched_of (found_of m) arg.id.now) refl
+    where
+      go : (o : Option MatchedArg) → matched_of (found_of m) arg.id.now ≡ o
+          → ((first_value (found_of m) arg.id.now ≡ None) × (one_text (found_of m) arg.id.now ≡ None)) ⊎ HasValue arg q (found_of m)
+      go None none = inl (rw none refl, rw none refl)
+      go (Some x) found =
+          let parsed = p.parsed (p.from.globals ∙ globals) in
+          let entry = entry_by_id (EntryPasses p.built) (found_of m).entries.items arg.id.now x parsed.values found in
+          inr (entry_value x found entry.0 entry.1 ((bytes_eq-Decides entry.0.0.now arg.id.now).0 entry.2) entry.3)
 
 -- the text of a number that is at least 1 has no minus sign
 no_minus : (t : Text) (low high : ℕ) → 1 ≤ low → IsSignedIn (pos low) (pos high) t → starts_with_minus t ≡ false

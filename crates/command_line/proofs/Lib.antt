@@ -1,2 +1,3 @@
 pub mod CommandLineLemmas
 pub mod DefaultLemmas
+mod TabLemmas

@@ -1,5 +1,5 @@
 -- The command line as it is described to `clap`, and the settings that its arguments give.
-use Rattle.std.specs.Prelude.{◌≡◌, ◌≤◌, ◌==◌, ◌||◌, not, ℕ, pos, Bool, true, false, List, [], ◌∷◌, ◌++◌, length, map, fold, codes, Option, Some, None, is_some, option_map, unwrap_or}
+use Rattle.std.specs.Prelude.{◌≡◌, ◌≤◌, ◌==◌, ◌||◌, ◌⊎◌, not, ℕ, pos, Bool, true, false, List, [], ◌∷◌, ◌++◌, length, map, fold, codes, Option, Some, None, is_some, option_map, unwrap_or}
 use Rattle.std.specs.Str.Parse.{IsNumeral, digits_value, without_leading_plus}
 use Rattle.bidi.specs.declared.base.Base.{Base}
 use Rattle.bidi.specs.declared.base.Base.TheVariants as base
@@ -30,6 +30,15 @@ width_rule = record (new_rule (codes "width")) {
   defaults = codes "80" ∷ [];
 }
 
+-- the option `tabs`: a tab width from 1 to 255
+abbrev pub tabs_rule : Rule
+tabs_rule = record (new_rule (codes "tabs")) {
+  long = Some (codes "tabs");
+  value_names = 1;
+  action = Some Set;
+  parser = Some (Signed (pos 1) (pos 255));
+}
+
 -- the option `script`: the file of an edit script
 abbrev pub script_rule : Rule
 script_rule = record (new_rule (codes "script")) { long = Some (codes "script"); value_names = 1; action = Some Set }
@@ -45,7 +54,7 @@ files_rule = record (new_rule (codes "files")) { value_names = 1; action = Some 
 -- the layout options, and the print options
 abbrev pub layout_rules : List Rule
 layout_rules =
-    ucd_rule ∷ width_rule
+    ucd_rule ∷ width_rule ∷ tabs_rule
     ∷ map flag_rule (
     codes "rtl" ∷ codes "ltr" ∷ codes "wrtl" ∷ codes "wltr" ∷ codes "nobreak" ∷ codes "reordernsm" ∷ codes "whole-numbers"
     ∷ codes "reorder-clusters" ∷ codes "show-spaces" ∷ []
@@ -99,6 +108,10 @@ queries_fit rows = fits_queries (is_given (codes "queries") rows) (is_some (firs
 abbrev pub number_of : Text → ℕ
 number_of text = digits_value 10 (without_leading_plus text)
 
+-- the tab width, or 0 without the option
+abbrev pub tab_width_of : List Row → ℕ
+tab_width_of rows = unwrap_or (option_map number_of (first_of (codes "tabs") rows)) 0
+
 -- The settings have the values of the matched arguments, and the arguments have no fault.
 pub record AreSettings (words : List Text) (settings : Settings) : Type 0 where
   pub taken : fault_of program words ≡ []
@@ -111,6 +124,8 @@ pub record AreSettings (words : List Text) (settings : Settings) : Type 0 where
   pub whole_numbers : settings.options.whole_numbers ≡ is_given (codes "whole-numbers") (matches_of program words)
   pub reorder_clusters : settings.options.reorder_clusters ≡ is_given (codes "reorder-clusters") (matches_of program words)
   pub show_spaces : settings.options.show_spaces ≡ is_given (codes "show-spaces") (matches_of program words)
+  pub tab_width : settings.options.tab_width ≡ tab_width_of (matches_of program words)
+  pub stops : is_some (first_of (codes "tabs") (matches_of program words)) ≡ true → (1 ≤ settings.options.tab_width) × (settings.options.tab_width ≤ 255)
   pub novisual : settings.print.novisual ≡ is_given (codes "novisual") (matches_of program words)
   pub basedir : settings.print.basedir ≡ is_given (codes "basedir") (matches_of program words)
   pub ltov : settings.print.ltov ≡ is_given (codes "ltov") (matches_of program words)
@@ -124,20 +139,25 @@ pub record AreSettings (words : List Text) (settings : Settings) : Type 0 where
   pub one : script_fits (matches_of program words) ≡ true
   pub asked : queries_fit (matches_of program words) ≡ true
 
--- the text of the width is a number from 1 to 65,535
-pub record HasWidth (rows : List Row) : Type 0 where
+-- the text of an option's value is a number from 1 to `most`
+pub record HasNumber (name : Text) (most : ℕ) (rows : List Row) : Type 0 where
   pub text : Text
-  pub first : first_of (codes "width") rows ≡ Some text
-  pub one : one_of (codes "width") rows ≡ Some text
-  pub allowed : IsNumeral 10 (without_leading_plus text) × (1 ≤ number_of text) × (number_of text ≤ 65535)
+  pub first : first_of name rows ≡ Some text
+  pub one : one_of name rows ≡ Some text
+  pub allowed : IsNumeral 10 (without_leading_plus text) × (1 ≤ number_of text) × (number_of text ≤ most)
+
+-- there is no tab width, or it is a number from 1 to 255
+abbrev pub HasTabs : List Row → Type 0
+HasTabs rows = ((first_of (codes "tabs") rows ≡ None) × (one_of (codes "tabs") rows ≡ None)) ⊎ HasNumber (codes "tabs") 255 rows
 
 -- The matches are those of arguments without a fault, so each argument that is required or has a default is
--- present.
+-- present, and numbers are in their ranges.
 pub record AreMatches (words : List Text) (matches : ArgMatches) : Type 0 where
   pub taken : fault_of program words ≡ []
   pub rows : rows_of (found_of matches) ≡ matches_of program words
   pub ucd : is_some (first_of (codes "ucd") (rows_of (found_of matches))) ≡ true
-  pub width : HasWidth (rows_of (found_of matches))
+  pub width : HasNumber (codes "width") 65535 (rows_of (found_of matches))
+  pub tabs : HasTabs (rows_of (found_of matches))
 
 -- Either `clap` refuses the arguments with this kind of error, or it accepts them and one of these faults
 -- applies. The faults are tested in this order. More than one base direction is set. A script has no text, or

@@ -3,11 +3,11 @@ ghost use Rattle.std.specs.Prelude.{◌≡◌, List, codes, fold, map, not, opti
 ghost use Rattle.std.specs.Prelude.{IfOk, IfErr, IfSome};
 ghost use Rattle.clap.specs.Words.{Text, app_of, found_of, rows_of, rule_of, with_rule};
 ghost use Rattle.clap.specs.Takes.{is_given};
-ghost use Rattle.command_line.specs.CommandLine.{program, ucd_rule, width_rule, script_rule};
+ghost use Rattle.command_line.specs.CommandLine.{program, ucd_rule, width_rule, tabs_rule, script_rule};
 ghost use Rattle.command_line.specs.CommandLine.{files_rule, flag_rule};
 ghost use Rattle.command_line.specs.CommandLine.{AreMatches, AreSettings, HidesNothing, IsLineFault};
 ghost use Rattle.command_line.specs.CommandLine.{base_by, base_of, fits_queries, fits_script};
-ghost use Rattle.command_line.specs.CommandLine.{layout_rules, print_rules};
+ghost use Rattle.command_line.specs.CommandLine.{layout_rules, print_rules, tab_width_of, HasTabs};
 
 use crate::options::{LineFault, Settings};
 use crate::version::VERSION;
@@ -45,6 +45,7 @@ fn with_layout<'a>(alloc: Global, command: Command<'a>) -> Result<Command<'a>, A
     ensures { IfOk result (λ new. app_of new ≡ fold with_rule (app_of command.entry) layout_rules) }
 {
     let command = command.arg(ucd(alloc))?.arg(width(alloc))?;
+    let command = command.arg(tabs(alloc))?;
     with_flags(
         alloc,
         command,
@@ -164,6 +165,18 @@ fn width<'a>(alloc: Global) -> Arg<'a>
         .value_parser(value_parser!(u16).range(1..))
         .default_value("80")
         .help("Wrap lines at N columns, from 1 to 65535")
+}
+
+fn tabs<'a>(alloc: Global) -> Arg<'a>
+    ensures rule { rule_of result ≡ tabs_rule }
+    ensures local { result.global ≡ false }
+{
+    Arg::new(alloc, "tabs")
+        .long("tabs")
+        .value_name("N")
+        .action(ArgAction::Set)
+        .value_parser(value_parser!(u8).range(1..))
+        .help("Set a tab stop every N columns, from 1 to 255")
 }
 
 fn script<'a>(alloc: Global) -> Arg<'a>
@@ -301,8 +314,17 @@ pub fn settings_of<'a>(alloc: Global, matches: &ArgMatches<'a>) -> Result<Settin
     })
 }
 
+// Returns the tab width, or 0 if the option is not set.
+fn tab_width_of(matches: &ArgMatches<'_>) -> u8
+    requires { HasTabs (rows_of (found_of matches.now)) }
+    ensures { result ≡ tab_width_of (rows_of (found_of matches.now)) }
+{
+    matches.get_one::<u8>("tabs").unwrap_or(0)
+}
+
 // Returns the layout options, or `None` if more than one base direction is set.
 fn options_of(matches: &ArgMatches<'_>) -> Option<Options>
+    requires { HasTabs (rows_of (found_of matches.now)) }
     ensures base { option_map (λ o. o.base) result ≡ base_of (rows_of (found_of matches.now)) }
     ensures nobreak { IfSome result (λ o.
         o.nobreak ≡ is_given (codes "nobreak") (rows_of (found_of matches.now))) }
@@ -314,6 +336,7 @@ fn options_of(matches: &ArgMatches<'_>) -> Option<Options>
         o.reorder_clusters ≡ is_given (codes "reorder-clusters") (rows_of (found_of matches.now))) }
     ensures show_spaces { IfSome result (λ o.
         o.show_spaces ≡ is_given (codes "show-spaces") (rows_of (found_of matches.now))) }
+    ensures tab_width { IfSome result (λ o. o.tab_width ≡ tab_width_of (rows_of (found_of matches.now))) }
 {
     let base = base_of(
         is_set(matches, "rtl"),
@@ -328,6 +351,7 @@ fn options_of(matches: &ArgMatches<'_>) -> Option<Options>
         whole_numbers: is_set(matches, "whole-numbers"),
         reorder_clusters: is_set(matches, "reorder-clusters"),
         show_spaces: is_set(matches, "show-spaces"),
+        tab_width: tab_width_of(matches),
     })
 }
 

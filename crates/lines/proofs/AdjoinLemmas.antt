@@ -1,10 +1,10 @@
 -- The characters of a level run are next to each other: the columns between two of them are those of the characters between.
-use Rattle.std.proofs.Common.{◌≡◌, ◌≢◌, ℕ, zero, suc, ◌+◌, ◌-◌, ◌<◌, ◌≤◌, ◌==◌, Bool, true, false, ◌&&◌, ◌||◌, not, List, [], ◌∷◌, ◌++◌, length, get_or, map, drop, take, if◌then◌else◌}
+use Rattle.std.proofs.Common.{◌≡◌, ◌≢◌, ℕ, zero, suc, ◌+◌, ◌-◌, ◌<◌, ◌≤◌, ◌==◌, Bool, true, false, ◌&&◌, ◌||◌, not, List, [], ◌∷◌, ◌++◌, length, get_or, drop, take, if◌then◌else◌}
 use Rattle.std.proofs.Common.{refl, sym, ap, ◌∙◌, inl, inr, ◌⊎◌, arith}
-use Rattle.std.specs.Prelude.{slice_range, sum_by, All}
+use Rattle.std.specs.Prelude.{slice_range, sum, sum_by, All}
 use Rattle.std.proofs.lemmas.Bool.{and_parts, both_ways, cases_Bool, cases_eq, cases_lt, cond-true, cond-false, eq-eqb, eqb-true, ne_eqb}
-use Rattle.std.proofs.lemmas.List.{get_or-drop, get_or_past, length-drop, take-map, take_more}
-use Rattle.std.proofs.lemmas.List.Sums.{sum_by-cons, sum_by_push}
+use Rattle.std.proofs.lemmas.List.{get_or-drop, get_or_past, length-drop, take_more}
+use Rattle.std.proofs.lemmas.List.Sums.{sum_by-cons, sum_by_more, sum_by_push}
 use Rattle.ucd.specs.Classes.{is_mark}
 use Rattle.ucd.specs.Tables.{class_of}
 use Rattle.ucd.specs.declared.bidi_class.BidiClass.{BidiClass}
@@ -12,30 +12,29 @@ use Rattle.reorder.specs.Order.{has_base, is_mark_at, is_odd, ltov_of, order_of,
 use Rattle.reorder.proofs.InverseLemmas.{inverse_maps}
 use Rattle.reorder.proofs.OrderLemmas.{length-order, length-vtol}
 use Rattle.lines.specs.CharInfos.{columns_of}
-use Rattle.lines.specs.Columns.{columns_between, columns_left}
+use Rattle.lines.specs.Columns.{columns_between, columns_left, widths}
 use Rattle.lines.specs.Layouts.{Rules, layout_of, visuals}
 use Rattle.lines.specs.Ordered.{MarksStay, RunsAdjoin}
+use Rattle.lines.specs.Tabs.{is_tab}
 use Rattle.lines.specs.Visual.{Visual}
 use Rattle.lines.proofs.BesideLemmas.{even_places, odd_places}
 use Rattle.lines.proofs.ColumnLemmas.{left_more}
 use Rattle.lines.proofs.OrderedLemmas.{are_parts, IsPart}
 use Rattle.lines.proofs.ReorderingLemmas.{marks_ltov, marks_vtol}
-
-sum_by-map : (f g : ℕ → ℕ) (xs : List ℕ) → sum_by f (map g xs) ≡ sum_by (λ x. f (g x)) xs
-sum_by-map f g [] = refl
-sum_by-map f g (x ∷ xs) = omega (arith, sum_by-cons f (g x) (map g xs), sum_by-cons (λ y. f (g y)) x xs, sum_by-map f g xs)
+use Rattle.lines.proofs.TabLemmas.{mark_no_tab}
+use Rattle.lines.proofs.WidthLemmas.{length-widths, width_plain}
 
 -- ---- the sum of the items before an item
 
 module _ (f : ℕ → ℕ) (i : ℕ) where
-  abbrev sum_before : List ℕ → ℕ
+  abbrev pub sum_before : List ℕ → ℕ
   sum_before [] = 0
   sum_before (x ∷ xs) = if x == i then 0 else f x + sum_before xs
 
-  at_item : (x : ℕ) (xs : List ℕ) → x ≡ i → sum_before (x ∷ xs) ≡ 0
+  pub at_item : (x : ℕ) (xs : List ℕ) → x ≡ i → sum_before (x ∷ xs) ≡ 0
   at_item x xs e = cond-true (x == i) 0 (f x + sum_before xs) (eq-eqb x i e)
 
-  past_item : (x : ℕ) (xs : List ℕ) → x ≢ i → sum_before (x ∷ xs) ≡ f x + sum_before xs
+  pub past_item : (x : ℕ) (xs : List ℕ) → x ≢ i → sum_before (x ∷ xs) ≡ f x + sum_before xs
   past_item x xs ne = cond-false (x == i) 0 (f x + sum_before xs) (ne_eqb x i ne)
 
   to_item : (xs : List ℕ) (k : ℕ) → k < length xs → get_or xs k 0 ≡ i → ((m : ℕ) → m < k → get_or xs m 0 ≢ i) → sum_by f (take k xs) ≡ sum_before xs
@@ -49,7 +48,7 @@ module _ (f : ℕ → ℕ) (i : ℕ) where
         to_item xs k (omega (arith, within)) here (λ m h. others (suc m) (omega (arith, h))),
       )
 
-  to_place : (n : ℕ) (vtol ltov : List ℕ) → AreInverse n vtol ltov → length vtol ≡ n → i < n → sum_by f (take (get_or ltov i 0) vtol) ≡ sum_before vtol
+  pub to_place : (n : ℕ) (vtol ltov : List ℕ) → AreInverse n vtol ltov → length vtol ≡ n → i < n → sum_by f (take (get_or ltov i 0) vtol) ≡ sum_before vtol
   to_place n vtol ltov w size within =
       to_item vtol (get_or ltov i 0) (omega (arith, size, w.ltov_within i within)) (w.at_ltov i within)
       (λ m h same.
@@ -120,64 +119,67 @@ module _ (classes : List BidiClass) (levels : List ℕ) where
 
 -- ---- the columns between two characters
 
-module _ (text : List ℕ) where
-  abbrev at : ℕ → ℕ
-  at k = columns_of (get_or text k 0)
+module _ (ws : List ℕ) where
+  abbrev pub at : ℕ → ℕ
+  at k = get_or ws k 0
 
   abbrev between : ℕ → ℕ → ℕ
-  between j k = sum_by columns_of (slice_range text j k)
+  between j k = sum (slice_range ws j k)
 
   pub between_none : (j : ℕ) → between j j ≡ 0
   between_none j =
       let none : j - j ≡ 0 = omega arith in
-      ap (λ n. sum_by columns_of (take n (drop j text))) none
+      ap (λ n. sum (take n (drop j ws))) none
 
-  pub between_more : (j k : ℕ) → j ≤ k → k < length text → between j (suc k) ≡ between j k + at k
+  pub between_more : (j k : ℕ) → j ≤ k → k < length ws → between j (suc k) ≡ between j k + at k
   between_more j k from within =
       let n : suc k - j ≡ k - j + 1 = omega arith in
       let place : j + (k - j) ≡ k = omega arith in
-      ap (λ m. sum_by columns_of (take m (drop j text))) n
-      ∙ ap (sum_by columns_of) (take_more (drop j text) (k - j) 0 (omega (arith, within, from, length-drop j text)))
-      ∙ sum_by_push columns_of (take (k - j) (drop j text)) (get_or (drop j text) (k - j) 0)
-      ∙ ap (λ c. between j k + columns_of c) (get_or-drop j text (k - j) 0 ∙ ap (λ m. get_or text m 0) place)
+      ap (λ m. sum (take m (drop j ws))) n
+      ∙ sum_by_more (λ x. x) (drop j ws) (k - j) 0 (omega (arith, within, from, length-drop j ws))
+      ∙ ap (λ w. between j k + w) (get_or-drop j ws (k - j) 0 ∙ ap (λ m. get_or ws m 0) place)
 
 -- ---- the order by L2
 
-module _ (text levels : List ℕ) (size : length text ≡ length levels) where
+module _ (ws levels : List ℕ) (size : length ws ≡ length levels) where
   inverse : AreInverse (length levels) (order_of levels) (ltov_of false [] levels)
   unfolding vtol_of
   inverse = inverse_maps false [] levels
 
   -- the columns to the left of a character, by L2
-  left : ℕ → ℕ
-  left i = sum_before (at text) i (order_of levels)
+  pub left : ℕ → ℕ
+  left i = sum_before (at ws) i (order_of levels)
 
-  left_at : (i : ℕ) → i < length levels → sum_by (at text) (take (get_or (ltov_of false [] levels) i 0) (order_of levels)) ≡ left i
+  pub left_is : (i : ℕ) → left i ≡ sum_before (at ws) i (order_of levels)
   unfolding left
-  left_at i within = to_place (at text) i (length levels) (order_of levels) (ltov_of false [] levels) inverse (length-order levels) within
+  left_is i = refl
 
-  left_next : (i j : ℕ) → i < length levels → j < length levels → get_or (ltov_of false [] levels) j 0 ≡ suc (get_or (ltov_of false [] levels) i 0) → left j ≡ left i + at text i
+  left_at : (i : ℕ) → i < length levels → sum_by (at ws) (take (get_or (ltov_of false [] levels) i 0) (order_of levels)) ≡ left i
+  unfolding left
+  left_at i within = to_place (at ws) i (length levels) (order_of levels) (ltov_of false [] levels) inverse (length-order levels) within
+
+  left_next : (i j : ℕ) → i < length levels → j < length levels → get_or (ltov_of false [] levels) j 0 ≡ suc (get_or (ltov_of false [] levels) i 0) → left j ≡ left i + at ws i
   left_next i j within also is =
       let order : List ℕ = order_of levels in
       let p : ℕ = get_or (ltov_of false [] levels) i 0 in
       let one : suc p ≡ p + 1 = omega arith in
       sym (left_at j also)
-      ∙ ap (λ m. sum_by (at text) (take m order)) (is ∙ one)
-      ∙ ap (sum_by (at text)) (take_more order p 0 (omega (arith, length-order levels, inverse.ltov_within i within)))
-      ∙ sum_by_push (at text) (take p order) (get_or order p 0)
-      ∙ ap (λ x. sum_by (at text) (take p order) + at text x) (inverse.at_ltov i within)
-      ∙ ap (λ n. n + at text i) (left_at i within)
+      ∙ ap (λ m. sum_by (at ws) (take m order)) (is ∙ one)
+      ∙ ap (sum_by (at ws)) (take_more order p 0 (omega (arith, length-order levels, inverse.ltov_within i within)))
+      ∙ sum_by_push (at ws) (take p order) (get_or order p 0)
+      ∙ ap (λ x. sum_by (at ws) (take p order) + at ws x) (inverse.at_ltov i within)
+      ∙ ap (λ n. n + at ws i) (left_at i within)
 
   even_left : (j k : ℕ) → j ≤ k → k < length levels → ((i : ℕ) → j ≤ i → i ≤ k → get_or levels i 0 ≡ get_or levels j 0) → is_odd (get_or levels j 0) ≡ false
-      → left k ≡ left j + between text j k
+      → left k ≡ left j + between ws j k
   even_left j zero from within level even =
       let e : j ≡ zero = omega arith in
-      let none : between text j zero ≡ 0 = ap (between text j) (sym e) ∙ between_none text j in
+      let none : between ws j zero ≡ 0 = ap (between ws j) (sym e) ∙ between_none ws j in
       omega (arith, none, ap left e)
   even_left j (suc k) from within level even =
       elim (cases_eq j (suc k)) [
         | inl e ↦
-            let none : between text j (suc k) ≡ 0 = ap (between text j) (sym e) ∙ between_none text j in
+            let none : between ws j (suc k) ≡ 0 = ap (between ws j) (sym e) ∙ between_none ws j in
             omega (arith, none, ap left e)
         | inr ne ↦
             let here : get_or levels k 0 ≡ get_or levels j 0 = level k (omega arith) (omega arith) in
@@ -185,29 +187,29 @@ module _ (text levels : List ℕ) (size : length text ≡ length levels) where
             omega (
               arith,
               left_next k (suc k) (omega arith) within (even_places levels (ltov_of false [] levels) k inverse (length-order levels) same within (ap is_odd here ∙ even)),
-              between_more text j k (omega arith) (omega (arith, size, within)),
+              between_more ws j k (omega arith) (omega (arith, size, within)),
               even_left j k (omega arith) (omega arith) (λ i a b. level i a (omega (arith, b))) even,
             )
       ]
 
   odd_left : (j k : ℕ) → j ≤ k → k < length levels → ((i : ℕ) → j ≤ i → i ≤ k → get_or levels i 0 ≡ get_or levels j 0) → is_odd (get_or levels j 0) ≡ true
-      → left k + at text k + between text j k ≡ left j + at text j
+      → left k + at ws k + between ws j k ≡ left j + at ws j
   odd_left j zero from within level odd =
       let e : j ≡ zero = omega arith in
-      let none : between text j zero ≡ 0 = ap (between text j) (sym e) ∙ between_none text j in
-      omega (arith, none, ap left e, ap (at text) e)
+      let none : between ws j zero ≡ 0 = ap (between ws j) (sym e) ∙ between_none ws j in
+      omega (arith, none, ap left e, ap (at ws) e)
   odd_left j (suc k) from within level odd =
       elim (cases_eq j (suc k)) [
         | inl e ↦
-            let none : between text j (suc k) ≡ 0 = ap (between text j) (sym e) ∙ between_none text j in
-            omega (arith, none, ap left e, ap (at text) e)
+            let none : between ws j (suc k) ≡ 0 = ap (between ws j) (sym e) ∙ between_none ws j in
+            omega (arith, none, ap left e, ap (at ws) e)
         | inr ne ↦
             let here : get_or levels k 0 ≡ get_or levels j 0 = level k (omega arith) (omega arith) in
             let same : get_or levels (suc k) 0 ≡ get_or levels k 0 = level (suc k) from (omega arith) ∙ sym here in
             omega (
               arith,
               left_next (suc k) k within (omega arith) (odd_places levels (ltov_of false [] levels) k inverse (length-order levels) same within (ap is_odd here ∙ odd)),
-              between_more text j k (omega arith) (omega (arith, size, within)),
+              between_more ws j k (omega arith) (omega (arith, size, within)),
               odd_left j k (omega arith) (omega arith) (λ i a b. level i a (omega (arith, b))) odd,
             )
       ]
@@ -215,82 +217,81 @@ module _ (text levels : List ℕ) (size : length text ≡ length levels) where
 -- ---- the order of a line
 
 -- whether the marks that L3 moves take no columns
-abbrev Still : Bool → List BidiClass → List ℕ → List ℕ → Type 0
-Still nsm classes levels text = (nsm ≡ false) ⊎ ((i : ℕ) → has_base classes levels i ≡ true → at text i ≡ 0)
+abbrev pub Still : Bool → List BidiClass → List ℕ → List ℕ → Type 0
+Still nsm classes levels ws = (nsm ≡ false) ⊎ ((i : ℕ) → has_base classes levels i ≡ true → at ws i ≡ 0)
 
 -- L3 changes nothing to the left of a character that takes columns
-same_left : (nsm : Bool) (classes : List BidiClass) (text levels : List ℕ) (size : length text ≡ length levels) → Still nsm classes levels text → (i : ℕ) → 0 < at text i
-    → sum_before (at text) i (vtol_of nsm classes levels) ≡ left text levels size i
+pub same_left : (nsm : Bool) (classes : List BidiClass) (ws levels : List ℕ) (size : length ws ≡ length levels) → Still nsm classes levels ws → (i : ℕ) → 0 < at ws i
+    → sum_before (at ws) i (vtol_of nsm classes levels) ≡ left ws levels size i
 unfolding vtol_of left
-same_left false classes text levels size still i some = refl
-same_left true classes text levels size (inl off) i some = absurd (both_ways true off refl)
-same_left true classes text levels size (inr still) i some =
+same_left false classes ws levels size still i some = refl
+same_left true classes ws levels size (inl off) i some = absurd (both_ways true off refl)
+same_left true classes ws levels size (inr still) i some =
     let test : ℕ → Bool = has_base classes levels in
     let other : test i ≡ false =
     elim (cases_Bool (test i)) [
       | inl has ↦ absurd (omega (arith, some, still i has))
       | inr none ↦ none
     ] in
-    same_before (at text) i test still other [] (order_of levels) tt
+    same_before (at ws) i test still other [] (order_of levels) tt
 
-module _ (line : Visual) (nsm : Bool) (classes : List BidiClass) (size : length line.text ≡ length line.levels) (vtol_is : line.vtol ≡ vtol_of nsm classes line.levels)
-    (ltov_is : line.ltov ≡ ltov_of nsm classes line.levels) (still : Still nsm classes line.levels line.text) where
+module _ (line : Visual) (nsm : Bool) (classes : List BidiClass) (size : length (widths line) ≡ length line.levels) (vtol_is : line.vtol ≡ vtol_of nsm classes line.levels)
+    (ltov_is : line.ltov ≡ ltov_of nsm classes line.levels) (still : Still nsm classes line.levels (widths line)) where
   maps : AreInverse (length line.levels) line.vtol line.ltov
   maps = rw (vtol_is, ltov_is) (inverse_maps nsm classes line.levels)
 
   vtol_size : length line.vtol ≡ length line.levels
   vtol_size = length-vtol nsm classes line.levels line.vtol vtol_is
 
-  columns_to : (i : ℕ) → i < length line.levels → 0 < at line.text i → columns_left line (get_or line.ltov i 0) ≡ left line.text line.levels size i
+  columns_to : (i : ℕ) → i < length line.levels → 0 < at (widths line) i → columns_left line (get_or line.ltov i 0) ≡ left (widths line) line.levels size i
   columns_to i within some =
       let p : ℕ = get_or line.ltov i 0 in
-      let char : ℕ → ℕ = λ k. get_or line.text k 0 in
-      ap (sum_by columns_of) (take-map char p line.vtol)
-      ∙ sum_by-map columns_of char (take p line.vtol)
-      ∙ to_place (at line.text) i (length line.levels) line.vtol line.ltov maps vtol_size within
-      ∙ ap (sum_before (at line.text) i) vtol_is
-      ∙ same_left nsm classes line.text line.levels size still i some
+      to_place (at (widths line)) i (length line.levels) line.vtol line.ltov maps vtol_size within
+      ∙ ap (sum_before (at (widths line)) i) vtol_is
+      ∙ same_left nsm classes (widths line) line.levels size still i some
 
-  columns_past : (i : ℕ) → i < length line.levels → 0 < at line.text i
-      → columns_left line (get_or line.ltov i 0 + 1) ≡ left line.text line.levels size i + at line.text i
+  columns_past : (i : ℕ) → i < length line.levels → 0 < at (widths line) i
+      → columns_left line (get_or line.ltov i 0 + 1) ≡ left (widths line) line.levels size i + at (widths line) i
   columns_past i within some =
       let p : ℕ = get_or line.ltov i 0 in
       left_more line p (omega (arith, vtol_size, maps.ltov_within i within))
-      ∙ ap (λ x. columns_left line p + at line.text x) (maps.at_ltov i within)
-      ∙ ap (λ n. n + at line.text i) (columns_to i within some)
+      ∙ ap (λ x. columns_left line p + at (widths line) x) (maps.at_ltov i within)
+      ∙ ap (λ n. n + at (widths line) i) (columns_to i within some)
 
-  takes_columns : (i : ℕ) → i < length line.levels → 0 < columns_between line i (suc i) → 0 < at line.text i
+  takes_columns : (i : ℕ) → i < length line.levels → 0 < columns_between line i (suc i) → 0 < at (widths line) i
   takes_columns i within some =
-      omega (arith, some, between_more line.text i i (omega arith) (omega (arith, size, within)), between_none line.text i)
+      omega (arith, some, between_more (widths line) i i (omega arith) (omega (arith, size, within)), between_none (widths line) i)
 
   adjoin : RunsAdjoin line
   adjoin = record {
     even = λ j k are even.
         let near : j < length line.levels = omega (arith, are.order, are.within) in
         columns_to k are.within (takes_columns k are.within are.last)
-        ∙ even_left line.text line.levels size j k are.order are.within are.level even
+        ∙ even_left (widths line) line.levels size j k are.order are.within are.level even
         ∙ ap (λ n. n + columns_between line j k) (sym (columns_to j near (takes_columns j near are.first)));
     odd = λ j k are odd.
         let near : j < length line.levels = omega (arith, are.order, are.within) in
         ap (λ n. n + columns_between line j k) (columns_past k are.within (takes_columns k are.within are.last))
-        ∙ odd_left line.text line.levels size j k are.order are.within are.level odd
+        ∙ odd_left (widths line) line.levels size j k are.order are.within are.level odd
         ∙ sym (columns_past j near (takes_columns j near are.first));
   }
 
 -- ---- the lines of a layout
 
-marks_still : (rules : Rules) (text : List ℕ) (line : Visual) (is : IsPart rules text line) → MarksStay rules text → Still rules.options.reordernsm is.classes line.levels line.text
+pub marks_still : (rules : Rules) (text : List ℕ) (line : Visual) (is : IsPart rules text line) → MarksStay rules text → Still rules.options.reordernsm is.classes line.levels (widths line)
 marks_still rules text line is (inl off) = inl off
 marks_still rules text line is (inr none) =
     inr (λ i has.
     let base = with_base is.classes line.levels i has in
     let char : get_or line.text i 0 ≡ get_or text (is.start + i) 0 = is.chars i base.1 in
-    ap columns_of char
-    ∙ none (is.start + i) 0 (omega (arith, is.inside, base.1))
-    (ap is_mark (ap (class_of rules.tables) (sym char) ∙ sym (is.class i base.1)) ∙ base.0))
+    let mark : is_mark (class_of rules.tables (get_or line.text i 0)) ≡ true = ap is_mark (sym (is.class i base.1)) ∙ base.0 in
+    width_plain line.tab_width i line.text (omega (arith, is.size, base.1))
+    (ap (λ n. is_tab n (get_or line.text i 0)) is.tab_width ∙ mark_no_tab rules.tables rules.options (get_or line.text i 0) mark)
+    ∙ ap columns_of char
+    ∙ none (is.start + i) 0 (omega (arith, is.inside, base.1)) (ap (λ c. is_mark (class_of rules.tables c)) (sym char) ∙ mark))
 
 pub all_adjoin : (rules : Rules) (width : ℕ) (text : List ℕ) → rules.options.reorder_clusters ≡ false → MarksStay rules text → All RunsAdjoin (visuals (layout_of rules width text))
 all_adjoin rules width text whole stay = λ k d within.
     let is = are_parts rules width text k d within in
-    adjoin _ rules.options.reordernsm is.classes is.size (is.vtol ∙ sym (marks_vtol rules.options is.classes is.ends _ whole))
+    adjoin _ rules.options.reordernsm is.classes (length-widths _ _ ∙ is.size) (is.vtol ∙ sym (marks_vtol rules.options is.classes is.ends _ whole))
     (is.ltov ∙ sym (marks_ltov rules.options is.classes is.ends _ whole)) (marks_still rules text _ is stay)

@@ -12,7 +12,7 @@ use Rattle.lines.specs.Bare.{bare, AreAlike, with_ends}
 use Rattle.lines.specs.BareInfos.{bare_infos}
 use Rattle.lines.specs.Extents.{shown_between, shown_from}
 use Rattle.lines.specs.Filling.{before_tail, by_break, columns, fits_to, is_break, is_must, line_len, may_end, must_end, nothing, place_at, stop, text_len, trails}
-use Rattle.lines.specs.CharInfos.{info, infos, is_space}
+use Rattle.lines.specs.CharInfos.{advance, info, infos, is_space}
 use Rattle.lines.specs.ShownParts.{is_space_within, shown, shown_len}
 use Rattle.lines.specs.Visual.{Line, line_between, lines_from}
 use Rattle.lines.specs.declared.options.Options.{Options}
@@ -26,9 +26,9 @@ at_bare [] k = refl
 at_bare (x ∷ xs) zero = refl
 at_bare (x ∷ xs) (suc k) = at_bare xs k
 
-sum_bare : (n : ℕ) (xs : List CharInfo) → fold (λ (a : ℕ) (x : CharInfo). a + x.columns) n (map bare xs) ≡ fold (λ (a : ℕ) (x : CharInfo). a + x.columns) n xs
+sum_bare : (n : ℕ) (xs : List CharInfo) → fold advance n (map bare xs) ≡ fold advance n xs
 sum_bare n [] = refl
-sum_bare n (x ∷ xs) = sum_bare (n + x.columns) xs
+sum_bare n (x ∷ xs) = sum_bare (advance n x) xs
 
 columns_bare : (xs : List CharInfo) → columns (map bare xs) ≡ columns xs
 columns_bare xs = sum_bare 0 xs
@@ -127,16 +127,16 @@ with_bare (x ∷ xs) (e ∷ ends) = ap (λ ys. record x { ends_cluster = e } ∷
 pub same_with : (xs ys : List CharInfo) (ends : List Bool) → AreAlike xs ys → with_ends xs ends ≡ with_ends ys ends
 same_with xs ys ends alike = sym (with_bare xs ends) ∙ ap (λ zs. with_ends zs ends) alike ∙ with_bare ys ends
 
-pub with_infos : (t : Tables) (text : List ℕ) (marks : List Mark) (ends : List Bool) → with_ends (bare_infos t text marks) ends ≡ infos t text marks ends
-with_infos t [] marks ends = refl
-with_infos t (c ∷ text) [] ends = refl
-with_infos t (c ∷ text) (mark ∷ marks) [] = refl
-with_infos t (c ∷ text) (mark ∷ marks) (e ∷ ends) = ap (λ ps. info t c mark e ∷ ps) (with_infos t text marks ends)
+pub with_infos : (t : Tables) (n : ℕ) (text : List ℕ) (marks : List Mark) (ends : List Bool) → with_ends (bare_infos t n text marks) ends ≡ infos t n text marks ends
+with_infos t n [] marks ends = refl
+with_infos t n (c ∷ text) [] ends = refl
+with_infos t n (c ∷ text) (mark ∷ marks) [] = refl
+with_infos t n (c ∷ text) (mark ∷ marks) (e ∷ ends) = ap (λ ps. info t n c mark e ∷ ps) (with_infos t n text marks ends)
 
-pub length-bare_infos : (t : Tables) (text : List ℕ) (marks : List Mark) → length marks ≡ length text → length (bare_infos t text marks) ≡ length text
-length-bare_infos t [] marks size = refl
-length-bare_infos t (c ∷ text) [] size = absurd (omega (arith, size))
-length-bare_infos t (c ∷ text) (mark ∷ marks) size = ap suc (length-bare_infos t text marks (omega (arith, size)))
+pub length-bare_infos : (t : Tables) (n : ℕ) (text : List ℕ) (marks : List Mark) → length marks ≡ length text → length (bare_infos t n text marks) ≡ length text
+length-bare_infos t n [] marks size = refl
+length-bare_infos t n (c ∷ text) [] size = absurd (omega (arith, size))
+length-bare_infos t n (c ∷ text) (mark ∷ marks) size = ap suc (length-bare_infos t n text marks (omega (arith, size)))
 
 with_append : (xs : List CharInfo) (ends : List Bool) (p : CharInfo) (e : Bool) → length ends ≡ length xs
     → with_ends (xs ++ p ∷ []) (ends ++ e ∷ []) ≡ with_ends xs ends ++ record p { ends_cluster = e } ∷ []
@@ -236,31 +236,31 @@ same_shown margin n xs ys starts alike = sym (parts_bare margin n xs starts) ∙
 
 -- The first k items of `current` are written. These items, followed by those of the remaining characters, are
 -- the items of the whole text.
-pub record PlacesPut (t : Tables) (text : List ℕ) (marks : List Mark) (current : List CharInfo) (k : ℕ) : Type 0 where
+pub record PlacesPut (t : Tables) (n : ℕ) (text : List ℕ) (marks : List Mark) (current : List CharInfo) (k : ℕ) : Type 0 where
   pub sizes : length current ≡ length text
   pub within : k ≤ length text
-  pub whole : take k current ++ bare_infos t (drop k text) (drop k marks) ≡ bare_infos t text marks
+  pub whole : take k current ++ bare_infos t n (drop k text) (drop k marks) ≡ bare_infos t n text marks
 
-pub PlacesPut-next : (t : Tables) (text : List ℕ) (marks : List Mark) (current : List CharInfo) (k c : ℕ) (mark d : Mark) (p : CharInfo) → PlacesPut t text marks current k
-    → k < length text → length marks ≡ length text → c ≡ get_or text k c → mark ≡ get_or marks k d → p ≡ info t c mark false
-    → PlacesPut t text marks (set current k p) (k + 1)
-PlacesPut-next t text marks current k c mark d p w below same c_is mark_is is =
+pub PlacesPut-next : (t : Tables) (n : ℕ) (text : List ℕ) (marks : List Mark) (current : List CharInfo) (k c : ℕ) (mark d : Mark) (p : CharInfo) → PlacesPut t n text marks current k
+    → k < length text → length marks ≡ length text → c ≡ get_or text k c → mark ≡ get_or marks k d → p ≡ info t n c mark false
+    → PlacesPut t n text marks (set current k p) (k + 1)
+PlacesPut-next t n text marks current k c mark d p w below same c_is mark_is is =
     let first : drop k text ≡ c ∷ drop (k + 1) text = drop_more text k c below ∙ ap (λ (x : ℕ). x ∷ drop (k + 1) text) (sym c_is) in
     let own : drop k marks ≡ mark ∷ drop (k + 1) marks = drop_more marks k d (omega arith) ∙ ap (λ (m : Mark). m ∷ drop (k + 1) marks) (sym mark_is) in
-    let rest : List CharInfo = bare_infos t (drop (k + 1) text) (drop (k + 1) marks) in
+    let rest : List CharInfo = bare_infos t n (drop (k + 1) text) (drop (k + 1) marks) in
     record {
       sizes = length-set current k p ∙ w.sizes;
       within = omega (arith, below);
       whole = ap (λ (front : List CharInfo). front ++ rest) (take_more_set current k p (omega (arith, w.sizes)))
           ∙ append_assoc (take k current) (p ∷ []) rest
           ∙ ap (λ (q : CharInfo). take k current ++ q ∷ rest) is
-          ∙ sym (ap₂ (λ (cs : List ℕ) (ms : List Mark). take k current ++ bare_infos t cs ms) first own)
+          ∙ sym (ap₂ (λ (cs : List ℕ) (ms : List Mark). take k current ++ bare_infos t n cs ms) first own)
           ∙ w.whole;
     }
 
-pub PlacesPut-end : (t : Tables) (text : List ℕ) (marks : List Mark) (current : List CharInfo) (k : ℕ) → PlacesPut t text marks current k → length text ≤ k
-    → current ≡ bare_infos t text marks
-PlacesPut-end t text marks current k w past =
+pub PlacesPut-end : (t : Tables) (n : ℕ) (text : List ℕ) (marks : List Mark) (current : List CharInfo) (k : ℕ) → PlacesPut t n text marks current k → length text ≤ k
+    → current ≡ bare_infos t n text marks
+PlacesPut-end t n text marks current k w past =
     sym (append-nil current)
-    ∙ ap₂ ◌++◌ (sym (take_all k current (omega (arith, w.sizes)))) (sym (ap (λ (cs : List ℕ). bare_infos t cs (drop k marks)) (drop_all k text past)))
+    ∙ ap₂ ◌++◌ (sym (take_all k current (omega (arith, w.sizes)))) (sym (ap (λ (cs : List ℕ). bare_infos t n cs (drop k marks)) (drop_all k text past)))
     ∙ w.whole

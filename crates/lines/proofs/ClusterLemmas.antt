@@ -2,7 +2,6 @@
 use Rattle.std.proofs.Common.{◌≡◌, ℕ, suc, ◌-◌, Bool, true, false, ◌&&◌, cond, List, [], ◌∷◌, ◌++◌, map, length, replicate, refl, sym, ap, ap₂, ◌∙◌, append-nil, arith}
 use Rattle.std.proofs.Math.Utf8.{scalars}
 use Rattle.std.proofs.lemmas.Bool.{and_parts}
-use Rattle.std.proofs.lemmas.List.Folds.{flat_map-map}
 use Rattle.std.proofs.lemmas.Str.{chars-encodes, chars_from_encodes, scalars-chars}
 use Rattle.std.specs.List.{concat, flat_map}
 use Rattle.std.specs.Prelude.{encode_utf8, encode_utf8_all}
@@ -102,11 +101,8 @@ bytes_of_each : (cs : List ℕ) → flat_map encode_utf8 cs ≡ encode_utf8_all 
 bytes_of_each [] = refl
 bytes_of_each (c ∷ cs) = ap (◌++◌ (encode_utf8 c)) (bytes_of_each cs)
 
-pub spelled : {A : Type 0} (char : A → ℕ) (items : List A) (text bytes : List ℕ) → map char items ≡ text
-    → bytes ≡ flat_map (λ x. encode_utf8 (char x)) items → IsUtf8 bytes → chars bytes ≡ text
-spelled char items text bytes same e u =
-    let all = flat_map-map encode_utf8 char items in
-    sym (chars_from_encodes text bytes u (sym (e ∙ sym all ∙ ap (flat_map encode_utf8) same ∙ bytes_of_each text)))
+pub spelled : (text bytes : List ℕ) → bytes ≡ flat_map encode_utf8 text → IsUtf8 bytes → chars bytes ≡ text
+spelled text bytes e u = sym (chars_from_encodes text bytes u (sym (e ∙ bytes_of_each text)))
 
 -- `cluster_ends` has one item per character
 length_ends_after : (rule : Rule) (before text : List ℕ) → length (ends_after rule before text) ≡ length text

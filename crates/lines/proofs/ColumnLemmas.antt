@@ -1,19 +1,15 @@
 -- The columns of a line at each visual position.
-use Rattle.std.proofs.Common.{◌≡◌, ℕ, suc, ◌+◌, ◌-◌, ◌<◌, ◌≤◌, min, length, take, get_or, sum_by, nat_lt, Some, None, if◌then◌else◌, sym, ap, ◌∙◌, inl, inr, arith}
+use Rattle.std.proofs.Common.{◌≡◌, ℕ, suc, ◌+◌, ◌-◌, ◌<◌, ◌≤◌, min, length, get_or, sum_by, nat_lt, Some, None, if◌then◌else◌, sym, ap, ◌∙◌, inl, inr, arith}
 use Rattle.std.proofs.lemmas.Bool.{cases_lt, cond-true, cond-false, lt-ltb, le-ltb}
-use Rattle.std.proofs.lemmas.List.{get_or-map, length-map, take_all, take_more}
-use Rattle.std.proofs.lemmas.List.Sums.{sum_by_push}
+use Rattle.std.proofs.lemmas.List.{take_all}
+use Rattle.std.proofs.lemmas.List.Sums.{sum_by_more}
 use Rattle.ucd.specs.Least.{least}
-use Rattle.lines.specs.Columns.{columns_left, covering, unmirrored}
-use Rattle.lines.specs.CharInfos.{columns_of}
+use Rattle.lines.specs.Columns.{columns_left, covering, width_at}
 use Rattle.lines.specs.Visual.{Visual}
 
 module _ (line : Visual) where
-  pub left_more : (k : ℕ) → k < length line.vtol → columns_left line (k + 1) ≡ columns_left line k + columns_of (get_or line.text (get_or line.vtol k 0) 0)
-  left_more k within =
-      ap (sum_by columns_of) (take_more (unmirrored line) k 0 (omega (arith, within, length-map line.vtol (λ v. get_or line.text v 0))))
-      ∙ sum_by_push columns_of (take k (unmirrored line)) (get_or (unmirrored line) k 0)
-      ∙ ap (λ c. columns_left line k + columns_of c) (get_or-map (λ v. get_or line.text v 0) line.vtol k 0 0 within)
+  pub left_more : (k : ℕ) → k < length line.vtol → columns_left line (k + 1) ≡ columns_left line k + width_at line (get_or line.vtol k 0)
+  left_more k within = sum_by_more (width_at line) line.vtol k 0 within
 
   -- a position past the end has the columns of the whole line to its left
   pub left_to : (place k : ℕ) → k ≡ min place (length line.vtol) → columns_left line k ≡ columns_left line place
@@ -21,8 +17,7 @@ module _ (line : Visual) where
       elim (cases_lt place (length line.vtol)) [
         | inl within ↦ let e : k ≡ place = omega (arith, is, within) in ap (columns_left line) e
         | inr past ↦
-            let size : length (unmirrored line) ≡ length line.vtol = length-map line.vtol (λ v. get_or line.text v 0) in
-            ap (sum_by columns_of) (take_all k (unmirrored line) (omega (arith, is, past, size)) ∙ sym (take_all place (unmirrored line) (omega (arith, past, size))))
+            ap (sum_by (width_at line)) (take_all k line.vtol (omega (arith, is, past)) ∙ sym (take_all place line.vtol past))
       ]
 
   -- whether a search that starts at position k finds the position that covers the column

@@ -5,17 +5,19 @@ use Rattle.std.proofs.Math.ListN.{get_or-append}
 use Rattle.std.proofs.Math.Seq.{get_or-append_seam}
 use Rattle.std.proofs.lemmas.Bool.{and_right, cond-true, cond-false, cases_Bool, cases_eq, cases_lt, lt-leb, le-leb, leb-false, both_ways}
 use Rattle.std.proofs.lemmas.List.{length-take-le}
-use Rattle.std.proofs.lemmas.List.Sums.{sum_by_more, sum_by-take-le, suffix_len-take_no, suffix_len-take_yes}
+use Rattle.std.proofs.lemmas.List.Sums.{fold_more, suffix_len-take_no, suffix_len-take_yes}
 use Rattle.std.specs.List.{suffix_len}
 use Rattle.bidi.specs.Brackets.{greatest}
 use Rattle.ucd.specs.Least.{least}
 use Rattle.bidi.proofs.LeastLemmas.{least_found, least_none}
 use Rattle.bidi.proofs.PairLemmas.{greatest_found}
+use Rattle.lines.specs.CharInfos.{advance}
 use Rattle.lines.specs.Filling.{before_tail, cluster_ends_at, columns, first_end, fits_to, may_end, must_end, nothing, place_at, line_end, line_len, starts, stop, trails}
 use Rattle.lines.specs.Kept.{AreStarts}
 use Rattle.lines.specs.Sums.{sums_after, AreSumsOf}
 use Rattle.lines.specs.declared.filling.Sums.{Sums}
 use Rattle.lines.specs.declared.char_info.CharInfo.{CharInfo}
+use Rattle.lines.proofs.WidthLemmas.{columns_take}
 
 -- ---- the greatest number that passes a test
 
@@ -69,21 +71,21 @@ shown_after rest k within =
           ∙ sym (cond-false (trails (place_at rest k)) (columns (before_tail (take k rest))) (columns (take (suc k) rest)) counts)
     ]
 
-pub columns_after : (rest : List CharInfo) (k : ℕ) → k < length rest → columns (take (suc k) rest) ≡ columns (take k rest) + (place_at rest k).columns
+pub columns_after : (rest : List CharInfo) (k : ℕ) → k < length rest → columns (take (suc k) rest) ≡ advance (columns (take k rest)) (place_at rest k)
 columns_after rest k within =
     let e : suc k ≡ k + 1 = omega arith in
-    ap (λ n. columns (take n rest)) e ∙ sum_by_more (λ p. p.columns) rest k nothing within
+    ap (λ n. columns (take n rest)) e ∙ fold_more advance 0 rest k nothing within
 
 -- if `sums` are the sums of the first k characters, `sums_after` gives the sums of the first k + 1
 pub sums_more : (rest : List CharInfo) (k : ℕ) (sums : Sums) → k < length rest → AreSumsOf (take k rest) sums → AreSumsOf (take (suc k) rest) (sums_after sums (place_at rest k))
 sums_more rest k sums within so_far = record {
-  columns_are = ap (λ n. n + (place_at rest k).columns) so_far.columns_are ∙ sym (columns_after rest k within);
+  columns_are = ap (λ n. advance n (place_at rest k)) so_far.columns_are ∙ sym (columns_after rest k within);
   shown_are = elim (cases_Bool (trails (place_at rest k))) [
-    | inl trailing ↦ cond-true (trails (place_at rest k)) sums.shown (sums.columns + (place_at rest k).columns) trailing
+    | inl trailing ↦ cond-true (trails (place_at rest k)) sums.shown (advance sums.columns (place_at rest k)) trailing
         ∙ so_far.shown_are ∙ sym (cond-true (trails (place_at rest k)) (columns (before_tail (take k rest))) (columns (take (suc k) rest)) trailing)
         ∙ sym (shown_after rest k within)
-    | inr counts ↦ cond-false (trails (place_at rest k)) sums.shown (sums.columns + (place_at rest k).columns) counts
-        ∙ ap (λ n. n + (place_at rest k).columns) so_far.columns_are ∙ sym (columns_after rest k within)
+    | inr counts ↦ cond-false (trails (place_at rest k)) sums.shown (advance sums.columns (place_at rest k)) counts
+        ∙ ap (λ n. advance n (place_at rest k)) so_far.columns_are ∙ sym (columns_after rest k within)
         ∙ sym (cond-false (trails (place_at rest k)) (columns (before_tail (take k rest))) (columns (take (suc k) rest)) counts)
         ∙ sym (shown_after rest k within)
   ];
@@ -91,7 +93,7 @@ sums_more rest k sums within so_far = record {
 
 -- the characters before a tail are no wider than all characters
 shown_most : (rest : List CharInfo) (n : ℕ) → n ≤ length rest → columns (before_tail (take n rest)) ≤ columns (take n rest)
-shown_most rest n within = sum_by-take-le (λ p. p.columns) (take n rest) (length (take n rest) - suffix_len trails (take n rest))
+shown_most rest n within = columns_take (length (take n rest) - suffix_len trails (take n rest)) (take n rest)
 
 -- appending a character does not make the part before the tail narrower
 shown_grows : (rest : List CharInfo) (k : ℕ) → k < length rest → columns (before_tail (take k rest)) ≤ columns (before_tail (take (suc k) rest))

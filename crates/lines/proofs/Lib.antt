@@ -1,8 +1,10 @@
+mod AboveLemmas
 mod AdjoinLemmas
 mod AloneLemmas
 mod BareLemmas
 mod BeginningLemmas
 mod BesideLemmas
+mod CellLemmas
 pub mod ClusterLemmas
 pub mod ColumnLemmas
 pub mod EndLemmas
@@ -11,6 +13,7 @@ mod FewLines
 pub mod FillingLemmas
 pub mod InfoLemmas
 pub mod KeptLemmas
+mod KnownWidthLemmas
 pub mod LayoutLemmas
 mod LengthLemmas
 mod OrderedLemmas
@@ -27,8 +30,11 @@ pub mod SkippedLemmas
 mod SpanLemmas
 mod SplitLemmas
 mod StayLemmas
+mod StopLemmas
+mod TabLemmas
 pub mod VisualLemmas
 mod WholeLemmas
+pub mod WidthLemmas
 mod WorkedBytes
 mod WorkedRows
 mod WorkedSpans

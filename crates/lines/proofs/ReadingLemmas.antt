@@ -15,14 +15,15 @@ use Rattle.reorder.specs.Spaces.{line_levels}
 use Rattle.reorder.proofs.ClusterLemmas.{sequences, singles_stay}
 use Rattle.reorder.proofs.InverseLemmas.{inverse_maps}
 use Rattle.reorder.proofs.OrderLemmas.{length-order}
-use Rattle.lines.specs.CharInfos.{columns_of, infos_of}
+use Rattle.lines.specs.CharInfos.{infos_of}
 use Rattle.lines.specs.Clusters.{cluster_ends, ends_at}
-use Rattle.lines.specs.Columns.{columns_between, columns_left}
+use Rattle.lines.specs.Columns.{columns_between, columns_left, widths}
 use Rattle.lines.specs.Filling.{line_starts_of}
 use Rattle.lines.specs.Layouts.{Rules, base_of, layout_of, lines_of, start_of, visuals}
 use Rattle.lines.specs.Ordered.{ClustersAdjoin, IsOrdered}
 use Rattle.lines.specs.Reordering.{ends_by}
 use Rattle.lines.specs.ShownParts.{margin_of, shown, shown_len}
+use Rattle.lines.specs.Tabs.{tab_width_in}
 use Rattle.lines.specs.Visual.{Line, Visual, end_of, line_between, lines_from, visual_of}
 use Rattle.lines.specs.declared.char_info.CharInfo.{CharInfo}
 use Rattle.lines.proofs.AdjoinLemmas.{between_more, between_none}
@@ -32,6 +33,7 @@ use Rattle.lines.proofs.ColumnLemmas.{left_more}
 use Rattle.lines.proofs.OrderedLemmas.{all_ordered}
 use Rattle.lines.proofs.PageLemmas.{visual_at}
 use Rattle.lines.proofs.ReorderingLemmas.{clusters_ltov}
+use Rattle.lines.proofs.WidthLemmas.{length-widths}
 
 -- ---- sequences of one cluster at one odd level
 
@@ -171,19 +173,19 @@ module _ (line : Visual) (ordered : IsOrdered line) where
       → left_at (j + d) ≡ left_at j + columns_between line j (j + d)
   steps j zero within each =
       let e : j + 0 ≡ j = omega arith in
-      omega (arith, ap left_at e, ap (columns_between line j) e, between_none line.text j)
+      omega (arith, ap left_at e, ap (columns_between line j) e, between_none (widths line) j)
   steps j (suc d) within each =
       let i : ℕ = j + d in
       let p : ℕ = get_or line.ltov i 0 in
       let e : j + suc d ≡ suc i = omega arith in
       let next : get_or line.ltov (suc i) 0 ≡ p + 1 = each i (omega arith) (omega arith) ∙ omega arith in
       let short : i < length line.levels = omega (arith, within) in
-      let more : left_at (suc i) ≡ left_at i + columns_of (get_or line.text i 0) =
+      let more : left_at (suc i) ≡ left_at i + get_or (widths line) i 0 =
       ap (columns_left line) next
       ∙ left_more line p (omega (arith, ordered.vtol, ordered.inverse.ltov_within i short))
-      ∙ ap (λ x. left_at i + columns_of (get_or line.text x 0)) (ordered.inverse.at_ltov i short) in
+      ∙ ap (λ x. left_at i + get_or (widths line) x 0) (ordered.inverse.at_ltov i short) in
       let rest = steps j d (omega (arith, within)) (λ k from below. each k from (omega (arith, below))) in
-      omega (arith, more, rest, ap left_at e, ap (columns_between line j) e, between_more line.text j i (omega arith) (omega (arith, ordered.text, short)))
+      omega (arith, more, rest, ap left_at e, ap (columns_between line j) e, between_more (widths line) j i (omega arith) (omega (arith, ordered.text, short, length-widths line.tab_width line.text)))
 
   to_later : (j k : ℕ) → j ≤ k → k < length line.levels → ((i : ℕ) → j ≤ i → i < k → get_or line.ltov (suc i) 0 ≡ suc (get_or line.ltov i 0))
       → left_at k ≡ left_at j + columns_between line j k
@@ -196,7 +198,7 @@ module _ (line : Visual) (ordered : IsOrdered line) where
 
 module _ (rules : Rules) (width : ℕ) (text : List ℕ) (on : rules.options.reorder_clusters ≡ true) where
   abbrev infos : List CharInfo
-  infos = infos_of rules.tables rules.options.whole_numbers text
+  infos = infos_of rules.tables rules.options text
 
   abbrev levels : List ℕ
   levels = levels_of rules.tables text rules.options.base
@@ -256,7 +258,7 @@ module _ (rules : Rules) (width : ℕ) (text : List ℕ) (on : rules.options.reo
     }
 
   found_line : (n : ℕ) (line : Visual) → slice_get (visuals (layout_of rules width text)) n ≡ Some line
-      → (it : Line) → slice_get (lines_of rules width text) n ≡ Some it → visual_of (base_of rules text) text (lines_of rules width text) n it ≡ line
+      → (it : Line) → slice_get (lines_of rules width text) n ≡ Some it → visual_of (base_of rules text) (tab_width_in rules.tables rules.options) text (lines_of rules width text) n it ≡ line
       → ClustersAdjoin line (cluster_ends text) (get_or (map start_of (lines_of rules width text)) n 0)
   found_line n line is it read seen =
       let starts : List ℕ = line_starts_of rules.options.nobreak width infos in
@@ -290,6 +292,6 @@ pub all_clusters_adjoin : (rules : Rules) (width : ℕ) (text : List ℕ) → ru
     → (n : ℕ) (line : Visual) → slice_get (visuals (layout_of rules width text)) n ≡ Some line
     → ClustersAdjoin line (cluster_ends text) (get_or (map start_of (lines_of rules width text)) n 0)
 all_clusters_adjoin rules width text on n line is =
-    let found = read_line (slice_get (lines_of rules width text) n) (visual_of (base_of rules text) text (lines_of rules width text) n) line
+    let found = read_line (slice_get (lines_of rules width text) n) (visual_of (base_of rules text) (tab_width_in rules.tables rules.options) text (lines_of rules width text) n) line
     (visual_at (layout_of rules width text) n ∙ is) in
     found_line rules width text on n line is found.0 found.1 found.2

@@ -176,16 +176,17 @@ module _ (s : Selection) where
   -- ---- the iterator
 
   module _ (place column columns : ℕ) (at : IsReached line (record { place = place; column = column })) (within : place < length s.vtol.now)
-      (value : columns ≡ columns_on line place) (few : columns ≤ 3) where
+      (value : columns ≡ columns_on line place) (few : columns ≤ 255) where
     pub reached_more : IsReached line (record { place = place + 1; column = column + columns })
     reached_more =
         let e : suc place ≡ place + 1 = omega arith in
         let old : column ≡ columns_left line place = at.column in
-        let low : column ≤ 3 * place = at.few in
+        let low : column ≤ 255 * place = at.few in
         record {
           within = omega arith;
           column = omega (arith, old, value, next_left line place within, ap (columns_left line) e);
           few = omega (arith, low, few);
+          limit = at.limit;
         }
 
   pub found_none : (at left right : Reached) → IsReached line at → IsReached line left → Passes s false at.place left.place → left.place ≡ length s.vtol.now
@@ -215,11 +216,12 @@ module _ (s : Selection) where
   found_fresh left right q r =
       subst (λ c. is_left_edge covered c ≡ covered c) (sym r.column) (fresh_after left.place right.place q r.within)
 
--- the spans of a line depend only on its text and its visual order
-abbrev pub line_with : List ℕ → List ℕ → Visual
-line_with text vtol = record {
+-- the spans of a line depend only on its tab width, its text and its visual order
+abbrev pub line_with : ℕ → List ℕ → List ℕ → Visual
+line_with tab_width text vtol = record {
   is_first = false;
   base = 0;
+  tab_width = tab_width;
   len = 0;
   text = text;
   columns = 0;
@@ -229,9 +231,12 @@ line_with text vtol = record {
   chars = [];
 }
 
-pub spans_are : (of : Visual) (text vtol : List ℕ) (start end : ℕ) → text ≡ of.text → vtol ≡ of.vtol → spans_from (line_with text vtol) start end 0 ≡ spans_of of start end
+pub spans_are : (of : Visual) (tab_width : ℕ) (text vtol : List ℕ) (start end : ℕ) → tab_width ≡ of.tab_width → text ≡ of.text → vtol ≡ of.vtol
+    → spans_from (line_with tab_width text vtol) start end 0 ≡ spans_of of start end
 unfolding spans_from
-spans_are of text vtol start end same order = ap₂ (λ (ts vs : List ℕ). spans_from (line_with ts vs) start end 0) same order
+spans_are of tab_width text vtol start end tabs same order =
+    ap (λ n. spans_from (line_with n text vtol) start end 0) tabs
+    ∙ ap₂ (λ (ts vs : List ℕ). spans_from (line_with of.tab_width ts vs) start end 0) same order
 
 pub spans_maximal : (of : Visual) (start end : ℕ) → AreMaximal (is_covered of start end) (columns_left of (length of.vtol)) (spans_of of start end)
 unfolding spans_from

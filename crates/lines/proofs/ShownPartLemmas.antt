@@ -2,14 +2,14 @@
 use Rattle.std.proofs.Common.{◌≡◌, ◌∙◌, ℕ, suc, ◌+◌, ◌-◌, ◌*◌, ◌<◌, ◌≤◌, Bool, true, false, not, ◌&&◌, nat_le, List, length, take, take-take, Option, Some, None, unwrap_or, sym, ap, subst, inl, inr, arith}
 use Rattle.std.proofs.lemmas.Bool.{and_from, and_parts, cases_Bool, cases_eq, cases_lt, cond-true, cond-false, le-leb, not-false}
 use Rattle.std.proofs.lemmas.List.{length-take-le}
-use Rattle.std.proofs.lemmas.List.Sums.{sum_by-take-le}
 use Rattle.bidi.proofs.LeastLemmas.{least_before, least_found, least_none, least_passes, least_within}
-use Rattle.lines.specs.CharInfos.{is_space}
+use Rattle.lines.specs.CharInfos.{advance, is_space}
 use Rattle.lines.specs.Filling.{before_tail, columns, place_at, text_len}
 use Rattle.lines.specs.ShownParts.{is_space_within, margin_of, shown, shown_len}
 use Rattle.lines.specs.declared.char_info.CharInfo.{CharInfo}
 use Rattle.lines.specs.declared.options.Options.{Options}
 use Rattle.lines.proofs.FillingLemmas.{columns_after}
+use Rattle.lines.proofs.WidthLemmas.{columns_take}
 
 -- the characters that end the shown part
 abbrev stops : ℕ → List CharInfo → ℕ → Bool
@@ -41,12 +41,12 @@ pub record AreSpacesTo (margin : ℕ) (line : List CharInfo) (k columns_shown : 
   pub most : columns_shown ≤ 255 * k
 
 pub spaces_next : (margin : ℕ) (line : List CharInfo) (k columns_shown : ℕ) → AreSpacesTo margin line k columns_shown → k < length line
-    → (is_space (place_at line k).trailing && nat_le (columns_shown + (place_at line k).columns) margin) ≡ true → (place_at line k).columns ≤ 255
-    → AreSpacesTo margin line (k + 1) (columns_shown + (place_at line k).columns)
+    → (is_space (place_at line k).trailing && nat_le (advance columns_shown (place_at line k)) margin) ≡ true → advance columns_shown (place_at line k) ≤ columns_shown + 255
+    → AreSpacesTo margin line (k + 1) (advance columns_shown (place_at line k))
 spaces_next margin line k columns_shown so_far below here few =
     let next : k + 1 ≡ suc k = omega arith in
-    let sum : columns_shown + (place_at line k).columns ≡ columns (take (suc k) line) =
-    ap (λ n. n + (place_at line k).columns) so_far.columns_are ∙ sym (columns_after line k below) in
+    let sum : advance columns_shown (place_at line k) ≡ columns (take (suc k) line) =
+    ap (λ n. advance n (place_at line k)) so_far.columns_are ∙ sym (columns_after line k below) in
     record {
       from = omega (arith, so_far.from);
       within = omega (arith, below);
@@ -69,7 +69,7 @@ text_shown (Some margin) line =
     ]
 
 columns_rise : (line : List CharInfo) (j k : ℕ) → j ≤ k → columns (take j line) ≤ columns (take k line)
-columns_rise line j k below = subst (λ ps. columns ps ≤ columns (take k line)) (take-take j k line below) (sum_by-take-le (λ p. p.columns) (take k line) j)
+columns_rise line j k below = subst (λ ps. columns ps ≤ columns (take k line)) (take-take j k line below) (columns_take j (take k line))
 
 pub text_narrow : (margin : Option ℕ) (line : List CharInfo) → columns (before_tail line) ≤ columns (shown margin line)
 text_narrow margin line = columns_rise line (text_len line) (shown_len margin line) (text_shown margin line)
@@ -112,12 +112,12 @@ same_part options old width line fit ends =
 
 -- the spaces end at the end of the line, or before a character that is not a space within the margin
 pub spaces_len : (margin : ℕ) (line : List CharInfo) (k columns_shown : ℕ) → AreSpacesTo margin line k columns_shown
-    → (k < length line → (is_space (place_at line k).trailing && nat_le (columns_shown + (place_at line k).columns) margin) ≡ false) → k ≡ shown_len (Some margin) line
+    → (k < length line → (is_space (place_at line k).trailing && nat_le (advance columns_shown (place_at line k)) margin) ≡ false) → k ≡ shown_len (Some margin) line
 spaces_len margin line k columns_shown so_far ends =
     elim (cases_lt k (length line)) [
       | inl below ↦
-          let sum : columns (take (suc k) line) ≡ columns_shown + (place_at line k).columns =
-          columns_after line k below ∙ ap (λ n. n + (place_at line k).columns) (sym so_far.columns_are) in
+          let sum : columns (take (suc k) line) ≡ advance columns_shown (place_at line k) =
+          columns_after line k below ∙ ap (λ n. advance n (place_at line k)) (sym so_far.columns_are) in
           spaces_to margin line k so_far.from below so_far.spaces (ap (λ n. is_space (place_at line k).trailing && nat_le n margin) sum ∙ ends below)
       | inr past ↦
           let all : k ≡ length line = omega (arith, past, so_far.within) in
@@ -125,7 +125,7 @@ spaces_len margin line k columns_shown so_far ends =
     ]
 
 pub spaces_part : (margin : ℕ) (line : List CharInfo) (k columns_shown : ℕ) → AreSpacesTo margin line k columns_shown
-    → (k < length line → (is_space (place_at line k).trailing && nat_le (columns_shown + (place_at line k).columns) margin) ≡ false)
+    → (k < length line → (is_space (place_at line k).trailing && nat_le (advance columns_shown (place_at line k)) margin) ≡ false)
     → (k ≡ length (shown (Some margin) line)) × (columns_shown ≡ columns (shown (Some margin) line))
 spaces_part margin line k columns_shown so_far ends =
     let e = spaces_len margin line k columns_shown so_far ends in (

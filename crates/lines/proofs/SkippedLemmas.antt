@@ -15,6 +15,7 @@ use Rattle.lines.specs.Pages.{paragraph_bytes}
 use Rattle.lines.specs.CharInfos.{infos, infos_of}
 use Rattle.lines.specs.Printing.{skips_lines}
 use Rattle.lines.specs.ShownParts.{margin_of}
+use Rattle.lines.specs.Tabs.{tab_width_in}
 use Rattle.lines.specs.Visual.{Line, Visual, lines_from, visual_of}
 use Rattle.lines.specs.declared.options.Options.{Options}
 use Rattle.lines.specs.declared.char_info.CharInfo.{CharInfo}
@@ -49,17 +50,17 @@ module _ (width : ℕ) (print : Print) (skips : skips_lines print ≡ true) wher
       (if print.basedir && visual.is_first then direction_line visual.base else [])
       (numbers_line visual.ltov) (numbers_line visual.vtol) (numbers_line visual.levels) skips
 
-  module _ (base : ℕ) (text : List ℕ) (all : List Line) where
+  module _ (base tab_width : ℕ) (text : List ℕ) (all : List Line) where
     abbrev bytes_at : ℕ × Line → List ℕ
-    bytes_at nth = line_bytes width print (visual_of base text all nth.0 nth.1)
+    bytes_at nth = line_bytes width print (visual_of base tab_width text all nth.0 nth.1)
 
     first_is : (line : Line) → bytes_at (0, line) ≡ (if print.basedir then direction_line base else [])
-    first_is line = line_is (visual_of base text all 0 line) ∙ on_first print.basedir (direction_line base)
+    first_is line = line_is (visual_of base tab_width text all 0 line) ∙ on_first print.basedir (direction_line base)
 
     other_is : (k : ℕ) (line : Line) → 0 < k → bytes_at (k, line) ≡ []
     other_is k line after =
         let second : (k == 0) ≡ false = grind (arith, nat_tests, after) in
-        line_is (visual_of base text all k line)
+        line_is (visual_of base tab_width text all k line)
         ∙ ap (λ first. if print.basedir && first then direction_line base else []) second ∙ on_others print.basedir (direction_line base)
 
     others_are : (k : ℕ) (lines : List Line) → 0 < k → flat_map bytes_at (enumerate_from k lines) ≡ []
@@ -74,12 +75,12 @@ module _ (width : ℕ) (print : Print) (skips : skips_lines print ≡ true) wher
 
 -- ---- a paragraph has at least one line
 
-pub length-infos : (t : Tables) (text : List ℕ) (marks : List Mark) (clusters : List Bool) → length text ≤ length marks → length clusters ≡ length text
-    → length (infos t text marks clusters) ≡ length text
-length-infos t [] marks clusters m c = refl
-length-infos t (x ∷ text) [] clusters m c = absurd (omega (arith, m))
-length-infos t (x ∷ text) (mark ∷ marks) [] m c = absurd (omega (arith, c))
-length-infos t (x ∷ text) (mark ∷ marks) (ends ∷ clusters) m c = ap suc (length-infos t text marks clusters (omega (arith, m)) (omega (arith, c)))
+pub length-infos : (t : Tables) (n : ℕ) (text : List ℕ) (marks : List Mark) (clusters : List Bool) → length text ≤ length marks → length clusters ≡ length text
+    → length (infos t n text marks clusters) ≡ length text
+length-infos t n [] marks clusters m c = refl
+length-infos t n (x ∷ text) [] clusters m c = absurd (omega (arith, m))
+length-infos t n (x ∷ text) (mark ∷ marks) [] m c = absurd (omega (arith, c))
+length-infos t n (x ∷ text) (mark ∷ marks) (ends ∷ clusters) m c = ap suc (length-infos t n text marks clusters (omega (arith, m)) (omega (arith, c)))
 
 some_starts : (nobreak : Bool) (width : ℕ) (ps : List CharInfo) → 0 < length ps → 0 < length (line_starts_of nobreak width ps)
 unfolding line_starts_of
@@ -100,8 +101,8 @@ some_lines : (rules : Rules) (width : ℕ) (text : List ℕ) → IsParagraph rul
     → length (marks_of rules.tables rules.options.whole_numbers text) ≡ length text → 0 < length (lines_of rules width text)
 unfolding infos_of
 some_lines rules width text paragraph marks =
-    let ps : List CharInfo = infos_of rules.tables rules.options.whole_numbers text in
-    let size = length-infos rules.tables text (marks_of rules.tables rules.options.whole_numbers text) (cluster_ends text) (omega (arith, marks)) (length-cluster_ends text) in
+    let ps : List CharInfo = infos_of rules.tables rules.options text in
+    let size = length-infos rules.tables (tab_width_in rules.tables rules.options) text (marks_of rules.tables rules.options.whole_numbers text) (cluster_ends text) (omega (arith, marks)) (length-cluster_ends text) in
     let some : 0 < length ps = omega (arith, size, some_text rules text paragraph) in
     some_from rules.tables rules.options (margin_of rules.options width) (base_of rules text) text (levels_of rules.tables text rules.options.base) ps (line_starts_of rules.options.nobreak width ps)
     (some_starts rules.options.nobreak width ps some)
@@ -110,7 +111,7 @@ pub direction_only : (rules : Rules) (width : ℕ) (print : Print) (text : List 
     → length (marks_of rules.tables rules.options.whole_numbers text) ≡ length text
     → (if print.basedir then direction_line (base_of rules text) else []) ≡ paragraph_bytes rules width print text
 direction_only rules width print text skips paragraph marks =
-    sym (all_are width print skips (base_of rules text) text (lines_of rules width text) (lines_of rules width text) (some_lines rules width text paragraph marks))
+    sym (all_are width print skips (base_of rules text) (tab_width_in rules.tables rules.options) text (lines_of rules width text) (lines_of rules width text) (some_lines rules width text paragraph marks))
 
 -- if a property holds unless memory ran out, it holds after `Ok`
 pub on_ok : (P : Type 0) (result : Result (Unit {0}) PrintFault) → (¬ (IsErrOf result Memory) → P) → OnOk result P

@@ -19,10 +19,12 @@ use Rattle.lines.specs.Clusters.{cluster_ends}
 use Rattle.lines.specs.Filling.{before_tail, by_break, by_cluster, cluster_ends_at, columns, first_end, fits, fits_to, is_break, is_must, line_end}
 use Rattle.lines.specs.Filling.{line_len, line_starts_of, may_end, must_end, or_else, place_at, starts, stop}
 use Rattle.lines.specs.Layouts.{IsLaidOut, Layout, Rules, base_of, hides_space_within, is_line_within, keeps_lines, layout_of, lines_of}
-use Rattle.lines.specs.CharInfos.{columns_of, infos, infos_of, is_space, trailing_in}
+use Rattle.lines.specs.CharInfos.{advance, info, infos, infos_of, is_space, trailing_with}
 use Rattle.lines.specs.Showing.{line_showing}
 use Rattle.lines.specs.ShownParts.{is_space_within, margin_of, shown, shown_len}
+use Rattle.lines.specs.Tabs.{tab_width_in}
 use Rattle.lines.specs.Visual.{Line, line_between, lines_from}
+use Rattle.lines.specs.Widths.{width_from}
 use Rattle.lines.specs.declared.options.Options.{Options}
 use Rattle.lines.specs.declared.char_info.CharInfo.{CharInfo}
 use Rattle.lines.specs.declared.char_info.Trailing.{Trailing}
@@ -32,6 +34,7 @@ use Rattle.lines.proofs.FillingLemmas.{columns_after, least_within, stop_from}
 use Rattle.lines.proofs.ShownColumnLemmas.{levels_size_is}
 use Rattle.lines.proofs.ShownPartLemmas.{same_part, text_narrow}
 use Rattle.lines.proofs.SkippedLemmas.{length-infos, some_text}
+use Rattle.lines.proofs.WidthLemmas.{advance_info}
 
 -- ---- where the first line ends
 
@@ -136,13 +139,13 @@ same_starts nobreak old width s (p ∷ rest) some e ends fit =
 
 -- ---- the last position
 
-mark_at : (t : Tables) (text : List ℕ) (marks : List Mark) (clusters : List Bool) (k : ℕ) (mark : Mark) → slice_get marks k ≡ Some mark → k < length text
-    → length clusters ≡ length text → (place_at (infos t text marks clusters) k).mark ≡ mark
-mark_at t [] marks clusters k mark e within c = absurd (omega (arith, within))
-mark_at t (x ∷ text) [] clusters k mark e within c = absurd (omega (arith, slice_get_within {A = Mark} [] k mark e))
-mark_at t (x ∷ text) (m ∷ marks) [] k mark e within c = absurd (omega (arith, c))
-mark_at t (x ∷ text) (m ∷ marks) (ends ∷ clusters) zero mark e within c = ap (λ o. unwrap_or o mark) e
-mark_at t (x ∷ text) (m ∷ marks) (ends ∷ clusters) (suc k) mark e within c = mark_at t text marks clusters k mark e (omega (arith, within)) (omega (arith, c))
+mark_at : (t : Tables) (tab_width : ℕ) (text : List ℕ) (marks : List Mark) (clusters : List Bool) (k : ℕ) (mark : Mark) → slice_get marks k ≡ Some mark → k < length text
+    → length clusters ≡ length text → (place_at (infos t tab_width text marks clusters) k).mark ≡ mark
+mark_at t tab_width [] marks clusters k mark e within c = absurd (omega (arith, within))
+mark_at t tab_width (x ∷ text) [] clusters k mark e within c = absurd (omega (arith, slice_get_within {A = Mark} [] k mark e))
+mark_at t tab_width (x ∷ text) (m ∷ marks) [] k mark e within c = absurd (omega (arith, c))
+mark_at t tab_width (x ∷ text) (m ∷ marks) (ends ∷ clusters) zero mark e within c = ap (λ o. unwrap_or o mark) e
+mark_at t tab_width (x ∷ text) (m ∷ marks) (ends ∷ clusters) (suc k) mark e within c = mark_at t tab_width text marks clusters k mark e (omega (arith, within)) (omega (arith, c))
 
 -- ---- the lines
 
@@ -163,24 +166,36 @@ unfolding line_starts_of
 first_zero nobreak width s [] e = cc
 first_zero nobreak width s (p ∷ rest) e = sym (ap (λ xs. get_or xs 0 0) e)
 
-info_at : (t : Tables) (text : List ℕ) (marks : List Mark) (clusters : List Bool) (k : ℕ) → k < length (infos t text marks clusters)
-    → ((place_at (infos t text marks clusters) k).trailing ≡ trailing_in t (get_or text k 0)) × ((place_at (infos t text marks clusters) k).columns ≡ columns_of (get_or text k 0))
-info_at t [] marks clusters k within = absurd (omega (arith, within))
-info_at t (x ∷ text) [] clusters k within = absurd (omega (arith, within))
-info_at t (x ∷ text) (m ∷ marks) [] k within = absurd (omega (arith, within))
-info_at t (x ∷ text) (m ∷ marks) (ends ∷ clusters) zero within = (refl, refl)
-info_at t (x ∷ text) (m ∷ marks) (ends ∷ clusters) (suc k) within = info_at t text marks clusters k (omega (arith, within))
+info_at : (t : Tables) (tab_width : ℕ) (text : List ℕ) (marks : List Mark) (clusters : List Bool) (k : ℕ) → k < length (infos t tab_width text marks clusters)
+    → ((place_at (infos t tab_width text marks clusters) k).trailing ≡ trailing_with t tab_width (get_or text k 0))
+    × ((column : ℕ) → advance column (place_at (infos t tab_width text marks clusters) k) ≡ column + width_from tab_width column (get_or text k 0))
+info_at t tab_width [] marks clusters k within = absurd (omega (arith, within))
+info_at t tab_width (x ∷ text) [] clusters k within = absurd (omega (arith, within))
+info_at t tab_width (x ∷ text) (m ∷ marks) [] k within = absurd (omega (arith, within))
+info_at t tab_width (x ∷ text) (m ∷ marks) (ends ∷ clusters) zero within = (refl, λ column. advance_info t tab_width column x m ends)
+info_at t tab_width (x ∷ text) (m ∷ marks) (ends ∷ clusters) (suc k) within = info_at t tab_width text marks clusters k (omega (arith, within))
 
 -- the first hidden character is a space that fits if its `CharInfo` says so
-hides : (t : Tables) (width : ℕ) (text : List ℕ) (line : Line) (ps : List CharInfo) (n : ℕ) → length line.levels ≡ n → line.columns ≡ columns (take n ps) → n < length ps → n < length text
-    → (place_at ps n).trailing ≡ trailing_in t (get_or text n 0) → (place_at ps n).columns ≡ columns_of (get_or text n 0)
-    → is_space_within width ps n ≡ hides_space_within t width text line
-hides t width text line ps n size sum below within trailing wide =
+hides : (t : Tables) (tab_width width : ℕ) (text : List ℕ) (line : Line) (ps : List CharInfo) (n : ℕ) → length line.levels ≡ n → line.columns ≡ columns (take n ps) → n < length ps → n < length text
+    → (place_at ps n).trailing ≡ trailing_with t tab_width (get_or text n 0)
+    → ((column : ℕ) → advance column (place_at ps n) ≡ column + width_from tab_width column (get_or text n 0))
+    → is_space_within width ps n ≡ hides_space_within t tab_width width text line
+hides t tab_width width text line ps n size sum below within trailing wide =
     let c : ℕ = get_or text n 0 in
     let found : slice_get text (length line.levels) ≡ Some c = ap (slice_get text) size ∙ slice_get-get_or text n 0 within in
-    let most : columns (take (suc n) ps) ≡ line.columns + columns_of c = columns_after ps n below ∙ ap₂ (λ (a b : ℕ). a + b) (sym sum) wide in
+    let most : columns (take (suc n) ps) ≡ line.columns + width_from tab_width line.columns c =
+    columns_after ps n below ∙ ap (λ column. advance column (place_at ps n)) (sym sum) ∙ wide line.columns in
     ap₂ (λ (kind : Trailing) (m : ℕ). is_space kind && nat_le m width) trailing most
-    ∙ sym (ap (λ (o : Option ℕ). option_map_or (λ d. is_space (trailing_in t d) && nat_le (line.columns + columns_of d) width) o false) found)
+    ∙ sym (ap (λ (o : Option ℕ). option_map_or (λ d. is_space (trailing_with t tab_width d) && nat_le (line.columns + width_from tab_width line.columns d) width) o false) found)
+
+-- whether the first hidden character is a space that fits, given its `CharInfo`
+pub hidden_is : (t : Tables) (tab_width width c : ℕ) (text : List ℕ) (line : Line) (mark : Mark) (b : Bool) → slice_get text (length line.levels) ≡ Some c
+    → b ≡ (is_space (info t tab_width c mark false).trailing && nat_le (advance line.columns (info t tab_width c mark false)) width)
+    → b ≡ hides_space_within t tab_width width text line
+hidden_is t tab_width width c text line mark b found is =
+    is
+    ∙ ap (λ n. is_space (trailing_with t tab_width c) && nat_le n width) (advance_info t tab_width line.columns c mark false)
+    ∙ sym (ap (λ (o : Option ℕ). option_map_or (λ d. is_space (trailing_with t tab_width d) && nat_le (line.columns + width_from tab_width line.columns d) width) o false) found)
 
 lines_stay : EndsAtMust → (rules : Rules) (old width : ℕ) (text : List ℕ) → 0 < length text → keeps_lines rules width (layout_of rules old text) ≡ true
     → lines_of rules width text ≡ lines_of rules old text
@@ -188,16 +203,17 @@ unfolding infos_of
 lines_stay law rules old width text some h =
     let t : Tables = rules.tables in
     let options : Options = rules.options in
+    let tab_width : ℕ = tab_width_in t options in
     let marks : List Mark = marks_of t options.whole_numbers text in
-    let ps : List CharInfo = infos_of t options.whole_numbers text in
+    let ps : List CharInfo = infos_of t options text in
     let last = law t options.whole_numbers text some in
     let many : length marks ≡ length text = length-marks t options.whole_numbers text in
-    let size : length ps ≡ length text = length-infos t text marks (cluster_ends text) (omega (arith, many)) (length-cluster_ends text) in
-    let ends : (place_at ps (length text - 1)).mark ≡ Must = mark_at t text marks (cluster_ends text) (length text - 1) Must last (omega (arith, some)) (length-cluster_ends text) in
+    let size : length ps ≡ length text = length-infos t tab_width text marks (cluster_ends text) (omega (arith, many)) (length-cluster_ends text) in
+    let ends : (place_at ps (length text - 1)).mark ≡ Must = mark_at t tab_width text marks (cluster_ends text) (length text - 1) Must last (omega (arith, some)) (length-cluster_ends text) in
     let base : ℕ = base_of rules text in
     let levels : List ℕ = levels_of t text options.base in
     let margin : Option ℕ = margin_of options old in
-    let shows : Bool = option_map_or (hides_space_within t width text) (slice_get (lines_of rules old text) 0) false in
+    let shows : Bool = option_map_or (hides_space_within t tab_width width text) (slice_get (lines_of rules old text) 0) false in
     let tests = and_parts (is_line_within width (lines_of rules old text)) (not (options.show_spaces && shows)) h in
     let one = one_start t options margin base text levels ps width (line_starts_of options.nobreak old ps) tests.0 in
     let zero_is : one.0 ≡ 0 = first_zero options.nobreak old one.0 ps one.1 in
@@ -214,15 +230,16 @@ lines_stay law rules old width text some h =
     let lines : lines_of rules old text ≡ line ∷ [] = ap (lines_from t options margin base text levels ps) began in
     let n : ℕ = shown_len margin piece in
     let n_is : length line.levels ≡ n =
-    levels_size_is t options margin base text levels marks (cluster_ends text) (length-levels_of t text options.base) many (length-cluster_ends text)
+    levels_size_is t options margin base tab_width text levels marks (cluster_ends text) (length-levels_of t text options.base) many (length-cluster_ends text)
     0 (length text) (omega arith) (omega arith) in
     let stops : options.show_spaces ≡ true → n < length piece → is_space_within width piece n ≡ false =
     λ on below.
     let inside : n < length ps = omega (arith, below, ap length whole) in
-    let info = info_at t text marks (cluster_ends text) n inside in
+    let info = info_at t tab_width text marks (cluster_ends text) n inside in
     let place : place_at piece n ≡ place_at ps n = ap (λ (xs : List CharInfo). place_at xs n) whole in
-    hides t width text line piece n n_is refl below (omega (arith, inside, size)) (ap (λ (p : CharInfo). p.trailing) place ∙ info.0) (ap (λ (p : CharInfo). p.columns) place ∙ info.1)
-    ∙ sym (ap (λ (ls : List Line). option_map_or (hides_space_within t width text) (slice_get ls 0) false) lines)
+    hides t tab_width width text line piece n n_is refl below (omega (arith, inside, size)) (ap (λ (p : CharInfo). p.trailing) place ∙ info.0)
+    (λ column. ap (advance column) place ∙ info.1 column)
+    ∙ sym (ap (λ (ls : List Line). option_map_or (hides_space_within t tab_width width text) (slice_get ls 0) false) lines)
     ∙ sym (ap (λ (b : Bool). b && shows) on)
     ∙ not-true (options.show_spaces && shows) tests.1 in
     let part : ℕ → Shown = λ m. record { len = length (take m piece); columns = columns (take m piece) } in

@@ -15,6 +15,7 @@ use Rattle.lines.specs.Layouts.{AreWithin, Rules, base_of, lines_of}
 use Rattle.lines.specs.CharInfos.{infos, infos_of}
 use Rattle.reorder.specs.Spaces.{line_levels}
 use Rattle.lines.specs.ShownParts.{margin_of, shown, shown_len}
+use Rattle.lines.specs.Tabs.{tab_width_in}
 use Rattle.lines.specs.Visual.{Line, line_between, lines_from}
 use Rattle.lines.specs.declared.options.Options.{Options}
 use Rattle.lines.specs.declared.char_info.CharInfo.{CharInfo}
@@ -47,11 +48,11 @@ starts_rise nobreak width place (suc left) n (p ∷ rest) e =
     rise_from (place + suc left) (suc place + left) n (starts nobreak width (suc place) left rest) (omega arith) (starts_rise nobreak width (suc place) left n rest (omega (arith, e)))
 
 -- there are at most as many `CharInfo`s as characters
-length-infos : (t : Tables) (text : List ℕ) (marks : List Mark) (clusters : List Bool) → length (infos t text marks clusters) ≤ length text
-length-infos t [] marks clusters = omega arith
-length-infos t (c ∷ text) [] clusters = omega arith
-length-infos t (c ∷ text) (mark ∷ marks) [] = omega arith
-length-infos t (c ∷ text) (mark ∷ marks) (ends ∷ clusters) = omega (arith, length-infos t text marks clusters)
+length-infos : (t : Tables) (n : ℕ) (text : List ℕ) (marks : List Mark) (clusters : List Bool) → length (infos t n text marks clusters) ≤ length text
+length-infos t n [] marks clusters = omega arith
+length-infos t n (c ∷ text) [] clusters = omega arith
+length-infos t n (c ∷ text) (mark ∷ marks) [] = omega arith
+length-infos t n (c ∷ text) (mark ∷ marks) (ends ∷ clusters) = omega (arith, length-infos t n text marks clusters)
 
 length-take-most : {X : Type 0} (n : ℕ) (xs : List X) → length (take n xs) ≤ n
 length-take-most n xs = omega (arith, length-take n xs)
@@ -78,20 +79,20 @@ from_within tables options margin base text levels ps low n (s ∷ t ∷ at) e r
     (omega (arith, levels_most tables options margin base text levels ps s t, rise.2.0, rise.2.1)) (from_within tables options margin base text levels ps (suc s) n (t ∷ at) e rise.2)
 
 -- the line starts of a paragraph rise strictly
-pub starts_in : (rules : Rules) (width : ℕ) (text : List ℕ) → Rise 0 (length text) (line_starts_of rules.options.nobreak width (infos_of rules.tables rules.options.whole_numbers text))
+pub starts_in : (rules : Rules) (width : ℕ) (text : List ℕ) → Rise 0 (length text) (line_starts_of rules.options.nobreak width (infos_of rules.tables rules.options text))
 unfolding line_starts_of infos_of
 starts_in rules width text =
-    let ps : List CharInfo = infos_of rules.tables rules.options.whole_numbers text in
-    rise_to 0 (length ps) (length text) (line_starts_of rules.options.nobreak width ps) (length-infos rules.tables text (marks_of rules.tables rules.options.whole_numbers text) (cluster_ends text))
+    let ps : List CharInfo = infos_of rules.tables rules.options text in
+    rise_to 0 (length ps) (length text) (line_starts_of rules.options.nobreak width ps) (length-infos rules.tables (tab_width_in rules.tables rules.options) text (marks_of rules.tables rules.options.whole_numbers text) (cluster_ends text))
     (starts_rise rules.options.nobreak width 0 0 (length ps) ps (omega arith))
 
 -- the shown parts of a paragraph's lines are inside the paragraph
 pub lines_within : (rules : Rules) (width : ℕ) (text : List ℕ) → AreWithin (length text) (lines_of rules width text)
 unfolding line_starts_of infos_of
 lines_within rules width text =
-    let ps : List CharInfo = infos_of rules.tables rules.options.whole_numbers text in
+    let ps : List CharInfo = infos_of rules.tables rules.options text in
     from_within rules.tables rules.options (margin_of rules.options width) (base_of rules text) text (levels_of rules.tables text rules.options.base) ps 0 (length text) (line_starts_of rules.options.nobreak width ps) refl
-    (rise_to 0 (length ps) (length text) (line_starts_of rules.options.nobreak width ps) (length-infos rules.tables text (marks_of rules.tables rules.options.whole_numbers text) (cluster_ends text))
+    (rise_to 0 (length ps) (length text) (line_starts_of rules.options.nobreak width ps) (length-infos rules.tables (tab_width_in rules.tables rules.options) text (marks_of rules.tables rules.options.whole_numbers text) (cluster_ends text))
     (starts_rise rules.options.nobreak width 0 0 (length ps) ps (omega arith)))
 
 -- if `Rise` holds for a list of numbers, they are below n and each is less than the next one
@@ -112,9 +113,9 @@ rise_rising low n (x ∷ y ∷ xs) (suc k) rise below =
 pub starts_within : (rules : Rules) (width : ℕ) (text : List ℕ) → AreStarts (length text) (extents_of rules width text).starts
 unfolding line_starts_of infos_of
 starts_within rules width text =
-    let ps : List CharInfo = infos_of rules.tables rules.options.whole_numbers text in
+    let ps : List CharInfo = infos_of rules.tables rules.options text in
     let rise = rise_to 0 (length ps) (length text) (line_starts_of rules.options.nobreak width ps)
-    (length-infos rules.tables text (marks_of rules.tables rules.options.whole_numbers text) (cluster_ends text))
+    (length-infos rules.tables (tab_width_in rules.tables rules.options) text (marks_of rules.tables rules.options.whole_numbers text) (cluster_ends text))
     (starts_rise rules.options.nobreak width 0 0 (length ps) ps (omega arith)) in
     record {
       below = λ k h. rise_below 0 (length text) (line_starts_of rules.options.nobreak width ps) k rise h;

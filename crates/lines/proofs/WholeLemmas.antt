@@ -26,6 +26,7 @@ use Rattle.lines.proofs.ReorderingLemmas.{all_ends}
 use Rattle.lines.specs.Pages.{lines_bytes}
 use Rattle.lines.specs.CharInfos.{infos, infos_of, may_trail, trailing_in}
 use Rattle.reorder.specs.Spaces.{line_levels}
+use Rattle.lines.specs.Tabs.{tab_width_in}
 use Rattle.lines.specs.Visual.{Line, Visual, line_between, lines_from, visual_of}
 use Rattle.lines.specs.Whole.{IsShownLen, IsWhole}
 use Rattle.lines.specs.declared.options.Options.{Options}
@@ -34,6 +35,7 @@ use Rattle.lines.specs.declared.print.Print.{Print}
 use Rattle.lines.proofs.ClusterLemmas.{length-cluster_ends}
 use Rattle.lines.proofs.FillingLemmas.{stop_at, stop_none}
 use Rattle.lines.proofs.SkippedLemmas.{length-infos}
+use Rattle.lines.proofs.TabLemmas.{no_tabs}
 
 -- ---- rules that require no mandatory break
 
@@ -187,20 +189,20 @@ quiet_marks t whole_numbers text is = tame_marks whole_numbers [] (bases_of (map
 
 -- ---- only the last `CharInfo` has a mandatory break
 
-tame_infos : (t : Tables) (text : List ℕ) (marks : List Mark) (ends : List Bool) (j : ℕ) → Tame marks → j + 1 < length (infos t text marks ends)
-    → must_end (infos t text marks ends) j ≡ false
+tame_infos : (t : Tables) (n : ℕ) (text : List ℕ) (marks : List Mark) (ends : List Bool) (j : ℕ) → Tame marks → j + 1 < length (infos t n text marks ends)
+    → must_end (infos t n text marks ends) j ≡ false
 unfolding Tame
-tame_infos t [] marks ends j quiet below = absurd (omega (arith, below))
-tame_infos t (c ∷ text) [] ends j quiet below = absurd (omega (arith, below))
-tame_infos t (c ∷ text) (m ∷ marks) [] j quiet below = absurd (omega (arith, below))
-tame_infos t (c ∷ []) (m ∷ marks) (e ∷ ends) j quiet below = absurd (omega (arith, below))
-tame_infos t (c ∷ d ∷ text) (m ∷ []) (e ∷ ends) j quiet below = absurd (omega (arith, below))
-tame_infos t (c ∷ d ∷ text) (m ∷ n ∷ marks) (e ∷ ends) zero quiet below = quiet.0
-tame_infos t (c ∷ d ∷ text) (m ∷ n ∷ marks) (e ∷ ends) (suc j) quiet below =
-    tame_infos t (d ∷ text) (n ∷ marks) ends j quiet.1 (omega (arith, below))
+tame_infos t n [] marks ends j quiet below = absurd (omega (arith, below))
+tame_infos t n (c ∷ text) [] ends j quiet below = absurd (omega (arith, below))
+tame_infos t n (c ∷ text) (m ∷ marks) [] j quiet below = absurd (omega (arith, below))
+tame_infos t n (c ∷ []) (m ∷ marks) (e ∷ ends) j quiet below = absurd (omega (arith, below))
+tame_infos t n (c ∷ d ∷ text) (m ∷ []) (e ∷ ends) j quiet below = absurd (omega (arith, below))
+tame_infos t n (c ∷ d ∷ text) (m ∷ next ∷ marks) (e ∷ ends) zero quiet below = quiet.0
+tame_infos t n (c ∷ d ∷ text) (m ∷ next ∷ marks) (e ∷ ends) (suc j) quiet below =
+    tame_infos t n (d ∷ text) (next ∷ marks) ends j quiet.1 (omega (arith, below))
 
-trailing_place : (t : Tables) (text : List ℕ) (marks : List Mark) (ends : List Bool) (k : ℕ) → k < length (infos t text marks ends)
-    → (place_at (infos t text marks ends) k).trailing ≡ trailing_in t (get_or text k 0)
+trailing_place : (t : Tables) (text : List ℕ) (marks : List Mark) (ends : List Bool) (k : ℕ) → k < length (infos t 0 text marks ends)
+    → (place_at (infos t 0 text marks ends) k).trailing ≡ trailing_in t (get_or text k 0)
 trailing_place t [] marks ends k below = absurd (omega (arith, below))
 trailing_place t (c ∷ text) [] ends k below = absurd (omega (arith, below))
 trailing_place t (c ∷ text) (m ∷ marks) [] k below = absurd (omega (arith, below))
@@ -234,10 +236,10 @@ one_start width (p ∷ rest) some fails =
 whole_range : {X : Type 0} (xs : List X) (n : ℕ) → n ≡ length xs → slice_range xs 0 n ≡ xs
 whole_range xs n e = take_all (n - 0) xs (omega arith)
 
-shown_is : (t : Tables) (text : List ℕ) (marks : List Mark) (ends : List Bool) (len : ℕ) → length (infos t text marks ends) ≡ length text
-    → IsShownLen t text len → len ≡ length (before_tail (slice_range (infos t text marks ends) 0 (length text)))
+shown_is : (t : Tables) (text : List ℕ) (marks : List Mark) (ends : List Bool) (len : ℕ) → length (infos t 0 text marks ends) ≡ length text
+    → IsShownLen t text len → len ≡ length (before_tail (slice_range (infos t 0 text marks ends) 0 (length text)))
 shown_is t text marks ends len size is =
-    let all : List CharInfo = infos t text marks ends in
+    let all : List CharInfo = infos t 0 text marks ends in
     let tail : suffix_len trails all ≡ length all - len =
     suffix_len_is trails all len nothing (omega (arith, is.within, size))
     (λ k from below. ap may_trail (trailing_place t text marks ends k below) ∙ is.tail k from (omega (arith, below, size)))
@@ -258,21 +260,23 @@ unseen width print a b off first base ltov vtol levels =
     (ap (λ (xs : List ℕ). if print.vtol then numbers_line xs else []) vtol))
     (ap (λ (xs : List ℕ). if print.levels then numbers_line xs else []) levels)
 
-pub whole_bytes : (t : Tables) (options : Options) (base width : ℕ) (print : Print) (text levels : List ℕ) (len : ℕ) → print.novisual ≡ true → options.nobreak ≡ true → options.show_spaces ≡ false
+pub whole_bytes : (t : Tables) (options : Options) (base width : ℕ) (print : Print) (text levels : List ℕ) (len : ℕ) → print.novisual ≡ true → options.nobreak ≡ true → options.show_spaces ≡ false → options.tab_width ≡ 0
     → 0 < length text → length levels ≡ length text → length (marks_of t options.whole_numbers text) ≡ length text → IsWhole t text → IsShownLen t text len
     → line_bytes width print (visual_shown t options base true text (ends_by options text) levels (record { len = len; columns = 0 }))
-    ≡ lines_bytes width print base text (lines_from t options (margin_of options width) base text levels (infos_of t options.whole_numbers text)
-    (line_starts_of options.nobreak width (infos_of t options.whole_numbers text)))
+    ≡ lines_bytes width print base (tab_width_in t options) text (lines_from t options (margin_of options width) base text levels (infos_of t options text)
+    (line_starts_of options.nobreak width (infos_of t options text)))
 unfolding infos_of
-whole_bytes t options base width print text levels len off nobreak hidden some sizes many is shown_len =
+whole_bytes t options base width print text levels len off nobreak hidden tabs some sizes many is shown_len =
     let marks : List Mark = marks_of t options.whole_numbers text in
     let ends : List Bool = cluster_ends text in
-    let all : List CharInfo = infos t text marks ends in
+    let tab_width : ℕ = tab_width_in t options in
+    let none : tab_width ≡ 0 = no_tabs t options tabs in
+    let all : List CharInfo = infos t tab_width text marks ends in
     let n : ℕ = length text in
-    let size : length all ≡ n = length-infos t text marks ends (omega (arith, many)) (length-cluster_ends text) in
+    let size : length all ≡ n = length-infos t tab_width text marks ends (omega (arith, many)) (length-cluster_ends text) in
     let starts_are : line_starts_of options.nobreak width all ≡ 0 ∷ [] =
     ap (λ (b : Bool). line_starts_of b width all) nobreak
-    ∙ one_start width all (omega (arith, size, some)) (λ j below. tame_infos t text marks ends j (quiet_marks t options.whole_numbers text is) below) in
+    ∙ one_start width all (omega (arith, size, some)) (λ j below. tame_infos t tab_width text marks ends j (quiet_marks t options.whole_numbers text is) below) in
     let line : Line = line_between t options None base text levels all 0 n in
     let margin_is : margin_of options width ≡ None = cond-false options.show_spaces (Some width) None hidden in
     let levels_by : List ℕ → List ℕ → ℕ → List ℕ = λ cs ls m. take m (line_levels base (map (class_of t) cs) ls) in
@@ -280,6 +284,7 @@ whole_bytes t options base width print text levels len off nobreak hidden some s
     λ cs es ls m. record {
       is_first = true;
       base = base;
+      tab_width = 0;
       len = 0;
       text = [];
       columns = 0;
@@ -291,12 +296,14 @@ whole_bytes t options base width print text levels len off nobreak hidden some s
     let known : List Bool = ends_by options text in
     let bytes : List ℕ → List Bool → List ℕ → ℕ → List ℕ = λ cs es ls m. line_bytes width print (view cs es ls m) in
     unseen width print (visual_shown t options base true text (ends_by options text) levels (record { len = len; columns = 0 })) (view text known levels len) off refl refl refl refl refl
-    ∙ ap (bytes text known levels) (shown_is t text marks ends len size shown_len)
+    ∙ ap (bytes text known levels)
+    (subst (λ k. length (infos t k text marks ends) ≡ n → len ≡ length (before_tail (slice_range (infos t k text marks ends) 0 n))) (sym none)
+    (λ whole. shown_is t text marks ends len whole shown_len) size)
     ∙ ap (λ (es : List Bool). bytes text es levels (length (before_tail (slice_range all 0 n)))) (sym (all_ends options text))
     ∙ ap₂ (λ (cs ls : List ℕ). bytes cs (slice_range known 0 n) ls (length (before_tail (slice_range all 0 n)))) (sym (whole_range text n refl)) (sym (whole_range levels n (sym sizes)))
-    ∙ unseen width print (view (slice_range text 0 n) (slice_range known 0 n) (slice_range levels 0 n) (length (before_tail (slice_range all 0 n)))) (visual_of base text (line ∷ []) 0 line) off refl refl refl refl refl
-    ∙ sym (append-nil (line_bytes width print (visual_of base text (line ∷ []) 0 line)))
-    ∙ ap₂ (λ (margin : Option ℕ) (ss : List ℕ). lines_bytes width print base text (lines_from t options margin base text levels all ss)) (sym margin_is) (sym starts_are)
+    ∙ unseen width print (view (slice_range text 0 n) (slice_range known 0 n) (slice_range levels 0 n) (length (before_tail (slice_range all 0 n)))) (visual_of base tab_width text (line ∷ []) 0 line) off refl refl refl refl refl
+    ∙ sym (append-nil (line_bytes width print (visual_of base tab_width text (line ∷ []) 0 line)))
+    ∙ ap₂ (λ (margin : Option ℕ) (ss : List ℕ). lines_bytes width print base tab_width text (lines_from t options margin base text levels all ss)) (sym margin_is) (sym starts_are)
 
 -- the k-th looked-up properties are those of the k-th character
 pub looked_up : (t : Tables) (text : List ℕ) (properties : List Properties) (k : ℕ) (p : Properties) → properties ≡ map (properties_of t) text → k < length text

@@ -11,6 +11,7 @@ abbrev hebrew : Visual
 hebrew = record {
   is_first = true;
   base = 1;
+  tab_width = 0;
   len = 4;
   text = 0x5D0 ∷ 32 ∷ 0x31 ∷ 0x32 ∷ [];
   columns = 4;
@@ -53,7 +54,7 @@ later = refl
 
 -- a line with an empty shown part
 abbrev blank : Visual
-blank = record { is_first = true; base = 0; len = 0; text = []; columns = 0; levels = []; ltov = []; vtol = []; chars = [] }
+blank = record { is_first = true; base = 0; tab_width = 0; len = 0; text = []; columns = 0; levels = []; ltov = []; vtol = []; chars = [] }
 
 empty_lines : line_bytes 80 (record all { basedir = false }) blank ≡ codes "\n\n\n\n"
 empty_lines = refl
@@ -67,6 +68,7 @@ abbrev brackets : Visual
 brackets = record {
   is_first = true;
   base = 1;
+  tab_width = 0;
   len = 3;
   text = 40 ∷ 0x5D0 ∷ 41 ∷ [];
   columns = 3;

@@ -1,5 +1,5 @@
 -- Worked examples: where lines start, and the values of limits and buffer sizes.
-use Rattle.std.proofs.Common.{◌≡◌, ℕ, ◌-◌, ◌^◌, true, false, Some, None, List, [], ◌∷◌, refl}
+use Rattle.std.proofs.Common.{◌≡◌, ℕ, ◌-◌, ◌^◌, true, false, Some, None, List, [], ◌∷◌, ◌++◌, map, replicate, refl}
 use Rattle.breaks.specs.declared.mark.Mark.TheVariants.{Never, May, Must}
 use Rattle.lines.specs.Engine.{counted}
 use Rattle.lines.specs.Filling.{before_tail, columns, line_starts_of}
@@ -7,7 +7,7 @@ use Rattle.lines.specs.ShownParts.{shown, shown_len}
 use Rattle.lines.specs.declared.bytes.TheConstants.{CHARACTERS_AT_ONCE, ROW_BYTES_AT_ONCE}
 use Rattle.lines.specs.declared.engine.TheConstants.{PARAGRAPH_LIMIT}
 use Rattle.lines.specs.declared.char_info.CharInfo.{CharInfo}
-use Rattle.lines.specs.declared.char_info.Trailing.TheVariants.{No, Space, Separator}
+use Rattle.lines.specs.declared.char_info.Trailing.TheVariants.{No, Space, Separator, Tab}
 
 -- a letter, a space, a space before a break opportunity, and the last letter of a paragraph
 abbrev letter : CharInfo
@@ -109,6 +109,57 @@ wide = record { columns = 2; trailing = No; mark = May; ends_cluster = true }
 too_wide : starts 1 (wide ∷ record wide { mark = Must } ∷ []) ≡ 0 ∷ 1 ∷ []
 unfolding line_starts_of
 too_wide = refl
+
+-- ---- tab stops
+
+abbrev tab : ℕ → CharInfo
+tab n = record { columns = n; trailing = Tab; mark = May; ends_cluster = true }
+
+abbrev mark : CharInfo
+mark = record letter { columns = 0 }
+
+-- a tab that starts a line, two tabs, and a tab at a tab stop
+tabs_alone : map (λ n. columns (replicate n (tab 4))) (0 ∷ 1 ∷ 2 ∷ 3 ∷ []) ≡ 0 ∷ 4 ∷ 8 ∷ 12 ∷ []
+tabs_alone = refl
+
+tab_after : map (λ n. columns (replicate n letter ++ tab 4 ∷ [])) (0 ∷ 1 ∷ 2 ∷ 3 ∷ 4 ∷ 5 ∷ []) ≡ 4 ∷ 4 ∷ 4 ∷ 4 ∷ 8 ∷ 8 ∷ []
+tab_after = refl
+
+tab_between : columns (letter ∷ tab 8 ∷ letter ∷ []) ≡ 9
+tab_between = refl
+
+tab_after_wide : columns (wide ∷ tab 4 ∷ letter ∷ []) ≡ 5
+tab_after_wide = refl
+
+tab_after_mark : columns (letter ∷ mark ∷ tab 4 ∷ letter ∷ []) ≡ 5
+tab_after_mark = refl
+
+-- the least and the greatest tab width
+tab_widths : columns (letter ∷ tab 1 ∷ tab 1 ∷ []) ∷ columns (letter ∷ tab 255 ∷ []) ∷ columns (tab 255 ∷ tab 255 ∷ letter ∷ []) ∷ [] ≡ 3 ∷ 255 ∷ 511 ∷ []
+tab_widths = refl
+
+-- `abc`, a tab, `defg`, a space and `h`
+abbrev tabbed : List CharInfo
+tabbed = letter ∷ letter ∷ letter ∷ tab 4 ∷ letter ∷ letter ∷ letter ∷ letter ∷ last_space ∷ last ∷ []
+
+tab_inside : starts 8 tabbed ≡ 0 ∷ 9 ∷ []
+unfolding line_starts_of
+tab_inside = refl
+
+-- a line may end after a tab, and tab stops are counted from the start of each line
+tab_last : starts 4 tabbed ≡ 0 ∷ 4 ∷ 9 ∷ []
+unfolding line_starts_of
+tab_last = refl
+
+-- a tab that does not fit is wider than its line
+tab_alone : starts 3 (letter ∷ letter ∷ letter ∷ tab 4 ∷ last ∷ []) ≡ 0 ∷ 3 ∷ 4 ∷ []
+unfolding line_starts_of
+tab_alone = refl
+
+-- a tab is not in the tail, so the spaces before it count
+tab_after_spaces : starts 3 (letter ∷ space ∷ tab 4 ∷ last ∷ []) ≡ 0 ∷ 2 ∷ 3 ∷ []
+unfolding line_starts_of
+tab_after_spaces = refl
 
 -- a work counter is capped at 2^64−1
 count_stays : counted (2 ^ 64 - 3) 7 ≡ 2 ^ 64 - 1

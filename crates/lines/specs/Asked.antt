@@ -1,11 +1,12 @@
 -- A line for which only the printed parts are computed. No contract of an exported function uses these
 -- definitions.
-use Rattle.std.specs.Prelude.{ℕ, Bool, ◌&&◌, ◌||◌, not, List, length, map, take}
+use Rattle.std.specs.Prelude.{ℕ, nat_lt, Bool, ◌&&◌, ◌||◌, not, List, length, map, take}
 use Rattle.ucd.specs.Tables.{class_of}
 use Rattle.ucd.specs.declared.tables.Tables.{Tables}
 use Rattle.reorder.specs.Mirroring.{visual_chars}
 use Rattle.lines.specs.Reordering.{ltov_by, vtol_by}
 use Rattle.reorder.specs.Spaces.{line_levels}
+use Rattle.lines.specs.Tabs.{tab_width_in}
 use Rattle.lines.specs.Visual.{Visual}
 use Rattle.lines.specs.declared.options.Options.{Options}
 use Rattle.lines.specs.declared.fill.Shown.{Shown}
@@ -21,6 +22,7 @@ module _ (tables : Tables) (options : Options) (base : ℕ) (is_first : Bool) (l
       record {
         is_first = is_first;
         base = base;
+        tab_width = tab_width_in tables options;
         len = length line;
         text = take (length levels) line;
         columns = columns;
@@ -34,7 +36,7 @@ module _ (tables : Tables) (options : Options) (base : ℕ) (is_first : Bool) (l
   abbrev pub visual_shown : List ℕ → Shown → Visual
   visual_shown old part = visual_part part.columns (take part.len (line_levels base (map (class_of tables) line) old))
 
--- whether position maps are computed: if they are printed, or if characters are printed unmirrored, which
+-- whether position maps are computed: if they are printed, or if characters are printed unmirrored or tabs as spaces, which
 -- needs a map
-abbrev pub asks_places : Print → Bool
-asks_places print = print.ltov || (print.vtol || (not print.novisual && print.nomirror))
+abbrev pub asks_places : ℕ → Print → Bool
+asks_places tab_width print = print.ltov || (print.vtol || (not print.novisual && (print.nomirror || nat_lt 0 tab_width)))

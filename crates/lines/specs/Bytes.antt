@@ -1,8 +1,10 @@
 -- The printed bytes of a line.
-use Rattle.std.specs.Prelude.{ℕ, ◌-◌, ◌&&◌, not, List, [], ◌++◌, codes, map, replicate, slice_index, encode_utf8_all, if◌then◌else◌}
+use Rattle.std.specs.Prelude.{ℕ, ◌-◌, nat_lt, ◌&&◌, not, List, [], ◌∷◌, ◌++◌, codes, map, replicate, slice_index, encode_utf8_all, if◌then◌else◌}
 use Rattle.std.specs.Fmt.{decimal}
 use Rattle.std.specs.List.{join_with_byte}
 use Rattle.reorder.specs.Order.{is_odd}
+use Rattle.lines.specs.Columns.{width_at}
+use Rattle.lines.specs.Tabs.{is_tab}
 use Rattle.lines.specs.Visual.{Visual}
 use Rattle.lines.specs.declared.print.Print.{Print}
 
@@ -20,8 +22,21 @@ padding width print visual =
     if is_odd visual.base && not print.nopad then replicate (width - visual.columns) 32 else []
 
 -- the characters in visual order, mirrored or unchanged
+abbrev pub ordered_chars : Print → Visual → List ℕ
+ordered_chars print visual = if print.nomirror then map (slice_index visual.text) visual.vtol else visual.chars
+
+-- what is printed for a character, given its position in the line: the character, or spaces for a tab
+abbrev pub cells : Visual → ℕ → ℕ → List ℕ
+cells visual c k = if is_tab visual.tab_width (slice_index visual.text k) then replicate (width_at visual k) 32 else c ∷ []
+
+-- characters in visual order with spaces in place of tabs, given their positions in the line
+abbrev pub expanded : Visual → List ℕ → List ℕ → List ℕ
+expanded visual (c ∷ chars) (k ∷ vtol) = cells visual c k ++ expanded visual chars vtol
+expanded visual chars vtol = []
+
 abbrev pub shown_chars : Print → Visual → List ℕ
-shown_chars print visual = if print.nomirror then map (slice_index visual.text) visual.vtol else visual.chars
+shown_chars print visual =
+    if nat_lt 0 visual.tab_width then expanded visual (ordered_chars print visual) visual.vtol else ordered_chars print visual
 
 abbrev pub visual_line : ℕ → Print → Visual → List ℕ
 visual_line width print visual = padding width print visual ++ encode_utf8_all (shown_chars print visual) ++ codes "\n"

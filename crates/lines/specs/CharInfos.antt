@@ -1,5 +1,5 @@
 -- What filling needs to know about each character of a paragraph.
-use Rattle.std.specs.Prelude.{ℕ, Bool, true, false, List, [], ◌∷◌, unwrap_or, if◌then◌else◌}
+use Rattle.std.specs.Prelude.{ℕ, ◌+◌, Bool, true, false, List, [], ◌∷◌, unwrap_or, if◌then◌else◌}
 use Rattle.ucd.specs.Tables.{line_class_of, is_mark_in}
 use Rattle.ucd.specs.declared.line_class.LineClass.{LineClass}
 use Rattle.ucd.specs.declared.line_class.LineClass.TheVariants.{BK, CR, LF, NL, SP}
@@ -10,9 +10,11 @@ use Rattle.breaks.specs.Classes.{is_one_of}
 use Rattle.breaks.specs.Marks.{marks_of}
 use Rattle.breaks.specs.declared.mark.Mark.{Mark}
 use Rattle.lines.specs.Clusters.{cluster_ends}
+use Rattle.lines.specs.Tabs.{is_tab, tab_width_in, to_stop}
 use Rattle.lines.specs.declared.char_info.CharInfo.{CharInfo}
 use Rattle.lines.specs.declared.char_info.Trailing.{Trailing}
-use Rattle.lines.specs.declared.char_info.Trailing.TheVariants.{No, Space, Separator}
+use Rattle.lines.specs.declared.char_info.Trailing.TheVariants.{No, Space, Separator, Tab}
+use Rattle.lines.specs.declared.options.Options.{Options}
 
 -- the columns of a character according to the crate `unicode_width`, or 0 if that crate gives no width
 abbrev pub columns_of : ℕ → ℕ
@@ -26,24 +28,42 @@ trailing_by class = if is_one_of (SP ∷ []) class then Space else if is_one_of 
 abbrev pub trailing_in : Tables → ℕ → Trailing
 trailing_in t c = trailing_by (resolved (line_class_of t c) (is_mark_in t c))
 
+-- the same, given the tab width of the line
+abbrev pub trailing_with : Tables → ℕ → ℕ → Trailing
+trailing_with t tab_width c = if is_tab tab_width c then Tab else trailing_in t c
+
 -- whether such a character may be in a tail, and whether it is a space
 abbrev pub may_trail : Trailing → Bool
 may_trail No = false
+may_trail Tab = false
 may_trail other = true
 
 abbrev pub is_space : Trailing → Bool
 is_space Space = true
 is_space other = false
 
--- what filling needs to know about a character, given the mark after it and whether a grapheme cluster ends
+-- whether such a character moves to a tab stop
+abbrev pub moves : Trailing → Bool
+moves Tab = true
+moves other = false
+
+-- what filling needs to know about a character, given the tab width of its line, the mark after it and whether a grapheme cluster ends
 -- after it
-abbrev pub info : Tables → ℕ → Mark → Bool → CharInfo
-info t c mark ends_cluster =
-    record { columns = columns_of c; trailing = trailing_in t c; mark = mark; ends_cluster = ends_cluster }
+abbrev pub info : Tables → ℕ → ℕ → Mark → Bool → CharInfo
+info t tab_width c mark ends_cluster = record {
+  columns = if is_tab tab_width c then tab_width else columns_of c;
+  trailing = trailing_with t tab_width c;
+  mark = mark;
+  ends_cluster = ends_cluster;
+}
 
-abbrev pub infos : Tables → List ℕ → List Mark → List Bool → List CharInfo
-infos t (c ∷ text) (mark ∷ marks) (ends ∷ clusters) = info t c mark ends ∷ infos t text marks clusters
-infos t text marks clusters = []
+abbrev pub infos : Tables → ℕ → List ℕ → List Mark → List Bool → List CharInfo
+infos t tab_width (c ∷ text) (mark ∷ marks) (ends ∷ clusters) = info t tab_width c mark ends ∷ infos t tab_width text marks clusters
+infos t tab_width text marks clusters = []
 
-unfoldable pub infos_of : Tables → Bool → List ℕ → List CharInfo
-infos_of t whole_numbers text = infos t text (marks_of t whole_numbers text) (cluster_ends text)
+unfoldable pub infos_of : Tables → Options → List ℕ → List CharInfo
+infos_of t options text = infos t (tab_width_in t options) text (marks_of t options.whole_numbers text) (cluster_ends text)
+
+-- the columns of a line after one more character, given those before it
+abbrev pub advance : ℕ → CharInfo → ℕ
+advance column p = column + (if moves p.trailing then to_stop p.columns column else p.columns)

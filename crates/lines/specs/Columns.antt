@@ -1,26 +1,30 @@
 -- The columns of a line at each visual position: those of the text's characters, not of their mirrors.
-use Rattle.std.specs.Prelude.{ℕ, ◌+◌, ◌-◌, nat_lt, List, length, map, take, sum_by, slice_index, slice_range, Option, if◌then◌else◌}
+use Rattle.std.specs.Prelude.{ℕ, ◌+◌, ◌-◌, nat_lt, List, length, take, sum, sum_by, slice_index, slice_range, Option, if◌then◌else◌}
 use Rattle.ucd.specs.Least.{least}
 use Rattle.reorder.specs.Order.{is_odd}
 use Rattle.reorder.specs.declared.runs.Run.{Run}
-use Rattle.lines.specs.CharInfos.{columns_of}
 use Rattle.lines.specs.Visual.{Visual}
+use Rattle.lines.specs.Widths.{widths_of}
 
--- the characters in visual order, unmirrored
-abbrev pub unmirrored : Visual → List ℕ
-unmirrored line = map (slice_index line.text) line.vtol
+-- the columns of each shown character, in logical order
+abbrev pub widths : Visual → List ℕ
+widths line = widths_of line.tab_width line.text
+
+-- the columns of the shown character at a position
+abbrev pub width_at : Visual → ℕ → ℕ
+width_at line k = slice_index (widths line) k
 
 -- the columns of the character at a visual position
 abbrev pub columns_at : Visual → ℕ → ℕ
-columns_at line place = if nat_lt place (length line.vtol) then columns_of (slice_index line.text (slice_index line.vtol place)) else 0
+columns_at line place = if nat_lt place (length line.vtol) then width_at line (slice_index line.vtol place) else 0
 
 -- the columns of the shown characters from position `start` up to `end`, in logical order
 abbrev pub columns_between : Visual → ℕ → ℕ → ℕ
-columns_between line start end = sum_by columns_of (slice_range line.text start end)
+columns_between line start end = sum (slice_range (widths line) start end)
 
 -- the columns to the left of a visual position
 abbrev pub columns_left : Visual → ℕ → ℕ
-columns_left line place = sum_by columns_of (take place (unmirrored line))
+columns_left line place = sum_by (width_at line) (take place line.vtol)
 
 -- the visual position of the character that covers a column: the first character whose right edge is past
 -- that column
@@ -29,7 +33,7 @@ covering line column = least (λ place. nat_lt column (columns_left line (place 
 
 -- the columns of a run's characters
 abbrev pub run_columns : Visual → Run → ℕ
-run_columns line run = sum_by columns_of (slice_range line.text run.start (run.start + run.len))
+run_columns line run = columns_between line run.start (run.start + run.len)
 
 -- the columns of padding before a line, unless printing omits padding
 abbrev pub padding_of : ℕ → Visual → ℕ

@@ -1,17 +1,17 @@
 -- Where the lines of a paragraph end at a width.
-use Rattle.std.specs.Prelude.{ℕ, zero, suc, ◌-◌, nat_le, Bool, true, false, ◌&&◌, ◌||◌, List, [], ◌∷◌, length, take, sum_by, slice_index_or, Option, Some, None, unwrap_or, if◌then◌else◌}
+use Rattle.std.specs.Prelude.{ℕ, zero, suc, ◌-◌, nat_le, Bool, true, false, ◌&&◌, ◌||◌, List, [], ◌∷◌, length, take, fold, slice_index_or, Option, Some, None, unwrap_or, if◌then◌else◌}
 use Rattle.std.specs.List.{suffix_len}
 use Rattle.bidi.specs.Brackets.{greatest}
 use Rattle.ucd.specs.Least.{least}
 use Rattle.breaks.specs.declared.mark.Mark.{Mark}
 use Rattle.breaks.specs.declared.mark.Mark.TheVariants.{Never, Must}
-use Rattle.lines.specs.CharInfos.{may_trail}
+use Rattle.lines.specs.CharInfos.{advance, may_trail}
 use Rattle.lines.specs.declared.char_info.CharInfo.{CharInfo}
 use Rattle.lines.specs.declared.char_info.Trailing.TheVariants.{No}
 
--- the columns of a part of a line
+-- the columns of the first characters of a line
 abbrev pub columns : List CharInfo → ℕ
-columns piece = sum_by (λ p. p.columns) piece
+columns piece = fold advance 0 piece
 
 -- The tail is the longest suffix of characters that may all be in a tail.
 abbrev pub trails : CharInfo → Bool

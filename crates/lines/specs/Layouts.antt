@@ -10,10 +10,12 @@ use Rattle.bidi.specs.Levels.{levels_of}
 use Rattle.breaks.specs.Marks.{marks_of}
 use Rattle.breaks.specs.declared.mark.Mark.{Mark}
 use Rattle.lines.specs.Filling.{line_starts_of}
-use Rattle.lines.specs.CharInfos.{columns_of, infos_of, is_space, trailing_in}
+use Rattle.lines.specs.CharInfos.{infos_of, is_space, trailing_with}
 use Rattle.lines.specs.Reordering.{ends_by}
 use Rattle.lines.specs.ShownParts.{margin_of}
+use Rattle.lines.specs.Tabs.{tab_width_in}
 use Rattle.lines.specs.Visual.{Line, Visual, lines_from, visual_of}
+use Rattle.lines.specs.Widths.{width_from}
 use Rattle.lines.specs.declared.engine.TheConstants.{PARAGRAPH_LIMIT}
 use Rattle.lines.specs.declared.options.Options.{Options}
 
@@ -22,11 +24,12 @@ pub record Rules : Type 0 where
   pub tables : Tables
   pub options : Options
 
--- a paragraph: its characters, its base level, the level and the mark of each character, its cluster ends if its lines are ordered by
+-- a paragraph: its characters, its base level, its tab width, the level and the mark of each character, its cluster ends if its lines are ordered by
 -- clusters, and its lines
 pub record Layout : Type 0 where
   pub text : List ℕ
   pub base : ℕ
+  pub tab_width : ℕ
   pub levels : List ℕ
   pub marks : List Mark
   pub ends : List Bool
@@ -37,7 +40,7 @@ base_of rules text = base_level_of (map (class_of rules.tables) text) rules.opti
 
 abbrev pub lines_of : Rules → ℕ → List ℕ → List Line
 lines_of rules width text =
-    let infos = infos_of rules.tables rules.options.whole_numbers text in
+    let infos = infos_of rules.tables rules.options text in
     lines_from rules.tables rules.options (margin_of rules.options width) (base_of rules text) text (levels_of rules.tables text rules.options.base) infos (line_starts_of rules.options.nobreak width infos)
 
 -- the fresh layout of a paragraph
@@ -45,6 +48,7 @@ abbrev pub layout_of : Rules → ℕ → List ℕ → Layout
 layout_of rules width text = record {
   text = text;
   base = base_of rules text;
+  tab_width = tab_width_in rules.tables rules.options;
   levels = levels_of rules.tables text rules.options.base;
   marks = marks_of rules.tables rules.options.whole_numbers text;
   ends = ends_by rules.options text;
@@ -53,7 +57,7 @@ layout_of rules width text = record {
 
 -- the visual lines of a layout
 abbrev pub visuals : Layout → List Visual
-visuals layout = map (λ nth. visual_of layout.base layout.text layout.lines nth.0 nth.1) (enumerate_from 0 layout.lines)
+visuals layout = map (λ nth. visual_of layout.base layout.tab_width layout.text layout.lines nth.0 nth.1) (enumerate_from 0 layout.lines)
 
 -- lines, and the length of their paragraph in characters
 pub record Filled : Type 0 where
@@ -76,15 +80,15 @@ is_line_within width (line ∷ []) = nat_le line.columns width
 is_line_within width lines = false
 
 -- whether the first character that a paragraph's first line does not show is a space that fits the width, too
-abbrev pub hides_space_within : Tables → ℕ → List ℕ → Line → Bool
-hides_space_within tables width text line =
-    option_map_or (λ c. is_space (trailing_in tables c) && nat_le (line.columns + columns_of c) width) (slice_get text (length line.levels)) false
+abbrev pub hides_space_within : Tables → ℕ → ℕ → List ℕ → Line → Bool
+hides_space_within tables tab_width width text line =
+    option_map_or (λ c. is_space (trailing_with tables tab_width c) && nat_le (line.columns + width_from tab_width line.columns c) width) (slice_get text (length line.levels)) false
 
 -- whether a paragraph keeps its lines at a width: it has one line, which fits, and if spaces are shown, it hides none that fits
 abbrev pub keeps_lines : Rules → ℕ → Layout → Bool
 keeps_lines rules width layout =
     is_line_within width layout.lines
-    && not (rules.options.show_spaces && option_map_or (hides_space_within rules.tables width layout.text) (slice_get layout.lines 0) false)
+    && not (rules.options.show_spaces && option_map_or (hides_space_within rules.tables layout.tab_width width layout.text) (slice_get layout.lines 0) false)
 
 -- whether there is a paragraph boundary between two adjacent characters
 abbrev pub cut_by : Rules → ℕ → ℕ → Bool

@@ -12,8 +12,8 @@ use Rattle.lines.specs.declared.paragraph.Text.{Text}
 
 pub record AreExtentsOf (text : Text) (width : ℕ) (lines : LineBuffers) : Type 0 where
   pub starts : lines.starts.items
-      ≡ line_starts_of text.rules.options.nobreak width (infos_of text.rules.tables.now text.rules.options.whole_numbers text.characters.now)
+      ≡ line_starts_of text.rules.options.nobreak width (infos_of text.rules.tables.now text.rules.options text.characters.now)
   pub shown : lines.shown.items
-      ≡ shown_from (margin_of text.rules.options width) (length text.characters.now) (infos_of text.rules.tables.now text.rules.options.whole_numbers text.characters.now) lines.starts.items
+      ≡ shown_from (margin_of text.rules.options width) (length text.characters.now) (infos_of text.rules.tables.now text.rules.options text.characters.now) lines.starts.items
   pub ordered : AreStarts (length text.characters.now) lines.starts.items
   pub visual : CanHold (length text.characters.now) lines.visual

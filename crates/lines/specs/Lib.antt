@@ -4,6 +4,7 @@ pub mod BareInfos
 pub mod Beginnings
 pub mod Buffers
 pub mod Bytes
+pub mod Cells
 pub mod CharInfos
 pub mod Clusters
 pub mod Columns
@@ -12,6 +13,7 @@ pub mod Engine
 pub mod Extents
 pub mod Filling
 pub mod Kept
+pub mod KnownWidths
 pub mod Layouts
 pub mod LentExtents
 pub mod Ordered
@@ -25,8 +27,11 @@ pub mod Showing
 pub mod ShownParts
 pub mod Spans
 pub mod Sums
+pub mod TabStops
+pub mod Tabs
 pub mod Reordering
 pub mod Visual
 pub mod Whole
+pub mod Widths
 pub mod Words
 pub mod Writing

@@ -12,6 +12,7 @@ use Rattle.lines.specs.Filling.{line_starts_of}
 use Rattle.lines.specs.Layouts.{Rules, base_of}
 use Rattle.lines.specs.Reordering.{ends_by}
 use Rattle.lines.specs.ShownParts.{margin_of}
+use Rattle.lines.specs.Tabs.{tab_width_in}
 use Rattle.lines.specs.Visual.{Line, Visual, lines_from}
 use Rattle.lines.specs.declared.buffers.VisualBuffers.{VisualBuffers}
 use Rattle.lines.specs.declared.engine.TheConstants.{PARAGRAPH_LIMIT}
@@ -50,7 +51,7 @@ abbrev pub lines_at : Text → List ℕ → ℕ → List Line
 lines_at text levels width =
     let tables = text.rules.tables.now in
     let options = text.rules.options in
-    let infos = infos_of tables options.whole_numbers text.characters.now in
+    let infos = infos_of tables options text.characters.now in
     lines_from tables options (margin_of options width) text.base text.characters.now levels infos (line_starts_of options.nobreak width infos)
 
 -- the visual line of a logical line, given the levels of its shown part after L1
@@ -75,6 +76,7 @@ held_line line visual =
     record {
       is_first = line.is_first;
       base = line.text.base;
+      tab_width = tab_width_in line.text.rules.tables.now line.text.rules.options;
       len = length line.text.characters.now;
       text = take (length levels) line.text.characters.now;
       columns = line.shown.columns;

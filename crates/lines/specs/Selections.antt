@@ -1,10 +1,10 @@
 -- How the spans of a range are found, one after the other. No contract of an exported function uses these
 -- definitions.
 use Rattle.std.specs.Prelude.{◌≡◌, ℕ, ◌*◌, ◌<◌, ◌≤◌, Bool, false, not, [], length, slice_index}
-use Rattle.lines.specs.CharInfos.{columns_of}
-use Rattle.lines.specs.Columns.{columns_left}
+use Rattle.lines.specs.Columns.{columns_left, width_at}
 use Rattle.lines.specs.Spans.{is_covered, is_left_edge, is_selected}
 use Rattle.lines.specs.Visual.{Visual}
+use Rattle.lines.specs.declared.engine.TheConstants.{PARAGRAPH_LIMIT}
 use Rattle.lines.specs.declared.spans.Reached.{Reached}
 use Rattle.lines.specs.declared.spans.Selection.{Selection}
 
@@ -13,6 +13,7 @@ abbrev pub selected_in : Selection → Visual
 selected_in s = record {
   is_first = false;
   base = 0;
+  tab_width = s.tab_width;
   len = 0;
   text = s.text.now;
   columns = 0;
@@ -24,13 +25,14 @@ selected_in s = record {
 
 -- the columns of the character at a visual position
 abbrev pub columns_on : Visual → ℕ → ℕ
-columns_on line place = columns_of (slice_index line.text (slice_index line.vtol place))
+columns_on line place = width_at line (slice_index line.vtol place)
 
--- whether a visual position is in the line, and the columns to its left have been counted
+-- whether a visual position is in the line, which is no longer than a paragraph may be, and the columns to its left have been counted
 pub record IsReached (line : Visual) (at : Reached) : Type 0 where
   pub within : at.place ≤ length line.vtol
   pub column : at.column ≡ columns_left line at.place
-  pub few : at.column ≤ 3 * at.place
+  pub few : at.column ≤ 255 * at.place
+  pub limit : length line.vtol ≤ PARAGRAPH_LIMIT
 
 -- whether the characters from one visual position to the next, if they take columns, are selected or not as
 -- told, and the character there takes columns and is the other way

@@ -1,5 +1,6 @@
 -- The sums that the scan of a line keeps for the characters it has read.
-use Rattle.std.specs.Prelude.{◌≡◌, ◌+◌, List, if◌then◌else◌}
+use Rattle.std.specs.Prelude.{◌≡◌, List, if◌then◌else◌}
+use Rattle.lines.specs.CharInfos.{advance}
 use Rattle.lines.specs.Filling.{before_tail, columns, trails}
 use Rattle.lines.specs.declared.filling.Sums.{Sums}
 use Rattle.lines.specs.declared.char_info.CharInfo.{CharInfo}
@@ -7,8 +8,8 @@ use Rattle.lines.specs.declared.char_info.CharInfo.{CharInfo}
 -- the sums after one more character
 abbrev pub sums_after : Sums → CharInfo → Sums
 sums_after sums p = record {
-  columns = sums.columns + p.columns;
-  shown = if trails p then sums.shown else sums.columns + p.columns;
+  columns = advance sums.columns p;
+  shown = if trails p then sums.shown else advance sums.columns p;
 }
 
 -- whether the sums are the columns of `piece` and of its characters before the tail

@@ -55,11 +55,12 @@ end_of n (s ∷ []) k = n
 end_of n (s ∷ t ∷ starts) zero = t
 end_of n (s ∷ t ∷ starts) (suc k) = end_of n (t ∷ starts) k
 
--- A visual line: whether it is the first of its paragraph, the base level, the length including the tail, and the shown
--- part. `text` has the shown characters in logical order.
+-- A visual line: whether it is the first of its paragraph, the base level, the tab width, the length including the tail, and the
+-- shown part. `text` has the shown characters in logical order.
 pub record Visual : Type 0 where
   pub is_first : Bool
   pub base : ℕ
+  pub tab_width : ℕ
   pub len : ℕ
   pub text : List ℕ
   pub columns : ℕ
@@ -69,10 +70,11 @@ pub record Visual : Type 0 where
   pub chars : List ℕ
 
 -- the visual line of the n-th line of a paragraph
-abbrev pub visual_of : ℕ → List ℕ → List Line → ℕ → Line → Visual
-visual_of base text lines n line = record {
+abbrev pub visual_of : ℕ → ℕ → List ℕ → List Line → ℕ → Line → Visual
+visual_of base tab_width text lines n line = record {
   is_first = n == 0;
   base = base;
+  tab_width = tab_width;
   len = end_of (length text) (map (λ other. other.start) lines) n - line.start;
   text = slice_range text line.start (line.start + length line.levels);
   columns = line.columns;

@@ -4,12 +4,16 @@ ghost use Rattle.std.specs.Prelude.{◌≡◌, [], ◌∷◌, ◌++◌, ◌≤�
 ghost use Rattle.std.specs.Prelude.{◌+◌, ◌*◌, ◌<◌, take, codes};
 ghost use Rattle.std.specs.Prelude.{length, map, replicate, encode_utf8, encode_utf8_all, slice_index};
 ghost use Rattle.ucd.specs.Within.{AreWithin};
-ghost use Rattle.std.specs.List.{join_with_byte};
+ghost use Rattle.std.specs.List.{join_with_byte, slice_range};
 ghost use Rattle.lines.specs.Bytes.{direction_line, numbers_line, padding, shown_chars, visual_line};
+ghost use Rattle.lines.specs.Bytes.{expanded, ordered_chars};
+ghost use Rattle.lines.specs.Cells.{AreCells};
+ghost use Rattle.lines.specs.Tabs.{is_tab};
 ghost use Rattle.lines.specs.Writing.{PassedOn, StoppedIn};
 
 use crate::print::Print;
-use crate::visual_line::VisualLine;
+use crate::visual_line::{VisualLine, columns_at};
+use crate::widths::is_tab;
 use device::{Sink, write_all};
 use itoa::{Buffer, Integer};
 use thiserror::Error;
@@ -311,10 +315,130 @@ fn write_shown_chars<W: Sink>(
         (W.state writer.old) (W.state writer.new) fault.written) }
     ensures counted { IfOk result (λ n. n ≤ (W.state writer.new).passed) }
 {
+    if line.tab_width == 0 {
+        let len = ordered_len(line, print);
+        return write_between(writer, before, line, print, 0, len);
+    }
+    write_expanded(writer, before, line, print)
+}
+
+// Returns the number of characters in visual order.
+fn ordered_len(line: &VisualLine<'_>, print: &Print) -> usize
+    ensures { result ≡ length (ordered_chars print.now line.now) }
+{
     if print.nomirror {
-        write_places(writer, before, line.text, line.vtol)
+        line.vtol.len()
     } else {
-        write_chars(writer, before, line.chars)
+        line.chars.len()
+    }
+}
+
+// Writes the characters from one visual position up to another, mirrored unless `print.nomirror` is set.
+fn write_between<W: Sink>(
+    writer: &mut W,
+    before: u64,
+    line: &VisualLine<'_>,
+    print: &Print,
+    start: usize,
+    end: usize,
+) -> Result<u64, WriteFault>
+    requires before { before ≤ (W.state writer.old).passed }
+    requires within { (start ≤ end) × (end ≤ length (ordered_chars print.now line.now)) }
+    ensures ok { IfOk result (λ n.
+        PassedOn (encode_utf8_all (slice_range (ordered_chars print.now line.now) start end)) before
+        (W.state writer.old) (W.state writer.new) n) }
+    ensures err { IfErr result (λ fault.
+        StoppedIn (encode_utf8_all (slice_range (ordered_chars print.now line.now) start end)) before
+        (W.state writer.old) (W.state writer.new) fault.written) }
+    ensures counted { IfOk result (λ n. n ≤ (W.state writer.new).passed) }
+{
+    if print.nomirror {
+        write_places(writer, before, line.text, &line.vtol[start..end])
+    } else {
+        write_chars(writer, before, &line.chars[start..end])
+    }
+}
+
+// Writes the characters of a line in visual order, with spaces in place of tabs.
+fn write_expanded<W: Sink>(
+    writer: &mut W,
+    before: u64,
+    line: &VisualLine<'_>,
+    print: &Print,
+) -> Result<u64, WriteFault>
+    requires { before ≤ (W.state writer.old).passed }
+    ensures ok { IfOk result (λ n. PassedOn
+        (encode_utf8_all (expanded line.now (ordered_chars print.now line.now) line.now.vtol)) before
+        (W.state writer.old) (W.state writer.new) n) }
+    ensures err { IfErr result (λ fault. StoppedIn
+        (encode_utf8_all (expanded line.now (ordered_chars print.now line.now) line.now.vtol)) before
+        (W.state writer.old) (W.state writer.new) fault.written) }
+    ensures counted { IfOk result (λ n. n ≤ (W.state writer.new).passed) }
+{
+    let len = ordered_len(line, print).min(line.vtol.len());
+    let mut written = before;
+    let mut at = 0;
+    while at < len {
+        let end = cells_end(line, at, len);
+        written = write_cells(writer, written, line, print, at, end)?;
+        at = end;
+    }
+    Ok(written)
+}
+
+// Returns whether the character at a visual position is a tab.
+fn is_tab_at(line: &VisualLine<'_>, place: usize) -> bool
+    requires { place < length line.now.vtol }
+    ensures { result ≡ is_tab line.now.tab_width
+        (slice_index line.now.text (slice_index line.now.vtol place)) }
+{
+    is_tab(line.tab_width, line.text[line.vtol[place] as usize])
+}
+
+// Returns the visual position after a tab at position `start`, or that of the next tab, or `len`.
+fn cells_end(line: &VisualLine<'_>, start: usize, len: usize) -> usize
+    requires within { (start < len) × (len ≤ length line.now.vtol) }
+    ensures within { (start < result) × (result ≤ len) }
+    ensures cells { AreCells line.now start result }
+{
+    let mut end = start + 1;
+    if is_tab_at(line, start) {
+        return end;
+    }
+    while end < len && !is_tab_at(line, end) {
+        end += 1;
+    }
+    end
+}
+
+// Writes a tab as spaces, or characters that are not tabs.
+fn write_cells<W: Sink>(
+    writer: &mut W,
+    before: u64,
+    line: &VisualLine<'_>,
+    print: &Print,
+    start: usize,
+    end: usize,
+) -> Result<u64, WriteFault>
+    requires before { before ≤ (W.state writer.old).passed }
+    requires within { (start < end) × (end ≤ length (ordered_chars print.now line.now)) }
+    requires places { end ≤ length line.now.vtol }
+    requires cells { AreCells line.now start end }
+    ensures ok { IfOk result (λ n. PassedOn (encode_utf8_all (expanded line.now
+        (slice_range (ordered_chars print.now line.now) start end)
+        (slice_range line.now.vtol start end))) before
+        (W.state writer.old) (W.state writer.new) n) }
+    ensures err { IfErr result (λ fault. StoppedIn (encode_utf8_all (expanded line.now
+        (slice_range (ordered_chars print.now line.now) start end)
+        (slice_range line.now.vtol start end))) before
+        (W.state writer.old) (W.state writer.new) fault.written) }
+    ensures counted { IfOk result (λ n. n ≤ (W.state writer.new).passed) }
+{
+    if is_tab_at(line, start) {
+        let width = columns_at(line.text, line.tab_width, line.vtol, start);
+        write_spaces(writer, before, width)
+    } else {
+        write_between(writer, before, line, print, start, end)
     }
 }
 

@@ -1,5 +1,5 @@
 //! What filling needs to know about each character of a paragraph.
-ghost use Rattle.std.specs.Prelude.{◌≡◌, false, Bool, length, map, OnOk};
+ghost use Rattle.std.specs.Prelude.{◌≡◌, ◌+◌, ◌^◌, ◌<◌, ◌≤◌, false, Bool, length, map, OnOk};
 ghost use Rattle.ucd.specs.Properties.{properties_of};
 ghost use Rattle.ucd.specs.declared.tables.Tables.{Tables};
 ghost use Rattle.breaks.specs.Bases.{resolved};
@@ -8,9 +8,12 @@ ghost use Rattle.lines.specs.Bare.{with_ends};
 ghost use Rattle.lines.specs.BareInfos.{bare_infos};
 ghost use Rattle.lines.specs.Clusters.{cluster_ends};
 ghost use Rattle.lines.specs.CharInfos.{columns_of, info, infos_of, trailing_by};
+ghost use Rattle.lines.specs.KnownWidths.{is_narrow, is_wide};
 ghost use Rattle.lines.specs.Paragraphs.{IsLookedUp};
+ghost use Rattle.lines.specs.Tabs.{is_tab, to_stop};
 
 use crate::paragraph::Text;
+use crate::widths::is_tab;
 use breaks::{Mark, marks_are_as_many};
 use std::alloc::AllocError;
 use ucd::{LineClass, Properties, Tables};
@@ -25,12 +28,14 @@ pub enum Trailing {
     Space,
     /// A separator (line breaking class BK, CR, LF or NL).
     Separator,
+    /// The character is a tab that moves to a tab stop, and is in no tail.
+    Tab,
 }
 
 /// What filling needs to know about a character.
 #[derive(Clone, Copy, Debug)]
 pub struct CharInfo {
-    /// The width of the character in columns.
+    /// The width of the character in columns, or for a tab the distance of tab stops.
     pub columns: u8,
     /// What the character is in a tail.
     pub trailing: Trailing,
@@ -49,43 +54,123 @@ const NOTHING: CharInfo = CharInfo {
 };
 
 impl CharInfo {
-    ghost use Rattle.std.specs.Prelude.{◌+◌, ◌&&◌, nat_le};
-    ghost use Rattle.lines.specs.CharInfos.{is_space};
+    ghost use Rattle.std.specs.Prelude.{ℕ, ◌+◌, ◌^◌, ◌<◌, ◌≤◌, ◌&&◌, nat_le};
+    ghost use Rattle.lines.specs.CharInfos.{advance, is_space};
 
     /// Returns the info for a character, with `ends_cluster` set to `false`.
-    pub(crate) fn of(properties: Properties, c: char, mark: Mark) -> CharInfo
-        ensures { (t : Tables) → properties ≡ properties_of t c → result ≡ info t c mark false }
+    pub(crate) fn of(properties: Properties, c: char, mark: Mark, tab_width: u8) -> CharInfo
+        ensures { (t : Tables) → properties ≡ properties_of t c → result ≡ info t tab_width c mark false }
+    {
+        if is_tab(tab_width, c) {
+            return CharInfo {
+                columns: tab_width,
+                trailing: Trailing::Tab,
+                mark,
+                ends_cluster: false,
+            };
+        }
+        CharInfo::of_other(columns(c), properties, mark)
+    }
+
+    // Returns the info for a character that moves to no tab stop, with `ends_cluster` set to `false`.
+    fn of_other(columns: u8, properties: Properties, mark: Mark) -> CharInfo
+        ensures { (t : Tables) (tab_width c : ℕ) → columns ≡ columns_of c → properties ≡ properties_of t c
+            → is_tab tab_width c ≡ false → result ≡ info t tab_width c mark false }
     {
         CharInfo {
-            columns: columns(c),
+            columns,
             trailing: trailing_of(properties.line_class()),
             mark,
             ends_cluster: false,
         }
     }
 
+    /// Returns the columns of a line up to the end of the character, given those before it.
+    pub(crate) fn advance(self, before: usize) -> usize
+        requires { before < 2 ^ 40 }
+        ensures columns { result ≡ advance before self }
+        ensures most { result ≤ before + 255 }
+    {
+        if self.trailing.moves() {
+            return next_stop(before, self.columns as usize);
+        }
+        before + self.columns as usize
+    }
+
     /// Returns whether the character is a space, and the line is no wider than the margin up to its end.
     /// `before` are the columns of the line before it.
     pub(crate) fn is_space_within(self, before: u32, margin: u16) -> bool
-        ensures { result ≡ (is_space self.trailing && nat_le (before + self.columns) margin) }
+        ensures { result ≡ (is_space self.trailing && nat_le (advance before self) margin) }
     {
-        self.trailing.is_space() && u64::from(before) + u64::from(self.columns) <= u64::from(margin)
+        self.trailing.is_space() && self.advance(before as usize) <= margin as usize
     }
 }
 
-// Returns the width of a character in columns, or 0 if the crate `unicode_width` has no width for it.
-fn columns(c: char) -> u8
-    ensures { result ≡ columns_of c }
+// Returns the next tab stop, or the column itself if there are no tab stops.
+#[inline(never)] // so that the loops over characters have all registers
+fn next_stop(column: usize, tab_width: usize) -> usize
+    requires columns { column < 2 ^ 40 }
+    requires width { tab_width ≤ 255 }
+    ensures stop { result ≡ column + to_stop tab_width column }
+    ensures most { result ≤ column + 255 }
 {
-    // Most characters are ASCII, which needs no table.
+    if tab_width == 0 {
+        column
+    } else {
+        column + (tab_width - column % tab_width)
+    }
+}
+
+/// Returns the width of a character in columns, or 0 if the crate `unicode_width` has no width for it.
+#[inline(always)] // so that the loop over a paragraph calls nothing for most characters
+pub(crate) fn columns(c: char) -> u8
+    ensures value { result ≡ columns_of c }
+    ensures few { result ≤ 3 }
+{
+    // Most characters are ASCII, which needs one test.
     let code = c as u32;
     if code >= 0x20 && code < 0x7f {
         return 1;
+    }
+    if is_narrow(c) {
+        return 1;
+    }
+    if is_wide(c) {
+        return 2;
     }
     match c.width() {
         Some(width) => width as u8,
         None => 0,
     }
+}
+
+// Returns whether a quick test shows that a character has one column. (U+05DC, Hebrew lamed, has a rule of
+// its own in `unicode_width`.)
+fn is_narrow(c: char) -> bool
+    ensures { result ≡ is_narrow c }
+{
+    matches!(
+        c,
+        '\u{AE}'..='\u{2FF}'
+            | '\u{370}'..='\u{482}'
+            | '\u{5D0}'..='\u{5DB}'
+            | '\u{5DD}'..='\u{5EA}'
+            | '\u{620}'..='\u{64A}'
+    )
+}
+
+// Returns whether a quick test shows that a character has two columns.
+fn is_wide(c: char) -> bool
+    ensures { result ≡ is_wide c }
+{
+    matches!(
+        c,
+        '\u{3001}'..='\u{3029}'
+            | '\u{3041}'..='\u{3096}'
+            | '\u{309B}'..='\u{30FF}'
+            | '\u{4E00}'..='\u{9FFF}'
+            | '\u{AC00}'..='\u{D7A3}'
+    )
 }
 
 /// Returns what characters of a class are in a tail.
@@ -103,13 +188,20 @@ pub(crate) fn trailing_of(class: LineClass) -> Trailing
 }
 
 impl Trailing {
-    ghost use Rattle.lines.specs.CharInfos.{is_space, may_trail};
+    ghost use Rattle.lines.specs.CharInfos.{is_space, may_trail, moves};
 
     /// Returns whether such characters may be in a tail.
     pub(crate) fn may_trail(self) -> bool
         ensures { result ≡ may_trail self }
     {
-        self != Trailing::No
+        matches!(self, Trailing::Space | Trailing::Separator)
+    }
+
+    /// Returns whether such a character moves to a tab stop.
+    pub(crate) fn moves(self) -> bool
+        ensures { result ≡ moves self }
+    {
+        self == Trailing::Tab
     }
 
     /// Returns whether such characters are spaces.
@@ -131,14 +223,14 @@ pub(crate) fn fill_infos(
     requires marks { marks.now ≡ marks_of text.now.rules.tables.now
         text.now.rules.options.whole_numbers text.now.characters.now }
     ensures infos { OnOk result (with_ends infos.new.items (cluster_ends text.now.characters.now)
-        ≡ infos_of text.now.rules.tables.now text.now.rules.options.whole_numbers
-        text.now.characters.now) }
+        ≡ infos_of text.now.rules.tables.now text.now.rules.options text.now.characters.now) }
     ensures len { OnOk result (length infos.new.items ≡ length text.now.characters.now) }
 {
     let (tables, characters) = (text.rules.tables, text.characters);
     marks_are_as_many(tables, characters, text.rules.options.whole_numbers);
     infos.resize(characters.len(), NOTHING)?;
-    put_infos(tables, characters, text.properties, marks, infos);
+    let tab_width = text.rules.tab_width();
+    put_infos(tables, characters, text.properties, marks, tab_width, infos);
     Ok(())
 }
 
@@ -148,16 +240,42 @@ fn put_infos(
     text: &[char],
     properties: &[Properties],
     marks: &[Mark],
+    tab_width: u8,
     infos: &mut [CharInfo],
 )
     requires marks { length marks.now ≡ length text.now }
     requires properties { properties.now ≡ map (properties_of tables.now) text.now }
     requires len { length infos.old ≡ length text.now }
-    ensures { infos.new ≡ bare_infos tables.now text.now marks.now }
+    ensures { infos.new ≡ bare_infos tables.now tab_width text.now marks.now }
+{
+    if tab_width == 0 {
+        return put_without_tabs(tables, text, properties, marks, infos);
+    }
+    let mut k = 0;
+    while k < text.len() {
+        infos[k] = CharInfo::of(properties[k], text[k], marks[k], tab_width);
+        k += 1;
+    }
+}
+
+// Overwrites `infos` if there are no tab stops.
+fn put_without_tabs(
+    _tables: &Tables,
+    text: &[char],
+    properties: &[Properties],
+    marks: &[Mark],
+    infos: &mut [CharInfo],
+)
+    requires marks { length marks.now ≡ length text.now }
+    requires properties { properties.now ≡ map (properties_of _tables.now) text.now }
+    requires len { length infos.old ≡ length text.now }
+    ensures { infos.new ≡ bare_infos _tables.now 0 text.now marks.now }
 {
     let mut k = 0;
     while k < text.len() {
-        infos[k] = CharInfo::of(properties[k], text[k], marks[k]);
+        // The columns come first, so that less must be kept while they are looked up.
+        let columns = columns(text[k]);
+        infos[k] = CharInfo::of_other(columns, properties[k], marks[k]);
         k += 1;
     }
 }

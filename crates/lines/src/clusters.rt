@@ -1,7 +1,9 @@
 //! Finds where the grapheme clusters and the words of a paragraph end (UAX #29), using the crate
 //! `unicode_segmentation`.
-ghost use Rattle.std.specs.Prelude.{◌≡◌, ℕ, ◌+◌, ◌<◌, ◌≤◌, ◌++◌, false, length, IfOk, OnErr, OnOk};
-ghost use Rattle.std.specs.List.{list_all};
+ghost use Rattle.std.specs.Prelude.{◌≡◌, ℕ, ◌+◌, ◌<◌, ◌≤◌, ◌++◌, false, length, string_bytes};
+ghost use Rattle.std.specs.Prelude.{IfOk, OnErr, OnOk};
+ghost use Rattle.std.specs.Char.{encode_utf8};
+ghost use Rattle.std.specs.List.{flat_map, list_all};
 ghost use Rattle.lines.specs.Bare.{with_ends};
 ghost use Rattle.lines.specs.Clusters.{cluster_begin, cluster_end, cluster_ends, ends_in, ends_of};
 ghost use Rattle.lines.specs.Clusters.{can_split, is_alone, is_split_point, may_end, may_start, no_conjunct};
@@ -9,10 +11,47 @@ ghost use Rattle.lines.specs.Clusters.{IsSplitPoint};
 ghost use Rattle.lines.specs.Words.{word_ends};
 
 use crate::char_info::CharInfo;
+use crate::reserve::reserve;
 use std::alloc::{AllocError, Global};
 use ucd_breaks::GraphemeClusterBreak;
 use ucd_derived::IndicConjunctBreak;
 use unicode_segmentation::UnicodeSegmentation;
+
+/// The memory in which grapheme clusters are found. If it is large enough for a paragraph, finding them
+/// allocates nothing.
+#[derive(Debug, Drop)]
+pub(crate) struct ClusterBuffers {
+    utf8: String,
+    ends: Vec<bool>,
+}
+
+impl ClusterBuffers {
+    /// Makes empty buffers. Allocates nothing.
+    pub(crate) fn new(alloc: Global) -> ClusterBuffers {
+        ClusterBuffers {
+            utf8: String::new(alloc),
+            ends: Vec::new(alloc),
+        }
+    }
+
+    /// Replaces the contents of `ends`: for each character of a paragraph, whether a grapheme cluster ends
+    /// after it.
+    pub(crate) fn fill(&mut self, text: &[char], ends: &mut Vec<bool>) -> Result<(), AllocError>
+        ensures { OnOk result (ends.new.items ≡ cluster_ends text.now) }
+    {
+        fill_cluster_ends(text, &mut self.utf8, ends)
+    }
+
+    /// Sets `ends_cluster` for each character of a paragraph.
+    pub(crate) fn mark(&mut self, text: &[char], infos: &mut [CharInfo]) -> Result<(), AllocError>
+        requires { length infos.old ≡ length text.now }
+        ensures { OnOk result (infos.new ≡ with_ends infos.old (cluster_ends text.now)) }
+    {
+        fill_cluster_ends(text, &mut self.utf8, &mut self.ends)?;
+        put_ends(infos, &self.ends);
+        Ok(())
+    }
+}
 
 /// Returns, for each character of a paragraph, whether a grapheme cluster ends after it.
 pub fn cluster_ends(alloc: Global, text: &[char]) -> Result<Vec<bool>, AllocError>
@@ -20,18 +59,47 @@ pub fn cluster_ends(alloc: Global, text: &[char]) -> Result<Vec<bool>, AllocErro
     ensures len { IfOk result (λ ends. length ends.items ≡ length text.now) }
     ensures memory { OnErr result (0 < length text.now) }
 {
-    if text.is_empty() {
-        return Ok(Vec::new(alloc));
-    }
-    if are_alone(text) {
-        return vec![in alloc; true; text.len()];
-    }
-    let utf8: String = text.iter().collect(alloc)?;
-    let mut ends = Vec::with_capacity(alloc, text.len())?;
-    for cluster in utf8.graphemes(true) {
-        push_ends(&mut ends, cluster)?;
-    }
+    let mut utf8 = String::new(alloc);
+    let mut ends = Vec::new(alloc);
+    fill_cluster_ends(text, &mut utf8, &mut ends)?;
     Ok(ends)
+}
+
+// Replaces the contents of `ends`: for each character of a paragraph, whether a grapheme cluster ends after
+// it. Overwrites `utf8` with the text.
+fn fill_cluster_ends(
+    text: &[char],
+    utf8: &mut String,
+    ends: &mut Vec<bool>,
+) -> Result<(), AllocError>
+    ensures ends { OnOk result (ends.new.items ≡ cluster_ends text.now) }
+    ensures len { OnOk result (length ends.new.items ≡ length text.now) }
+    ensures memory { OnErr result (0 < length text.now) }
+{
+    ends.clear();
+    if text.is_empty() {
+        return Ok(());
+    }
+    reserve(ends, text.len())?;
+    if are_alone(text) {
+        return ends.resize(text.len(), true);
+    }
+    spell(text, utf8)?;
+    for cluster in utf8.graphemes(true) {
+        push_ends(ends, cluster)?;
+    }
+    Ok(())
+}
+
+// Replaces the contents of `utf8` with the text.
+fn spell(text: &[char], utf8: &mut String) -> Result<(), AllocError>
+    ensures { OnOk result (string_bytes utf8.new ≡ flat_map encode_utf8 text.now) }
+{
+    utf8.clear();
+    for k in 0..text.len() {
+        utf8.push(text[k])?;
+    }
+    Ok(())
 }
 
 /// Returns the start and the end of the grapheme cluster of character `k` of a paragraph. Finds only the
@@ -235,22 +303,13 @@ pub fn word_ends(alloc: Global, text: &[char]) -> Result<Vec<bool>, AllocError>
     if text.is_empty() {
         return Ok(Vec::new(alloc));
     }
-    let utf8: String = text.iter().collect(alloc)?;
+    let mut utf8 = String::new(alloc);
+    spell(text, &mut utf8)?;
     let mut ends = Vec::with_capacity(alloc, text.len())?;
     for word in utf8.split_word_bounds() {
         push_ends(&mut ends, word)?;
     }
     Ok(ends)
-}
-
-/// Sets `ends_cluster` for each character of a paragraph.
-pub fn mark_clusters(alloc: Global, text: &[char], infos: &mut [CharInfo]) -> Result<(), AllocError>
-    requires { length infos.old ≡ length text.now }
-    ensures { OnOk result (infos.new ≡ with_ends infos.old (cluster_ends text.now)) }
-{
-    let ends = cluster_ends(alloc, text)?;
-    put_ends(infos, &ends);
-    Ok(())
 }
 
 // Returns whether a quick test shows that each character of a text is a cluster of its own.

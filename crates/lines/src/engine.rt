@@ -49,6 +49,7 @@ pub struct Engine {
 #[derive(Debug, Drop)]
 struct Parts {
     base: u8,
+    tab_width: u8,
     levels: Vec<u8>,
     marks: Vec<Mark>,
     ends: Vec<bool>,
@@ -242,6 +243,7 @@ impl Engine {
             Ok(parts) => Ok(Laid {
                 text,
                 base: parts.base,
+                tab_width: parts.tab_width,
                 levels: parts.levels,
                 marks: parts.marks,
                 ends: parts.ends,
@@ -318,7 +320,7 @@ impl Engine {
             options: self.options,
         };
         let form = Form { width, print };
-        work.write(alloc, &rules, text, &form, &mut self.counts, writer)
+        work.write(&rules, text, &form, &mut self.counts, writer)
     }
 
     /// Finds where each line of a paragraph starts at another width, which must not be 0, and how much of
@@ -427,6 +429,8 @@ impl Engine {
         requires { length text.now ≤ PARAGRAPH_LIMIT }
         ensures base { IfOk result (λ parts.
             parts.base ≡ (layout_of (rules_of self.old) width text.now).base) }
+        ensures tab_width { IfOk result (λ parts.
+            parts.tab_width ≡ (layout_of (rules_of self.old) width text.now).tab_width) }
         ensures levels { IfOk result (λ parts.
             parts.levels.items ≡ (layout_of (rules_of self.old) width text.now).levels) }
         ensures marks { IfOk result (λ parts.
@@ -451,9 +455,10 @@ impl Engine {
             tables: &self.tables,
             options: self.options,
         };
-        let base = work.lay_out(alloc, &rules, text, width, &mut kept, counts)?;
+        let base = work.lay_out(&rules, text, width, &mut kept, counts)?;
         Ok(Parts {
             base,
+            tab_width: rules.tab_width(),
             levels: kept.levels,
             marks: kept.marks,
             ends: kept.ends,

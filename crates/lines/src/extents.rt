@@ -10,12 +10,13 @@ ghost use Rattle.lines.specs.declared.engine.TheConstants.{PARAGRAPH_LIMIT};
 
 use crate::buffers::LineBuffers;
 use crate::char_info::CharInfo;
+use crate::clusters::ClusterBuffers;
 use crate::counts::Counted;
 use crate::fill::Shown;
 use crate::filling::line_starts;
 use crate::options::Options;
 use crate::showing::fill_shown;
-use std::alloc::{AllocError, Global};
+use std::alloc::AllocError;
 use std::marker::Model;
 
 /// Where each line of a paragraph starts at a width, and how much of it is shown. Given its extents, a
@@ -37,7 +38,7 @@ impl Model for Extents {
 /// Finds where each line of a paragraph starts, and how much of it is shown. `infos` need not contain the
 /// cluster ends.
 pub(crate) fn fill_spans_by(
-    alloc: Global,
+    clusters: &mut ClusterBuffers,
     text: &[char],
     infos: &mut [CharInfo],
     width: u16,
@@ -57,7 +58,7 @@ pub(crate) fn fill_spans_by(
     ensures visual { lines.new.visual ≡ lines.old.visual }
 {
     line_starts(
-        alloc,
+        clusters,
         text,
         infos,
         width,

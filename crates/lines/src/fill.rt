@@ -168,6 +168,7 @@ impl Fill {
     pub(crate) fn part(&self, n: usize) -> Option<Part<'_>>
         ensures line { option_map line_of result ≡ slice_get self.now.lines n }
         ensures within { IfSome result (λ part. AreWithin (length part.levels.now) part.vtol.now) }
+        ensures size { IfSome result (λ part. length part.vtol.now ≡ length part.levels.now) }
     {
         if n >= self.starts.len() {
             return None;
@@ -182,18 +183,22 @@ impl Fill {
         ))
     }
 
-    /// Returns line `n` of the paragraph with this text and base level, or `None` past the last line.
-    pub(crate) fn line<'a>(&'a self, text: &'a [char], base: u8, n: usize) -> Option<VisualLine<'a>>
-        requires { Layouts.AreWithin (length text.now) self.now.lines }
+    /// Returns line `n` of the paragraph with this text, or `None` past the last line.
+    pub(crate) fn line<'a>(&'a self, of: &LaidText<'a>, n: usize) -> Option<VisualLine<'a>>
+        requires within { Layouts.AreWithin (length of.now.text.now) self.now.lines }
+        requires limit { length of.now.text.now ≤ PARAGRAPH_LIMIT }
         ensures { result
-            ≡ option_map (visual_of base text.now self.now.lines n) (slice_get self.now.lines n) }
+            ≡ option_map (visual_of of.now.base of.now.tab_width of.now.text.now self.now.lines n)
+            (slice_get self.now.lines n) }
     {
+        let text = of.text;
         let part = self.part(n)?;
         let start = part.start as usize;
         let end = end_of(self.starts(), n, text.len());
         Some(VisualLine {
             is_first: n == 0,
-            base,
+            base: of.base,
+            tab_width: of.tab_width,
             len: end.saturating_sub(start),
             text: &text[start..start + part.levels.len()],
             columns: part.columns,
@@ -204,36 +209,46 @@ impl Fill {
         })
     }
 
-    /// Writes all lines of the paragraph with this text and base level. `before` is the number of bytes
-    /// already written, and the returned byte count includes it.
-    pub(crate) fn write_after<W: Sink>(
-        &self,
-        text: &[char],
-        base: u8,
+    /// Writes all lines of the paragraph with this text. `before` is the number of bytes already written, and
+    /// the returned byte count includes it.
+    pub(crate) fn write_after<'a, W: Sink>(
+        &'a self,
+        of: &LaidText<'a>,
         writer: &mut W,
         before: u64,
         width: u16,
         print: &Print,
     ) -> Result<u64, WriteFault>
-        requires within { Layouts.AreWithin (length text.now) self.now.lines }
+        requires within { Layouts.AreWithin (length of.now.text.now) self.now.lines }
+        requires limit { length of.now.text.now ≤ PARAGRAPH_LIMIT }
         requires before { before ≤ (W.state writer.old).passed }
         ensures ok { IfOk result (λ n.
-            PassedOn (lines_bytes width print.now base text.now self.now.lines) before
+            PassedOn (lines_bytes width print.now of.now.base of.now.tab_width of.now.text.now
+            self.now.lines) before
             (W.state writer.old) (W.state writer.new) n) }
         ensures err { IfErr result (λ fault.
-            StoppedIn (lines_bytes width print.now base text.now self.now.lines) before
+            StoppedIn (lines_bytes width print.now of.now.base of.now.tab_width of.now.text.now
+            self.now.lines) before
             (W.state writer.old) (W.state writer.new) fault.written) }
         ensures counted { IfOk result (λ n. n ≤ (W.state writer.new).passed) }
     {
         let mut written = before;
         for n in 0..self.starts().len() {
-            let Some(line) = self.line(text, base, n) else {
+            let Some(line) = self.line(of, n) else {
                 unreachable!()
             };
             written = line.write_after(writer, written, width, print)?;
         }
         Ok(written)
     }
+}
+
+/// The characters of a paragraph, its base level and its tab width.
+#[derive(Clone, Copy)]
+pub(crate) struct LaidText<'a> {
+    pub(crate) text: &'a [char],
+    pub(crate) base: u8,
+    pub(crate) tab_width: u8,
 }
 
 /// A line, without the data that it shares with its paragraph.
@@ -260,7 +275,8 @@ fn part_of<'a>(
     requires ltov { length ltov.now ≡ length levels.now }
     requires vtol { length vtol.now ≡ length levels.now }
     requires chars { length chars.now ≡ length levels.now }
-    ensures { line_of result ≡ line_in levels.now ltov.now vtol.now chars.now start shown }
+    ensures line { line_of result ≡ line_in levels.now ltov.now vtol.now chars.now start shown }
+    ensures size { length result.vtol.now ≡ length result.levels.now }
 {
     let from = start as usize;
     let to = from + shown.len as usize;

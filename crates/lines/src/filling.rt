@@ -10,16 +10,16 @@ ghost use Rattle.lines.specs.Sums.{sums_after};
 ghost use Rattle.lines.specs.declared.char_info.CharInfo.{CharInfo};
 ghost use Rattle.lines.specs.declared.engine.TheConstants.{PARAGRAPH_LIMIT};
 
-use crate::char_info::CharInfo;
-use crate::clusters::mark_clusters;
+use crate::char_info::{CharInfo, Trailing};
+use crate::clusters::ClusterBuffers;
 use crate::counts::Counted;
 use breaks::Mark;
-use std::alloc::{AllocError, Global};
+use std::alloc::AllocError;
 
 /// Replaces the contents of `starts` with the start of each line of a paragraph at a width. `infos` need not
 /// contain the cluster ends. The cluster ends are found and stored in `infos` when a line first needs them.
 pub fn line_starts(
-    alloc: Global,
+    clusters: &mut ClusterBuffers,
     text: &[char],
     infos: &mut [CharInfo],
     width: u16,
@@ -40,7 +40,7 @@ pub fn line_starts(
     let mut is_known = false;
     while start < infos.len() {
         starts.push(start as u32)?;
-        let (len, known) = line_len(alloc, text, infos, is_known, start, width, nobreak)?;
+        let (len, known) = line_len(clusters, text, infos, is_known, start, width, nobreak)?;
         start += len;
         is_known = known;
     }
@@ -49,7 +49,7 @@ pub fn line_starts(
 
 // Returns the length of the line that begins at `start`, and whether `infos` now contains the cluster ends.
 fn line_len(
-    alloc: Global,
+    clusters: &mut ClusterBuffers,
     text: &[char],
     infos: &mut [CharInfo],
     is_known: bool,
@@ -72,7 +72,7 @@ fn line_len(
         return Ok((len, is_known));
     }
     if !is_known {
-        mark_clusters(alloc, text, infos)?;
+        clusters.mark(text, infos)?;
     }
     Ok((line_end(&infos[start..], width) + 1, true))
 }
@@ -179,10 +179,12 @@ fn fitting_ends(rest: &[CharInfo], width: u16) -> (Option<usize>, Option<usize>)
         if sums.shown > width as usize {
             return (by_break, by_cluster);
         }
-        by_break = later(by_break, k, is_break(info.mark));
         by_cluster = later(by_cluster, k, info.ends_cluster);
-        if is_must(info.mark) {
-            return (by_break, by_cluster);
+        if is_break(info.mark) {
+            by_break = Some(k);
+            if is_must(info.mark) {
+                return (by_break, by_cluster);
+            }
         }
         k += 1;
     }
@@ -203,7 +205,15 @@ impl Sums {
         ensures sums { result ≡ sums_after self info }
         ensures most { result.columns ≤ self.columns + 255 }
     {
-        let columns = self.columns + info.columns as usize;
+        // Most characters are in no tail, and are no tabs.
+        if info.trailing == Trailing::No {
+            let columns = self.columns + info.columns as usize;
+            return Sums {
+                columns,
+                shown: columns,
+            };
+        }
+        let columns = info.advance(self.columns);
         if info.trailing.may_trail() {
             Sums {
                 columns,

@@ -7,7 +7,7 @@ use crate::bytes::WriteFault;
 use crate::char_info::CharInfo;
 use crate::counts::Count;
 use crate::extents::Extents;
-use crate::fill::Fill;
+use crate::fill::{Fill, LaidText};
 use crate::options::Options;
 use crate::paragraph::{LentRules, Text};
 use crate::print::Print;
@@ -24,6 +24,7 @@ use ucd::{Properties, Tables};
 pub struct Laid {
     pub(crate) text: Vec<char>,
     pub(crate) base: u8,
+    pub(crate) tab_width: u8,
     pub(crate) levels: Vec<u8>,
     pub(crate) marks: Vec<Mark>,
     pub(crate) ends: Vec<bool>,
@@ -35,6 +36,7 @@ impl Drop for Laid {
         let Laid {
             text: _,
             base: _,
+            tab_width: _,
             levels: _,
             marks: _,
             ends: _,
@@ -44,14 +46,16 @@ impl Drop for Laid {
 }
 
 impl Model for Laid {
-    ghost use Rattle.std.specs.Prelude.{◌≡◌, length};
+    ghost use Rattle.std.specs.Prelude.{◌≡◌, ◌≤◌, length};
     ghost use Rattle.lines.specs.Layouts.{AreWithin, Layout};
+    ghost use Rattle.lines.specs.declared.engine.TheConstants.{PARAGRAPH_LIMIT};
 
     ghost Value = { Layout };
 
     ghost view = { λ l. record {
       text = l.text.items;
       base = l.base;
+      tab_width = l.tab_width;
       levels = l.levels.items;
       marks = l.marks.items;
       ends = l.ends.items;
@@ -60,7 +64,8 @@ impl Model for Laid {
 
     ghost invariant = { λ l.
         (length l.levels.items ≡ length l.text.items)
-        × (l.lines.len ≡ length l.text.items) × AreWithin (length l.text.items) l.lines.lines };
+        × (l.lines.len ≡ length l.text.items) × AreWithin (length l.text.items) l.lines.lines
+        × (length l.text.items ≤ PARAGRAPH_LIMIT) };
 }
 
 impl Laid {
@@ -133,7 +138,8 @@ impl Laid {
     // Returns whether the first character that the first line does not show is a space that fits the width,
     // too.
     pub(crate) fn hides_space_within(&self, tables: &Tables, width: u16) -> bool
-        ensures { result ≡ option_map_or (hides_space_within tables.now width self.now.text)
+        ensures { result ≡ option_map_or
+            (hides_space_within tables.now self.now.tab_width width self.now.text)
             (slice_get self.now.lines 0) false }
     {
         let Some(line) = self.lines.part(0) else {
@@ -144,17 +150,18 @@ impl Laid {
             return false;
         }
         let c = self.text[shown];
-        CharInfo::of(tables.properties(c), c, Mark::Never).is_space_within(line.columns, width)
+        let info = CharInfo::of(tables.properties(c), c, Mark::Never, self.tab_width);
+        info.is_space_within(line.columns, width)
     }
 
     /// Returns line `n`, or `None` past the last line.
     pub fn line(&self, n: usize) -> Option<VisualLine<'_>>
         ensures line { result
-            ≡ option_map (visual_of self.now.base self.now.text self.now.lines n)
+            ≡ option_map (visual_of self.now.base self.now.tab_width self.now.text self.now.lines n)
             (slice_get self.now.lines n) }
         ensures nth { result ≡ slice_get (visuals self.now) n }
     {
-        self.lines.line(&self.text, self.base, n)
+        self.lines.line(&self.laid_text(), n)
     }
 
     /// Writes the paragraph's lines. Stops at the first failed write. Allocates nothing.
@@ -191,7 +198,20 @@ impl Laid {
         ensures counted { IfOk result (λ n. n ≤ (W.state writer.new).passed) }
     {
         self.lines
-            .write_after(&self.text, self.base, writer, before, width, print)
+            .write_after(&self.laid_text(), writer, before, width, print)
+    }
+
+    // Returns the characters of the paragraph with what its lines share.
+    fn laid_text(&self) -> LaidText<'_>
+        ensures text { result.text.now ≡ self.now.text }
+        ensures base { result.base ≡ self.now.base }
+        ensures tab_width { result.tab_width ≡ self.now.tab_width }
+    {
+        LaidText {
+            text: &self.text,
+            base: self.base,
+            tab_width: self.tab_width,
+        }
     }
 
     // Overwrites the lines with those at another width, which `extents` describes. Afterwards, `extents`

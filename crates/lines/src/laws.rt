@@ -1,5 +1,5 @@
 //! Theorems about all layouts.
-ghost use Rattle.std.specs.Prelude.{◌≡◌, ◌≤◌, ℕ, false, true, List, length, map, slice_get, slice_index};
+ghost use Rattle.std.specs.Prelude.{◌≡◌, ◌⊎◌, ◌≤◌, ℕ, false, true, List, length, map, slice_get, slice_index};
 ghost use Rattle.std.specs.Prelude.{sum_by, All, Some};
 ghost use Rattle.std.specs.List.{flat_map};
 ghost use Rattle.reorder.specs.Runs.{runs_of};
@@ -9,6 +9,7 @@ ghost use Rattle.lines.specs.Columns.{run_columns};
 ghost use Rattle.lines.specs.Layouts.{Layout, Rules, layout_of, lines_of, start_of, visuals};
 ghost use Rattle.lines.specs.Ordered.{ClustersAdjoin, IsOrdered, MarksStay, RunsAdjoin};
 ghost use Rattle.lines.specs.Pages.{layout_bytes};
+ghost use Rattle.lines.specs.TabStops.{TabsEndAtStops};
 ghost use Rattle.lines.specs.Visual.{Visual};
 ghost use Rattle.lines.specs.declared.print.Print.{Print};
 
@@ -71,4 +72,13 @@ pub fn clusters_adjoin()
         → (n : ℕ) (line : Visual) → slice_get (visuals (layout_of rules width text)) n ≡ Some line
         → ClustersAdjoin line (cluster_ends text)
         (slice_index (map start_of (lines_of rules width text)) n) }
+{}
+
+/// States, as a theorem, that each tab ends at a tab stop, at any width: seen from the left edge of its
+/// line's shown part, or in a right-to-left paragraph from the right one. Without `reorder_clusters`, the
+/// rules must leave marks in place, or marks must take no columns. Costs nothing at run time.
+pub fn tabs_end_at_stops()
+    ensures { (rules : Rules) (width : ℕ) (text : List ℕ)
+        → (rules.options.reorder_clusters ≡ true) ⊎ MarksStay rules text
+        → All TabsEndAtStops (visuals (layout_of rules width text)) }
 {}

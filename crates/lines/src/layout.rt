@@ -11,6 +11,7 @@ ghost use Rattle.lines.specs.declared.engine.TheConstants.{PARAGRAPH_LIMIT};
 
 use crate::buffers::{LayoutBuffers, LineBuffers};
 use crate::char_info::{CharInfo, fill_infos};
+use crate::clusters::ClusterBuffers;
 use crate::counts::{Count, Counted, Counts};
 use crate::filling::line_starts;
 use crate::paragraph::{LentRules, Paragraph, Text};
@@ -29,7 +30,6 @@ impl Workspace {
     /// layout.
     pub(crate) fn lay_out(
         &mut self,
-        alloc: Global,
         rules: &LentRules<'_>,
         text: &[char],
         width: u16,
@@ -60,7 +60,7 @@ impl Workspace {
         let filled = counts.take_filled(text.len());
         let analysis = &mut self.analysis;
         let base = analysis.resolve(rules, text, &mut kept.levels, &mut counts.analysed)?;
-        fill_ends(alloc, rules.options, text, &mut kept.ends)?;
+        fill_ends(&mut self.clusters, rules.options, text, &mut kept.ends)?;
         let text = Text {
             rules: *rules,
             characters: text,
@@ -74,16 +74,16 @@ impl Workspace {
             levels: &kept.levels,
             marks: &kept.marks,
         };
-        let (infos, lines) = (&mut self.infos, &mut kept.lines);
-        let written = &mut counts.written;
-        fill_lines(alloc, &paragraph, infos, width, lines, filled, written)?;
+        let (clusters, infos) = (&mut self.clusters, &mut self.infos);
+        let (lines, written) = (&mut kept.lines, &mut counts.written);
+        fill_lines(clusters, &paragraph, infos, width, lines, filled, written)?;
         Ok(base)
     }
 }
 
 /// Replaces the contents of `lines` with the lines of a paragraph.
 pub(crate) fn fill_lines(
-    alloc: Global,
+    clusters: &mut ClusterBuffers,
     paragraph: &Paragraph<'_>,
     infos: &mut Vec<CharInfo>,
     width: u16,
@@ -106,12 +106,12 @@ pub(crate) fn fill_lines(
     ensures at_most { RisesBy (length paragraph.now.text.characters.now) written.old written.new }
 {
     fill_infos(&paragraph.text, paragraph.marks, infos)?;
-    fill_lines_by(alloc, paragraph, infos, width, lines, filled, written)
+    fill_lines_by(clusters, paragraph, infos, width, lines, filled, written)
 }
 
 // Replaces the contents of `lines` with the lines of a paragraph. `infos` need not contain the cluster ends.
 fn fill_lines_by(
-    alloc: Global,
+    clusters: &mut ClusterBuffers,
     paragraph: &Paragraph<'_>,
     infos: &mut [CharInfo],
     width: u16,
@@ -123,8 +123,8 @@ fn fill_lines_by(
     requires text { IsLookedUp paragraph.now.text }
     requires ends { HasEnds paragraph.now.text }
     requires infos { with_ends infos.old (cluster_ends paragraph.now.text.characters.now)
-        ≡ infos_of paragraph.now.text.rules.tables.now
-        paragraph.now.text.rules.options.whole_numbers paragraph.now.text.characters.now }
+        ≡ infos_of paragraph.now.text.rules.tables.now paragraph.now.text.rules.options
+        paragraph.now.text.characters.now }
     requires infos_len { length infos.old ≡ length paragraph.now.text.characters.now }
     requires levels_len { length paragraph.now.levels.now ≡ length paragraph.now.text.characters.now }
     requires within { length paragraph.now.text.characters.now ≤ PARAGRAPH_LIMIT }
@@ -142,7 +142,7 @@ fn fill_lines_by(
 {
     let text = &paragraph.text;
     line_starts(
-        alloc,
+        clusters,
         text.characters,
         infos,
         width,

@@ -50,6 +50,7 @@ mod showing;
 mod spans;
 mod visual_line;
 mod whole;
+mod widths;
 mod workspace;
 mod writing;
 
@@ -61,7 +62,7 @@ pub use fill::Fill;
 pub use laid::Laid;
 pub use laws::{
     clusters_adjoin, lines_are_few, lines_are_ordered, lines_have_all_characters,
-    paragraphs_print_their_lines, runs_adjoin, runs_have_all_columns,
+    paragraphs_print_their_lines, runs_adjoin, runs_have_all_columns, tabs_end_at_stops,
 };
 pub use options::Options;
 pub use print::{Print, PrintFault};

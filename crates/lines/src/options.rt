@@ -21,6 +21,9 @@ pub struct Options {
     pub reorder_clusters: bool,
     /// Whether spaces at the end of a line are shown, as far as they fit in the width.
     pub show_spaces: bool,
+    /// The distance of tab stops in columns, or 0 for none. A tab, U+0009 of bidi class S, moves to the next
+    /// tab stop, counted from the start of its line. Without tab stops it has no columns.
+    pub tab_width: u8,
 }
 
 impl Default for Options {
@@ -33,6 +36,7 @@ impl Default for Options {
           whole_numbers = false;
           reorder_clusters = false;
           show_spaces = false;
+          tab_width = 0;
         } };
 
     fn default() -> Options {
@@ -43,6 +47,7 @@ impl Default for Options {
             whole_numbers: false,
             reorder_clusters: false,
             show_spaces: false,
+            tab_width: 0,
         }
     }
 }

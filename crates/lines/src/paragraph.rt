@@ -1,14 +1,32 @@
 //! What is known about a paragraph, or about one of its lines, before its lines are reordered.
+ghost use Rattle.std.specs.Prelude.{◌≡◌};
+
 use crate::fill::Shown;
 use crate::options::Options;
 use breaks::Mark;
-use ucd::{Properties, Tables};
+use ucd::{BidiClass, Properties, Tables};
 
 /// The tables and the options of a layout.
 #[derive(Clone, Copy)]
 pub(crate) struct LentRules<'a> {
     pub(crate) tables: &'a Tables,
     pub(crate) options: Options,
+}
+
+impl LentRules<'_> {
+    ghost use Rattle.lines.specs.Tabs.{tab_width_in};
+
+    /// Returns the tab width, or 0 if tabs have no columns: without tab stops, or if U+0009 does not have
+    /// bidi class S.
+    pub(crate) fn tab_width(&self) -> u8
+        ensures { result ≡ tab_width_in self.now.tables.now self.now.options }
+    {
+        let width = self.options.tab_width;
+        if width == 0 || self.tables.properties('\t').bidi_class() == BidiClass::S {
+            return width;
+        }
+        0
+    }
 }
 
 /// The characters of a paragraph or of a line, with their properties and the base level. If lines are ordered

@@ -59,12 +59,12 @@ impl Print {
         self.novisual && !self.ltov && !self.vtol && !self.levels
     }
 
-    // Returns whether printing needs the position maps, either to print them or to find unmirrored
-    // characters.
-    pub(crate) fn asks_places(&self) -> bool
-        ensures { result ≡ asks_places self.now }
+    // Returns whether printing needs the position maps: to print them, to find unmirrored characters, or to
+    // find tabs.
+    pub(crate) fn asks_places(&self, tab_width: u8) -> bool
+        ensures { result ≡ asks_places tab_width self.now }
     {
-        self.ltov || self.vtol || (!self.novisual && self.nomirror)
+        self.ltov || self.vtol || (!self.novisual && (self.nomirror || tab_width > 0))
     }
 }
 

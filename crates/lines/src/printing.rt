@@ -11,6 +11,7 @@ ghost use Rattle.lines.specs.declared.engine.TheConstants.{PARAGRAPH_LIMIT};
 
 use crate::buffers::LineBuffers;
 use crate::char_info::{CharInfo, fill_infos};
+use crate::clusters::ClusterBuffers;
 use crate::counts::{Count, Counted, Counts};
 use crate::extents::fill_spans_by;
 use crate::paragraph::{LentExtents, LentRules, Paragraph, Text};
@@ -32,7 +33,6 @@ impl Workspace {
     /// Writes the lines of a paragraph. If an allocation fails, writes nothing.
     pub(crate) fn write<W: Sink>(
         &mut self,
-        alloc: Global,
         rules: &LentRules<'_>,
         text: &[char],
         form: &Form<'_>,
@@ -61,7 +61,8 @@ impl Workspace {
         else {
             return Err(PrintFault::Memory);
         };
-        let Ok(()) = fill_ends(alloc, rules.options, text, &mut self.printed.ends) else {
+        let clusters = &mut self.clusters;
+        let Ok(()) = fill_ends(clusters, rules.options, text, &mut self.printed.ends) else {
             return Err(PrintFault::Memory);
         };
         let text = Text {
@@ -85,7 +86,7 @@ impl Workspace {
             marks: &self.printed.marks,
         };
         let (infos, lines) = (&mut self.infos, &mut self.printed.lines);
-        let Ok(()) = fill_spans(alloc, &paragraph, infos, form.width, lines, filled) else {
+        let Ok(()) = fill_spans(clusters, &paragraph, infos, form.width, lines, filled) else {
             return Err(PrintFault::Memory);
         };
         write_lines(writer, form, &paragraph, lines, written)
@@ -98,16 +99,18 @@ fn is_one_line(form: &Form<'_>, text: &Text<'_>) -> bool
     requires { IsLookedUp text.now }
     ensures nobreak { result ≡ true → text.now.rules.options.nobreak ≡ true }
     ensures hidden { result ≡ true → text.now.rules.options.show_spaces ≡ false }
+    ensures tabs { result ≡ true → text.now.rules.options.tab_width ≡ 0 }
     ensures unseen { result ≡ true → form.now.print.now.novisual ≡ true }
     ensures some { result ≡ true → 0 < length text.now.characters.now }
     ensures whole { result ≡ true → IsWhole text.now.rules.tables.now text.now.characters.now }
     ensures no { result ≡ false → text.now.rules.options.nobreak ≡ true
-        → text.now.rules.options.show_spaces ≡ false → form.now.print.now.novisual ≡ true
+        → text.now.rules.options.show_spaces ≡ false → text.now.rules.options.tab_width ≡ 0
+        → form.now.print.now.novisual ≡ true
         → 0 < length text.now.characters.now
         → ¬ (IsWhole text.now.rules.tables.now text.now.characters.now) }
 {
     let options = text.rules.options;
-    if !options.nobreak || options.show_spaces {
+    if !options.nobreak || options.show_spaces || options.tab_width > 0 {
         return false;
     }
     if !form.print.novisual || text.characters.is_empty() {
@@ -132,6 +135,7 @@ fn write_one_line<W: Sink>(
     requires whole { IsWhole text.now.rules.tables.now text.now.characters.now }
     requires nobreak { text.now.rules.options.nobreak ≡ true }
     requires hidden { text.now.rules.options.show_spaces ≡ false }
+    requires tabs { text.now.rules.options.tab_width ≡ 0 }
     requires unseen { form.now.print.now.novisual ≡ true }
     ensures ok { OnOk result (Wrote (paragraph_bytes (rules_in text.now.rules)
         form.now.width form.now.print.now text.now.characters.now)
@@ -164,7 +168,7 @@ fn write_one_line<W: Sink>(
 // Finds where each line of a paragraph starts, and how much of it is shown. Grows the other buffers to the
 // length of the paragraph.
 fn fill_spans(
-    alloc: Global,
+    clusters: &mut ClusterBuffers,
     paragraph: &Paragraph<'_>,
     infos: &mut Vec<CharInfo>,
     width: u16,
@@ -179,7 +183,15 @@ fn fill_spans(
     fill_infos(text, paragraph.marks, infos)?;
     lines.visual.grow_to(text.characters.len())?;
     let options = text.rules.options;
-    fill_spans_by(alloc, text.characters, infos, width, options, lines, filled)
+    fill_spans_by(
+        clusters,
+        text.characters,
+        infos,
+        width,
+        options,
+        lines,
+        filled,
+    )
 }
 
 // Writes the lines of a paragraph, whose starts and shown parts are in `lines`.

@@ -23,7 +23,5 @@ pub(crate) fn look_up(tables: &Tables, text: &[char], properties: &mut [Properti
     requires { length properties.old ≡ length text.now }
     ensures { properties.new ≡ map (properties_of tables.now) text.now }
 {
-    for (k, c) in text.iter().enumerate() {
-        properties[k] = tables.properties(*c);
-    }
+    tables.look_up(text, properties);
 }

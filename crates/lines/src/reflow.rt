@@ -9,6 +9,7 @@ ghost use Rattle.lines.specs.declared.engine.TheConstants.{PARAGRAPH_LIMIT};
 
 use crate::buffers::LineBuffers;
 use crate::char_info::{CharInfo, fill_infos};
+use crate::clusters::ClusterBuffers;
 use crate::counts::{Count, Counted, Counts};
 use crate::extents::{Extents, fill_spans_by};
 use crate::fill::Fill;
@@ -105,7 +106,8 @@ impl Workspace {
         };
         let infos = &mut self.infos;
         fill_infos(&known, laid.marks(), infos)?;
-        extents_by(alloc, text, infos, width, rules.options, filled)
+        let (clusters, options) = (&mut self.clusters, rules.options);
+        extents_by(alloc, clusters, text, infos, width, options, filled)
     }
 
     /// Finds the lines of a laid-out paragraph at another width.
@@ -140,10 +142,12 @@ impl Workspace {
             levels: laid.levels(),
             marks: laid.marks(),
         };
-        let infos = &mut self.infos;
+        let (clusters, infos) = (&mut self.clusters, &mut self.infos);
         let mut lines = LineBuffers::new(alloc);
         let written = &mut counts.written;
-        fill_lines(alloc, &paragraph, infos, width, &mut lines, filled, written)?;
+        fill_lines(
+            clusters, &paragraph, infos, width, &mut lines, filled, written,
+        )?;
         Ok(Fill::of(lines))
     }
 }
@@ -151,6 +155,7 @@ impl Workspace {
 // Finds the extents of the lines of a paragraph. `infos` need not contain the cluster ends.
 fn extents_by(
     alloc: Global,
+    clusters: &mut ClusterBuffers,
     text: &[char],
     infos: &mut [CharInfo],
     width: u16,
@@ -167,7 +172,7 @@ fn extents_by(
         (with_ends infos.old (cluster_ends text.now)) extents.starts) }
 {
     let mut lines = LineBuffers::new(alloc);
-    fill_spans_by(alloc, text, infos, width, options, &mut lines, filled)?;
+    fill_spans_by(clusters, text, infos, width, options, &mut lines, filled)?;
     Ok(Extents {
         starts: lines.starts,
         shown: lines.shown,

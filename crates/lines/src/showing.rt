@@ -2,11 +2,12 @@
 //! L3), mirrored (L4).
 ghost use Rattle.std.specs.Prelude.{◌≡◌, ◌*◌, ◌<◌, ◌≤◌, ℕ, List, Option, Some, true, false, OnErr, OnOk};
 ghost use Rattle.std.specs.Prelude.{length, map, take, slice_index};
-ghost use Rattle.std.specs.List.{range_with_len, slice_range};
+ghost use Rattle.std.specs.List.{list_any, range_with_len, slice_range};
 ghost use Rattle.ucd.specs.Properties.{properties_of};
 ghost use Rattle.ucd.specs.Classes.{class_in};
 ghost use Rattle.reorder.specs.Spaces.{line_levels};
 ghost use Rattle.ucd.specs.Within.{AreWithin};
+ghost use Rattle.lines.specs.CharInfos.{moves};
 ghost use Rattle.lines.specs.Engine.{counted, RisesBy};
 ghost use Rattle.lines.specs.Extents.{shown_from};
 ghost use Rattle.lines.specs.Filling.{before_tail, columns, text_len};
@@ -454,7 +455,7 @@ fn with_spaces(line: &[CharInfo], text: Shown, margin: u16) -> Shown
     let mut len = text.len as usize;
     let mut columns = text.columns;
     while len < line.len() && line[len].is_space_within(columns, margin) {
-        columns += u32::from(line[len].columns);
+        columns = line[len].advance(columns as usize) as u32;
         len += 1;
     }
     Shown {
@@ -475,15 +476,52 @@ fn text_len(line: &[CharInfo]) -> usize
     len
 }
 
-// Returns the width of a part of a line in columns.
+// Returns the width of the first characters of a line in columns.
 fn columns(piece: &[CharInfo]) -> u32
+    requires { length piece.now ≤ PARAGRAPH_LIMIT }
+    ensures sum { result ≡ columns piece.now }
+    ensures most { result ≤ 255 * length piece.now }
+{
+    if has_tab(piece) {
+        columns_with_tabs(piece)
+    } else {
+        columns_without_tabs(piece)
+    }
+}
+
+// Returns whether a part of a line has a tab that moves to a tab stop.
+fn has_tab(piece: &[CharInfo]) -> bool
+    ensures { result ≡ list_any (λ p. moves p.trailing) piece.now }
+{
+    // The loop has no branches, so that the compiler tests many characters at a time.
+    let mut found = false;
+    for info in piece {
+        found |= info.trailing.moves();
+    }
+    found
+}
+
+fn columns_with_tabs(piece: &[CharInfo]) -> u32
     requires { length piece.now ≤ PARAGRAPH_LIMIT }
     ensures sum { result ≡ columns piece.now }
     ensures most { result ≤ 255 * length piece.now }
 {
     let mut columns = 0;
     for info in piece {
-        columns += info.columns as u32;
+        columns = info.advance(columns as usize) as u32;
+    }
+    columns
+}
+
+fn columns_without_tabs(piece: &[CharInfo]) -> u32
+    requires limit { length piece.now ≤ PARAGRAPH_LIMIT }
+    requires plain { list_any (λ p. moves p.trailing) piece.now ≡ false }
+    ensures sum { result ≡ columns piece.now }
+    ensures most { result ≤ 255 * length piece.now }
+{
+    let mut columns = 0;
+    for info in piece {
+        columns += u32::from(info.columns);
     }
     columns
 }

@@ -26,6 +26,7 @@ pub struct Spans<'a> {
 #[derive(Clone, Copy, Debug)]
 pub(crate) struct Selection<'a> {
     pub(crate) text: &'a [char],
+    pub(crate) tab_width: u8,
     pub(crate) vtol: &'a [u32],
     pub(crate) start: usize,
     pub(crate) end: usize,
@@ -54,11 +55,14 @@ impl<'a> Model for Spans<'a> {
 }
 
 impl<'a> Spans<'a> {
+    ghost use Rattle.std.specs.Prelude.{◌≤◌};
     ghost use Rattle.lines.specs.Spans.{spans_from};
+    ghost use Rattle.lines.specs.declared.engine.TheConstants.{PARAGRAPH_LIMIT};
 
     /// Returns the spans of a selection.
     pub(crate) fn new(selection: Selection<'a>) -> Spans<'a>
-        requires { AreWithin (length selection.text.now) selection.vtol.now }
+        requires within { AreWithin (length selection.text.now) selection.vtol.now }
+        requires limit { length selection.vtol.now ≤ PARAGRAPH_LIMIT }
         ensures { result
             ≡ spans_from (selected_in selection.entry) selection.entry.start selection.entry.end 0 }
     {
@@ -104,12 +108,11 @@ fn pass(selection: &Selection<'_>, at: Reached, inside: bool) -> Reached
     ensures at { IsReached (selected_in selection.now) result }
     ensures passes { Passes selection.now inside at.place result.place }
 {
-    let text = selection.text;
-    let vtol = selection.vtol;
+    let (text, vtol) = (selection.text, selection.vtol);
     let mut place = at.place;
     let mut column = at.column;
     while place < vtol.len() {
-        let columns = columns_at(text, vtol, place);
+        let columns = columns_at(text, selection.tab_width, vtol, place);
         if columns > 0 && is_selected(selection, place) != inside {
             return Reached { place, column };
         }

@@ -1,14 +1,14 @@
 //! Visual lines, which borrow from their paragraph.
-ghost use Rattle.std.specs.Prelude.{◌≡◌, false, ◌^◌, ◌<◌, ◌≤◌, true, length, slice_index, sum_by};
+ghost use Rattle.std.specs.Prelude.{◌≡◌, false, ◌^◌, ◌<◌, ◌≤◌, true, length, slice_index, sum, sum_by};
 ghost use Rattle.std.specs.Prelude.{OnOk, IfOk, IfErr};
 ghost use Rattle.device.specs.Device.{Wrote, StoppedAt};
 ghost use Rattle.ucd.specs.Within.{AreWithin};
 ghost use Rattle.reorder.specs.Runs.{runs_of, AreRuns};
 ghost use Rattle.lines.specs.Bytes.{line_bytes, padding};
 ghost use Rattle.lines.specs.Columns.{columns_at, columns_between, columns_left};
-ghost use Rattle.lines.specs.Columns.{covering, padding_of, run_columns};
-ghost use Rattle.lines.specs.CharInfos.{columns_of};
+ghost use Rattle.lines.specs.Columns.{covering, padding_of, run_columns, widths};
 ghost use Rattle.lines.specs.Spans.{is_covered, spans_of, AreMaximal};
+ghost use Rattle.lines.specs.Widths.{widths_of};
 ghost use Rattle.lines.specs.Writing.{PassedOn, StoppedIn};
 ghost use Rattle.lines.specs.declared.print.Print.{Print};
 
@@ -17,10 +17,10 @@ use crate::bytes::{
 };
 use crate::print::Print;
 use crate::spans::{Selection, Spans};
+use crate::widths::width_at;
 use device::Sink;
 use reorder::{Runs, level_runs};
 use std::marker::Model;
-use unicode_width::UnicodeWidthChar;
 
 /// A visual line. All methods except `is_first`, `base` and `len` are about the shown part, which is the line
 /// without the spaces and separators at its end. Positions are counted from the start of the shown part.
@@ -28,6 +28,7 @@ use unicode_width::UnicodeWidthChar;
 pub struct VisualLine<'a> {
     pub(crate) is_first: bool,
     pub(crate) base: u8,
+    pub(crate) tab_width: u8,
     pub(crate) len: usize,
     pub(crate) text: &'a [char],
     pub(crate) columns: u32,
@@ -40,13 +41,16 @@ pub struct VisualLine<'a> {
 impl<'a> Model for VisualLine<'a> {
     ghost use Rattle.std.specs.Prelude.{length};
     ghost use Rattle.ucd.specs.Within.{AreWithin};
+    ghost use Rattle.std.specs.Prelude.{◌≤◌};
     ghost use Rattle.lines.specs.Visual.{Visual};
+    ghost use Rattle.lines.specs.declared.engine.TheConstants.{PARAGRAPH_LIMIT};
 
     ghost Value = { Visual };
 
     ghost view = { λ l. record {
       is_first = l.is_first;
       base = l.base;
+      tab_width = l.tab_width;
       len = l.len;
       text = l.text.now;
       columns = l.columns;
@@ -56,8 +60,9 @@ impl<'a> Model for VisualLine<'a> {
       chars = l.chars.now;
     } };
 
-    // Each logical position is an index into the text.
-    ghost invariant = { λ l. AreWithin (length l.text.now) l.vtol.now };
+    // Each logical position is an index into the text, and the columns of all characters fit in a `usize`.
+    ghost invariant = { λ l. AreWithin (length l.text.now) l.vtol.now
+        × (length l.text.now ≤ PARAGRAPH_LIMIT) × (length l.vtol.now ≤ PARAGRAPH_LIMIT) };
 }
 
 impl<'a> VisualLine<'a> {
@@ -124,7 +129,7 @@ impl<'a> VisualLine<'a> {
     {
         let mut columns = 0;
         for k in 0..place.min(self.vtol.len()) {
-            columns += columns_at(self.text, self.vtol, k);
+            columns += columns_at(self.text, self.tab_width, self.vtol, k);
         }
         columns
     }
@@ -135,7 +140,7 @@ impl<'a> VisualLine<'a> {
         ensures { result ≡ columns_at self.now place }
     {
         if place < self.vtol.len() {
-            columns_at(self.text, self.vtol, place)
+            columns_at(self.text, self.tab_width, self.vtol, place)
         } else {
             0
         }
@@ -147,12 +152,13 @@ impl<'a> VisualLine<'a> {
         ensures value { result ≡ columns_between self.now start end }
         ensures fits { result < 2 ^ 63 }
     {
-        let end = end.min(self.text.len());
-        if start < end {
-            total_columns(&self.text[start..end])
-        } else {
-            0
+        let past = end.min(self.text.len());
+        let first = start.min(past);
+        let mut columns = 0;
+        for k in first..past {
+            columns += width_at(self.text, self.tab_width, k);
         }
+        columns
     }
 
     /// Returns the visual position of the character that covers `column`, or `None` past the right edge.
@@ -162,7 +168,7 @@ impl<'a> VisualLine<'a> {
     {
         let mut columns = 0;
         for k in 0..self.vtol.len() {
-            columns += columns_at(self.text, self.vtol, k);
+            columns += columns_at(self.text, self.tab_width, self.vtol, k);
             if column < columns {
                 return Some(k);
             }
@@ -180,6 +186,7 @@ impl<'a> VisualLine<'a> {
     {
         Spans::new(Selection {
             text: self.text,
+            tab_width: self.tab_width,
             vtol: self.vtol,
             start,
             end,
@@ -193,7 +200,7 @@ impl<'a> VisualLine<'a> {
         ensures runs { result ≡ runs_of self.now.levels }
         ensures are { AreRuns self.now.levels result }
         ensures columns { length self.now.levels ≡ length self.now.text
-            → sum_by (run_columns self.now) result ≡ sum_by columns_of self.now.text }
+            → sum_by (run_columns self.now) result ≡ sum (widths self.now) }
     {
         level_runs(self.levels)
     }
@@ -253,34 +260,11 @@ impl<'a> VisualLine<'a> {
 }
 
 /// Returns the width in columns of the character at a visual position.
-pub(crate) fn columns_at(text: &[char], vtol: &[u32], place: usize) -> usize
+pub(crate) fn columns_at(text: &[char], tab_width: u8, vtol: &[u32], place: usize) -> usize
     requires within { AreWithin (length text.now) vtol.now }
     requires place { place < length vtol.now }
-    ensures value { result ≡ columns_of (slice_index text.now (slice_index vtol.now place)) }
-    ensures few { result ≤ 3 }
+    ensures value { result ≡ slice_index (widths_of tab_width text.now) (slice_index vtol.now place) }
+    ensures few { result ≤ 255 }
 {
-    width_of(text[vtol[place] as usize])
-}
-
-// Returns the number of columns of some characters.
-fn total_columns(text: &[char]) -> usize
-    ensures value { result ≡ sum_by columns_of text.now }
-    ensures fits { result < 2 ^ 63 }
-{
-    let mut columns = 0;
-    for c in text {
-        columns += width_of(*c);
-    }
-    columns
-}
-
-// Returns the width in columns of a character.
-fn width_of(c: char) -> usize
-    ensures value { result ≡ columns_of c }
-    ensures few { result ≤ 3 }
-{
-    match c.width() {
-        Some(width) => width,
-        None => 0,
-    }
+    width_at(text, tab_width, vtol[place] as usize)
 }

@@ -1,12 +1,13 @@
 //! A fast path for paragraphs without a mandatory break before their end, used if lines end only at mandatory
-//! breaks, no spaces at the end of lines are shown, and no characters are printed. Such a paragraph is one
-//! line. Neither its break marks nor its columns are computed.
+//! breaks, no spaces at the end of lines are shown, there are no tab stops, and no characters are printed.
+//! Such a paragraph is one line. Neither its break marks nor its columns are computed.
 ghost use Rattle.std.specs.Prelude.{◌≡◌, ◌<◌, ◌≤◌, Bool, true, false, length, IfOk, IfErr};
 ghost use Rattle.breaks.specs.Bases.{resolved};
 ghost use Rattle.lines.specs.Buffers.{CanHold};
 ghost use Rattle.lines.specs.Engine.{counted};
 ghost use Rattle.lines.specs.Pages.{lines_bytes};
 ghost use Rattle.lines.specs.Paragraphs.{HasEnds, IsLookedUp, lines_at};
+ghost use Rattle.lines.specs.Tabs.{tab_width_in};
 ghost use Rattle.lines.specs.Whole.{ends_line, IsShownLen, IsWhole};
 ghost use Rattle.lines.specs.Writing.{PassedOn, StoppedIn};
 ghost use Rattle.lines.specs.declared.engine.TheConstants.{PARAGRAPH_LIMIT};
@@ -85,14 +86,17 @@ pub(crate) fn write_whole<W: Sink>(
     requires whole { IsWhole text.now.rules.tables.now text.now.characters.now }
     requires nobreak { text.now.rules.options.nobreak ≡ true }
     requires hidden { text.now.rules.options.show_spaces ≡ false }
+    requires tabs { text.now.rules.options.tab_width ≡ 0 }
     requires unseen { form.now.print.now.novisual ≡ true }
     requires levels { length levels.now ≡ length text.now.characters.now }
     requires visual { CanHold (length text.now.characters.now) visual.old }
     ensures ok { IfOk result (λ n. PassedOn (lines_bytes form.now.width form.now.print.now text.now.base
+        (tab_width_in text.now.rules.tables.now text.now.rules.options)
         text.now.characters.now (lines_at text.now levels.now form.now.width)) 0
         (W.state writer.old) (W.state writer.new) n) }
     ensures err { IfErr result (λ fault. StoppedIn (lines_bytes form.now.width form.now.print.now
-        text.now.base text.now.characters.now (lines_at text.now levels.now form.now.width)) 0
+        text.now.base (tab_width_in text.now.rules.tables.now text.now.rules.options)
+        text.now.characters.now (lines_at text.now levels.now form.now.width)) 0
         (W.state writer.old) (W.state writer.new) fault.written) }
     ensures counts { written.new ≡ counted written.old (length text.now.characters.now) }
     ensures least { written.old ≤ written.new }

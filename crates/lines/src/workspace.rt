@@ -10,7 +10,7 @@ ghost use Rattle.lines.specs.Reordering.{ends_by};
 
 use crate::buffers::LayoutBuffers;
 use crate::char_info::CharInfo;
-use crate::clusters::cluster_ends;
+use crate::clusters::ClusterBuffers;
 use crate::counts::Count;
 use crate::options::Options;
 use crate::paragraph::{LentRules, Text};
@@ -27,6 +27,7 @@ use ucd::Properties;
 pub(crate) struct Workspace {
     pub(crate) analysis: Analysis,
     pub(crate) infos: Vec<CharInfo>,
+    pub(crate) clusters: ClusterBuffers,
     // For paragraphs that are printed and not kept.
     pub(crate) printed: LayoutBuffers,
 }
@@ -36,6 +37,7 @@ impl Drop for Workspace {
         let Workspace {
             analysis: _,
             infos: _,
+            clusters: _,
             printed: _,
         } = self;
     }
@@ -50,6 +52,7 @@ impl Workspace {
                 resolver: Resolver::new(alloc),
             },
             infos: Vec::new(alloc),
+            clusters: ClusterBuffers::new(alloc),
             printed: LayoutBuffers::new(alloc),
         }
     }
@@ -102,17 +105,17 @@ impl Analysis {
 /// Replaces `ends` with where the grapheme clusters of a paragraph end, if its lines are ordered by clusters,
 /// or else with an empty list.
 pub(crate) fn fill_ends(
-    alloc: Global,
+    clusters: &mut ClusterBuffers,
     options: Options,
     text: &[char],
     ends: &mut Vec<bool>,
 ) -> Result<(), AllocError>
     ensures { OnOk result (ends.new.items ≡ ends_by options text.now) }
 {
-    ends.clear();
     if options.reorder_clusters {
-        *ends = cluster_ends(alloc, text)?;
+        return clusters.fill(text, ends);
     }
+    ends.clear();
     Ok(())
 }
 

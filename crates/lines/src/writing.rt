@@ -13,6 +13,7 @@ ghost use Rattle.lines.specs.Pages.{lines_bytes};
 ghost use Rattle.lines.specs.Paragraphs.{HasEnds, IsLookedUp, held_line, shown_by, shown_levels};
 ghost use Rattle.lines.specs.Paragraphs.{shown_of};
 ghost use Rattle.lines.specs.Showing.{lines_shown};
+ghost use Rattle.lines.specs.Tabs.{tab_width_in};
 ghost use Rattle.lines.specs.Writing.{PassedOn, StoppedIn};
 ghost use Rattle.lines.specs.declared.char_info.CharInfo.{CharInfo};
 ghost use Rattle.lines.specs.declared.engine.TheConstants.{PARAGRAPH_LIMIT};
@@ -53,11 +54,13 @@ pub(crate) fn write_each<W: Sink>(
     requires levels { length levels.now ≡ length text.now.characters.now }
     requires visual { CanHold (length text.now.characters.now) visual.old }
     ensures ok { IfOk result (λ n. PassedOn (lines_bytes form.now.width form.now.print.now text.now.base
+        (tab_width_in text.now.rules.tables.now text.now.rules.options)
         text.now.characters.now (lines_shown text.now.rules.tables.now text.now.rules.options text.now.base
         text.now.characters.now levels.now spans.now.starts.now spans.now.shown.now)) 0
         (W.state writer.old) (W.state writer.new) n) }
     ensures err { IfErr result (λ fault. StoppedIn (lines_bytes form.now.width form.now.print.now
-        text.now.base text.now.characters.now (lines_shown text.now.rules.tables.now
+        text.now.base (tab_width_in text.now.rules.tables.now text.now.rules.options)
+        text.now.characters.now (lines_shown text.now.rules.tables.now
         text.now.rules.options text.now.base text.now.characters.now levels.now spans.now.starts.now
         spans.now.shown.now)) 0 (W.state writer.old) (W.state writer.new) fault.written) }
     ensures counts { count.new ≡ counted count.old (length text.now.characters.now) }
@@ -115,7 +118,8 @@ pub(crate) fn write_line<W: Sink>(
     ensures counted { IfOk result (λ n. n ≤ (W.state writer.new).passed) }
     ensures visual { SameLengths visual.old visual.new }
 {
-    if line.shown.len == 0 && !form.print.asks_places() {
+    let tab_width = line.text.rules.tab_width();
+    if line.shown.len == 0 && !form.print.asks_places(tab_width) {
         return write_ordered(writer, before, form, line, &[], &[]);
     }
     let is_flat = reset_front(line, &mut visual.levels);
@@ -148,7 +152,7 @@ fn write_part<W: Sink>(
     ensures visual { SameLengths visual.old visual.new }
 {
     let n = line.shown.len as usize;
-    if form.print.asks_places() {
+    if form.print.asks_places(line.text.rules.tab_width()) {
         order_front(
             line,
             is_flat,
@@ -252,6 +256,7 @@ fn write_visual<W: Sink>(
     visual: &VisualBuffers,
 ) -> Result<u64, WriteFault>
     requires before { before ≤ (W.state writer.old).passed }
+    requires limit { length line.now.text.characters.now ≤ PARAGRAPH_LIMIT }
     requires shown { line.now.shown.len ≤ length line.now.text.characters.now }
     requires visual { CanHold (length line.now.text.characters.now) visual.now }
     requires within { AreWithin line.now.shown.len (take line.now.shown.len visual.now.vtol.items) }
@@ -268,6 +273,7 @@ fn write_visual<W: Sink>(
     let view = VisualLine {
         is_first: line.is_first,
         base: line.text.base,
+        tab_width: line.text.rules.tab_width(),
         len: line.text.characters.len(),
         text: &line.text.characters[..levels.len()],
         columns: line.shown.columns,
@@ -289,8 +295,10 @@ fn write_ordered<W: Sink>(
     chars: &[char],
 ) -> Result<u64, WriteFault>
     requires before { before ≤ (W.state writer.old).passed }
+    requires limit { length line.now.text.characters.now ≤ PARAGRAPH_LIMIT }
     requires levels { length levels.now ≤ length line.now.text.characters.now }
-    requires places { asks_places form.now.print.now ≡ false }
+    requires places { asks_places (tab_width_in line.now.text.rules.tables.now
+        line.now.text.rules.options) form.now.print.now ≡ false }
     requires chars { form.now.print.now.novisual ≡ false
         → chars.now ≡ (shown_by line.now levels.now).chars }
     ensures ok { IfOk result (λ n.
@@ -304,6 +312,7 @@ fn write_ordered<W: Sink>(
     let view = VisualLine {
         is_first: line.is_first,
         base: line.text.base,
+        tab_width: line.text.rules.tab_width(),
         len: line.text.characters.len(),
         text: &line.text.characters[..levels.len()],
         columns: line.shown.columns,

@@ -75,6 +75,7 @@ fn default_options_are_weak_ltr_and_no_flag(rt: HostRuntime) {
         whole_numbers: false,
         reorder_clusters: false,
         show_spaces: false,
+        tab_width: 0,
     };
     assert!(rt; lines::Options::default() == options);
 }

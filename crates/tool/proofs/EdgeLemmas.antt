@@ -1,8 +1,8 @@
 -- The columns of edges are few enough to be added to those of the padding.
 use Rattle.std.proofs.Common.{◌≡◌, ℕ, zero, suc, ◌+◌, ◌-◌, ◌<◌, ◌≤◌, ◌==◌, ◌&&◌, nat_le, nat_lt, Bool, true, false, List, [], ◌∷◌, length, drop, map, get_or, Option, Some, None, option_and_then, option_map, unwrap_or, if◌then◌else◌, refl, sym, subst, ap, ◌∙◌, arith}
-use Rattle.std.specs.Prelude.{slice_get, sum_by, All}
+use Rattle.std.specs.Prelude.{slice_get, sum, sum_by, All}
 use Rattle.std.specs.List.{flat_map}
-use Rattle.std.proofs.lemmas.List.{length-map, take_all}
+use Rattle.std.proofs.lemmas.List.{take_all}
 use Rattle.std.proofs.lemmas.List.Elements.{All-append, All-head, All-nil, All-tail}
 use Rattle.std.proofs.lemmas.List.Sums.{sum_by-take-drop, sum_by-take-le}
 use Rattle.std.proofs.lemmas.Bool.{both_ways, lt-leb}
@@ -10,9 +10,8 @@ use Rattle.std.proofs.lemmas.Option.{none-some}
 use Rattle.bidi.specs.Brackets.{greatest}
 use Rattle.bidi.specs.Cuts.{paragraphs}
 use Rattle.reorder.specs.Order.{is_odd}
-use Rattle.lines.specs.CharInfos.{columns_of}
 use Rattle.lines.specs.Clusters.{after}
-use Rattle.lines.specs.Columns.{columns_between, columns_left, unmirrored}
+use Rattle.lines.specs.Columns.{columns_between, columns_left, width_at, widths}
 use Rattle.lines.specs.Layouts.{Layout, Rules, cut_by, layout_of, visuals}
 use Rattle.lines.specs.Visual.{Visual}
 use Rattle.session.specs.Carets.{caret_at, leading_edge, line_end, trailing_edge}
@@ -49,17 +48,16 @@ module _ (line : Visual) where
 
   left-le : (place : ℕ) → columns_left line place ≤ whole
   left-le place =
-      let all : length (unmirrored line) ≤ length line.vtol = omega (arith, length-map line.vtol (λ v. get_or line.text v 0)) in
-      omega (arith, sum_by-take-le columns_of (unmirrored line) place, ap (sum_by columns_of) (take_all (length line.vtol) (unmirrored line) all))
+      omega (arith, sum_by-take-le (width_at line) line.vtol place, ap (sum_by (width_at line)) (take_all (length line.vtol) line.vtol (omega arith)))
 
-  module _ (sum : sum_by columns_of line.text ≡ line.columns) where
+  module _ (total : sum (widths line) ≡ line.columns) where
     between-le : (start end : ℕ) → columns_between line start end ≤ line.columns
     between-le start end =
         omega (
           arith,
-          sum_by-take-le columns_of (drop start line.text) (end - start),
-          sum_by-take-drop columns_of line.text start,
-          sum,
+          sum_by-take-le (λ x. x) (drop start (widths line)) (end - start),
+          sum_by-take-drop (λ x. x) (widths line) start,
+          total,
         )
 
     module _ (start : ℕ) (cluster : Cluster) where
@@ -134,7 +132,7 @@ module _ (kept : List Layout) where
   pub record Fits (caret : Caret) : Type 0 where
     pub line : Visual
     pub found : Some line ≡ slice_get (lines_in kept) caret.line
-    pub column : sum_by columns_of line.text ≡ line.columns → caret.column ≤ whole line + line.columns
+    pub column : sum (widths line) ≡ line.columns → caret.column ≤ whole line + line.columns
 
   one : (side : Side) (place : Place) (pos : ℕ) (caret : Caret) (found : Option Visual) (cluster : Option Cluster) → found ≡ slice_get (lines_in kept) place.line
       → option_and_then (λ line. option_map (caret_beside side place.line line (pos - place.offset) place.offset) cluster) found ≡ Some caret → Fits caret
@@ -145,7 +143,7 @@ module _ (kept : List Layout) where
       subst Fits (same_some (caret_beside side place.line line start place.offset cluster) caret is) (record {
         line = line;
         found = found ∙ ap (slice_get (lines_in kept)) (sym (beside-line line side place.line start place.offset cluster));
-        column = λ sum. beside-le line sum start cluster side place.line place.offset;
+        column = λ total. beside-le line total start cluster side place.line place.offset;
       })
 
   inside : (side : Side) (pos : ℕ) (caret : Caret) → caret_of kept side pos (place_in kept pos) ≡ Some caret → Fits caret

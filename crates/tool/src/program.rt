@@ -4,7 +4,7 @@ ghost use Rattle.std.specs.Prelude.{◌≡◌};
 use command_line::LineFault;
 use text_run::RunFault;
 use thiserror::Error;
-use ucd::TableFault;
+use ucd::{ImageFault, TableFault};
 
 /// Why the program ended. `Display` writes the message for standard error or, for help and the version, the
 /// text for standard output.
@@ -17,6 +17,9 @@ pub enum ProgramFault {
     TableFile(&'static str),
     #[error("fribidi: {0}")]
     Table(TableFault),
+    /// The image of the installed tables is damaged, or of another format or Unicode version.
+    #[error("fribidi: cannot use tables.image: {0}")]
+    TableImage(ImageFault),
     #[error("fribidi: {0}")]
     Run(RunFault),
 }

@@ -231,6 +231,19 @@ fn program_fault_of_a_table_names_file_line_and_cause(rt: HostRuntime) {
     );
 }
 
+#[test]
+fn program_fault_of_an_image_names_it_and_its_cause(rt: HostRuntime) {
+    let fault = tool::ProgramFault::TableImage(ucd::ImageFault::Checksum);
+    assert!(rt;
+        ends(
+            rt.alloc(),
+            fault,
+            1,
+            "fribidi: cannot use tables.image: the checksum of the image is wrong"
+        )
+    );
+}
+
 // Whether the program ends with status 1 and this message after a run fails with this fault.
 fn run_ends(alloc: Global, fault: tool::RunFault, message: &str) -> bool {
     ends(alloc, tool::ProgramFault::Run(fault), 1, message)

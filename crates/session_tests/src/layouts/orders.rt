@@ -15,6 +15,7 @@ const READ: Options = Options {
     whole_numbers: false,
     reorder_clusters: false,
     show_spaces: false,
+    tab_width: 0,
 };
 
 const REVERSED: Options = Options {

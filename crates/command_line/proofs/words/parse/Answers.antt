@@ -17,6 +17,7 @@ returns-in-Ok-try_get_matches_from-clause-ok c =
       rows = (h.matches (ap is_simple same ∙ program_is_simple)).0 ∙ ap (λ app. matches_of app words) same;
       ucd = there.0;
       width = there.1;
+      tabs = there.2;
     }
 
 pub returns-in-Err-2-clause-err : goal.returns-in-Err-2-clause-err

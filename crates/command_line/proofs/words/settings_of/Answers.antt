@@ -1,13 +1,13 @@
 use Rattle.std.proofs.Common.{◌≡◌, ◌∙◌, ℕ, Bool, Bor, List, Result, arith, [], Option, Some, None, ap, codes, is_some, length, map, option_map, refl, ap₂, true, false, rules, sym, true≢false, unwrap_or}
-use Rattle.std.specs.Prelude.{not}
 use Rattle.clap.specs.Words.{ReadsOne, Row, Text, all_of, matches_of, first_of, found_of, one_text, rows_of}
 use Rattle.clap.specs.declared.parser.matches.Found.{Found}
 use Rattle.clap.specs.Takes.{is_given}
 use Rattle.clap.proofs.WalkLemmas.{first_value-rows, one_text-rows, raw_values-rows}
 use Rattle.std.specs.Str.Parse.{ParsesUnsigned, ExplainsUnsignedError, HasUnsignedDigitsIfOk}
-use Rattle.command_line.specs.CommandLine.{HasWidth, base_of, fits_queries, fits_script, number_of, program, queries_fit, script_fits, texts_of}
+use Rattle.command_line.specs.CommandLine.{HasNumber, base_of, fits_queries, fits_script, number_of, program, queries_fit, script_fits, tab_width_of, texts_of}
 use Rattle.std.proofs.lemmas.List.{length-map}
 use Rattle.command_line.proofs.DefaultLemmas.{number_read}
+use Rattle.command_line.proofs.TabLemmas.{stops_in}
 use Rattle.command_line.proofs.words.settings_of.Goals as goal
 
 -- the texts of an optional list, or no texts if the list is missing
@@ -36,7 +36,7 @@ unreachable-requires c =
 
 -- the text of the width is parsed as the number that it denotes
 read_width : (E : Type 0) (Gives : Text → Result ℕ E → Type 0) → ((t : Text) (x : Result ℕ E) → Gives t x → ParsesUnsigned 16 10 t x)
-    → (f : Found) (r : Option ℕ) → HasWidth (rows_of f) → ((t : Text) → one_text f (codes "width") ≡ Some t → ReadsOne Gives t r)
+    → (f : Found) (r : Option ℕ) → HasNumber (codes "width") 65535 (rows_of f) → ((t : Text) → one_text f (codes "width") ≡ Some t → ReadsOne Gives t r)
     → option_map number_of (first_of (codes "width") (rows_of f)) ≡ r
 read_width E Gives parses f r width read =
     ap (option_map number_of) width.first
@@ -66,6 +66,7 @@ returns-clause-ok c = λ words m.
     let fits : c.fits_script.result ≡ true = search rules in
     let asks : c.fits_queries.result ≡ true = search rules in
     let print = c.print_of.ensures in
+    let tabs = c.in-Some.ensures.tab_width ∙ ap tab_width_of m.rows in
     record {
       taken = m.taken;
       ucd = sym (c.in-Some-get_str.ensures ∙ first_value-rows found (codes "ucd") ∙ ap (first_of (codes "ucd")) m.rows);
@@ -84,6 +85,9 @@ returns-clause-ok c = λ words m.
       whole_numbers = c.in-Some.ensures.whole_numbers ∙ given (codes "whole-numbers");
       reorder_clusters = c.in-Some.ensures.reorder_clusters ∙ given (codes "reorder-clusters");
       show_spaces = c.in-Some.ensures.show_spaces ∙ given (codes "show-spaces");
+      tab_width = tabs;
+      stops = λ some. let limits = stops_in (rows_of found) m.tabs (ap (λ rows. is_some (first_of (codes "tabs") rows)) m.rows ∙ some) in
+          (omega (arith, c.in-Some.ensures.tab_width, limits.0), omega (arith, c.in-Some.ensures.tab_width, limits.1));
       script = script;
       queries = c.is_set-queries.ensures ∙ given (codes "queries");
       files = ap (map (λ s. s.now)) c.in-Ok.ensures.items ∙ texts;

@@ -14,8 +14,8 @@ loop-k-preserved c =
     let looked : one ≡ properties_of tables c.index-text-k.result =
     c.index-properties-k.is ∙ ap (λ ps. get_or ps k one) c.requires.properties
     ∙ get_or-map (properties_of tables) text k c.index-text-k.result one c.loop-k-test.true ∙ ap (properties_of tables) (sym c.index-text-k.is) in
-    PlacesPut-next tables text c.args.marks.now c.loop-k.infos k c.index-text-k.result _ Never c.of.result c.loop-k.invariant c.loop-k-test.true c.requires.marks
+    PlacesPut-next tables c.args.tab_width text c.args.marks.now c.loop-k.infos k c.index-text-k.result _ Never c.of.result c.loop-k.invariant c.loop-k-test.true c.requires.marks
     c.index-text-k.is refl (c.of.ensures tables looked)
 
 pub returns : goal.returns
-returns c = PlacesPut-end _ _ _ _ _ c.loop-k.invariant (omega (arith, c.loop-k-test.false))
+returns c = PlacesPut-end _ _ _ _ _ _ c.loop-k.invariant (omega (arith, c.loop-k-test.false))

@@ -1,6 +1,5 @@
 use Rattle.std.proofs.Common.{◌≡◌, ◌++◌, length, append-nil, sym, ap, ap₂, ◌∙◌, arith}
 use Rattle.std.proofs.lemmas.Bool.Decides.{nat_tests}
-use Rattle.std.proofs.lemmas.Iterator.{YieldsList-from_slice, items_from_drains}
 use Rattle.std.specs.List.{flat_map}
 use Rattle.unicode_segmentation.specs.Iter.{word_bounds_left}
 use Rattle.lines.proofs.ClusterLemmas.{ends_of_words, length-word_ends, no_words, spelled}
@@ -17,10 +16,9 @@ returns-then-is_empty-clause-ends c =
 -- before the loop, all segments of the text remain
 pub loop-word-init : goal.loop-word-init
 loop-word-init c =
-    let ran = c.in_ok-utf8.ensures.ran in
-    let same = items_from_drains ran.0 ran.1 (YieldsList-from_slice c.args.text.now c.iter.ensures.rest) in
+    let all = spelled c.args.text.now c.deref.result.now (c.deref.ensures ∙ c.in_ok-spell.ensures) c.deref.utf8 in
     ap₂ ◌++◌ c.in_ok-ends.ensures.items (ap (flat_map ends_of) (ap word_bounds_left c.into_iter-word-iterator.ensures.into_iter_gives ∙ c.split_word_bounds-word-items.ensures.left))
-    ∙ ends_of_words c.deref.result.now c.deref.utf8 ∙ ap word_ends (spelled _ _ _ _ same (c.deref.ensures ∙ ran.2) c.deref.utf8)
+    ∙ ends_of_words c.deref.result.now c.deref.utf8 ∙ ap word_ends all
 
 -- after the loop, no segment remains
 pub returns : goal.returns

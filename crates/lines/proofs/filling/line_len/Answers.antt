@@ -5,7 +5,7 @@ use Rattle.lines.specs.Clusters.{cluster_ends}
 use Rattle.lines.proofs.BareLemmas.{alike_drop, with_alike, same_with}
 use Rattle.lines.proofs.ClusterLemmas.{length-cluster_ends}
 use Rattle.lines.proofs.filling.line_len.Goals as goal
-use Rattle.lines.proofs.filling.line_len.Goals.{After-line_end, then-not-is_known+in_ok-mark_clusters, else-not-is_known}
+use Rattle.lines.proofs.filling.line_len.Goals.{After-line_end, then-not-is_known+in_ok-mark, else-not-is_known}
 
 pub returns-in-Some-clause-line : goal.returns-in-Some-clause-line
 returns-in-Some-clause-line c =
@@ -25,7 +25,7 @@ sizes c = length-cluster_ends c.args.text.now ∙ sym c.requires.len
 -- once cluster ends are known, the items have the cluster ends of the text
 known : (c : After-line_end) → c.if-not-is_known.infos ≡ with_ends c.args.infos.now (cluster_ends c.args.text.now)
 known c = elim c.if-not-is_known.branch [
-  | then-not-is_known+in_ok-mark_clusters w ↦ w.infos-is ∙ w.in_ok-mark_clusters.ensures
+  | then-not-is_known+in_ok-mark w ↦ w.infos-is ∙ w.in_ok-mark.ensures
   | else-not-is_known w ↦ w.infos-is ∙ c.requires.known w.if-not-is_known.false
 ]
 

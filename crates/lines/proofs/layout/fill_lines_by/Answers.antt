@@ -22,7 +22,7 @@ returns-clause-lines c =
     let margin = margin_of options c.args.width in
     let old = c.args.infos.now in
     let new = c.line_starts.new.infos in
-    let whole = infos_of tables options.whole_numbers chars in
+    let whole = infos_of tables options chars in
     let starts = c.line_starts.new.starts.items in
     let alike : AreAlike new whole =
     c.in_ok-line_starts.ensures.alike ∙ sym (with_alike old (cluster_ends chars) (length-cluster_ends chars ∙ sym c.requires.infos_len)) ∙ ap (map bare) c.requires.infos in

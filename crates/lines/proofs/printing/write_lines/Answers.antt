@@ -5,6 +5,7 @@ use Rattle.lines.specs.Pages.{lines_bytes, paragraph_bytes}
 use Rattle.lines.specs.Paragraphs.{rules_in}
 use Rattle.lines.specs.ShownParts.{margin_of}
 use Rattle.lines.specs.Showing.{lines_shown}
+use Rattle.lines.specs.Tabs.{tab_width_in}
 use Rattle.lines.proofs.WrittenLemmas.{page_is, shown_lines}
 use Rattle.lines.proofs.printing.write_lines.Goals as goal
 
@@ -18,8 +19,8 @@ returns-in-Ok-clause-ok g c =
     let form = c.args.form.now in
     let lines = lines_shown rules.tables rules.options text.base chars levels in
     let found = ap₂ lines c.deref.ensures.value c.deref-2.ensures.value ∙ ap (lines starts) c.requires.spans.shown
-    ∙ shown_lines rules.tables rules.options text.base chars levels (margin_of rules.options form.width) (infos_of rules.tables rules.options.whole_numbers chars) starts in
-    let same = ap (lines_bytes form.width form.print.now text.base chars) found
+    ∙ shown_lines rules.tables rules.options text.base chars levels (margin_of rules.options form.width) (infos_of rules.tables rules.options chars) starts in
+    let same = ap (lines_bytes form.width form.print.now text.base (tab_width_in rules.tables rules.options) chars) found
     ∙ page_is rules form.width form.print.now chars text.base levels starts c.requires.paragraph.text.base c.requires.paragraph.text.levels_are c.requires.spans.starts in
     subst (λ (bytes : List ℕ). Wrote bytes (g.W.Sink.state c.args.writer.now) (g.W.Sink.state c.write_each.new.writer)) same
     c.in-Ok.ensures.ok.wrote
@@ -34,8 +35,8 @@ returns-in-Err-clause-err g c =
     let form = c.args.form.now in
     let lines = lines_shown rules.tables rules.options text.base chars levels in
     let found = ap₂ lines c.deref.ensures.value c.deref-2.ensures.value ∙ ap (lines starts) c.requires.spans.shown
-    ∙ shown_lines rules.tables rules.options text.base chars levels (margin_of rules.options form.width) (infos_of rules.tables rules.options.whole_numbers chars) starts in
-    let same = ap (lines_bytes form.width form.print.now text.base chars) found
+    ∙ shown_lines rules.tables rules.options text.base chars levels (margin_of rules.options form.width) (infos_of rules.tables rules.options chars) starts in
+    let same = ap (lines_bytes form.width form.print.now text.base (tab_width_in rules.tables rules.options) chars) found
     ∙ page_is rules form.width form.print.now chars text.base levels starts c.requires.paragraph.text.base c.requires.paragraph.text.levels_are c.requires.spans.starts in
     let all : c.in-Err.fault.written - 0 ≡ c.in-Err.fault.written = omega arith in
     subst (λ (n : ℕ). StoppedAt n (paragraph_bytes rules form.width form.print.now chars) (g.W.Sink.state c.args.writer.now) (g.W.Sink.state c.write_each.new.writer)) all

@@ -13,7 +13,7 @@ returns-clause-ok g c =
     let same = ap (λ (es : List Bool). line_bytes form.width form.print.now (visual_shown text.rules.tables.now options text.base true text.characters.now es c.args.levels.now
     (record { len = c.shown_len.result; columns = 0 }))) c.requires.ends
     ∙ whole_bytes text.rules.tables.now options text.base form.width form.print.now text.characters.now c.args.levels.now _
-    c.requires.unseen c.requires.nobreak c.requires.hidden c.requires.some c.requires.levels c.marks_are_as_many.ensures c.requires.whole c.shown_len.ensures in
+    c.requires.unseen c.requires.nobreak c.requires.hidden c.requires.tabs c.requires.some c.requires.levels c.marks_are_as_many.ensures c.requires.whole c.shown_len.ensures in
     subst (λ (bytes : List ℕ). IfOk c.write_line.result (λ n. PassedOn bytes 0 (g.W.Sink.state c.args.writer.now) (g.W.Sink.state c.write_line.new.writer) n))
     same c.write_line.ensures.ok
 
@@ -25,6 +25,6 @@ returns-clause-err g c =
     let same = ap (λ (es : List Bool). line_bytes form.width form.print.now (visual_shown text.rules.tables.now options text.base true text.characters.now es c.args.levels.now
     (record { len = c.shown_len.result; columns = 0 }))) c.requires.ends
     ∙ whole_bytes text.rules.tables.now options text.base form.width form.print.now text.characters.now c.args.levels.now _
-    c.requires.unseen c.requires.nobreak c.requires.hidden c.requires.some c.requires.levels c.marks_are_as_many.ensures c.requires.whole c.shown_len.ensures in
+    c.requires.unseen c.requires.nobreak c.requires.hidden c.requires.tabs c.requires.some c.requires.levels c.marks_are_as_many.ensures c.requires.whole c.shown_len.ensures in
     subst (λ (bytes : List ℕ). IfErr c.write_line.result (λ fault. StoppedIn bytes 0 (g.W.Sink.state c.args.writer.now) (g.W.Sink.state c.write_line.new.writer) fault.written))
     same c.write_line.ensures.err

@@ -9,6 +9,7 @@ use Rattle.lines.specs.declared.fill.Shown.{Shown}
 use Rattle.lines.specs.declared.paragraph.Text.{Text}
 use Rattle.lines.specs.declared.writing.Form.{Form}
 use Rattle.lines.specs.Showing.{lines_shown, nothing_shown}
+use Rattle.lines.specs.Tabs.{tab_width_in}
 use Rattle.lines.specs.Writing.{StoppedIn}
 use Rattle.lines.proofs.PageLemmas.{pieces, piece_within, pieces_all, pieces_whole}
 use Rattle.lines.proofs.ShowLemmas.{length_range, length-shown_from, shown_within}
@@ -68,8 +69,8 @@ loop-k-preserved g c =
     let inside : c.loop-k.k < length lines = omega (arith, length-lines_shown text.rules.tables.now text.rules.options text.base text.characters.now c.args.levels.now starts shown same, c.loop-k-test.true) in
     record {
       within = omega (arith, c.loop-k-test.true);
-      passed = pieces-more (pieces form.width form.print.now text.base text.characters.now lines) c.loop-k.k
-          (piece_within form.width form.print.now text.base text.characters.now lines c.loop-k.k inside) next c.loop-k.invariant.passed c.in_ok-written.ensures.ok;
+      passed = pieces-more (pieces form.width form.print.now text.base (tab_width_in text.rules.tables.now text.rules.options) text.characters.now lines) c.loop-k.k
+          (piece_within form.width form.print.now text.base (tab_width_in text.rules.tables.now text.rules.options) text.characters.now lines c.loop-k.k inside) next c.loop-k.invariant.passed c.in_ok-written.ensures.ok;
       visual = record {
         levels = omega (arith, c.loop-k.invariant.visual.levels, c.write_line.ensures.visual.levels);
         ltov = omega (arith, c.loop-k.invariant.visual.ltov, c.write_line.ensures.visual.ltov);
@@ -94,10 +95,10 @@ returns-in_err-written-clause-err g c =
     ∙ piece_is text.rules.tables.now text.rules.options text.base text.characters.now c.args.levels.now form.width form.print.now starts shown c.loop-k.k
     c.end_of-end.result _ same c.loop-k-test.true c.end_of-end.ensures.end refl within ends.1 c.requires.levels in
     let inside : c.loop-k.k < length lines = omega (arith, length-lines_shown text.rules.tables.now text.rules.options text.base text.characters.now c.args.levels.now starts shown same, c.loop-k-test.true) in
-    let stopped = pieces-stopped (pieces form.width form.print.now text.base text.characters.now lines) c.loop-k.k
-    (piece_within form.width form.print.now text.base text.characters.now lines c.loop-k.k inside) next c.loop-k.invariant.passed c.in_err-written.ensures.err in
+    let stopped = pieces-stopped (pieces form.width form.print.now text.base (tab_width_in text.rules.tables.now text.rules.options) text.characters.now lines) c.loop-k.k
+    (piece_within form.width form.print.now text.base (tab_width_in text.rules.tables.now text.rules.options) text.characters.now lines c.loop-k.k inside) next c.loop-k.invariant.passed c.in_err-written.ensures.err in
     same_fault _ _ (λ w. StoppedIn _ _ _ _ w) c.from_residual.ensures.1
-    (rw (sym (pieces_whole form.width form.print.now text.base text.characters.now lines)) stopped)
+    (rw (sym (pieces_whole form.width form.print.now text.base (tab_width_in text.rules.tables.now text.rules.options) text.characters.now lines)) stopped)
 
 -- after the loop, all lines are written
 pub returns-clause-ok : goal.returns-clause-ok
@@ -109,5 +110,5 @@ returns-clause-ok g c =
     let form = c.args.form.now in
     let same = ap length c.requires.shown.2 ∙ length-shown_from c.requires.shown.0 (length text.characters.now) c.requires.shown.1 starts in
     let count = length-lines_shown text.rules.tables.now text.rules.options text.base text.characters.now c.args.levels.now starts shown same in
-    let all = pieces_all form.width form.print.now text.base text.characters.now lines c.loop-k.k (omega (arith, count, c.loop-k-test.false)) in
+    let all = pieces_all form.width form.print.now text.base (tab_width_in text.rules.tables.now text.rules.options) text.characters.now lines c.loop-k.k (omega (arith, count, c.loop-k-test.false)) in
     rw (sym all) c.loop-k.invariant.passed

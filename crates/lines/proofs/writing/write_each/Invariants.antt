@@ -2,6 +2,7 @@ use Rattle.std.proofs.Common.{◌≤◌, ◌-◌, length, take}
 use Rattle.std.specs.List.{concat}
 use Rattle.lines.specs.Buffers.{CanHold}
 use Rattle.lines.specs.Showing.{lines_shown}
+use Rattle.lines.specs.Tabs.{tab_width_in}
 use Rattle.lines.specs.Writing.{PassedOn}
 use Rattle.lines.proofs.PageLemmas.{pieces}
 use Rattle.lines.proofs.writing.write_each.Given as goal
@@ -12,7 +13,7 @@ invariant-loop-k g l =
     let text = l.text.characters.now in
     record {
       within : l.k ≤ length l.spans.starts.now;
-      passed : PassedOn (concat (take l.k (pieces l.form.width l.form.print.now l.text.base text
+      passed : PassedOn (concat (take l.k (pieces l.form.width l.form.print.now l.text.base (tab_width_in l.text.rules.tables.now l.text.rules.options) text
           (lines_shown l.text.rules.tables.now l.text.rules.options l.text.base text l.levels l.spans.starts.now l.spans.shown.now)))) 0
           (state l.fn.writer) (state l.writer) l.written;
       visual : CanHold (length text) l.visual;

@@ -1,8 +1,7 @@
 use Rattle.std.proofs.Common.{◌≡◌, ◌∙◌, ◌+◌, ◌≤◌, List, length, ap, subst, sym, arith}
-use Rattle.std.specs.Prelude.{sum_by}
+use Rattle.std.specs.Prelude.{sum, sum_by}
 use Rattle.reorder.specs.Runs.{runs_of}
-use Rattle.lines.specs.CharInfos.{columns_of}
-use Rattle.lines.specs.Columns.{columns_left, run_columns}
+use Rattle.lines.specs.Columns.{columns_left, run_columns, widths}
 use Rattle.lines.specs.Engine.{rules_of}
 use Rattle.lines.specs.Ordered.{IsOrdered}
 use Rattle.lines.specs.Visual.{Visual}
@@ -21,7 +20,7 @@ returns-clause-fits g c =
     let same : fits.line ≡ line = same_some fits.line line (fits.found ∙ sym c.in-Some-line.ensures) in
     let ordered = in_kept rules state.width state.kept c.width-width.ensures.laid_out.kept IsOrdered (c.lines_are_ordered.ensures rules state.width) n line c.in-Some-line.ensures in
     let adds = in_kept rules state.width state.kept c.width-width.ensures.laid_out.kept (λ (line : Visual). sum_by (run_columns line) (runs_of line.levels) ≡ line.columns) (c.runs_have_all_columns.ensures rules state.width) n line c.in-Some-line.ensures in
-    let sum : sum_by columns_of line.text ≡ line.columns = sym (c.runs-runs.ensures.columns (sym ordered.text)) ∙ ap (sum_by (run_columns line)) c.runs-runs.ensures.runs ∙ adds in
-    let most = subst (λ (l : Visual). sum_by columns_of l.text ≡ l.columns → c.in-Some.caret.column ≤ whole l + l.columns) same fits.column sum in
+    let total : sum (widths line) ≡ line.columns = sym (c.runs-runs.ensures.columns (sym ordered.text)) ∙ ap (sum_by (run_columns line)) c.runs-runs.ensures.runs ∙ adds in
+    let most = subst (λ (l : Visual). sum (widths l) ≡ l.columns → c.in-Some.caret.column ≤ whole l + l.columns) same fits.column total in
     let left = ap (λ (places : List _). columns_left line (length places)) c.vtol.ensures in
     omega (arith, most, left, c.columns_left-left.ensures.value, c.columns_left-left.ensures.fits, c.columns_of-columns.ensures.value, c.columns_of-columns.ensures.fits)

@@ -21,7 +21,7 @@ returns-clause-line c =
     let within : c.args.n < length f.starts.items = omega (arith, c.if-n-len.false, c.len.ensures) in
     let start : c.index.result.now ≡ slice_index f.starts.items c.args.n = c.index.ensures ∙ get_or_default f.starts.items c.args.n c.index.result.now 0 within in
     let kept : line_of c.part_of.result ≡ line_in f.levels.items f.ltov.items f.vtol.items f.chars.items c.index.result.now c.index-2.result.now =
-    rw (← c.deref.ensures.value, ← c.deref-2.ensures.value, ← c.deref-3.ensures.value, ← c.deref-4.ensures.value) c.part_of.ensures in
+    rw (← c.deref.ensures.value, ← c.deref-2.ensures.value, ← c.deref-3.ensures.value, ← c.deref-4.ensures.value) c.part_of.ensures.line in
     ap Some (kept
     ∙ ap (λ s. line_in f.levels.items f.ltov.items f.vtol.items f.chars.items s c.index-2.result.now) start
     ∙ ap (line_in f.levels.items f.ltov.items f.vtol.items f.chars.items (slice_index f.starts.items c.args.n)) c.index-2.ensures)

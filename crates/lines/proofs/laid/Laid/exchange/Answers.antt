@@ -14,6 +14,7 @@ invariant_of-self c =
       subst (λ (n : ℕ). AreWithin n c.swap.new.x.lines) (ap length text)
           (subst (λ (f : Filled). AreWithin (length c.args.self.now.text) f.lines) (sym (new ∙ filled.from_scratch))
           (lines_within c.requires.0 filled.width c.args.self.now.text)),
+      c.self.invariant.3,
     )
 
 pub returns : goal.returns

@@ -19,7 +19,7 @@ pub reflow-requires-clause-shown : goal.reflow-requires-clause-shown
 reflow-requires-clause-shown c =
     let text = c.args.self.now.text in
     let margin = margin_of c.args.options c.requires.extents.0 in
-    let infos = infos_of c.args.tables.now c.args.options.whole_numbers text in
+    let infos = infos_of c.args.tables.now c.args.options text in
     let len : length text ≡ length c.as_slice-text.result.now = sym (ap length (c.as_slice-text.ensures.value ∙ ap (λ (l : Layout). l.text) c.self.view_is)) in (
       margin,
       infos,

@@ -1,23 +1,21 @@
-use Rattle.std.proofs.Common.{◌<◌, ℕ, List, length, get_or, ap, ap₂, ◌∙◌, arith}
-use Rattle.lines.specs.CharInfos.{columns_of}
+use Rattle.std.proofs.Common.{◌<◌, length, get_or, ap, ◌∙◌, arith}
+use Rattle.lines.specs.Columns.{width_at}
 use Rattle.lines.specs.Visual.{Visual}
 use Rattle.lines.proofs.ColumnLemmas.{covers, covers_none, covers_not, left_more}
 use Rattle.lines.proofs.visual_line.VisualLine.covering.Goals as goal
 
 pub returns-then-column-columns : goal.returns-then-column-columns
 returns-then-column-columns c =
-    let text = ap (λ (v : Visual). v.text) c.self.view_is in
     let vtol = ap (λ (v : Visual). v.vtol) c.self.view_is in
-    let value = c.columns_at-columns.ensures.value ∙ ap₂ (λ (cs ps : List ℕ). columns_of (get_or cs (get_or ps c.loop-k.k 0) 0)) text vtol in
+    let value = c.columns_at-columns.ensures.value ∙ ap (λ (v : Visual). width_at v (get_or v.vtol c.loop-k.k 0)) c.self.view_is in
     let within : c.loop-k.k < length c.args.self.now.vtol = omega (arith, c.loop-k-test.true, ap length vtol) in
     let next = left_more c.args.self.now c.loop-k.k within in
     covers c.args.self.now c.args.column c.loop-k.k within c.loop-k.invariant.passed (omega (arith, c.if-column-columns.true, c.loop-k.invariant.left, value, next))
 
 pub loop-k-preserved : goal.loop-k-preserved
 loop-k-preserved c =
-    let text = ap (λ (v : Visual). v.text) c.self.view_is in
     let vtol = ap (λ (v : Visual). v.vtol) c.self.view_is in
-    let value = c.columns_at-columns.ensures.value ∙ ap₂ (λ (cs ps : List ℕ). columns_of (get_or cs (get_or ps c.loop-k.k 0) 0)) text vtol in
+    let value = c.columns_at-columns.ensures.value ∙ ap (λ (v : Visual). width_at v (get_or v.vtol c.loop-k.k 0)) c.self.view_is in
     let within : c.loop-k.k < length c.args.self.now.vtol = omega (arith, c.loop-k-test.true, ap length vtol) in
     let next = left_more c.args.self.now c.loop-k.k within in
     record {

@@ -10,7 +10,8 @@ use Rattle.lines.proofs.visual_line.VisualLine.spans.Goals as goal
 pub returns-clause-spans : goal.returns-clause-spans
 returns-clause-spans c =
     c.new.ensures
-    ∙ spans_are c.args.self.now c.self.inside.text.now c.self.inside.vtol.now c.args.start c.args.end (ap (λ (v : Visual). v.text) c.self.view_is)
+    ∙ spans_are c.args.self.now c.self.inside.tab_width c.self.inside.text.now c.self.inside.vtol.now c.args.start c.args.end (ap (λ (v : Visual). v.tab_width) c.self.view_is)
+    (ap (λ (v : Visual). v.text) c.self.view_is)
     (ap (λ (v : Visual). v.vtol) c.self.view_is)
 
 pub returns-clause-maximal : goal.returns-clause-maximal

@@ -1,6 +1,6 @@
 use Rattle.std.proofs.Common.{◌≡◌, ◌*◌, ◌≤◌, take}
 use Rattle.lines.specs.Filling.{columns}
-use Rattle.lines.proofs.showing.columns.Given as goal
+use Rattle.lines.proofs.showing.columns_with_tabs.Given as goal
 
 abbrev pub invariant-loop-info : goal.invariant-loop-info
 invariant-loop-info l = record {

@@ -1,18 +1,17 @@
 use Rattle.std.proofs.Common.{rules, ◌≡◌, replicate, true, ◌++◌, length, append-nil, sym, ap, ap₂, ◌∙◌, arith}
 use Rattle.std.proofs.lemmas.Bool.Decides.{nat_tests}
-use Rattle.std.proofs.lemmas.Iterator.{YieldsList-from_slice, items_from_drains}
 use Rattle.std.specs.List.{flat_map}
 use Rattle.unicode_segmentation.specs.Iter.{graphemes_left}
 use Rattle.lines.proofs.AloneLemmas.{ends_alone}
 use Rattle.lines.proofs.ClusterLemmas.{ends_of_graphemes, length-cluster_ends, no_ends, spelled}
 use Rattle.lines.specs.Clusters.{cluster_ends, ends_of}
-use Rattle.lines.proofs.clusters.cluster_ends.Goals as goal
+use Rattle.lines.proofs.clusters.fill_cluster_ends.Goals as goal
 
 -- an empty text has no cluster ends
 pub returns-then-is_empty-clause-ends : goal.returns-then-is_empty-clause-ends
 returns-then-is_empty-clause-ends c =
     let none : length c.args.text.now ≡ 0 = grind (arith, nat_tests, c.is_empty.ensures, c.if-is_empty.true) in
-    c.new.ensures.items ∙ sym (no_ends c.args.text.now none)
+    c.clear.ensures.items ∙ sym (no_ends c.args.text.now none)
 
 pub returns-then-are_alone-clause-ends : goal.returns-then-are_alone-clause-ends
 returns-then-are_alone-clause-ends c =
@@ -22,10 +21,9 @@ returns-then-are_alone-clause-ends c =
 -- before the loop, all clusters of the text remain
 pub loop-cluster-init : goal.loop-cluster-init
 loop-cluster-init c =
-    let ran = c.in_ok-utf8.ensures.ran in
-    let same = items_from_drains ran.0 ran.1 (YieldsList-from_slice c.args.text.now c.iter.ensures.rest) in
-    ap₂ ◌++◌ c.in_ok-ends.ensures.items (ap (flat_map ends_of) (ap graphemes_left c.into_iter-cluster-iterator.ensures.into_iter_gives ∙ c.graphemes-cluster-items.ensures.left))
-    ∙ ends_of_graphemes c.deref.result.now c.deref.utf8 ∙ ap cluster_ends (spelled _ _ _ _ same (c.deref.ensures ∙ ran.2) c.deref.utf8)
+    let all = spelled c.args.text.now c.deref.result.now (c.deref.ensures ∙ c.in_ok-spell.ensures) c.deref.utf8 in
+    ap₂ ◌++◌ (c.in_ok-reserve.ensures ∙ c.clear.ensures.items) (ap (flat_map ends_of) (ap graphemes_left c.into_iter-cluster-iterator.ensures.into_iter_gives ∙ c.graphemes-cluster-items.ensures.left))
+    ∙ ends_of_graphemes c.deref.result.now c.deref.utf8 ∙ ap cluster_ends all
 
 -- after the loop, no cluster remains
 pub returns : goal.returns

@@ -1,6 +1,0 @@
-use Rattle.std.proofs.Common.{◌≡◌, map, take}
-use Rattle.ucd.specs.Properties.{properties_of}
-use Rattle.lines.proofs.properties.look_up.Given as goal
-
-abbrev pub invariant-loop-k : goal.invariant-loop-k
-invariant-loop-k l = take l.k l.properties ≡ map (properties_of l.tables) (take l.k l.text)

@@ -1,0 +1,10 @@
+-- Parts of a line that are printed at once. No contract of an exported function uses this definition.
+use Rattle.std.specs.Prelude.{◌≡◌, ℕ, ◌+◌, ◌<◌, ◌≤◌, true, false, slice_index}
+use Rattle.lines.specs.Tabs.{is_tab}
+use Rattle.lines.specs.Visual.{Visual}
+
+-- whether the characters from one visual position up to another are one tab, or none of them is a tab
+pub record AreCells (line : Visual) (start end : ℕ) : Type 0 where
+  pub tab : is_tab line.tab_width (slice_index line.text (slice_index line.vtol start)) ≡ true → end ≡ start + 1
+  pub others : is_tab line.tab_width (slice_index line.text (slice_index line.vtol start)) ≡ false
+      → (k : ℕ) → start ≤ k → k < end → is_tab line.tab_width (slice_index line.text (slice_index line.vtol k)) ≡ false
