@@ -1,11 +1,11 @@
 -- The columns of a line's characters, and the character that covers a column.
-use Rattle.std.proofs.Common.{◌≡◌, ℕ, zero, suc, ◌+◌, ◌-◌, ◌<◌, ◌≤◌, min, nat_lt, Bool, true, false, length, take, drop, get_or, sum_by, Some, None, refl, ap, subst, ◌∙◌, inl, inr, arith}
+use Rattle.std.proofs.Common.{◌≡◌, ℕ, zero, suc, ◌+◌, ◌-◌, ◌<◌, ◌≤◌, min, nat_lt, Bool, true, false, List, length, take, drop, get_or, sum, sum_by, Some, None, refl, ap, subst, ◌∙◌, inl, inr, arith}
 use Rattle.std.proofs.lemmas.Bool.{both_ways, cases_eq, cases_lt, le-ltb, lt-ltb, ltb-true}
 use Rattle.std.proofs.lemmas.List.{get_or-drop, length-drop, take-take}
 use Rattle.std.proofs.lemmas.List.Sums.{sum_by_more, sum_by-take-le}
 use Rattle.lines.proofs.ColumnLemmas.{left_more, left_to}
-use Rattle.lines.specs.CharInfos.{columns_of}
-use Rattle.lines.specs.Columns.{columns_between, columns_left, covering, unmirrored}
+use Rattle.lines.proofs.WidthLemmas.{length-widths}
+use Rattle.lines.specs.Columns.{columns_between, columns_left, covering, widths}
 use Rattle.lines.specs.Ordered.{IsOrdered}
 use Rattle.lines.specs.Visual.{Visual}
 use Rattle.session.specs.Units.{takes_columns}
@@ -18,18 +18,19 @@ width_of line = columns_left line (length line.vtol)
 module _ (line : Visual) where
   -- the columns of a character
   abbrev pub width_at : ℕ → ℕ
-  width_at k = columns_of (get_or line.text k 0)
+  width_at k = get_or (widths line) k 0
 
   pub none_between : (j : ℕ) → columns_between line j j ≡ 0
-  none_between j = let n : j - j ≡ 0 = omega arith in ap (λ k. sum_by columns_of (take k (drop j line.text))) n
+  none_between j = let n : j - j ≡ 0 = omega arith in ap (λ k. sum (take k (drop j (widths line)))) n
 
   pub between_more : (j k : ℕ) → j ≤ k → k < length line.text → columns_between line j (suc k) ≡ columns_between line j k + width_at k
   between_more j k order within =
       let n : suc k - j ≡ (k - j) + 1 = omega arith in
       let at : j + (k - j) ≡ k = omega arith in
-      ap (λ i. sum_by columns_of (take i (drop j line.text))) n
-      ∙ sum_by_more columns_of (drop j line.text) (k - j) 0 (omega (arith, length-drop j line.text))
-      ∙ ap (λ c. columns_between line j k + columns_of c) (get_or-drop j line.text (k - j) 0 ∙ ap (λ i. get_or line.text i 0) at)
+      let ws : List ℕ = widths line in
+      ap (λ i. sum (take i (drop j ws))) n
+      ∙ sum_by_more (λ x. x) (drop j ws) (k - j) 0 (omega (arith, length-drop j ws, length-widths line.tab_width line.text))
+      ∙ ap (λ w. columns_between line j k + w) (get_or-drop j ws (k - j) 0 ∙ ap (λ i. get_or ws i 0) at)
 
   pub one_between : (k : ℕ) → k < length line.text → columns_between line k (suc k) ≡ width_at k
   one_between k within = omega (arith, between_more k k (omega arith) within, none_between k)
@@ -97,8 +98,8 @@ module _ (line : Visual) where
   left_rises p q order =
       omega (
         arith,
-        ap (sum_by columns_of) (take-take p q (unmirrored line) order),
-        sum_by-take-le columns_of (take q (unmirrored line)) p,
+        ap (sum_by width_at) (take-take p q line.vtol order),
+        sum_by-take-le width_at (take q line.vtol) p,
       )
 
   pub left_most : (p : ℕ) → columns_left line p ≤ width_of line

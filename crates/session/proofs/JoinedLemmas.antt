@@ -1,11 +1,13 @@
 -- A text that is given in three parts, and the layout of a text one paragraph at a time.
-use Rattle.std.proofs.Common.{◌≡◌, ℕ, ◌<◌, ◌≤◌, Bool, true, false, not, ◌==◌, List, [], ◌∷◌, ◌++◌, length, map, take, drop, Some, None, nat_le, sym, ap, subst, ◌∙◌, arith}
+use Rattle.std.proofs.Common.{◌≡◌, ℕ, ◌<◌, ◌≤◌, Bool, true, false, not, ◌&&◌, ◌==◌, List, [], ◌∷◌, ◌++◌, length, map, take, drop, Some, None, nat_lt, nat_le, ⊎_elim, refl, sym, ap, ap₂, subst, ◌∙◌, arith}
 use Rattle.std.specs.Str.{chars, IsUtf8}
 use Rattle.std.proofs.Math.Utf8.{encodes, scalars}
 use Rattle.std.proofs.lemmas.Str.{chars-encodes, chars-nil}
-use Rattle.std.proofs.lemmas.Bool.{and_parts, both_ways, eqb-true, leb-true}
+use Rattle.std.proofs.lemmas.Bool.{and_parts, both_ways, eqb-true, cases_lt, le-leb, le-ltb, leb-true, lt-leb, lt-ltb, not-false, not-true}
 use Rattle.std.proofs.lemmas.List.{append-nil, append_assoc, nil_from_length}
 use Rattle.bidi.specs.Cuts.{paragraphs, SplitsAt}
+use Rattle.bidi.specs.TextCuts.{EndsAfter}
+use Rattle.bidi.proofs.TextCutLemmas.{ends_parts}
 use Rattle.bidi.specs.Pieces.{ArePieces, ParagraphsArePieces}
 use Rattle.lines.specs.Layouts.{Layout, Rules, cut_by, layout_of, IsParagraph}
 use Rattle.session.specs.Edits.{are_within, is_within_limit}
@@ -13,6 +15,10 @@ use Rattle.session.specs.Kept.{layouts_of}
 use Rattle.session.specs.Scans.{HasScanned}
 use Rattle.session.specs.declared.scan.Scan.{Scan}
 use Rattle.lines.specs.declared.engine.TheConstants.{PARAGRAPH_LIMIT}
+
+and-true : (b : Bool) → (b && true) ≡ b
+and-true true = refl
+and-true false = refl
 
 module _ (is_cut : ℕ → ℕ → Bool) where
   pub long_of_parts : (front piece back : List ℕ) (scan : Scan) → HasScanned is_cut ([] ++ front ++ piece ++ back) scan
@@ -35,6 +41,31 @@ module _ (is_cut : ℕ → ℕ → Bool) where
   within_parts text first pieces e within =
       let parts = and_parts (nat_le (length first) PARAGRAPH_LIMIT) (are_within pieces) (sym (ap are_within e) ∙ within) in
       (leb-true (length first) PARAGRAPH_LIMIT parts.0, parts.1)
+
+  first_tested : (text first after : List ℕ) → paragraphs is_cut text ≡ first ∷ paragraphs is_cut after → (b : Bool) → nat_le (length first) PARAGRAPH_LIMIT ≡ b
+      → is_within_limit is_cut text ≡ (b && is_within_limit is_cut after)
+  first_tested text first after split b e = ap are_within split ∙ ap (λ c. c && is_within_limit is_cut after) e
+
+  -- if the first paragraph is not too long, the other paragraphs decide
+  pub within_after : (text first after : List ℕ) → paragraphs is_cut text ≡ first ∷ paragraphs is_cut after → not (nat_le (length first) PARAGRAPH_LIMIT) ≡ false
+      → is_within_limit is_cut text ≡ is_within_limit is_cut after
+  within_after text first after split short = first_tested text first after split true (not-false _ short)
+
+  pub long_first : (text first after : List ℕ) → paragraphs is_cut text ≡ first ∷ paragraphs is_cut after → not (nat_le (length first) PARAGRAPH_LIMIT) ≡ true
+      → is_within_limit is_cut text ≡ false
+  long_first text first after split long = first_tested text first after split false (not-true _ long)
+
+  -- the paragraphs of a text whose first paragraph ends at a byte
+  pub split_at_end : (text first after : List ℕ) (n : ℕ) → EndsAfter is_cut [] text n → first ≡ take n text → after ≡ drop n text
+      → paragraphs is_cut (chars text) ≡ chars first ∷ paragraphs is_cut (chars after)
+  split_at_end text first after n ends first-is after-is =
+      let parts = ends_parts [] text n ends.front in
+      ends.splits.2 ∙ ap₂ (λ p q. p ∷ paragraphs is_cut q) (sym parts.0 ∙ ap chars (sym first-is)) (sym parts.1 ∙ ap chars (sym after-is))
+
+  -- a text without a paragraph boundary is within the limit if it is no longer than a paragraph may be
+  pub within_uncut : (text : List ℕ) → SplitsAt is_cut text None → is_within_limit is_cut text ≡ nat_le (length text) PARAGRAPH_LIMIT
+  within_uncut [] split = refl
+  within_uncut (c ∷ text) split = ap are_within (split (omega arith)) ∙ and-true (nat_le (length (c ∷ text)) PARAGRAPH_LIMIT)
 
 module _ (law : ParagraphsArePieces) (rules : Rules) (text : List ℕ) (within : is_within_limit (cut_by rules) text ≡ true) where
   pub paragraph_in_front : (k : ℕ) → SplitsAt (cut_by rules) text (Some k) → IsParagraph rules (take k text)
@@ -92,3 +123,13 @@ some_chars bytes u some = some_spelled bytes u.0 u.1.0 u.1.1 some
 pub no_chars : (bytes : List ℕ) → length bytes ≡ 0 → length (chars bytes) ≡ 0
 no_chars [] none = ap length chars-nil
 no_chars (b ∷ bytes) none = absurd (omega (arith, none))
+
+-- the tests of a length against the limit
+pub is_short : (n : ℕ) → n ≤ PARAGRAPH_LIMIT → false ≡ not (nat_le n PARAGRAPH_LIMIT)
+is_short n short = sym (ap not (le-leb n PARAGRAPH_LIMIT short))
+
+pub is_counted : (m n : ℕ) → m ≡ n → nat_lt PARAGRAPH_LIMIT m ≡ not (nat_le n PARAGRAPH_LIMIT)
+is_counted m n e = ap (nat_lt PARAGRAPH_LIMIT) e ∙ ⊎_elim
+    (λ long. lt-ltb PARAGRAPH_LIMIT n long ∙ sym (ap not (lt-leb n PARAGRAPH_LIMIT long)))
+    (λ short. le-ltb PARAGRAPH_LIMIT n short ∙ sym (ap not (le-leb n PARAGRAPH_LIMIT short)))
+    (cases_lt PARAGRAPH_LIMIT n)

@@ -1,15 +1,15 @@
 -- The columns of a line are those of its characters in visual order.
-use Rattle.std.proofs.Common.{◌≡◌, ℕ, zero, suc, ◌+◌, ◌-◌, ◌<◌, ◌≤◌, List, [], ◌∷◌, length, map, take, get_or, sum_by, refl, sym, ap, ◌∙◌, inl, inr, arith}
+use Rattle.std.proofs.Common.{◌≡◌, ℕ, zero, suc, ◌+◌, ◌-◌, ◌<◌, ◌≤◌, List, length, take, get_or, sum, sum_by, refl, sym, ap, ◌∙◌, inl, inr, arith}
 use Rattle.std.specs.List.{remove}
 use Rattle.std.proofs.lemmas.Bool.{cases_eq, cases_lt}
-use Rattle.std.proofs.lemmas.List.{length-map, take_all}
+use Rattle.std.proofs.lemmas.List.{take_all}
 use Rattle.std.proofs.lemmas.List.Edits.{get_or-remove_above, get_or-remove_below, length-remove}
-use Rattle.std.proofs.lemmas.List.Sums.{sum_by-cons, sum_by-remove, sum_by_more}
+use Rattle.std.proofs.lemmas.List.Sums.{sum_by-remove, sum_by_more}
 use Rattle.reorder.proofs.WholeRunLemmas.{are_runs}
 use Rattle.reorder.specs.Runs.{runs_of}
 use Rattle.lines.proofs.RunColumnLemmas.{runs_add_up}
-use Rattle.lines.specs.CharInfos.{columns_of}
-use Rattle.lines.specs.Columns.{run_columns, unmirrored}
+use Rattle.lines.proofs.WidthLemmas.{length-widths}
+use Rattle.lines.specs.Columns.{run_columns, widths}
 use Rattle.lines.specs.Ordered.{IsOrdered}
 use Rattle.lines.specs.Visual.{Visual}
 use Rattle.session.proofs.CoveringLemmas.{width_of}
@@ -50,10 +50,6 @@ at_least f (suc n) xs each =
     let rest : sum_below f n ≤ sum_by f (remove xs found.0) = at_least f n (remove xs found.0) (without xs n found.0 found.1 found.2 (λ k below. each k (omega arith))) in
     omega (arith, rest, sum_by-remove f xs found.0 0 found.1, ap f found.2)
 
-mapped_sum : (f g : ℕ → ℕ) (xs : List ℕ) → sum_by f (map g xs) ≡ sum_by (λ x. f (g x)) xs
-mapped_sum f g [] = refl
-mapped_sum f g (x ∷ xs) = omega (arith, sum_by-cons f (g x) (map g xs), sum_by-cons (λ y. f (g y)) x xs, mapped_sum f g xs)
-
 all_below : (f : ℕ → ℕ) (xs : List ℕ) (n : ℕ) → n ≤ length xs → sum_by f (take n xs) ≡ sum_below (λ k. f (get_or xs k 0)) n
 all_below f xs zero within = refl
 all_below f xs (suc n) within =
@@ -69,9 +65,10 @@ same_below f g (suc n) same = omega (arith, same n (omega arith), same_below f g
 
 pub columns_fit : (line : Visual) → IsOrdered line → sum_by (run_columns line) (runs_of line.levels) ≡ line.columns → width_of line ≡ line.columns
 columns_fit line ordered add_up =
-    let of : ℕ → ℕ = λ k. columns_of (get_or line.text k 0) in
-    let text : line.columns ≡ sum_by columns_of line.text = sym add_up ∙ runs_add_up line (sym ordered.text) (runs_of line.levels) (are_runs line.levels) in
-    let logical : sum_by columns_of line.text ≡ sum_below of (length line.text) = whole columns_of line.text in
+    let of : ℕ → ℕ = λ k. get_or (widths line) k 0 in
+    let text : line.columns ≡ sum (widths line) = sym add_up ∙ runs_add_up line (sym ordered.text) (runs_of line.levels) (are_runs line.levels) in
+    let logical : sum (widths line) ≡ sum_below of (length line.text) =
+    whole (λ x. x) (widths line) ∙ ap (sum_below of) (length-widths line.tab_width line.text) in
     let size : length line.vtol ≡ length line.text = ordered.vtol ∙ sym ordered.text in
     let each : HasEach line.vtol (length line.text) = λ k below. (
       get_or line.ltov k 0,
@@ -85,8 +82,7 @@ columns_fit line ordered add_up =
     ) in
     let placed : ℕ → ℕ = λ p. of (get_or line.vtol p 0) in
     let visual : sum_by of line.vtol ≡ width_of line =
-    sym (mapped_sum columns_of (λ v. get_or line.text v 0) line.vtol)
-    ∙ sym (ap (sum_by columns_of) (take_all (length line.vtol) (unmirrored line) (omega (arith, length-map line.vtol (λ v. get_or line.text v 0))))) in
+    sym (ap (sum_by of) (take_all (length line.vtol) line.vtol (omega arith))) in
     let by_place : sum_by of line.vtol ≡ sum_below placed (length line.vtol) = whole of line.vtol in
     let by_char : sum_by placed line.ltov ≡ sum_below of (length line.text) =
     whole placed line.ltov

@@ -7,7 +7,7 @@ use Rattle.std.proofs.lemmas.Bool.{cases_Bool, cond-true, cond-false, le-ltb, lt
 use Rattle.std.proofs.lemmas.List.{get_or_default, length-drop, length-take, length-take-le, take-append-le}
 use Rattle.std.proofs.lemmas.List.Sums.{sum_by-append, sum_by-cons, sum_by-take-drop, sum_by-take-le}
 use Rattle.std.proofs.Math.Seq.{take-add, take-append_seam, take-append-add, take-length}
-use Rattle.std.proofs.lemmas.Str.{length-encode, len_utf8_bounds}
+use Rattle.std.proofs.lemmas.Str.{length-encode, len_utf8_ascii, len_utf8_bounds}
 use Rattle.bidi.specs.Brackets.{greatest}
 use Rattle.bidi.proofs.PairLemmas.{greatest_here}
 use Rattle.lines.proofs.FillingLemmas.{greatest_skips}
@@ -240,3 +240,18 @@ length-part kept pos count =
       encoded_length (slice_range text pos (pos + count)),
       ap (length_in Utf8) part,
     )
+
+-- a text has as many units as characters if each character has one unit
+one_each : (encoding : Encoding) (text : List ℕ) → ((k : ℕ) → k < length text → size_in encoding (get_or text k 0) ≡ 1) → length_in encoding text ≡ length text
+one_each encoding [] one = refl
+one_each encoding (c ∷ text) one =
+    let first : size_in encoding c ≡ 1 = one 0 (omega arith) in
+    let rest = one_each encoding text (λ k less. one (suc k) (omega (arith, less))) in
+    omega (arith, sum_by-cons (size_in encoding) c text, first, rest)
+
+pub all_ascii : (text : List ℕ) (most : ℕ) → ((k : ℕ) → k < length text → get_or text k 0 ≤ most) → most < 0x80 → length text ≡ length_in Utf8 text
+all_ascii text most low small = sym (one_each Utf8 text (λ k less. len_utf8_ascii (get_or text k 0) (omega (arith, low k less, small))))
+
+pub all_basic : (text : List ℕ) (most : ℕ) → ((k : ℕ) → k < length text → get_or text k 0 ≤ most) → most < 0x1_0000 → length text ≡ length_in Utf16 text
+all_basic text most low small =
+    sym (one_each Utf16 text (λ k less. cond-true (nat_lt (get_or text k 0) 0x1_0000) 1 2 (lt-ltb (get_or text k 0) 0x1_0000 (omega (arith, low k less, small)))))

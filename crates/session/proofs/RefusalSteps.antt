@@ -31,6 +31,9 @@ few_within (p ∷ ps) few =
     ap (λ (b : Bool). nat_le (length p) PARAGRAPH_LIMIT && b) (few_within ps (omega (arith, few, length-append p (concat ps))))
     ∙ ap (λ (b : Bool). b && true) (le-leb (length p) PARAGRAPH_LIMIT (omega (arith, few, length-append p (concat ps))))
 
+pub short_within : ParagraphsArePieces → (is_cut : ℕ → ℕ → Bool) (text : List ℕ) → length text ≤ PARAGRAPH_LIMIT → is_within_limit is_cut text ≡ true
+short_within law is_cut text few = few_within (paragraphs is_cut text) (omega (arith, few, ap length (law.whole is_cut text)))
+
 module _ (is_cut : ℕ → ℕ → Bool) (text : List ℕ) (width : ℕ) (some : width ≡ 0 → ⊥) where
   by_text : opening_refusal is_cut text width ≡ text_refusal is_cut text
   by_text = cond-false (width == 0) (Some WidthOutOfRange) (text_refusal is_cut text) (ne_eqb width 0 some)
@@ -49,5 +52,4 @@ module _ (is_cut : ℕ → ℕ → Bool) (text : List ℕ) (width : ℕ) (some :
       ∙ cond-true (is_within_limit is_cut text) None (Some ParagraphTooLong) within
 
   pub short_text : ParagraphsArePieces → length text ≤ PARAGRAPH_LIMIT → opening_refusal is_cut text width ≡ None
-  short_text law few =
-      not_refused (omega (arith, few)) (few_within (paragraphs is_cut text) (omega (arith, few, ap length (law.whole is_cut text))))
+  short_text law few = not_refused (omega (arith, few)) (short_within law is_cut text few)

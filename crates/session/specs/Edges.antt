@@ -1,5 +1,5 @@
 -- The two edges of a position, and steps from edge to edge on a line.
-use Rattle.std.specs.Prelude.{◌≡◌, ℕ, zero, suc, ◌+◌, ◌-◌, nat_le, nat_lt, ◌==◌, Bool, ◌&&◌, max, List, length, slice_get, slice_index, Option, Some, None, option_and_then, option_map, unwrap_or, if◌then◌else◌}
+use Rattle.std.specs.Prelude.{ℕ, zero, suc, ◌+◌, ◌-◌, nat_le, nat_lt, ◌==◌, Bool, ◌&&◌, max, List, length, slice_get, slice_index, Option, Some, None, option_and_then, option_map, unwrap_or, if◌then◌else◌}
 use Rattle.lines.specs.Columns.{columns_left, covering}
 use Rattle.lines.specs.Layouts.{Layout, Rules}
 use Rattle.lines.specs.Separators.{separator_len}

@@ -1,10 +1,12 @@
 //! Lays out the paragraphs of a text given in three parts: the text before an edit, the inserted text, and
 //! the text after the edit.
-ghost use Rattle.std.specs.Prelude.{◌≡◌, ◌<◌, ◌++◌, true, false, not, List, [], ℕ, length};
+ghost use Rattle.std.specs.Prelude.{◌≡◌, ◌+◌, ◌<◌, ◌≤◌, ◌++◌, true, false, not, List, [], ℕ, length};
+ghost use Rattle.std.specs.Prelude.{nat_le, vec_len, vec_capacity};
 ghost use Rattle.std.specs.Prelude.{IfOk, IfErr, IsErrOf};
 ghost use Rattle.std.specs.Str.{chars};
 ghost use Rattle.lines.specs.Engine.{rules_of, LaysOutAtMost, SameRules};
 ghost use Rattle.lines.specs.Layouts.{cut_by, layout_of, IsParagraph};
+ghost use Rattle.lines.specs.declared.engine.TheConstants.{PARAGRAPH_LIMIT};
 ghost use Rattle.session.specs.Sessions.{IsCountedFor};
 ghost use Rattle.session.specs.Edits.{is_within_limit, paragraphs_refusal};
 ghost use Rattle.session.specs.Kept.{layouts_of};
@@ -15,14 +17,59 @@ use crate::edits::EditFault;
 use crate::kept::Kept;
 use crate::scan::Scan;
 use bidi::paragraphs_are_pieces;
-use lines::Engine;
+use lines::{Engine, PARAGRAPH_LIMIT};
 use std::alloc::{AllocError, Global};
+
+// Returns an upper bound of the number of characters in the three parts: the inserted text counts in bytes.
+fn len_at_most(front: &[char], piece: &str, back: &[char]) -> usize
+    ensures { result ≡ length front.now + length piece.now + length back.now }
+{
+    front.len() + piece.len() + back.len()
+}
+
+// Returns whether a text is too long for a paragraph.
+fn is_long(text: &str) -> bool
+    ensures { result ≡ not (nat_le (length (chars text.now)) PARAGRAPH_LIMIT) }
+{
+    // Fast path: a text has at most as many characters as bytes.
+    if text.len() <= PARAGRAPH_LIMIT {
+        return false;
+    }
+    text.chars().count() > PARAGRAPH_LIMIT
+}
+
+// Returns whether any paragraph of a text is too long. Only paragraphs with too many bytes are decoded.
+fn has_long_in_text(engine: &Engine, text: &str) -> bool
+    ensures { result ≡ not (is_within_limit (cut_by (rules_of engine.now)) (chars text.now)) }
+{
+    paragraphs_are_pieces();
+    let mut rest = text;
+    while rest.len() > PARAGRAPH_LIMIT {
+        let Some(end) = engine.first_cut_in_text(&[], rest) else {
+            return is_long(rest);
+        };
+        let (first, after) = rest.split_at(end);
+        if is_long(first) {
+            return true;
+        }
+        rest = after;
+    }
+    false
+}
 
 /// Returns whether any paragraph of the joined text is too long. Allocates nothing.
 pub fn has_long(engine: &Engine, front: &[char], piece: &str, back: &[char]) -> bool
     ensures { result ≡ not (is_within_limit (cut_by (rules_of engine.now))
         (front.now ++ (chars piece.now ++ back.now))) }
 {
+    paragraphs_are_pieces();
+    // Fast path: no paragraph is longer than the whole text.
+    if len_at_most(front, piece, back) <= PARAGRAPH_LIMIT {
+        return false;
+    }
+    if front.is_empty() && back.is_empty() {
+        return has_long_in_text(engine, piece);
+    }
     let mut scan = Scan::new();
     scan.take_all(engine, front);
     scan.take_text(engine, piece);
@@ -44,7 +91,19 @@ fn are_empty(front: &[char], piece: &str, back: &[char]) -> bool
     piece.is_empty()
 }
 
-// Joins the three parts into one text.
+// Adds the characters of a text to a list that has capacity for as many items as the text has bytes.
+fn with_text(list: Vec<char>, text: &str) -> Vec<char>
+    requires { vec_len list + length text.now ≤ vec_capacity list }
+    ensures { result.items ≡ list.items ++ chars text.now }
+{
+    let mut list = list;
+    for c in text.chars() {
+        list.push_reserved(c);
+    }
+    list
+}
+
+// Joins the three parts into one text. Allocates once.
 fn joined(
     alloc: Global,
     front: &[char],
@@ -53,11 +112,11 @@ fn joined(
 ) -> Result<Vec<char>, AllocError>
     ensures { IfOk result (λ text. text.items ≡ front.now ++ (chars piece.now ++ back.now)) }
 {
-    let mut text = Vec::new(alloc);
+    let mut text = Vec::with_capacity(alloc, len_at_most(front, piece, back))?;
     text.extend_from_slice(front)?;
-    for c in piece.chars() {
-        text.push(c)?;
-    }
+    // The list is moved, which keeps its length in a register. Otherwise, the length would be stored for each
+    // character.
+    let mut text = with_text(text, piece);
     text.extend_from_slice(back)?;
     Ok(text)
 }

@@ -6,7 +6,7 @@ ghost use Rattle.lines.specs.Layouts.{IsLaidOut};
 ghost use Rattle.session.specs.Offsets.{length_in, units_of};
 ghost use Rattle.session.specs.declared.offsets.Encoding.TheVariants.{Utf8, Utf16};
 
-use crate::offsets::Encoding;
+use crate::offsets::lengths;
 use lines::{Engine, Extents, Fill, Laid, ReflowScratch};
 use std::alloc::{AllocError, Global};
 use std::marker::Model;
@@ -57,11 +57,12 @@ impl Kept {
         ensures { IfOk result (λ kept. kept ≡ laid) }
     {
         let text = laid.text();
+        let (bytes, utf16) = lengths(text);
         Ok(Kept {
             chars: text.len(),
             lines: laid.line_count(),
-            bytes: Encoding::Utf8.length(text),
-            utf16: Encoding::Utf16.length(text),
+            bytes,
+            utf16,
             laid: Box::new(alloc, laid)?,
         })
     }

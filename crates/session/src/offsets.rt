@@ -1,9 +1,10 @@
 //! Converts positions to offsets in UTF-8 bytes or UTF-16 code units, and back. The sums in the store find
 //! the paragraph. A paragraph with as many units as characters is not scanned.
-ghost use Rattle.std.specs.Prelude.{◌≡◌, ◌<◌, ◌≤◌, List, ℕ, length, sum_by, take};
+ghost use Rattle.std.specs.Prelude.{◌≡◌, ◌<◌, ◌≤◌, List, ℕ, length, slice_index, sum_by, take};
 ghost use Rattle.session.specs.Kept.{text_of};
 ghost use Rattle.session.specs.Offsets.{before_in, length_in, offset_of, position_of, size_in};
 ghost use Rattle.session.specs.Offsets.{units_of, IsUnitAt};
+ghost use Rattle.session.specs.declared.offsets.Encoding.TheVariants.{Utf8, Utf16};
 ghost use Rattle.store.specs.Finding.{Finds};
 
 use crate::borders::front;
@@ -81,6 +82,37 @@ impl Encoding {
             Encoding::Utf16 => found.utf16_before,
         }
     }
+}
+
+// Returns the largest character, or U+0000 if there are none.
+fn largest(text: &[char]) -> char
+    ensures { (k : ℕ) → k < length text.now → slice_index text.now k ≤ result }
+{
+    let mut largest = '\0';
+    for c in text {
+        if *c > largest {
+            largest = *c;
+        }
+    }
+    largest
+}
+
+/// Returns the numbers of UTF-8 bytes and of UTF-16 code units of characters.
+pub fn lengths(text: &[char]) -> (usize, usize)
+    ensures bytes { result.0 ≡ length_in Utf8 text.now }
+    ensures utf16 { result.1 ≡ length_in Utf16 text.now }
+{
+    // Fast paths: most texts have no characters of several units, and the largest character is found faster
+    // than the sums.
+    let largest = largest(text);
+    if largest < '\u{80}' {
+        return (text.len(), text.len());
+    }
+    let bytes = Encoding::Utf8.length(text);
+    if largest < '\u{10000}' {
+        return (bytes, text.len());
+    }
+    (bytes, Encoding::Utf16.length(text))
 }
 
 // Returns the number of units of the first characters of a paragraph.
