@@ -17,7 +17,13 @@ uint32_t hordguli_core_tables_read(hordguli_tables *tables, const uint8_t *bidi_
                                    const uint8_t *general_category, size_t general_category_length,
                                    const uint8_t *east_asian_width, size_t east_asian_width_length,
                                    const uint8_t *emoji_data, size_t emoji_data_length, hordguli_table_fault *fault);
+uint32_t hordguli_core_tables_open_image(hordguli_tables *tables, const uint8_t *image, size_t length,
+                                         hordguli_table_fault *fault);
 void hordguli_core_tables_close(hordguli_tables *tables);
+
+/* The image of the tables that tools/build_c makes from ucd/tables.image. */
+extern const uint8_t hordguli_image[];
+extern const size_t hordguli_image_length;
 
 uint32_t hordguli_core_session_open(hordguli_session *session, hordguli_tables *tables, uint32_t options,
                                     uint16_t width, const uint8_t *text, size_t length);

@@ -49,7 +49,7 @@ PUBLIC const char *hordguli_status_text(hordguli_status status) {
         [HORDGULI_TEXT_TOO_LONG] = "text too long",
         [HORDGULI_PARAGRAPH_TOO_LONG] = "paragraph too long",
         [HORDGULI_NO_MEMORY] = "out of memory",
-        [HORDGULI_TABLE_FAULT] = "a table file is at fault",
+        [HORDGULI_TABLE_FAULT] = "a table file or an image is at fault",
         [HORDGULI_NOT_UTF8] = "not UTF-8",
         [HORDGULI_NOT_A_CHARACTER] = "not a character",
         [HORDGULI_CLOSED] = "closed",
@@ -86,6 +86,21 @@ PUBLIC hordguli_status hordguli_tables_read(hordguli_tables *tables, const hordg
         files[3].length, bytes[4], files[4].length, bytes[5], files[5].length, bytes[6], files[6].length, &found);
     if (status == HORDGULI_TABLE_FAULT && fault != NULL) *fault = found;
     return status;
+}
+
+PUBLIC hordguli_status hordguli_tables_open_image(hordguli_tables *tables, const void *image, size_t length,
+                                                  hordguli_table_fault *fault) {
+    hordguli_table_fault found = {0, 0, 0};
+    hordguli_status status;
+    if (tables == NULL || LACKS(image, length)) return HORDGULI_NULL;
+    if (OVERLAP(AT(tables), ARRAY(fault, 1), {image, length})) return HORDGULI_OVERLAP;
+    status = (hordguli_status)hordguli_core_tables_open_image(tables, BYTES(image), length, &found);
+    if (status == HORDGULI_TABLE_FAULT && fault != NULL) *fault = found;
+    return status;
+}
+
+PUBLIC hordguli_status hordguli_tables_open_builtin(hordguli_tables *tables) {
+    return hordguli_tables_open_image(tables, hordguli_image, hordguli_image_length, NULL);
 }
 
 PUBLIC void hordguli_tables_close(hordguli_tables *tables) {

@@ -155,23 +155,27 @@ static void scroll_to(size_t line) {
     }
 }
 
-/* Draws a line, with its selection in reverse video. Leaves out control characters, which a terminal would execute. */
+/* Draws a line, with its selection in reverse video. Leaves out control characters, which a terminal would execute. A tab
+ * has become as many spaces as it has columns. */
 static void draw_line(size_t row, size_t line) {
     static size_t columns[MOST];
     static hordguli_span spans[MOST];
     static char bytes[4 * MOST + 1];
     hordguli_line_info info;
     uint32_t print = HORDGULI_PRINT_VISUAL | HORDGULI_PRINT_MIRRORED;
-    size_t length, count, column = 0, character = 0, span = 0;
+    size_t length, count, column = 0, character = 0, span = 0, spaces = 0;
     check(hordguli_line(&session, line, &info, MOST, NULL, NULL, NULL, NULL, columns));
     check(hordguli_lines_utf8(&session, line, 1, print, sizeof bytes, bytes, &length));
     check(hordguli_spans(&session, line, selected().start, selected().end, MOST, spans, &count));
     printf("\33[%zu;%zuH", row + 1, info.padding + 1);
     for (size_t k = 0; k + 1 < length; k++) {
         unsigned char byte = (unsigned char)bytes[k];
-        if ((byte & 0xC0) != 0x80) { /* a character's first byte */
+        if (spaces > 0) { /* in a tab */
+            spaces--;
+        } else if ((byte & 0xC0) != 0x80) { /* a character's first byte */
             if (span < count && column == spans[span].right) printf("\33[m"), span++;
             if (span < count && column == spans[span].left) printf("\33[7m");
+            if (byte == ' ') spaces = columns[character] - 1;
             column += columns[character++];
         }
         if (byte == 0xC2 && (unsigned char)bytes[k + 1] < 0xA0) k++; /* U+0080 to U+009F */
@@ -306,7 +310,7 @@ static int obey(int byte, char *name) {
         replace(selected(), "\n", 1, HORDGULI_BEFORE);
         strcpy(name, "enter");
     } else if (byte == '\t') {
-        replace(selected(), "    ", 4, HORDGULI_AFTER);
+        replace(selected(), "\t", 1, HORDGULI_AFTER);
     } else if (byte >= ' ') {
         for (name[0] = (char)byte; more > 0; more--) name[length++] = (char)next_byte();
         name[length] = '\0';
@@ -320,7 +324,7 @@ static void on_resize(int signal) {
     resized = 1;
 }
 
-/* Reads a file, with each tab replaced by four spaces. A missing file is read as an empty text. */
+/* Reads a file. A missing file is read as an empty text. */
 static char *read_text(size_t *length) {
     FILE *file = fopen(path, "rb");
     size_t room = 1 << 16;
@@ -328,9 +332,8 @@ static char *read_text(size_t *length) {
     int c;
     *length = 0;
     while (file != NULL && (c = getc(file)) != EOF) {
-        if (room - *length < 4) bytes = sure(realloc(bytes, room *= 2));
-        if (c != '\t') bytes[(*length)++] = (char)c;
-        else for (int k = 0; k < 4; k++) bytes[(*length)++] = ' ';
+        if (room == *length) bytes = sure(realloc(bytes, room *= 2));
+        bytes[(*length)++] = (char)c;
     }
     if (file == NULL) note = "a new file";
     else if (ferror(file) || fclose(file) != 0) leave("cannot read");
@@ -342,6 +345,7 @@ int main(int count, char **words) {
     struct sigaction action = {.sa_handler = on_resize};
     struct termios raw;
     const char *folder = UCDDIR;
+    uint32_t options = HORDGULI_TAB_WIDTH(4) | HORDGULI_SHOW_SPACES;
     size_t length;
     char *text, name[8];
     for (; count > 3 && words[1][0] == '-'; count -= 2, words += 2) {
@@ -360,7 +364,7 @@ int main(int count, char **words) {
     tcsetattr(STDIN_FILENO, TCSAFLUSH, &raw);
     printf("\33[?1049h\33[?7l");
     measure();
-    check(hordguli_session_open(&session, &tables, 0, (uint32_t)width, text, length));
+    check(hordguli_session_open(&session, &tables, options, (uint32_t)width, text, length));
     hordguli_tables_close(&tables);
     free(text);
     for (draw(), drawn = 0; obey(next_byte(), name); drawn = 0) {

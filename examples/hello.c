@@ -9,7 +9,7 @@ int main(void) {
     const char *text = "hello, שלום\n", *more = "(مرحبا) ";
     char lines[1000];
     size_t length = 0;
-    hordguli_status status = hordguli_tables_open_folder(&tables, UCDDIR, NULL);
+    hordguli_status status = hordguli_tables_open_builtin(&tables);
     if (!status) status = hordguli_session_open(&session, &tables, 0, 80, text, strlen(text));
     if (!status) status = hordguli_insert(&session, 7, more, strlen(more), &damage);
     if (!status) status = hordguli_lines_utf8(&session, damage.first_line, damage.new_lines, HORDGULI_PRINT_DEFAULT,

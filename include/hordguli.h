@@ -25,8 +25,8 @@
  * COLUMNS
  *
  * A column is a terminal cell. The width of a line, in columns, is the sum of the widths of its shown characters.
- * Widths are those of the Unicode version that `fribidi --version` prints last. Tabs and other control characters have
- * width 0 and are written unchanged. A program that writes to a terminal must remove or replace them.
+ * Widths are those of the Unicode version that `fribidi --version` prints last. Control characters have width 0 and are
+ * written unchanged, also tabs without HORDGULI_TAB_WIDTH. A program that writes to a terminal must remove or replace them.
  *
  * ERRORS
  *
@@ -106,7 +106,7 @@ typedef int32_t hordguli_status;
 #define HORDGULI_PARAGRAPH_TOO_LONG 4
 /* Out of memory. */
 #define HORDGULI_NO_MEMORY 5
-/* A table file is malformed. `hordguli_table_fault` says where and why. */
+/* A table file or an image is malformed. `hordguli_table_fault` says where and why. */
 #define HORDGULI_TABLE_FAULT 6
 /* The text is not valid UTF-8. */
 #define HORDGULI_NOT_UTF8 7
@@ -173,6 +173,10 @@ const char *hordguli_unicode_version(void);
  * spans. Lines end where they end without this option. A line that is wider than the width shows none of these spaces,
  * also with HORDGULI_NOBREAK. In RTL paragraphs, they are to the left of the text. */
 #define HORDGULI_SHOW_SPACES UINT32_C(64)
+/* Sets a tab stop every `n` columns, from 1 to 255. Columns are counted along each line in logical order. A tab (U+0009 of
+ * bidi class S) moves to the next stop, so it has 1 to `n` columns, and is written as spaces. In an RTL paragraph, stops are
+ * counted from the right edge. A tab is not in the tail, and one that does not fit is wider than its line. */
+#define HORDGULI_TAB_WIDTH(n) ((uint32_t)(n) << 8)
 
 /* ---- Print flags ----
  *
@@ -222,12 +226,13 @@ typedef struct hordguli_session {
 
 /* ---- Tables ----
  *
- * Tables hold character properties from seven files of the Unicode Character Database. */
+ * Tables hold character properties from seven files of the Unicode Character Database. The library contains these
+ * tables as a compiled image. */
 
 /* The number of files. */
 #define HORDGULI_TABLE_FILES 7
 
-/* The index of each file. */
+/* The index of each file, and that of an image in a fault. */
 #define HORDGULI_BIDI_CLASS 0        /* DerivedBidiClass.txt */
 #define HORDGULI_BIDI_BRACKETS 1     /* BidiBrackets.txt */
 #define HORDGULI_BIDI_MIRRORING 2    /* BidiMirroring.txt */
@@ -235,6 +240,7 @@ typedef struct hordguli_session {
 #define HORDGULI_GENERAL_CATEGORY 4  /* DerivedGeneralCategory.txt */
 #define HORDGULI_EAST_ASIAN_WIDTH 5  /* EastAsianWidth.txt */
 #define HORDGULI_EMOJI_DATA 6        /* emoji-data.txt */
+#define HORDGULI_IMAGE 7             /* a compiled image */
 
 typedef struct hordguli_bytes {
     const void *bytes;
@@ -249,12 +255,38 @@ typedef struct hordguli_bytes {
 #define HORDGULI_CAUSE_VALUE 5         /* a value that the file does not allow */
 #define HORDGULI_CAUSE_NAMED_BEFORE 6  /* an earlier line names one of its characters */
 
-/* The first malformed line, by file and then by line. */
+/* Why bytes are not an image. If several causes apply, the first in this order is reported, except that an image that
+ * lacks bytes after its header is TRUNCATED after VERSION. */
+#define HORDGULI_CAUSE_TRUNCATED 8     /* fewer bytes than the header has or its counts say */
+#define HORDGULI_CAUSE_MAGIC 9         /* other first bytes than those of an image */
+#define HORDGULI_CAUSE_FORMAT 10       /* another version of the format */
+#define HORDGULI_CAUSE_VERSION 11      /* another version of Unicode */
+#define HORDGULI_CAUSE_EXCESS 12       /* more bytes than the counts say */
+#define HORDGULI_CAUSE_CHECKSUM 13     /* another checksum */
+#define HORDGULI_CAUSE_PAGE_NUMBER 14  /* a page number out of range */
+#define HORDGULI_CAUSE_ENTRY 15        /* invalid properties */
+#define HORDGULI_CAUSE_BRACKET 16      /* an invalid bracket */
+#define HORDGULI_CAUSE_MIRROR 17       /* an invalid mirror */
+#define HORDGULI_CAUSE_FLAGS 18        /* properties that do not agree with the brackets or the mirrors */
+
+/* The first malformed line, by file and then by line, or the fault of an image. */
 typedef struct hordguli_table_fault {
-    size_t file;   /* 0 to 6 */
-    size_t line;   /* from 1; 0 if the file cannot be read */
-    size_t cause;  /* 1 to 6; 0 if the file cannot be read */
+    size_t file;   /* 0 to 6, or HORDGULI_IMAGE */
+    size_t line;   /* from 1; 0 for an image, or if the file cannot be read */
+    size_t cause;  /* one of the causes; 0 if the file cannot be read */
 } hordguli_table_fault;
+
+/* Opens the tables that the library contains, those of `hordguli_unicode_version`. Reads no file.
+ * Errors: NULL, ALREADY_OPEN, NO_MEMORY.
+ * Cost: as `hordguli_tables_open_image`. */
+hordguli_status hordguli_tables_open_builtin(hordguli_tables *tables);
+
+/* Opens tables from a compiled image, such as the file `tables.image` that is installed with the table files. `fault`
+ * may be NULL, and is set only on TABLE_FAULT. If memory runs out before the fault is found, NO_MEMORY is returned.
+ * Errors: NULL, OVERLAP, ALREADY_OPEN, TABLE_FAULT, NO_MEMORY.
+ * Cost: O(`length`), plus a pass over the code points of the pages that have separators, brackets or mirrors. */
+hordguli_status hordguli_tables_open_image(hordguli_tables *tables, const void *image, size_t length,
+                                           hordguli_table_fault *fault);
 
 /* Opens tables from the contents of the files. `fault` may be NULL, and is set only on TABLE_FAULT. NULL and OVERLAP
  * are checked for the parameters first, then for each file in turn. If memory runs out before the first malformed line
@@ -703,10 +735,9 @@ hordguli_status hordguli_paragraph(hordguli_session *session, size_t paragraph, 
  *     status = hordguli_layout(&tables, HORDGULI_WEAK_LTR, 80, HORDGULI_PRINT_DEFAULT, line, strlen(line),
  *                              sizeof buffer, buffer, &written);
  *
- * The handle keeps the memory that a call used, so a call on a text that is no longer than one before it usually
- * allocates nothing. Only grapheme clusters need new memory: with HORDGULI_REORDER_CLUSTERS, and for a line in which no
- * break opportunity fits. The handle keeps at most 5 MB: memory for a text or for lines of more than 65,536 bytes is
- * freed. `hordguli_tables_close` frees it. Calls at the same time in several threads need a handle of tables each.
+ * The handle keeps the memory that a call used, and a call that needs no more than that allocates nothing. The handle
+ * keeps at most 5 MB: memory for a text or for lines of more than 65,536 bytes is freed. `hordguli_tables_close` frees
+ * it. Calls at the same time in several threads need a handle of tables each.
  *
  * NO_MEMORY comes before NO_ROOM, because the lines are gathered before their size is known.
  * Errors: NULL, OVERLAP, WIDTH_OUT_OF_RANGE (above 65,535), UNKNOWN_OPTION, NOT_UTF8, CLOSED, WIDTH_OUT_OF_RANGE (0),

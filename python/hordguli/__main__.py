@@ -31,6 +31,7 @@ def parser() -> argparse.ArgumentParser:
     )
     command.add_argument("text", metavar="TEXT", nargs="?", help="the text [default: standard input]")
     command.add_argument("--width", metavar="N", type=int, default=80, help="wrap lines at N columns [default: 80]")
+    command.add_argument("--tabs", metavar="N", type=int, help="set a tab stop every N columns, from 1 to 255")
     directions = command.add_mutually_exclusive_group()
     for group, names in ((command, OPTIONS), (directions, DIRECTIONS)):
         for name, (option, what) in names.items():
@@ -47,6 +48,8 @@ def main() -> None:
     for option in given.options:
         options |= option
     try:
+        if given.tabs is not None:
+            options |= hordguli.Options.tab_width(given.tabs)
         if given.html:
             with open(given.html, "w", encoding="utf-8") as file:
                 file.write(page(text, given.width, options))

@@ -13,7 +13,10 @@ class ClosedError(ValueError):
 
 
 class Cause(enum.IntEnum):
-    """Why a line of a table file is refused. `UNREAD_FILE`: the file cannot be read, and there is no line."""
+    """Why a line of a table file or an image is refused. `UNREAD_FILE`: the file cannot be read, and there is no line.
+
+    The causes from `TRUNCATED` on are those of an image.
+    """
 
     UNREAD_FILE = 0
     NOT_ASCII = 1
@@ -22,12 +25,24 @@ class Cause(enum.IntEnum):
     FIELD_COUNT = 4
     VALUE = 5
     NAMED_BEFORE = 6
+    TRUNCATED = 8
+    MAGIC = 9
+    FORMAT = 10
+    VERSION = 11
+    EXCESS = 12
+    CHECKSUM = 13
+    PAGE_NUMBER = 14
+    ENTRY = 15
+    BRACKET = 16
+    MIRROR = 17
+    FLAGS = 18
 
 
 class TableError(ValueError):
-    """A table file cannot be read, or one of its lines is malformed.
+    """A table file cannot be read, one of its lines is malformed, or bytes are not an image.
 
-    `file` is the file's name, `line` the number of the line, from 1 (0 if the file cannot be read), and `cause` a `Cause`.
+    `file` is the file's name (`image` for an image), `line` the number of the line, from 1 (0 if there is none), and `cause` a
+    `Cause`.
     """
 
     def __init__(self, file: str, line: int, cause: Cause) -> None:
@@ -37,7 +52,8 @@ class TableError(ValueError):
     def __str__(self) -> str:
         if self.cause is Cause.UNREAD_FILE:
             return f"cannot read {self.file}"
-        return f"{self.file}:{self.line}: {self.cause.name.lower().replace('_', ' ')}"
+        place = f"{self.file}:{self.line}" if self.line else self.file
+        return f"{place}: {self.cause.name.lower().replace('_', ' ')}"
 
 
 _EXCEPTIONS: dict[int, type[Exception]] = {OUT_OF_RANGE: IndexError, NO_MEMORY: MemoryError, CLOSED: ClosedError}

@@ -33,6 +33,8 @@ class RawBytes(ctypes.Structure):
 POINTER, SIZE, NUMBER, EDGE = c_void_p, c_size_t, c_uint32, RawEdge
 PARAMETERS = {
     "hordguli_tables_read": (POINTER, POINTER, POINTER),
+    "hordguli_tables_open_builtin": (POINTER,),
+    "hordguli_tables_open_image": (POINTER, POINTER, SIZE, POINTER),
     "hordguli_tables_open_folder": (POINTER, POINTER, POINTER),
     "hordguli_session_open": (POINTER, POINTER, NUMBER, NUMBER, POINTER, SIZE),
     "hordguli_insert": (POINTER, SIZE, POINTER, SIZE, POINTER),

@@ -15,6 +15,7 @@ class Options(enum.IntFlag):
     `WHOLE_NUMBERS`: lines do not end inside a number such as `$1,234.56`.
     `REORDER_CLUSTERS`: in right-to-left text, the characters of a grapheme cluster stay in logical order.
     `SHOW_SPACES`: spaces at the end of a line are shown, as far as they fit in the width.
+    `tab_width(n)`: there is a tab stop every n columns, from 1 to 255.
     """
 
     WEAK_LTR = 0
@@ -26,6 +27,13 @@ class Options(enum.IntFlag):
     WHOLE_NUMBERS = 16
     REORDER_CLUSTERS = 32
     SHOW_SPACES = 64
+
+    @classmethod
+    def tab_width(cls, n: int) -> "Options":
+        """A tab stop every `n` columns, from 1 to 255."""
+        if not 1 <= n <= 255:
+            raise ValueError(f"tab width out of range: {n}")
+        return cls(n << 8)
 
 
 class Print(enum.IntFlag):

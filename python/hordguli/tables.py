@@ -1,7 +1,6 @@
 """Tables of character properties."""
 
 import os
-import sys
 from collections.abc import Sequence
 from ctypes import byref, c_uint32
 from types import TracebackType
@@ -39,12 +38,12 @@ class Buffers:
 
 
 class Tables:
-    """Character properties from files of the Unicode Character Database.
+    """Character properties from the Unicode Character Database.
 
-    `files` is a folder that has the seven files named in `TABLE_FILES`, or the contents of these files in this order. Without
-    it, the files that come with this package are read, which takes about 5 ms.
+    Without `files`, these are the tables that the library contains. `files` is a folder that has the seven files named in
+    `TABLE_FILES`, the contents of these files in this order, or the bytes of a compiled image.
 
-    Raises `TableError` if a file cannot be read or is malformed.
+    Raises `TableError` if a file cannot be read, or if a file or the image is malformed.
 
     Tables may be used in several threads, one call at a time. A session shares the tables that it was opened with, so they may
     be closed before it.
@@ -54,12 +53,14 @@ class Tables:
     [0, 0, 0]
     """
 
-    def __init__(self, files: Union[str, "os.PathLike[str]", Sequence[bytes], None] = None) -> None:
+    def __init__(self, files: Union[str, "os.PathLike[str]", bytes, Sequence[bytes], None] = None) -> None:
         self._handle = Handle(library.hordguli_tables_close)
         fault = bytearray(FORMATS[TableFault].size)
         if files is None:
-            files = _folder()
-        if isinstance(files, (str, os.PathLike)):
+            status = self._handle.open(library.hordguli_tables_open_builtin)
+        elif isinstance(files, bytes):
+            status = self._handle.open(library.hordguli_tables_open_image, files, len(files), address(fault))
+        elif isinstance(files, (str, os.PathLike)):
             folder = os.fsencode(files)
             if b"\0" in folder:
                 raise ValueError("a path has a null character")
@@ -71,7 +72,7 @@ class Tables:
             status = self._handle.open(library.hordguli_tables_read, contents, address(fault))
         if status in (TABLE_FAULT, UNREAD_FILE):
             file, line, cause = FORMATS[TableFault].unpack(fault)
-            raise TableError(TABLE_FILES[file], line, Cause(cause))
+            raise TableError((*TABLE_FILES, "image")[file], line, Cause(cause))
         check(status)
         self._buffers = Buffers(_USUAL_CAPACITY)
 
@@ -93,23 +94,11 @@ class Tables:
         self.close()
 
 
-def _folder() -> str:
-    """Returns the folder of the table files: the wheel has them in this folder, and the system's library has its own."""
-    share = os.path.join("share", "hordguli", "ucd")
-    folders = [
-        os.path.join(os.path.dirname(os.path.abspath(__file__)), "ucd"),
-        os.path.join(sys.prefix, share),
-        os.path.join("/usr/local", share),
-        os.path.join("/usr", share),
-    ]
-    return next(filter(os.path.isdir, folders), folders[-1])
-
-
 _default: Optional[Tables] = None
 
 
 def default_tables() -> Tables:
-    """Returns the tables that are used if none are given. They are read when they are first needed, once per process."""
+    """Returns the tables that are used if none are given. They are opened when they are first needed, once per process."""
     global _default
     tables = _default
     if tables is None or tables.closed:

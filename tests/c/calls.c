@@ -1,5 +1,5 @@
 /* Tests what each function returns, and each of its statuses. Usage: calls FOLDER, where FOLDER has the table
- * files. */
+ * files and their image. */
 #include "test.h"
 
 #include <limits.h>
@@ -112,6 +112,53 @@ static void opened_by_folder(const char *folder) {
     HOLDS(tables.at != NULL);
 }
 
+/* Whether two tables give all characters the same properties. */
+static int are_equal(hordguli_tables *one, hordguli_tables *other) {
+    enum { PART = 2048 };
+    static uint32_t characters[PART];
+    static hordguli_character here[PART], there[PART];
+    for (uint32_t from = 0; from < 0x110000; from += PART) {
+        if (from == 0xD800) continue; /* surrogates are not characters */
+        for (uint32_t k = 0; k < PART; k++) characters[k] = from + k;
+        if (hordguli_properties(one, PART, characters, here) != HORDGULI_OK) return 0;
+        if (hordguli_properties(other, PART, characters, there) != HORDGULI_OK) return 0;
+        if (memcmp(here, there, sizeof here) != 0) return 0;
+    }
+    return 1;
+}
+
+/* The tables of the built-in image, and those of the folder's image, equal those of the files. */
+static void opened_by_images(const char *folder) {
+    static unsigned char image[1 << 18];
+    char path[200];
+    FILE *from;
+    size_t length;
+    hordguli_tables other = HORDGULI_TABLES_INIT;
+    hordguli_table_fault fault = {77, 77, 77};
+    IS(hordguli_tables_open_builtin(NULL), NULL);
+    OK(hordguli_tables_open_builtin(&other));
+    IS(hordguli_tables_open_builtin(&other), ALREADY_OPEN);
+    HOLDS(are_equal(&tables, &other));
+    hordguli_tables_close(&other);
+
+    snprintf(path, sizeof path, "%s/tables.image", folder);
+    from = fopen(path, "rb");
+    if (!HOLDS(from != NULL)) return;
+    length = fread(image, 1, sizeof image, from);
+    fclose(from);
+    OK(hordguli_tables_open_image(&other, image, length, &fault));
+    HOLDS(are_equal(&tables, &other) && fault.file == 77);
+    IS(hordguli_tables_open_image(&other, image, length, &fault), ALREADY_OPEN);
+    hordguli_tables_close(&other);
+    image[length - 9] ^= 4;
+    IS(hordguli_tables_open_image(&other, image, length, NULL), TABLE_FAULT);
+    IS(hordguli_tables_open_image(&other, image, length, &fault), TABLE_FAULT);
+    HOLDS(fault.file == HORDGULI_IMAGE && fault.line == 0 && fault.cause == HORDGULI_CAUSE_CHECKSUM && other.at == NULL);
+    IS(hordguli_tables_open_image(&other, NULL, 1, &fault), NULL);
+    IS(hordguli_tables_open_image(&other, NULL, 0, &fault), TABLE_FAULT);
+    HOLDS(fault.cause == HORDGULI_CAUSE_TRUNCATED);
+}
+
 /* ---- Sessions ---- */
 
 /* Three paragraphs: abc, a space and three Hebrew letters; a right-to-left line; and one without a
@@ -130,7 +177,7 @@ static void opened(void) {
     IS(hordguli_session_open(&session, &no_tables, 0, 80, text, length), CLOSED);
     IS(hordguli_session_open(&session, &tables, 0, 0, text, length), WIDTH_OUT_OF_RANGE);
     IS(hordguli_session_open(&session, &tables, 0, 65536, text, length), WIDTH_OUT_OF_RANGE);
-    for (uint32_t bit = 7; bit < 32; bit++)
+    for (uint32_t bit = 7; bit < 32; bit += bit == 7 ? 9 : 1)
         IS(hordguli_session_open(&session, &tables, UINT32_C(1) << bit, 80, text, length), UNKNOWN_OPTION);
     IS(hordguli_session_open(&session, &tables, 0, 80, "a\xFF", 2), NOT_UTF8);
     IS(hordguli_session_open(&session, &tables, 0, 80, "\xED\xA0\x80", 3), NOT_UTF8);
@@ -897,6 +944,46 @@ static void spaces_at_line_ends(void) {
     hordguli_session_close(&shown);
 }
 
+/* HORDGULI_TAB_WIDTH: a tab moves to the next stop, counted from the edge at which its line starts. */
+static void tab_stops(void) {
+    size_t columns[5] = {7, 7, 7, 7, 7};
+    uint32_t vtol[5];
+    hordguli_line_info info;
+    show("a\tb", HORDGULI_TAB_WIDTH(8), 80);
+    LINE(0, 3, 3, 9, 0);
+    OK(hordguli_line(&shown, 0, &info, 5, NULL, NULL, NULL, vtol, columns));
+    HOLDS(columns[0] == 1 && columns[1] == 7 && columns[2] == 1);
+    CARET(1, BEFORE, 0, 1, 0);
+    CARET(2, BEFORE, 0, 8, 0);
+    STEPS(RIGHT, {0, 'B', 0}, {1, 'A', 1}, {2, 'A', 8}, {3, 'A', 9});
+    EDGE_AT(0, 5, 1, BEFORE);
+    /* a right-to-left paragraph: five columns of padding, the second letter, three columns, and the first letter */
+    show("\u05d0\t\u05d1", HORDGULI_TAB_WIDTH(4), 10);
+    LINE(0, 3, 3, 5, 5);
+    OK(hordguli_line(&shown, 0, &info, 5, NULL, NULL, NULL, vtol, columns));
+    HOLDS(vtol[0] == 2 && vtol[1] == 1 && vtol[2] == 0 && columns[0] == 1 && columns[1] == 3 && columns[2] == 1);
+    CARET(0, BEFORE, 0, 5, 1);
+    CARET(1, BEFORE, 0, 4, 1);
+    CARET(2, BEFORE, 0, 1, 1);
+    CARET(3, BEFORE, 0, 0, 1);
+    /* stops are counted from the start of each line, so another width moves them */
+    show("ab cd\te", HORDGULI_TAB_WIDTH(4), 80);
+    LINE(0, 7, 7, 9, 0);
+    OK(hordguli_set_width(&shown, 5, NULL));
+    LINE(0, 3, 2, 2, 0);
+    LINE(1, 4, 4, 5, 0);
+    CARET(6, BEFORE, 1, 4, 0);
+    /* a tab that does not fit is wider than its line */
+    show("abc\td", HORDGULI_TAB_WIDTH(4), 3);
+    LINE(0, 3, 3, 3, 0);
+    LINE(1, 1, 1, 4, 0);
+    LINE(2, 1, 1, 1, 0);
+    /* without tab stops, a tab has no columns */
+    show("a\tb", 0, 80);
+    LINE(0, 3, 3, 2, 0);
+    hordguli_session_close(&shown);
+}
+
 static void lines(void) {
     hordguli_line_info info = {7, 7, 7, 7, 7, 7, 7};
     uint32_t characters[8], ltov[8], vtol[8];
@@ -1040,7 +1127,7 @@ static void laid_out_without_session(void) {
     IS(hordguli_layout(&tables, 0, 80, SHOWN, bytes, 2, 200, bytes, &written), OVERLAP);
     IS(hordguli_layout(&tables, 0, 80, SHOWN, "ab", 2, SIZE_MAX, bytes, &written), OVERLAP);
     IS(hordguli_layout(&tables, 0, 65536, SHOWN, "ab", 2, 200, bytes, &written), WIDTH_OUT_OF_RANGE);
-    for (uint32_t bit = 7; bit < 32; bit++)
+    for (uint32_t bit = 7; bit < 32; bit += bit == 7 ? 9 : 1)
         IS(hordguli_layout(&tables, UINT32_C(1) << bit, 80, SHOWN, "ab", 2, 200, bytes, &written), UNKNOWN_OPTION);
     for (uint32_t bit = 7; bit < 32; bit++)
         IS(hordguli_layout(&tables, 0, 80, UINT32_C(1) << bit, "ab", 2, 200, bytes, &written), UNKNOWN_OPTION);
@@ -1421,6 +1508,7 @@ int main(int count, char **words) {
     opened_by_bytes();
     table_faults();
     opened_by_folder(words[1]);
+    opened_by_images(words[1]);
     opened();
     counts();
     changed();
@@ -1430,6 +1518,7 @@ int main(int count, char **words) {
     edges_where_the_direction_changes();
     edges_of_clusters();
     edges_of_lines();
+    tab_stops();
     spaces_at_line_ends();
     lines();
     printed();

@@ -49,6 +49,9 @@ static size_t random_text(uint32_t *into, size_t most) {
     return count;
 }
 
+/* Half of the layouts have tab stops. */
+static uint32_t random_options(void) { return (uint32_t)below(128) | HORDGULI_TAB_WIDTH(below(2) == 0 ? 1 + below(16) : 0); }
+
 static uint32_t random_width(void) { return 1 + (uint32_t)below(below(3) == 0 ? 80 : 12); }
 
 /* ---- The layout, as the reference implementation has it ---- */
@@ -560,7 +563,7 @@ static void texts_are_right(long count) {
         hordguli_session session = HORDGULI_SESSION_INIT;
         long failed_before = failed;
         uint32_t width = random_width();
-        options = (uint32_t)below(128);
+        options = random_options();
         length = random_text(text, below(8) == 0 ? MOST : 25);
         if (!OK(hordguli_session_open(&session, &tables, options, width, bytes, encoded(text, length, bytes)))) return;
         read_layout(&session);
@@ -719,7 +722,7 @@ static void sessions_equal_new_ones(long count) {
         long failed_before = failed;
         uint32_t width = random_width();
         size_t edits = 1 + below(8), size;
-        options = (uint32_t)below(128);
+        options = random_options();
         length = random_text(text, below(8) == 0 ? MOST / 2 : 20);
         if (!OK(hordguli_session_open(&kept, &tables, options, width, bytes, encoded(text, length, bytes)))) return;
         for (size_t times = 0; times < edits; times++) edit(&kept, &width);

@@ -5,7 +5,7 @@
  * keeps. */
 #include "test.h"
 
-enum { MOST = 400, BYTES = 1 << 20, STORED = 300, KEPT = 5000000 };
+enum { MOST = 400, BYTES = 1 << 25, STORED = 300, KEPT = 5000000 };
 
 #define OK(call) HOLDS((call) == HORDGULI_OK)
 
@@ -30,6 +30,7 @@ static request random_request(size_t most) {
     const char *some[8];
     request r = {(uint32_t)below(128), 1 + (uint32_t)below(below(3) == 0 ? 8 : 90), 0, text, 0};
     if (below(50) == 0) r.width = 65535;
+    if (below(3) == 0) r.options |= HORDGULI_TAB_WIDTH((uint32_t)below(16));
     r.print = below(2) == 0 ? prints[below(5)] : (uint32_t)below(128);
     for (size_t k = 0; k < kinds; k++) some[k] = text_pieces[below(TEXT_PIECES)];
     for (size_t k = 0; k < pieces; k++) {
@@ -81,9 +82,9 @@ static void put_file(const char *folder, long number, const char *ending, const 
 static void store_case(const char *folder, long number, const request *r) {
     static const char *const bases[] = {"--wltr", "--wrtl", "--ltr", "--rtl"};
     char words[400];
-    size_t written;
+    size_t written, used;
     OK(lay_out(r, BYTES, page, &written));
-    snprintf(words, sizeof words, "%s --width %u%s%s%s%s%s%s%s%s%s%s%s%s", bases[r->options % 4], (unsigned)r->width,
+    used = (size_t)snprintf(words, sizeof words, "%s --width %u%s%s%s%s%s%s%s%s%s%s%s%s", bases[r->options % 4], (unsigned)r->width,
              r->options & HORDGULI_NOBREAK ? " --nobreak" : "", r->options & HORDGULI_REORDER_NSM ? " --reordernsm" : "",
              r->options & HORDGULI_WHOLE_NUMBERS ? " --whole-numbers" : "",
              r->options & HORDGULI_REORDER_CLUSTERS ? " --reorder-clusters" : "",
@@ -92,6 +93,7 @@ static void store_case(const char *folder, long number, const request *r) {
              r->print & HORDGULI_PRINT_LTOV ? " --ltov" : "", r->print & HORDGULI_PRINT_VTOL ? " --vtol" : "",
              r->print & HORDGULI_PRINT_LEVELS ? " --levels" : "", r->print & HORDGULI_PRINT_PADDED ? "" : " --nopad",
              r->print & HORDGULI_PRINT_MIRRORED ? "" : " --nomirror");
+    if (r->options >> 8 != 0) snprintf(words + used, sizeof words - used, " --tabs %u", (unsigned)(r->options >> 8));
     put_file(folder, number, "txt", r->text, r->length);
     put_file(folder, number, "args", words, strlen(words));
     put_file(folder, number, "out", page, written);
@@ -132,8 +134,7 @@ void __wrap_free(void *block) {
     __real_free(block);
 }
 
-/* The same calls again allocate nothing, unless they need grapheme clusters: for a line in which no break opportunity
- * fits, and for REORDER_CLUSTERS. */
+/* The same calls again allocate nothing. */
 static void warm_calls_allocate_nothing(void) {
     uint64_t start = seed;
     for (int round = 0; round < 2; round++) {
@@ -142,9 +143,8 @@ static void warm_calls_allocate_nothing(void) {
         seed = start;
         for (int k = 0; k < 1000; k++) {
             request r = random_request(below(2) == 0 ? 60 : 8);
-            r.options &= ~HORDGULI_REORDER_CLUSTERS;
-            if (below(2) == 0) r.options |= HORDGULI_NOBREAK;
-            else r.width = 2000;
+            /* (after a call that prints much, no buffer is kept) */
+            if (r.width == 65535) r.width = 90;
             OK(lay_out(&r, BYTES, page, &written));
         }
         HOLDS(round == 0 || allocations == before);

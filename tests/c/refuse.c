@@ -84,14 +84,22 @@ static uint32_t found_characters[100];
 static hordguli_line_info found_info;
 
 enum {
-    OPEN_TABLES, OPEN, INSERT, REPLACE, WIDTH, CLUSTER, WORD, CARET, STEP, EDGE, CLUSTERS, DELETE, BASE, LEVELS, MARKS, ROW,
+    BUILTIN, OPEN_TABLES, OPEN, INSERT, REPLACE, WIDTH, CLUSTER, WORD, CARET, STEP, EDGE, CLUSTERS, DELETE, BASE, LEVELS, MARKS, ROW,
     ROW_RUNS, LAYOUT, LINES, TEXT, PAGE, STEPS
 };
 
 static const char start[] = "ab \u05d0\u05d1 12\nx\n";
 
+static hordguli_status opens_builtin(void) {
+    hordguli_tables builtin = HORDGULI_TABLES_INIT;
+    hordguli_status status = hordguli_tables_open_builtin(&builtin);
+    hordguli_tables_close(&builtin);
+    return status;
+}
+
 static hordguli_status step(int k) {
     switch (k) {
+        case BUILTIN: return opens_builtin();
         case OPEN_TABLES: return hordguli_tables_open_folder(&tables, folder, NULL);
         case OPEN: return hordguli_session_open(&session, &tables, 0, 4, start, sizeof start - 1);
         case INSERT: return hordguli_insert(&session, 3, "(a)\n\u05d0", 6, &damage);
@@ -150,8 +158,8 @@ int main(int count, char **words) {
             HOLDS(status == HORDGULI_OK || status == HORDGULI_NO_MEMORY);
             if (status == HORDGULI_OK) continue;
             refusals++;
-            /* the tables keep what was allocated */
-            HOLDS(asked >= refused_at && (live == held || (k == LAYOUT && live > held)));
+            /* the tables and the session keep the buffers that they lay text out in */
+            HOLDS(asked >= refused_at && (live == held || ((k == LAYOUT || k == WIDTH) && live > held)));
             HOLDS(memcmp(&damage, &no_damage, sizeof damage) == 0 && found_base == 77);
             HOLDS(found_levels[0] == 77 && found_marks[0] == 77 && found_length == 77 && found_bytes[0] == '?');
             HOLDS(found_row[0] == 77 && found_visual[0] == 77 && found_runs[0].level == 77);

@@ -1,5 +1,5 @@
 /* Tests the constants, fields, parameters and statuses of hordguli.h. Usage: statuses FOLDER HEADER. FOLDER has the
- * table files; HEADER is hordguli.h.
+ * table files and their image; HEADER is hordguli.h.
  *
  * - Each status, option, flag and other constant has the expected value.
  * - Each field of each struct is at its expected offset, and receives the right value. Parameters of the same type are
@@ -49,6 +49,7 @@ static void constants_have_their_numbers(void) {
     NUMBER(WEAK_LTR, 0), NUMBER(WEAK_RTL, 1), NUMBER(LTR, 2), NUMBER(RTL, 3);
     NUMBER(NOBREAK, 4), NUMBER(REORDER_NSM, 8), NUMBER(WHOLE_NUMBERS, 16);
     NUMBER(REORDER_CLUSTERS, 32), NUMBER(SHOW_SPACES, 64);
+    NUMBER(TAB_WIDTH(1), 256), NUMBER(TAB_WIDTH(8), 2048), NUMBER(TAB_WIDTH(255), 65280);
     NUMBER(PRINT_VISUAL, 1), NUMBER(PRINT_BASEDIR, 2), NUMBER(PRINT_LTOV, 4), NUMBER(PRINT_VTOL, 8);
     NUMBER(PRINT_LEVELS, 16), NUMBER(PRINT_PADDED, 32), NUMBER(PRINT_MIRRORED, 64), NUMBER(PRINT_DEFAULT, 97);
     NUMBER(BEFORE, 0), NUMBER(AFTER, 1), NUMBER(LEFT, 0), NUMBER(RIGHT, 1);
@@ -61,6 +62,9 @@ static void constants_have_their_numbers(void) {
     NUMBER(GENERAL_CATEGORY, 4), NUMBER(EAST_ASIAN_WIDTH, 5), NUMBER(EMOJI_DATA, 6);
     NUMBER(CAUSE_NOT_ASCII, 1), NUMBER(CAUSE_CODE_POINT, 2), NUMBER(CAUSE_REVERSED, 3);
     NUMBER(CAUSE_FIELD_COUNT, 4), NUMBER(CAUSE_VALUE, 5), NUMBER(CAUSE_NAMED_BEFORE, 6);
+    NUMBER(IMAGE, 7), NUMBER(CAUSE_TRUNCATED, 8), NUMBER(CAUSE_MAGIC, 9), NUMBER(CAUSE_FORMAT, 10);
+    NUMBER(CAUSE_VERSION, 11), NUMBER(CAUSE_EXCESS, 12), NUMBER(CAUSE_CHECKSUM, 13), NUMBER(CAUSE_PAGE_NUMBER, 14);
+    NUMBER(CAUSE_ENTRY, 15), NUMBER(CAUSE_BRACKET, 16), NUMBER(CAUSE_MIRROR, 17), NUMBER(CAUSE_FLAGS, 18);
 }
 
 /* ---- Fields ---- */
@@ -570,6 +574,8 @@ static char *newlines, *letters, *paragraph; /* texts that are too long */
 static char folder[] = "/tmp/hordguli-statuses-XXXXXX";
 static size_t missing, malformed; /* indexes of files */
 static const char malformed_line[] = "\n\nx\n";
+static unsigned char image[1 << 18], changed_image[1 << 18];
+static size_t image_length, image_cause;
 
 static const char *path_of(size_t file) {
     static const char *const names[7] = {
@@ -687,6 +693,16 @@ WAY(malformed_in_folder, malformed = which; write_file(which, malformed_line))
 WAY(missing_in_folder, missing = which; unlink(path_of(which)))
 WAY(no_folder, missing = 0; a->folder = which == 0 ? "no such folder" : "")
 
+/* an image */
+WAY(image_in_fault, a->text = (const char *)a->fault + sizeof *a->fault - 1; a->length = 1)
+WAY(truncated_image, image_cause = HORDGULI_CAUSE_TRUNCATED; a->length = which == 0 ? 0 : which == 1 ? 31 : image_length - 1)
+WAY(changed_byte, /* of the magic bytes, the format, the version of Unicode and the pages */
+    static const size_t at[] = {0, 12, 18, 9000};
+    static const size_t causes[] = {HORDGULI_CAUSE_MAGIC, HORDGULI_CAUSE_FORMAT, HORDGULI_CAUSE_VERSION,
+                                    HORDGULI_CAUSE_CHECKSUM};
+    memcpy(changed_image, image, image_length); changed_image[at[which]] ^= 1; image_cause = causes[which];
+    a->text = (const char *)changed_image)
+
 #define END {NULL, 0, NULL, 0, 0}
 
 /* A session and an output parameter, which may be NULL in an edit */
@@ -760,7 +776,8 @@ static const way of_set_width[] = {
     {"OVERLAP", TEXT, long_text, 0, 1},                                                 \
     {"OVERLAP", TEXT | TABLES_IS, text_in_tables, 0, sizeof(hordguli_tables) - 1},      \
     {"WIDTH_OUT_OF_RANGE (above 65,535)", WIDTH, width_above, 0, 2},                    \
-    {"UNKNOWN_OPTION", FLAGS, unknown_option, 7, 31},                                   \
+    {"UNKNOWN_OPTION", FLAGS, unknown_option, 7, 7},                                    \
+    {"UNKNOWN_OPTION", FLAGS, unknown_option, 16, 31},                                  \
     {"NOT_UTF8", TEXT, not_utf8, 0, 5},                                                 \
     {"WIDTH_OUT_OF_RANGE (0)", WIDTH, width_0, 0, 0},                                   \
     {"TEXT_TOO_LONG", TEXT, many_newlines, 0, 0},                                       \
@@ -984,9 +1001,31 @@ static const way of_folder[] = {
     END,
 };
 
+static const way of_image[] = {
+    {"NULL", TABLES | TABLES_IS, null_tables, 0, 0},
+    {"NULL", TEXT, null_text, 1, 2},
+    {"NULL, OVERLAP", TEXT, long_null_text, 0, 0},
+    {"OVERLAP", TEXT, long_text, 0, 1},
+    {"OVERLAP", TEXT | TABLES_IS, text_in_tables, 0, sizeof(hordguli_tables) - 1},
+    {"OVERLAP", TEXT | OUT_IS, image_in_fault, 0, 0},
+    {"OVERLAP", OUT | TABLES_IS, fault_at_tables, 0, 0},
+    {"ALREADY_OPEN", TABLES, open_tables, 0, 0},
+    {"TABLE_FAULT", TEXT, truncated_image, 0, 2},
+    {"TABLE_FAULT", TEXT, changed_byte, 0, 3},
+    END,
+};
+
+static const way of_builtin[] = {
+    {"NULL", TABLES | TABLES_IS, null_tables, 0, 0},
+    {"ALREADY_OPEN", TABLES, open_tables, 0, 0},
+    END,
+};
+
 #define MAKE(name, ...)                                                                                                \
     static hordguli_status make_##name(const arguments *a) { return hordguli_##name(__VA_ARGS__); }
 MAKE(tables_read, a->tables, a->files, a->fault)
+MAKE(tables_open_builtin, a->tables)
+MAKE(tables_open_image, a->tables, a->text, a->length, a->fault)
 MAKE(tables_open_folder, a->tables, a->folder, a->fault)
 MAKE(session_open, a->session, a->tables, a->flags, a->width, a->text, a->length)
 MAKE(insert, a->session, a->at, a->text, a->length, a->out)
@@ -1046,6 +1085,8 @@ static const call calls[] = {
     CALL(tables_read, "NULL, OVERLAP, ALREADY_OPEN, TABLE_FAULT, NO_MEMORY", .ways = {of_files},
          .order = "NULL, OVERLAP, " ORDER_OF_FILE(0) ORDER_OF_FILE(1) ORDER_OF_FILE(2) ORDER_OF_FILE(3) ORDER_OF_FILE(4)
              ORDER_OF_FILE(5) ORDER_OF_FILE(6) "ALREADY_OPEN, TABLE_FAULT, NO_MEMORY"),
+    CALL(tables_open_builtin, "NULL, ALREADY_OPEN, NO_MEMORY", .ways = {of_builtin}, .never = "NULL + ALREADY_OPEN"),
+    CALL(tables_open_image, "NULL, OVERLAP, ALREADY_OPEN, TABLE_FAULT, NO_MEMORY", .ways = {of_image}),
     CALL(tables_open_folder, "NULL, OVERLAP, ALREADY_OPEN, UNREAD_FILE, TABLE_FAULT, NO_MEMORY", .ways = {of_folder}),
     CALL(session_open,
          "NULL, OVERLAP, WIDTH_OUT_OF_RANGE (above 65,535), UNKNOWN_OPTION, NOT_UTF8, ALREADY_OPEN (the session), "
@@ -1237,6 +1278,10 @@ static arguments good_arguments(const call *c, int is_new) {
     a.width = 7;
     a.text = "d\u05d3";
     a.length = 3;
+    if (strcmp(c->name, "tables_open_image") == 0) {
+        a.text = (const char *)image;
+        a.length = image_length;
+    }
     a.at = c->at;
     a.count = c->count;
     a.column = 1;
@@ -1259,6 +1304,9 @@ static int is_set_as_promised(const call *c, hordguli_status status) {
     } else if (status == HORDGULI_UNREAD_FILE) {
         is_set = own.fault.file == missing && own.fault.line == 0 && own.fault.cause == 0;
         own.fault = before.fault;
+    } else if (status == HORDGULI_TABLE_FAULT && c->make == make_tables_open_image) {
+        is_set = own.fault.file == HORDGULI_IMAGE && own.fault.line == 0 && own.fault.cause == image_cause;
+        own.fault = before.fault;
     } else if (status == HORDGULI_TABLE_FAULT) {
         is_set = own.fault.file == malformed && own.fault.line == 3 && own.fault.cause == HORDGULI_CAUSE_FIELD_COUNT;
         own.fault = before.fault;
@@ -1271,7 +1319,7 @@ static int is_set_as_promised(const call *c, hordguli_status status) {
 static int allocates_first(const call *c, hordguli_status error) {
     if (error == HORDGULI_NO_ROOM)
         return c->make == make_lines_utf8 || c->make == make_text || c->make == make_row_runs || c->make == make_line_clusters;
-    return error == HORDGULI_TABLE_FAULT || error == HORDGULI_UNREAD_FILE;
+    return (error == HORDGULI_TABLE_FAULT && c->make != make_tables_open_image) || error == HORDGULI_UNREAD_FILE;
 }
 #endif
 
@@ -1412,8 +1460,18 @@ static void make_texts(void) {
     newlines[CHARACTERS + 1] = letters[CHARACTERS + 1] = paragraph[LETTERS + 1] = *end;
 }
 
+static void read_image(const char *table_folder) {
+    char path[200];
+    FILE *from;
+    snprintf(path, sizeof path, "%s/tables.image", table_folder);
+    from = sure(fopen(path, "rb"));
+    image_length = fread(image, 1, sizeof image, from);
+    fclose(from);
+}
+
 static void pairs(const char *table_folder) {
     make_texts();
+    read_image(table_folder);
     sure(mkdtemp(folder));
     for (size_t k = 0; k < 7; k++) write_file(k, "");
     OK(hordguli_tables_open_folder(&own.tables, table_folder, NULL));

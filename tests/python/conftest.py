@@ -1,6 +1,5 @@
 """What several tests use."""
 
-import os
 import pathlib
 
 import hordguli
@@ -15,7 +14,7 @@ settings.load_profile("fixed")
 @pytest.fixture
 def folder():
     """The folder of the table files."""
-    return pathlib.Path(os.path.dirname(hordguli.__file__), "ucd")
+    return pathlib.Path(__file__).parents[2] / "ucd"
 
 
 @pytest.fixture

@@ -142,6 +142,15 @@ def test_a_malformed_line_is_named(files):
     assert str(pickle.loads(pickle.dumps(caught.value))) == str(caught.value)
 
 
+def test_a_malformed_image_is_named(folder):
+    image = (folder / "tables.image").read_bytes()
+    for given, cause in ((image[:-1], Cause.TRUNCATED), (image + b"a", Cause.EXCESS), (b"a" * 99, Cause.MAGIC), (b"", Cause.TRUNCATED)):
+        with pytest.raises(hordguli.TableError) as caught:
+            hordguli.Tables(given)
+        assert (caught.value.file, caught.value.line, caught.value.cause) == ("image", 0, cause)
+        assert str(caught.value) == f"image: {cause.name.lower()}"
+
+
 def test_a_closed_session_raises():
     text = hordguli.Session("abc")
     assert not text.closed

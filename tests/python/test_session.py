@@ -142,8 +142,8 @@ def test_tables_may_be_closed_before_their_sessions():
     text.close()
 
 
-def test_tables_are_read_from_files_or_a_folder(files, folder):
-    for given in (folder, files):
+def test_tables_are_read_from_files_a_folder_or_an_image(files, folder):
+    for given in (folder, files, (folder / "tables.image").read_bytes()):
         with hordguli.Tables(given) as tables:
             assert hordguli.levels(HEBREW, tables=tables) == [1, 1, 1]
             assert hordguli.display(f"a{HEBREW}", tables=tables) == f"a{HEBREW[::-1]}"

@@ -74,6 +74,11 @@ def test_wrap_takes_options():
     assert hordguli.wrap("1/%", 2) == ["1/", "%"]
     assert hordguli.wrap("1/%", 2, Options.WHOLE_NUMBERS)[0] == "1/"
     assert hordguli.wrap("a.", 3, Options.RTL) == [" .a"]
+    assert hordguli.wrap("abc\tdefg h", 8, Options.tab_width(4)) == ["abc defg", "h"]
+    assert hordguli.wrap("\u05d0\t\u05d1", 10, Options.tab_width(4) | Options.SHOW_SPACES) == ["     \u05d1   \u05d0"]
+    for wrong in (-1, 0, 256):
+        with pytest.raises(ValueError):
+            Options.tab_width(wrong)
 
 
 def test_positions_of_levels_and_breaks_are_str_indexes():

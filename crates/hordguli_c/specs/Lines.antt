@@ -1,8 +1,8 @@
 -- What is stored for a line and for a paragraph: numbers, and lists in optional arrays.
-use Rattle.std.specs.Prelude.{◌≡◌, ℕ, ◌&&◌, Bool, List, length, map, slice_index, Option, Some, MatchBool}
+use Rattle.std.specs.Prelude.{◌≡◌, ℕ, ◌&&◌, Bool, List, length, map, Option, Some, MatchBool}
 use Rattle.lines.specs.Columns.{padding_of}
 use Rattle.lines.specs.Layouts.{Layout}
-use Rattle.lines.specs.CharInfos.{columns_of}
+use Rattle.lines.specs.Columns.{width_at}
 use Rattle.lines.specs.Visual.{Visual}
 use Rattle.hordguli_c.specs.Arrays.{has_room, put_if}
 use Rattle.hordguli_c.specs.Options.{has_bit}
@@ -27,7 +27,7 @@ line_out width start line = record {
 
 -- the number of columns of the character at each visual position
 abbrev pub columns_in : Visual → List ℕ
-columns_in line = map (λ place. columns_of (slice_index line.text place)) line.vtol
+columns_in line = map (width_at line) line.vtol
 
 pub record LineArrays : Type 0 where
   pub characters : List ℕ

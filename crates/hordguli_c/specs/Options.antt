@@ -1,5 +1,5 @@
 -- What the bits of options and of print flags mean.
-use Rattle.std.specs.Prelude.{not, ℕ, ◌/◌, ◌%◌, ◌==◌, ◌||◌, nat_lt, Bool, false, true, option_and_then, option_map, Option, Some, None, if◌then◌else◌}
+use Rattle.std.specs.Prelude.{not, ℕ, ◌/◌, ◌%◌, ◌==◌, ◌&&◌, ◌||◌, nat_lt, Bool, false, true, option_and_then, option_map, Option, Some, None, if◌then◌else◌}
 use Rattle.bidi.specs.declared.base.Base.{Base}
 use Rattle.bidi.specs.declared.base.Base.TheVariants.{Rtl, Ltr, WeakRtl, WeakLtr}
 use Rattle.lines.specs.declared.options.Options.{Options}
@@ -22,16 +22,17 @@ direction_of bits = if nat_lt bits 4 then Some (base_of bits) else None
 abbrev pub tailoring_of : ℕ → Option Bool
 tailoring_of bits = if bits == 0 then Some false else if bits == 16 then Some true else None
 
--- the options of a session, or `None` if an unknown bit is set
+-- the options of a session, with the tab width in bits 8 to 15, or `None` if an unknown bit is set
 abbrev pub options_of : ℕ → Option Options
 options_of bits =
-    if nat_lt bits 128 then Some (record {
+    if nat_lt (bits % 256) 128 && nat_lt (bits / 256) 256 then Some (record {
       base = base_of bits;
       nobreak = has_bit bits 4;
       reordernsm = has_bit bits 8;
       whole_numbers = has_bit bits 16;
       reorder_clusters = has_bit bits 32;
       show_spaces = has_bit bits 64;
+      tab_width = bits / 256;
     }) else None
 
 -- the options of a row, which have only these two bits, or `None` if another bit is set

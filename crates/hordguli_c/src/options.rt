@@ -29,6 +29,9 @@ const SHOW_SPACES: u32 = 64;
 // Both options of a row.
 const REORDERS: u32 = 40;
 
+// Bits 8 to 15 are the tab width.
+const TAB_WIDTH: u32 = 256;
+
 const ALL_OPTIONS: u32 = 127;
 
 const PRINT_VISUAL: u32 = 1;
@@ -104,7 +107,8 @@ pub fn row_options_of(bits: u32) -> Option<Options>
 pub fn options_of(bits: u32) -> Option<Options>
     ensures { result ≡ options_of bits }
 {
-    if bits <= ALL_OPTIONS {
+    let tab_width = bits / TAB_WIDTH;
+    if bits % TAB_WIDTH <= ALL_OPTIONS && tab_width < TAB_WIDTH {
         Some(Options {
             base: base_of(bits),
             nobreak: has_bit(bits, NOBREAK),
@@ -112,6 +116,7 @@ pub fn options_of(bits: u32) -> Option<Options>
             whole_numbers: has_bit(bits, WHOLE_NUMBERS),
             reorder_clusters: has_bit(bits, REORDER_CLUSTERS),
             show_spaces: has_bit(bits, SHOW_SPACES),
+            tab_width: tab_width as u8,
         })
     } else {
         None

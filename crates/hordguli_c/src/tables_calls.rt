@@ -3,14 +3,15 @@ ghost use Rattle.std.specs.Prelude.{◌≡◌, IfOk, None};
 ghost use Rattle.ucd.specs.declared.tables.UcdFiles.{UcdFiles};
 ghost use Rattle.hordguli_c.specs.Statuses.{Returns};
 ghost use Rattle.hordguli_c.specs.TablesCalls.{cause_number, fault_out, ReadsTables, TellsFault};
+ghost use Rattle.hordguli_c.specs.TablesCalls.{image_cause_number, OpensImage, TellsImageFault};
 
 use crate::status::{Status, number_of};
 use crate::tables_handle::TablesHandle;
 use crate::tables_object::TablesObject;
 use std::alloc::{AllocError, Global};
-use ucd::{Cause, TableFault, Tables, UcdFiles};
+use ucd::{Cause, FILE_NAMES, ImageFault, TableFault, Tables, UcdFiles};
 
-/// The first malformed line (`hordguli_table_fault` in C).
+/// The first malformed line, or the first fault of an image (`hordguli_table_fault` in C).
 #[repr(C)]
 #[derive(Clone, Copy)]
 pub struct TableFaultOut {
@@ -44,6 +45,40 @@ fn tell(fault: TableFault, out: &mut TableFaultOut) -> Status
         file: fault.file.saturating_sub(1),
         line: fault.line,
         cause: cause_number(fault.cause),
+    };
+    Status::TableFault
+}
+
+fn image_cause_number(fault: ImageFault) -> usize
+    ensures { result ≡ image_cause_number fault }
+{
+    match fault {
+        ImageFault::Truncated => 8,
+        ImageFault::Magic => 9,
+        ImageFault::Format => 10,
+        ImageFault::Version => 11,
+        ImageFault::Excess => 12,
+        ImageFault::Checksum => 13,
+        ImageFault::PageNumber => 14,
+        ImageFault::Entry => 15,
+        ImageFault::Bracket => 16,
+        ImageFault::Mirror => 17,
+        ImageFault::Flags => 18,
+        ImageFault::Memory => 7,
+    }
+}
+
+// Stores a fault of an image, and returns its status.
+fn tell_image_fault(fault: ImageFault, out: &mut TableFaultOut) -> Status
+    ensures { TellsImageFault fault result out.old out.new }
+{
+    if fault == ImageFault::Memory {
+        return Status::NoMemory;
+    }
+    *out = TableFaultOut {
+        file: FILE_NAMES.len(),
+        line: 0,
+        cause: image_cause_number(fault),
     };
     Status::TableFault
 }
@@ -101,6 +136,33 @@ pub extern "C" fn hordguli_core_tables_read(
             Err(_) => number_of(Status::NoMemory),
         },
         Err(refused) => number_of(tell(refused, fault)),
+    }
+}
+
+/// Opens tables from a compiled image.
+#[unsafe(no_mangle)]
+pub extern "C" fn hordguli_core_tables_open_image(
+    alloc: Global,
+    tables: &mut TablesHandle,
+    image: &[u8],
+    fault: &mut TableFaultOut,
+) -> u32
+    ensures { Returns (λ status. OpensImage image.now status tables.old.held tables.new.held
+        fault.old fault.new) result }
+{
+    if let Some(object) = tables.swap(alloc, None) {
+        tables.swap(alloc, Some(object));
+        return number_of(Status::AlreadyOpen);
+    }
+    match Tables::from_image(alloc, image) {
+        Ok(decoded) => match boxed(alloc, decoded) {
+            Ok(object) => {
+                tables.swap(alloc, Some(object));
+                number_of(Status::Ok)
+            }
+            Err(_) => number_of(Status::NoMemory),
+        },
+        Err(refused) => number_of(tell_image_fault(refused, fault)),
     }
 }
 
