@@ -1,16 +1,18 @@
 /* Measures laying out one short string at a time, UTF-8 in and UTF-8 out, at 80 columns: with hordguli_layout, with a
  * session that is edited, with ICU's ubidi and ubrk (icu_print.h), with ICU's ubidi alone, which breaks no lines, and with
  * FriBidi's log2vis. Prints nanoseconds per string, the minimum of several alternating runs, and their ratios. Also prints
- * how many strings have the same lines with hordguli_layout and ICU. Usage: strings FOLDER, where FOLDER has the table
- * files. */
+ * how many strings have the same lines with hordguli_layout and ICU. With PEER, it only calls that one (0 for hordguli_layout, 2 for
+ * ICU) for all strings of a kind, ROUNDS times, so that another program can count its instructions. Usage: strings FOLDER
+ * [PEER CHARACTERS KIND ROUNDS], where FOLDER has the table files. */
 #define _POSIX_C_SOURCE 200809L
 #include "icu_print.h"
+#include "strings.h"
 #include <fribidi/fribidi.h>
 #include <hordguli.h>
 #include <string.h>
 #include <time.h>
 
-enum { STRINGS = 2000, RUNS = 9, BYTES = 1300, PEERS = 5 };
+enum { RUNS = 9, PEERS = 5 };
 
 static double now(void) {
     struct timespec time;
@@ -20,41 +22,6 @@ static double now(void) {
 
 static void sure_of(hordguli_status status) {
     if (status != HORDGULI_OK) fail(hordguli_status_text(status));
-}
-
-/* ---- Strings ---- */
-
-static uint64_t state = 88172645463325252u;
-static size_t below(size_t bound) {
-    state ^= state << 13;
-    state ^= state >> 7;
-    state ^= state << 17;
-    return (size_t)(state % bound);
-}
-
-static const char *const english[] = {"the", "window", "is", "closed", "reading", "error", "(timeout)", "from", "to", "file,", "42", "3.5", "of"};
-static const char *const hebrew[] = {"שלום", "עולם", "הקובץ", "של", "לא", "נמצא", "(שגיאה)", "אל", "קריאה,", "12", "בשורה", "את", "הזמן"};
-static const char *const arabic[] = {"مرحبا", "العالم", "الملف", "في", "لم", "يوجد", "(خطأ)", "إلى", "قراءة،", "٣٤", "السطر", "من", "الوقت"};
-static const char *const kinds[] = {"English", "Hebrew", "Arabic", "mixed"};
-enum { WORDS = 13, KINDS = 4 };
-
-static char strings[STRINGS][BYTES];
-static size_t lengths[STRINGS];
-
-/* Makes strings of words, each with this number of characters. */
-static void make(size_t kind, size_t characters) {
-    static const char *const *const words[] = {english, hebrew, arabic};
-    for (size_t k = 0; k < STRINGS; k++) {
-        size_t count = 0, length = 0;
-        while (count < characters) {
-            const char *word = words[kind < 3 ? kind : below(3)][below(WORDS)];
-            for (; *word != '\0' && count < characters; count++)
-                do strings[k][length++] = *word++;
-                while ((*word & 0xC0) == 0x80);
-            if (count < characters) strings[k][length++] = ' ', count++;
-        }
-        lengths[k] = length;
-    }
 }
 
 /* ---- Libraries ---- */
@@ -125,10 +92,16 @@ static size_t same_lines(void) {
 int main(int count, char **words) {
     static const size_t sizes[] = {30, 300};
     volatile size_t sink = 0;
-    if (count != 2) fail("by which tables?");
+    if (count != 2 && count != 6) fail("which arguments?");
     sure_of(hordguli_tables_open_folder(&tables, words[1], NULL));
     sure_of(hordguli_session_open(&session, &tables, HORDGULI_WEAK_LTR, WIDTH, "", 0));
     open_icu();
+    if (count == 6) {
+        make((size_t)atoi(words[4]) % KINDS, (size_t)atoi(words[3]));
+        for (int round = 0; round < atoi(words[5]); round++)
+            for (size_t k = 0; k < STRINGS; k++) sink += peers[atoi(words[2]) % PEERS](k);
+        return 0;
+    }
     for (size_t size = 0; size < 2; size++)
         for (size_t kind = 0; kind < KINDS; kind++) {
             double least[PEERS] = {1e18, 1e18, 1e18, 1e18, 1e18};
