@@ -9,6 +9,7 @@
 #   make python     Builds the Python wheel, hordguli-VERSION-py3-none-manylinux2014_x86_64.whl, from what make c has built (DIST=dist).
 #   make ucd        Copies the seven Unicode table files into ucd/: from Debian's package unicode-data, which it installs,
 #                   or from another folder by UNICODE=FOLDER. crates/ucd/src/version.rt names the Unicode version.
+#   make image      Compiles the table files to ucd/tables.image, with a program that it proves and builds. make c runs it too.
 #   make install    Installs what make, make c, make fribidi and make ucd have built (PREFIX=/usr/local, LIBDIR, DESTDIR,
 #                   COMMAND=fribidi, ZSHDIR).
 #   make uninstall  Removes what make install has installed, with the same PREFIX and DESTDIR.
@@ -38,12 +39,12 @@ JOBS := $(shell nproc)
 TABLES = DerivedBidiClass BidiBrackets BidiMirroring LineBreak DerivedGeneralCategory EastAsianWidth emoji-data
 OPTIONS = --width 44 --basedir
 
-.PHONY: all program quick ucd demo check tmux parallel test attack bench-program conformance-program conformance bench c fribidi fribidi-compare \
+.PHONY: all program quick ucd image demo check tmux parallel test attack bench-program conformance-program conformance bench c fribidi fribidi-compare \
 	callers install uninstall python deb dist test-packages test-reproducible test-threads test-draw test-python test-hosts release
 
 DIST = dist
 
-all: programs = fribidi conformance oom_driver no_allocation
+all: programs = fribidi conformance oom_driver no_allocation table_image
 program: programs = fribidi
 bench-program: programs = fribidi bench
 conformance-program: programs = conformance
@@ -66,7 +67,7 @@ lib-oom_calls lib-hordguli_c: lib-session
 lib-hordguli_c: lib-text_run
 lib-oom_calls: lib-test_tables
 lib-hordguli_fribidi: lib-bidi lib-reorder
-run-dump_properties: lib-ucd lib-tables
+run-dump_properties run-table_image: lib-ucd lib-tables
 run-fribidi run-oom_driver: lib-tool
 run-fribidi: lib-tables lib-program_input
 run-oom_driver run-no_allocation: lib-oom_calls
@@ -79,6 +80,7 @@ run-conformance: $(if $(filter run-fribidi,$(MAKECMDGOALS)),lib-session)
 run-fribidi: words = -- --help
 run-bench: words = -- edits tree 1 1
 run-dump_properties: words = -- data
+run-table_image: words = -- data /dev/null
 run-no_allocation: words = -- 1
 
 lib-%:
@@ -120,8 +122,13 @@ parallel:
 test:
 	@tools/ci
 
-c:
-	$(MAKE) --no-print-directory --jobs=$(JOBS) lib-hordguli_c
+image: ucd
+	$(MAKE) --no-print-directory --jobs=$(JOBS) run-table_image
+	tools/build_image
+
+c: ucd
+	$(MAKE) --no-print-directory --jobs=$(JOBS) run-table_image lib-hordguli_c
+	tools/build_image
 	tools/build_c
 
 fribidi: ucd
