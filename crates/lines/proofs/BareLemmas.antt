@@ -1,8 +1,10 @@
 -- Where lines end and what they show do not depend on cluster ends, unless no break opportunity fits.
 use Rattle.std.proofs.Common.{◌≡◌, ℕ, zero, suc, ◌+◌, ◌-◌, ◌<◌, ◌≤◌, nat_le, Bool, true, false, ◌&&◌, List, [], ◌∷◌, ◌++◌}
+use Rattle.std.proofs.lemmas.Slice.{take-put_mid}
+use borrow.Rule.Slice.PartMut.{put_mid, same_len_mid}
 use Rattle.std.proofs.Common.{length, map, take, drop, reverse, set, get_or, not, Option, Some, None, unwrap_or, slice_range, refl, sym, ap, ap₂, ◌∙◌, arith}
 use Rattle.std.proofs.Math.Seq.{set-append_seam, get_or-append_seam}
-use Rattle.std.proofs.lemmas.List.{append-nil, drop_all, length-set, take_all, take_more_set, length-map, take-map, drop-map, reverse-append, take_more, drop_more, length-take-le, append_assoc}
+use Rattle.std.proofs.lemmas.List.{append-nil, drop-drop, length-drop, take-append-drop, drop_all, length-set, take_all, take_more_set, length-map, take-map, drop-map, reverse-append, take_more, drop_more, length-take-le, append_assoc}
 use Rattle.std.specs.List.{fold, prefix_len, suffix_len}
 use Rattle.ucd.specs.declared.tables.Tables.{Tables}
 use Rattle.bidi.specs.Brackets.{greatest}
@@ -264,3 +266,37 @@ PlacesPut-end t n text marks current k w past =
     sym (append-nil current)
     ∙ ap₂ ◌++◌ (sym (take_all k current (omega (arith, w.sizes)))) (sym (ap (λ (cs : List ℕ). bare_infos t n cs (drop k marks)) (drop_all k text past)))
     ∙ w.whole
+
+-- ---- groups of characters
+
+bare_infos-append : (t : Tables) (n : ℕ) (text more : List ℕ) (marks rest : List Mark) → length marks ≡ length text
+    → bare_infos t n (text ++ more) (marks ++ rest) ≡ bare_infos t n text marks ++ bare_infos t n more rest
+bare_infos-append t n [] more [] rest size = refl
+bare_infos-append t n [] more (mark ∷ marks) rest size = absurd (omega (arith, size))
+bare_infos-append t n (c ∷ text) more [] rest size = absurd (omega (arith, size))
+bare_infos-append t n (c ∷ text) more (mark ∷ marks) rest size =
+    ap (λ (ps : List CharInfo). info t n c mark false ∷ ps) (bare_infos-append t n text more marks rest (omega (arith, size)))
+
+-- writing the items of the next m characters
+pub PlacesPut-group : (t : Tables) (n : ℕ) (text : List ℕ) (marks : List Mark) (current piece : List CharInfo) (k m : ℕ) → PlacesPut t n text marks current k
+    → k + m ≤ length text → length marks ≡ length text → piece ≡ bare_infos t n (take m (drop k text)) (take m (drop k marks))
+    → PlacesPut t n text marks (put_mid k m current piece) (k + m)
+PlacesPut-group t n text marks current piece k m w within same is =
+    let text_part : length (take m (drop k text)) ≡ m = length-take-le m (drop k text) (omega (arith, within, length-drop k text)) in
+    let marks_part : length (take m (drop k marks)) ≡ m = length-take-le m (drop k marks) (omega (arith, within, same, length-drop k marks)) in
+    let size : length piece ≡ m = ap length is ∙ length-bare_infos t n (take m (drop k text)) (take m (drop k marks)) (marks_part ∙ sym text_part) ∙ text_part in
+    let front : take (k + m) (put_mid k m current piece) ≡ take k current ++ piece =
+    take-put_mid k m current piece (k + m) (ap (λ j. k + j) (sym size)) (omega (arith, within, w.sizes)) in
+    let rest : bare_infos t n (drop k text) (drop k marks) ≡ bare_infos t n (take m (drop k text)) (take m (drop k marks)) ++ bare_infos t n (drop (k + m) text) (drop (k + m) marks) =
+    ap₂ (bare_infos t n) (sym (take-append-drop m (drop k text))) (sym (take-append-drop m (drop k marks)))
+    ∙ bare_infos-append t n (take m (drop k text)) (drop m (drop k text)) (take m (drop k marks)) (drop m (drop k marks)) (marks_part ∙ sym text_part)
+    ∙ ap₂ (λ (cs : List ℕ) (ms : List Mark). bare_infos t n (take m (drop k text)) (take m (drop k marks)) ++ bare_infos t n cs ms) (drop-drop m k text) (drop-drop m k marks) in
+    record {
+      sizes = same_len_mid k m current piece (size ∙ sym (length-take-le m (drop k current) (omega (arith, within, w.sizes, length-drop k current)))) ∙ w.sizes;
+      within = within;
+      whole = ap (λ (ps : List CharInfo). ps ++ bare_infos t n (drop (k + m) text) (drop (k + m) marks)) front
+          ∙ append_assoc (take k current) piece (bare_infos t n (drop (k + m) text) (drop (k + m) marks))
+          ∙ ap (λ (ps : List CharInfo). take k current ++ (ps ++ bare_infos t n (drop (k + m) text) (drop (k + m) marks))) is
+          ∙ ap (λ (ps : List CharInfo). take k current ++ ps) (sym rest)
+          ∙ w.whole;
+    }

@@ -1,21 +1,21 @@
 -- What a scan of a line's characters finds: sums of columns, and the positions at which the line may end.
 use Rattle.std.proofs.Common.{take-take, length-append, get_or, subst, ◌≡◌, ℕ, zero, suc, ◌+◌, ◌-◌, ◌*◌, ◌<◌, ◌≤◌, Bool, true, false, ◌&&◌, ◌||◌}
-use Rattle.std.proofs.Common.{Option, Some, unwrap_or, List, [], ◌∷◌, ◌++◌, length, take, drop, if◌then◌else◌, refl, sym, ap, ◌∙◌, inl, inr, arith}
+use Rattle.std.proofs.Common.{Some, unwrap_or, List, [], ◌∷◌, ◌++◌, length, take, drop, if◌then◌else◌, refl, sym, ap, ◌∙◌, inl, inr, arith}
 use Rattle.std.proofs.Math.ListN.{get_or-append}
-use Rattle.std.proofs.Math.Seq.{get_or-append_seam}
-use Rattle.std.proofs.lemmas.Bool.{and_right, cond-true, cond-false, cases_Bool, cases_eq, cases_lt, lt-leb, le-leb, leb-false, both_ways}
-use Rattle.std.proofs.lemmas.List.{length-take-le}
-use Rattle.std.proofs.lemmas.List.Sums.{fold_more, suffix_len-take_no, suffix_len-take_yes}
-use Rattle.std.specs.List.{suffix_len}
+use Rattle.std.proofs.Math.Seq.{get_or-append_seam, take-add}
+use Rattle.std.proofs.lemmas.Bool.{and_right, cond-true, cond-false, cases_Bool, cases_eq, cases_lt, lt-leb, le-leb, leb-false, leb-true, both_ways}
+use Rattle.std.proofs.lemmas.List.{get_or-drop, get_or-take, get_or_past, length-take-le}
+use Rattle.std.proofs.lemmas.List.Folds.{list_any_at}
+use Rattle.std.proofs.lemmas.List.Sums.{fold-append, fold_more, suffix_len-take_no, suffix_len-take_yes}
+use Rattle.std.specs.List.{list_any, suffix_len}
+use Rattle.std.specs.Prelude.{fold, slice_range}
 use Rattle.bidi.specs.Brackets.{greatest}
 use Rattle.ucd.specs.Least.{least}
 use Rattle.bidi.proofs.LeastLemmas.{least_found, least_none}
-use Rattle.bidi.proofs.PairLemmas.{greatest_found}
 use Rattle.lines.specs.CharInfos.{advance}
-use Rattle.lines.specs.Filling.{before_tail, cluster_ends_at, columns, first_end, fits_to, may_end, must_end, nothing, place_at, line_end, line_len, starts, stop, trails}
+use Rattle.lines.specs.Filling.{before_tail, cluster_ends_at, columns, first_end, fits_to, is_must, may_end, must_end, nothing, place_at, line_end, line_len, starts, stop, trails}
 use Rattle.lines.specs.Kept.{AreStarts}
-use Rattle.lines.specs.Sums.{sums_after, AreSumsOf}
-use Rattle.lines.specs.declared.filling.Sums.{Sums}
+use Rattle.lines.specs.FitsUpTo.{FitsUpTo}
 use Rattle.lines.specs.declared.char_info.CharInfo.{CharInfo}
 use Rattle.lines.proofs.WidthLemmas.{columns_take}
 
@@ -76,21 +76,6 @@ columns_after rest k within =
     let e : suc k ≡ k + 1 = omega arith in
     ap (λ n. columns (take n rest)) e ∙ fold_more advance 0 rest k nothing within
 
--- if `sums` are the sums of the first k characters, `sums_after` gives the sums of the first k + 1
-pub sums_more : (rest : List CharInfo) (k : ℕ) (sums : Sums) → k < length rest → AreSumsOf (take k rest) sums → AreSumsOf (take (suc k) rest) (sums_after sums (place_at rest k))
-sums_more rest k sums within so_far = record {
-  columns_are = ap (λ n. advance n (place_at rest k)) so_far.columns_are ∙ sym (columns_after rest k within);
-  shown_are = elim (cases_Bool (trails (place_at rest k))) [
-    | inl trailing ↦ cond-true (trails (place_at rest k)) sums.shown (advance sums.columns (place_at rest k)) trailing
-        ∙ so_far.shown_are ∙ sym (cond-true (trails (place_at rest k)) (columns (before_tail (take k rest))) (columns (take (suc k) rest)) trailing)
-        ∙ sym (shown_after rest k within)
-    | inr counts ↦ cond-false (trails (place_at rest k)) sums.shown (advance sums.columns (place_at rest k)) counts
-        ∙ ap (λ n. advance n (place_at rest k)) so_far.columns_are ∙ sym (columns_after rest k within)
-        ∙ sym (cond-false (trails (place_at rest k)) (columns (before_tail (take k rest))) (columns (take (suc k) rest)) counts)
-        ∙ sym (shown_after rest k within)
-  ];
-}
-
 -- the characters before a tail are no wider than all characters
 shown_most : (rest : List CharInfo) (n : ℕ) → n ≤ length rest → columns (before_tail (take n rest)) ≤ columns (take n rest)
 shown_most rest n within = columns_take (length (take n rest) - suffix_len trails (take n rest)) (take n rest)
@@ -137,28 +122,6 @@ pub first_end_none : (rest : List CharInfo) → ((j : ℕ) → j < length rest �
 first_end_none rest fails =
     ap (λ o. unwrap_or o (length rest - 1)) (least_none (λ j. may_end rest j || cluster_ends_at rest j) 0 (length rest) (λ m from below. fails m (omega (arith, below))))
 
--- ---- the state of the scan
-
--- The state of the scan before character k. There is no mandatory break before k. `break` is the last break
--- opportunity before k up to which the line fits, and `cluster` is the last such cluster end.
-pub record IsWalked (width : ℕ) (rest : List CharInfo) (k : ℕ) (sums : Sums) (break cluster : Option ℕ) : Type 0 where
-  pub within : k ≤ length rest
-  pub sums_are : AreSumsOf (take k rest) sums
-  pub most : sums.columns ≤ 255 * k
-  pub no_must : (j : ℕ) → j < k → must_end rest j ≡ false
-  pub break_is : break ≡ greatest (λ j. may_end rest j && fits_to width rest j) k
-  pub cluster_is : cluster ≡ greatest (λ j. cluster_ends_at rest j && fits_to width rest j) k
-
--- if k passes `fit`, the greatest number up to k that passes both tests is k or, if k fails `test`, the
--- greatest one below k
-greatest_more : (test fit : ℕ → Bool) (k : ℕ) (best : Option ℕ) → fit k ≡ true → best ≡ greatest (λ j. test j && fit j) k
-    → (if test k then Some k else best) ≡ greatest (λ j. test j && fit j) (suc k)
-greatest_more test fit k best here so_far =
-    elim (cases_Bool (test k)) [
-      | inl t ↦ cond-true (test k) (Some k) best t ∙ sym (cond-true (test k && fit k) (Some k) (greatest (λ j. test j && fit j) k) (ap (λ b. b && fit k) t ∙ here))
-      | inr f ↦ cond-false (test k) (Some k) best f ∙ so_far ∙ sym (cond-false (test k && fit k) (Some k) (greatest (λ j. test j && fit j) k) (ap (λ b. b && fit k) f))
-    ]
-
 -- if no number from `low` to k - 1 passes, the least number that passes is at least k and below n, and so is
 -- the default
 pub least_within : (p : ℕ → Bool) (low count n d k : ℕ) → low + count ≡ n → k ≤ d → d < n → ((m : ℕ) → low ≤ m → m < k → p m ≡ false)
@@ -183,58 +146,162 @@ pub stop_from : (rest : List CharInfo) (k : ℕ) → k < length rest → ((j : �
 stop_from rest k within fails =
     least_within (must_end rest) 0 (length rest) (length rest) (length rest - 1) k (omega arith) (omega (arith, within)) (omega (arith, within)) (λ m from below. fails m below)
 
--- scanning one more character that fits, and after which the line need not end, preserves `IsWalked`
-pub walk_more : (width : ℕ) (rest : List CharInfo) (k : ℕ) (sums next : Sums) (break cluster : Option ℕ) → k < length rest → IsWalked width rest k sums break cluster
-    → next ≡ sums_after sums (place_at rest k) → next.columns ≤ sums.columns + 255 → next.shown ≤ width → must_end rest k ≡ false
-    → IsWalked width rest (k + 1) next (if may_end rest k then Some k else break) (if cluster_ends_at rest k then Some k else cluster)
-walk_more width rest k sums next break cluster within walked e most fitting must =
-    let sums_are : AreSumsOf (take (suc k) rest) next = subst (λ (s : Sums). AreSumsOf (take (suc k) rest) s) (sym e) (sums_more rest k sums within walked.sums_are) in
-    let fit : fits_to width rest k ≡ true = le-leb (columns (before_tail (take (suc k) rest))) width (omega (arith, sums_are.shown_are, fitting)) in
-    let more : suc k ≡ k + 1 = omega arith in
-    subst (λ n. IsWalked width rest n next (if may_end rest k then Some k else break) (if cluster_ends_at rest k then Some k else cluster)) more (record {
+-- ---- reading characters that fit
+
+-- if all numbers below n pass `fit`, the greatest number that passes both tests is the greatest that passes `test`
+greatest_fits : (test fit : ℕ → Bool) (n : ℕ) → ((k : ℕ) → k < n → fit k ≡ true) → greatest (λ k. test k && fit k) n ≡ greatest test n
+greatest_fits test fit zero fits = refl
+greatest_fits test fit (suc n) fits =
+    elim (cases_Bool (test n)) [
+      | inl t ↦ cond-true (test n && fit n) (Some n) (greatest (λ k. test k && fit k) n) (ap (λ b. b && fit n) t ∙ fits n (omega arith))
+          ∙ sym (cond-true (test n) (Some n) (greatest test n) t)
+      | inr f ↦ cond-false (test n && fit n) (Some n) (greatest (λ k. test k && fit k) n) (ap (λ b. b && fit n) f)
+          ∙ greatest_fits test fit n (λ k below. fits k (omega (arith, below)))
+          ∙ sym (cond-false (test n) (Some n) (greatest test n) f)
+    ]
+
+pub fits_none : (width : ℕ) (rest : List CharInfo) → FitsUpTo width rest 0 0
+fits_none width rest = record {
+  within = omega arith;
+  sum_is = refl;
+  most = omega arith;
+  fits = λ k below. absurd (omega (arith, below));
+  no_must = λ k below. absurd (omega (arith, below));
+}
+
+-- the characters before the tail of the characters read are no wider than the width
+shown_fits : (width : ℕ) (rest : List CharInfo) (n : ℕ) → ((k : ℕ) → k < n → fits_to width rest k ≡ true) → columns (before_tail (take n rest)) ≤ width
+shown_fits width rest zero fits = omega arith
+shown_fits width rest (suc n) fits = leb-true (columns (before_tail (take (suc n) rest))) width (fits n (omega arith))
+
+-- the next character fits if it may be in a tail, or if all columns up to its end fit
+pub fits_here : (width : ℕ) (rest : List CharInfo) (n sum next : ℕ) → n < length rest → FitsUpTo width rest n sum → next ≡ advance sum (place_at rest n)
+    → (trails (place_at rest n) ≡ false → next ≤ width) → fits_to width rest n ≡ true
+fits_here width rest n sum next within read e narrow =
+    le-leb (columns (before_tail (take (suc n) rest))) width
+    (elim (cases_Bool (trails (place_at rest n))) [
+      | inl trailing ↦ omega (
+        arith,
+        shown_after rest n within,
+        cond-true (trails (place_at rest n)) (columns (before_tail (take n rest))) (columns (take (suc n) rest)) trailing,
+        shown_fits width rest n read.fits,
+      )
+      | inr counts ↦ omega (
+        arith,
+        shown_after rest n within,
+        cond-false (trails (place_at rest n)) (columns (before_tail (take n rest))) (columns (take (suc n) rest)) counts,
+        columns_after rest n within,
+        ap (λ m. advance m (place_at rest n)) read.sum_is,
+        e,
+        narrow counts,
+      )
+    ])
+
+-- the next character does not fit if it is in no tail, and the columns up to its end are more than the width
+misfits_here : (width : ℕ) (rest : List CharInfo) (n sum next : ℕ) → n < length rest → FitsUpTo width rest n sum → next ≡ advance sum (place_at rest n)
+    → trails (place_at rest n) ≡ false → width < next → fits_to width rest n ≡ false
+misfits_here width rest n sum next within read e counts wide =
+    lt-leb (columns (before_tail (take (suc n) rest))) width (omega (
+      arith,
+      shown_after rest n within,
+      cond-false (trails (place_at rest n)) (columns (before_tail (take n rest))) (columns (take (suc n) rest)) counts,
+      columns_after rest n within,
+      ap (λ m. advance m (place_at rest n)) read.sum_is,
+      e,
+      wide,
+    ))
+
+-- one more character that fits, and after which the line need not end
+pub fits_more : (width : ℕ) (rest : List CharInfo) (n sum next : ℕ) → n < length rest → FitsUpTo width rest n sum → next ≡ advance sum (place_at rest n)
+    → next ≤ sum + 255 → fits_to width rest n ≡ true → must_end rest n ≡ false → FitsUpTo width rest (n + 1) next
+fits_more width rest n sum next within read e most fit must =
+    let more : suc n ≡ n + 1 = omega arith in
+    subst (λ m. FitsUpTo width rest m next) more (record {
       within = omega (arith, within);
-      sums_are = sums_are;
-      most = omega (arith, most, walked.most);
-      no_must = λ j below. elim (cases_eq j k) [
-        | inl same ↦ ap (must_end rest) same ∙ must
-        | inr ne ↦ walked.no_must j (omega (arith, below, ne))
+      sum_is = e ∙ ap (λ m. advance m (place_at rest n)) read.sum_is ∙ sym (columns_after rest n within);
+      most = omega (arith, most, read.most);
+      fits = λ k below. elim (cases_eq k n) [
+        | inl same ↦ ap (fits_to width rest) same ∙ fit
+        | inr ne ↦ read.fits k (omega (arith, below, ne))
       ];
-      break_is = greatest_more (may_end rest) (fits_to width rest) k break fit walked.break_is;
-      cluster_is = greatest_more (cluster_ends_at rest) (fits_to width rest) k cluster fit walked.cluster_is;
+      no_must = λ k below. elim (cases_eq k n) [
+        | inl same ↦ ap (must_end rest) same ∙ must
+        | inr ne ↦ read.no_must k (omega (arith, below, ne))
+      ];
     })
 
--- if the scan stops at a mandatory break, it has found the last position that passes the test and up to which
--- the line fits
-pub walk_stops : (width : ℕ) (rest : List CharInfo) (test : ℕ → Bool) (k : ℕ) (sums next : Sums) (best : Option ℕ) → k < length rest
-    → AreSumsOf (take k rest) sums → ((j : ℕ) → j < k → must_end rest j ≡ false) → next ≡ sums_after sums (place_at rest k) → next.shown ≤ width → must_end rest k ≡ true
-    → best ≡ greatest (λ j. test j && fits_to width rest j) k
-    → (if test k then Some k else best) ≡ greatest (λ j. test j && fits_to width rest j) (suc (stop rest))
-walk_stops width rest test k sums next best within are no_must e fitting must so_far =
-    let sums_are : AreSumsOf (take (suc k) rest) next = subst (λ (s : Sums). AreSumsOf (take (suc k) rest) s) (sym e) (sums_more rest k sums within are) in
-    let fit : fits_to width rest k ≡ true = le-leb (columns (before_tail (take (suc k) rest))) width (omega (arith, sums_are.shown_are, fitting)) in
-    greatest_more test (fits_to width rest) k best fit so_far
-    ∙ ap (λ n. greatest (λ j. test j && fits_to width rest j) (suc n)) (sym (stop_at rest k within no_must must))
+-- a line fits up to a character if it has enough room for all columns up to a later one
+fits_before : (width : ℕ) (rest : List CharInfo) (k m : ℕ) → k < m → m ≤ length rest → columns (take m rest) ≤ width → fits_to width rest k ≡ true
+fits_before width rest k m below within narrow =
+    let part : take (suc k) (take m rest) ≡ take (suc k) rest = take-take (suc k) m rest (omega (arith, below)) in
+    let less : columns (take (suc k) rest) ≤ columns (take m rest) = subst (λ (xs : List CharInfo). columns xs ≤ columns (take m rest)) part (columns_take (suc k) (take m rest)) in
+    le-leb (columns (before_tail (take (suc k) rest))) width (omega (arith, shown_most rest (suc k) (omega (arith, below, within)), less, narrow))
 
--- if the scan reads all characters, it has found the last position that passes the test and up to which the
--- line fits
-pub walk_ends : (width : ℕ) (rest : List CharInfo) (test : ℕ → Bool) (k : ℕ) → 0 < length rest → k ≡ length rest → ((j : ℕ) → j < k → must_end rest j ≡ false)
-    → greatest (λ j. test j && fits_to width rest j) k ≡ greatest (λ j. test j && fits_to width rest j) (suc (stop rest))
-walk_ends width rest test k some e no_must =
-    let none : stop rest ≡ length rest - 1 = stop_none rest (λ j below. no_must j (omega (arith, below, e))) in
-    let same : k ≡ suc (stop rest) = omega (arith, e, none, some) in
-    ap (greatest (λ j. test j && fits_to width rest j)) same
+none_at : {X : Type 0} (p : X → Bool) (xs : List X) (k : ℕ) (d : X) → list_any p xs ≡ false → p d ≡ false → p (get_or xs k d) ≡ false
+none_at p xs k d none past =
+    elim (cases_lt k (length xs)) [
+      | inl within ↦ elim (cases_Bool (p (get_or xs k d))) [
+        | inl passed ↦ absurd (both_ways (list_any p xs) none (list_any_at p xs k d within passed))
+        | inr failed ↦ failed
+      ]
+      | inr after ↦ ap p (get_or_past xs k d after) ∙ past
+    ]
 
--- if the scan stops because the line no longer fits, it has found the last position that passes the test,
--- because the line fits up to no later position
-pub walk_misfits : (width : ℕ) (rest : List CharInfo) (test : ℕ → Bool) (k : ℕ) (sums next : Sums) → k < length rest
-    → AreSumsOf (take k rest) sums → ((j : ℕ) → j < k → must_end rest j ≡ false) → next ≡ sums_after sums (place_at rest k) → width < next.shown
-    → greatest (λ j. test j && fits_to width rest j) k ≡ greatest (λ j. test j && fits_to width rest j) (suc (stop rest))
-walk_misfits width rest test k sums next within are no_must e above =
-    let stops = stop_from rest k within no_must in
-    let sums_are : AreSumsOf (take (suc k) rest) next = subst (λ (s : Sums). AreSumsOf (take (suc k) rest) s) (sym e) (sums_more rest k sums within are) in
-    let here : fits_to width rest k ≡ false = lt-leb (columns (before_tail (take (suc k) rest))) width (omega (arith, sums_are.shown_are, above)) in
-    sym (greatest_skips (λ j. test j && fits_to width rest j) k (suc (stop rest)) (omega (arith, stops.0))
-    (λ j from to. and_right (test j) (fits_to width rest j) (misfits width rest k j from (omega (arith, to, stops.1)) here)))
+-- a group of characters that fits, and after none of which the line must end
+pub fits_group : (width : ℕ) (rest : List CharInfo) (n m sum more : ℕ) (piece : List CharInfo) → FitsUpTo width rest n sum → n ≤ m → m ≤ length rest
+    → piece ≡ slice_range rest n m → fold advance sum piece ≡ sum + more → more ≤ 255 * (m - n) → sum + more ≤ width → list_any (λ p. is_must p.mark) piece ≡ false
+    → FitsUpTo width rest m (sum + more)
+fits_group width rest n m sum more piece read forward within is total most narrow none =
+    let joined : take m rest ≡ take n rest ++ piece =
+    let whole : n + (m - n) ≡ m = omega (arith, forward) in
+    ap (λ j. take j rest) (sym whole) ∙ take-add n (m - n) rest ∙ ap (λ (xs : List CharInfo). take n rest ++ xs) (sym is) in
+    let sum_is : sum + more ≡ columns (take m rest) =
+    sym total ∙ ap (λ j. fold advance j piece) read.sum_is ∙ sym (fold-append advance 0 (take n rest) piece) ∙ ap columns (sym joined) in
+    record {
+      within = within;
+      sum_is = sum_is;
+      most = omega (arith, most, read.most, forward);
+      fits = λ k below. fits_before width rest k m below within (omega (arith, sum_is, narrow));
+      no_must = λ k below. elim (cases_lt k n) [
+        | inl before ↦ read.no_must k before
+        | inr after ↦
+            let at : n + (k - n) ≡ k = omega (arith, after) in
+            let there : place_at piece (k - n) ≡ place_at rest k =
+            ap (λ (xs : List CharInfo). place_at xs (k - n)) is
+            ∙ get_or-take (m - n) (drop n rest) (k - n) nothing (omega (arith, below, after))
+            ∙ get_or-drop n rest (k - n) nothing ∙ ap (place_at rest) at in
+            ap (λ (p : CharInfo). is_must p.mark) (sym there)
+            ∙ none_at (λ p. is_must p.mark) piece (k - n) nothing none refl
+      ];
+    }
+
+-- if the next character does not fit, no later one fits
+pub read_to_misfit : (width : ℕ) (rest : List CharInfo) (test : ℕ → Bool) (n sum next : ℕ) → n < length rest → FitsUpTo width rest n sum → next ≡ advance sum (place_at rest n)
+    → trails (place_at rest n) ≡ false → width < next → greatest (λ k. test k && fits_to width rest k) (suc (stop rest)) ≡ greatest test n
+read_to_misfit width rest test n sum next within read e counts wide =
+    let stops = stop_from rest n within read.no_must in
+    let here : fits_to width rest n ≡ false = misfits_here width rest n sum next within read e counts wide in
+    greatest_skips (λ k. test k && fits_to width rest k) n (suc (stop rest)) (omega (arith, stops.0))
+    (λ k from to. and_right (test k) (fits_to width rest k) (misfits width rest n k from (omega (arith, to, stops.1)) here))
+    ∙ greatest_fits test (fits_to width rest) n read.fits
+
+-- the line ends after the next character at the latest
+pub read_to_stop : (width : ℕ) (rest : List CharInfo) (test : ℕ → Bool) (n sum : ℕ) → n < length rest → FitsUpTo width rest n sum → fits_to width rest n ≡ true → must_end rest n ≡ true
+    → greatest (λ k. test k && fits_to width rest k) (suc (stop rest)) ≡ greatest test (suc n)
+read_to_stop width rest test n sum within read fit must =
+    ap (λ m. greatest (λ k. test k && fits_to width rest k) (suc m)) (stop_at rest n within read.no_must must)
+    ∙ greatest_fits test (fits_to width rest) (suc n) (λ k below. elim (cases_eq k n) [
+      | inl same ↦ ap (fits_to width rest) same ∙ fit
+      | inr ne ↦ read.fits k (omega (arith, below, ne))
+    ])
+
+-- all characters fit
+pub read_to_end : (width : ℕ) (rest : List CharInfo) (test : ℕ → Bool) (n sum : ℕ) → 0 < length rest → n ≡ length rest → FitsUpTo width rest n sum
+    → greatest (λ k. test k && fits_to width rest k) (suc (stop rest)) ≡ greatest test n
+read_to_end width rest test n sum some e read =
+    let none : stop rest ≡ length rest - 1 = stop_none rest (λ k below. read.no_must k (omega (arith, below, e))) in
+    let same : suc (stop rest) ≡ n = omega (arith, e, none, some) in
+    ap (greatest (λ k. test k && fits_to width rest k)) same ∙ greatest_fits test (fits_to width rest) n read.fits
 
 -- ---- lines one after another
 
@@ -258,12 +325,6 @@ starts_line nobreak width place (p ∷ rest) some within =
     (ap (λ m. starts nobreak width (suc place) m rest) less
     ∙ starts_skip nobreak width (suc place) n rest (omega (arith, within))
     ∙ ap (λ m. starts nobreak width m 0 (drop n rest)) more)
-
--- if a search up to the first mandatory break finds a position, it is the position of one of the remaining
--- characters
-pub found_within : (rest : List CharInfo) (test : ℕ → Bool) (k : ℕ) → 0 < length rest → greatest test (suc (stop rest)) ≡ Some k → k < length rest
-found_within rest test k some e =
-    omega (arith, (stop_from rest 0 some (λ j below. absurd (omega (arith, below)))).1, (greatest_found test (suc (stop rest)) k e).0)
 
 -- ---- where lines start
 

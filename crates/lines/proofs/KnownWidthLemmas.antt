@@ -1,7 +1,7 @@
 -- Each character that passes one of the quick tests has that many columns.
-use Rattle.std.proofs.Common.{◌≡◌, ℕ, ◌≤◌, nat_le, nat_lt, Bool, true, false, not, ◌&&◌, ◌||◌, List, [], ◌∷◌, Option, Some, None, unwrap_or, if◌then◌else◌, refl, sym, ap, ◌∙◌, arith}
+use Rattle.std.proofs.Common.{zero, suc, inl, inr, get_or, length, ◌<◌, ◌≡◌, ℕ, ◌≤◌, nat_le, nat_lt, Bool, true, false, not, ◌&&◌, ◌||◌, List, [], ◌∷◌, Option, Some, None, unwrap_or, if◌then◌else◌, refl, sym, ap, ◌∙◌, arith}
 use Rattle.std.specs.List.{list_all}
-use Rattle.std.proofs.lemmas.Bool.{and_parts, cond-false, cond-true, le-leb}
+use Rattle.std.proofs.lemmas.Bool.{and_parts, both_ways, cases_Bool, cases_eq, cases_lt, cond-false, cond-true, le-leb}
 use Rattle.std.proofs.lemmas.Bool.Decides.{nat_tests}
 use Rattle.ucd_table.specs.Rows.{Range, in_ranges}
 use Rattle.ucd_table.proofs.Computing.{tables}
@@ -13,9 +13,11 @@ use Rattle.unicode_width.specs.Kind.{kind}
 use Rattle.unicode_width.specs.Width.{alone, char_width, of_kind}
 use Rattle.unicode_width.specs.declared.kind.Kind.{Kind}
 use Rattle.unicode_width.specs.declared.kind.Kind.TheVariants as kinds
+use Rattle.std.proofs.lemmas.List.Folds.{list_all_at}
 use Rattle.lines.specs.CharInfos.{columns_of}
+use Rattle.lines.proofs.InfoLemmas.{printable_columns}
 use Rattle.lines.specs.Clusters.{lies_in}
-use Rattle.lines.specs.KnownWidths.{is_narrow, is_wide, lies_in_any, narrow_ranges, wide_ranges}
+use Rattle.lines.specs.KnownWidths.{is_common, is_narrow, is_printable, is_wide, lies_in_any, narrow_ranges, wide_ranges}
 
 abbrev has_one : Kind → Bool
 has_one kinds.Narrow = true
@@ -112,3 +114,95 @@ pub wide_columns : (c : ℕ) → is_wide c ≡ true → 2 ≡ columns_of c
 wide_columns c lies =
     let at = lies_between 0xA0 0x10FFFF wide_ranges c refl lies in
     two_columns c (kind c) (within has_two wide_ranges wide_rise wide_always c at.1 (same_ranges wide_ranges c ∙ lies)) ∙ columns_by_kind c at.0
+
+-- ---- characters tested together
+
+-- Lamed has a rule of its own in `unicode_width`, which gives it one column.
+abbrev is_single : Kind → Bool
+is_single kinds.Single = true
+is_single other = false
+
+abbrev lamed_ranges : List Range
+lamed_ranges = (0x5DC, 0x5DC) ∷ []
+
+lamed_rise : rises_from 0 (range_rows lamed_ranges) ≡ true
+unfolding rises_from
+lamed_rise = refl
+
+lamed_always : always (in_test is_single lamed_ranges) (stepped_test is_single lamed_ranges lamed_rise) ≡ true
+unfolding tables kind_stepped
+lamed_always = refl
+
+single_column : (k : Kind) → is_single k ≡ true → 1 ≡ (of_kind false 0x5DC k).0
+single_column kinds.Single is = refl
+single_column k is = cc
+
+lamed_lies : in_ranges lamed_ranges 0x5DC ≡ true
+unfolding in_ranges
+lamed_lies = refl
+
+lamed_columns : 1 ≡ columns_of 0x5DC
+lamed_columns =
+    single_column (kind 0x5DC) (within is_single lamed_ranges lamed_rise lamed_always 0x5DC (omega arith) lamed_lies) ∙ columns_by_kind 0x5DC (omega arith)
+
+in_range : (first last c : ℕ) → first ≤ c → c ≤ last → lies_in first last c ≡ true
+in_range first last c low high = ap (λ b. b && nat_le c last) (le-leb first c low) ∙ le-leb c last high
+
+or_left : (a b : Bool) → a ≡ true → (a || b) ≡ true
+or_left true b is = refl
+or_left false b is = absurd (both_ways false refl is)
+
+or_right : (a b : Bool) → b ≡ true → (a || b) ≡ true
+or_right true b is = refl
+or_right false b is = is
+
+range_among : (ranges : List (ℕ × ℕ)) (k first last c : ℕ) → get_or ranges k (0, 0) ≡ (first, last) → k < length ranges → lies_in first last c ≡ true
+    → lies_in_any ranges c ≡ true
+range_among [] k first last c at within lies = absurd (omega (arith, within))
+range_among (range ∷ ranges) zero first last c at within lies =
+    or_left (lies_in range.0 range.1 c) (lies_in_any ranges c) (ap (λ (r : ℕ × ℕ). lies_in r.0 r.1 c) at ∙ lies)
+range_among (range ∷ ranges) (suc k) first last c at within lies =
+    or_right (lies_in range.0 range.1 c) (lies_in_any ranges c) (range_among ranges k first last c at (omega (arith, within)) lies)
+
+hebrew_columns : (c : ℕ) → lies_in 0x5D0 0x5EA c ≡ true → 1 ≡ columns_of c
+hebrew_columns c lies =
+    let at = bounds 0x5D0 0x5EA c lies in
+    elim (cases_eq c 0x5DC) [
+      | inl lamed ↦ lamed_columns ∙ ap columns_of (sym lamed)
+      | inr other ↦ elim (cases_lt c 0x5DC) [
+        | inl before ↦ narrow_columns c (range_among narrow_ranges 2 0x5D0 0x5DB c refl (omega arith) (in_range 0x5D0 0x5DB c at.0 (omega (arith, before))))
+        | inr after ↦ narrow_columns c (range_among narrow_ranges 3 0x5DD 0x5EA c refl (omega arith) (in_range 0x5DD 0x5EA c (omega (arith, after, other)) at.1))
+      ]
+    ]
+
+-- the characters in one of the narrow ranges
+range_columns : (k first last c : ℕ) → get_or narrow_ranges k (0, 0) ≡ (first, last) → k < 5 → lies_in first last c ≡ true → 1 ≡ columns_of c
+range_columns k first last c at within lies = narrow_columns c (range_among narrow_ranges k first last c at within lies)
+
+printable_column : (c : ℕ) → is_printable c ≡ true → 1 ≡ columns_of c
+printable_column c lies = let at = bounds 0x20 0x7E c lies in printable_columns c at.0 (omega (arith, at.1))
+
+common_column : (c : ℕ) → is_common c ≡ true → 1 ≡ columns_of c
+common_column c common =
+    let one : Type 0 = 1 ≡ columns_of c in
+    let arabic : Bool = lies_in 0x620 0x64A c in
+    let hebrew : Bool = lies_in 0x5D0 0x5EA c || arabic in
+    let greek : Bool = lies_in 0x370 0x482 c || hebrew in
+    either (is_printable c) (lies_in 0xAE 0x2FF c || greek) one (printable_column c)
+    (either (lies_in 0xAE 0x2FF c) greek one (range_columns 0 0xAE 0x2FF c refl (omega arith))
+    (either (lies_in 0x370 0x482 c) hebrew one (range_columns 1 0x370 0x482 c refl (omega arith))
+    (either (lies_in 0x5D0 0x5EA c) arabic one (hebrew_columns c) (range_columns 4 0x620 0x64A c refl (omega arith)))))
+    common
+
+each_passes : (p : ℕ → Bool) (xs : List ℕ) (k d : ℕ) → list_all p xs ≡ true → k < length xs → p (get_or xs k d) ≡ true
+each_passes p xs k d all within =
+    elim (cases_Bool (p (get_or xs k d))) [
+      | inl passed ↦ passed
+      | inr failed ↦ absurd (both_ways (list_all p xs) (list_all_at p xs k d within failed) all)
+    ]
+
+pub all_printable : (text : List ℕ) (k d : ℕ) → list_all is_printable text ≡ true → k < length text → 1 ≡ columns_of (get_or text k d)
+all_printable text k d all within = printable_column (get_or text k d) (each_passes is_printable text k d all within)
+
+pub all_common : (text : List ℕ) (k d : ℕ) → list_all is_common text ≡ true → k < length text → 1 ≡ columns_of (get_or text k d)
+all_common text k d all within = common_column (get_or text k d) (each_passes is_common text k d all within)

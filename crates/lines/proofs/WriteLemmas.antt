@@ -1,5 +1,11 @@
 -- Writing parts one after another, and writing the items of a list in order.
-use Rattle.std.proofs.Common.{◌≡◌, ℕ, zero, suc, ◌+◌, ◌-◌, ◌<◌, ◌≤◌, ◌==◌, false, min, List, [], ◌∷◌, ◌++◌, length, map, get_or, take}
+use Rattle.std.specs.Char.{is_ascii}
+use Rattle.std.specs.List.{list_all}
+use Rattle.std.proofs.lemmas.Str.{encode_ascii}
+use Rattle.std.proofs.str.Laws.{two}
+use Rattle.std.proofs.lemmas.List.{length-set, take-set-le, take_more_set}
+use Rattle.std.proofs.lemmas.Bool.{and_parts, lt-ltb, ltb-true}
+use Rattle.std.proofs.Common.{◌&&◌, nat_lt, ◌/◌, ◌%◌, set, true, ap₂, ◌≡◌, ℕ, zero, suc, ◌+◌, ◌-◌, ◌<◌, ◌≤◌, ◌==◌, false, min, List, [], ◌∷◌, ◌++◌, length, map, get_or, take}
 use Rattle.std.proofs.Common.{drop, replicate, Option, Some, None, Result, Ok, Err, IfOk, IfErr, IsErrAnd, encode_utf8, encode_utf8_all, if◌then◌else◌, refl, sym, ap, ◌∙◌, arith}
 use Rattle.std.specs.Io.KnownBytes.{Appends}
 use Rattle.std.specs.List.{concat, join_with_byte}
@@ -127,6 +133,35 @@ encoded-part cs at to le =
 
 pub encoded-rest : (cs : List ℕ) (at : ℕ) → encode_utf8_all cs ≡ encode_utf8_all (take at cs) ++ encode_utf8_all (drop at cs)
 encoded-rest cs at = ap encode_utf8_all (sym (take-append-drop at cs)) ∙ encoded-append (take at cs) (drop at cs)
+
+pub encoded-ascii : (cs : List ℕ) → list_all is_ascii cs ≡ true → encode_utf8_all cs ≡ cs
+encoded-ascii [] all = refl
+encoded-ascii (c ∷ cs) all =
+    let parts = and_parts (is_ascii c) (list_all is_ascii cs) all in
+    ap₂ ◌++◌ (encode_ascii c (ltb-true c 128 parts.0)) (encoded-ascii cs parts.1)
+
+-- each character is below a bound that is above the highest one
+pub all_below : (cs : List ℕ) (top bound : ℕ) → ((k : ℕ) → k < length cs → get_or cs k 0 ≤ top) → top < bound → list_all (λ c. nat_lt c bound) cs ≡ true
+all_below [] top bound most less = refl
+all_below (c ∷ cs) top bound most less =
+    ap (λ b. b && list_all (λ d. nat_lt d bound) cs) (lt-ltb c bound (omega (arith, most 0 (omega arith), less)))
+    ∙ all_below cs top bound (λ k within. most (suc k) (omega (arith, within))) less
+
+-- a byte written at an index, and whatever is written after it
+pub put_one : (bytes : List ℕ) (at a b : ℕ) → at + 1 < length bytes → take (at + 1) (set (set bytes at a) (at + 1) b) ≡ take at bytes ++ a ∷ []
+put_one bytes at a b room =
+    take-set-le (at + 1) (set bytes at a) (at + 1) b (omega arith) ∙ take_more_set bytes at a (omega (arith, room))
+
+pub put_two : (bytes : List ℕ) (at a b : ℕ) → at + 1 < length bytes → take (at + 2) (set (set bytes at a) (at + 1) b) ≡ take at bytes ++ a ∷ b ∷ []
+put_two bytes at a b room =
+    let next : at + 2 ≡ at + 1 + 1 = omega arith in
+    ap (λ n. take n (set (set bytes at a) (at + 1) b)) next
+    ∙ take_more_set (set bytes at a) (at + 1) b (omega (arith, room, length-set bytes at a))
+    ∙ ap (λ front. front ++ b ∷ []) (take_more_set bytes at a (omega (arith, room)))
+    ∙ append_assoc (take at bytes) (a ∷ []) (b ∷ [])
+
+pub two_bytes : (c : ℕ) → 128 ≤ c → c < 2048 → encode_utf8 c ≡ (192 + c / 64) ∷ (128 + c % 64) ∷ []
+two_bytes c low high = two c low high
 
 -- the given lists, with a space before each list but the first
 abbrev pub spaced : List (List ℕ) → List (List ℕ)

@@ -19,3 +19,10 @@ is_narrow c = lies_in_any narrow_ranges c
 
 abbrev pub is_wide : ℕ → Bool
 is_wide c = lies_in_any wide_ranges c
+
+-- printable ASCII, and the same with the ranges above and U+05DC
+abbrev pub is_printable : ℕ → Bool
+is_printable c = lies_in 0x20 0x7E c
+
+abbrev pub is_common : ℕ → Bool
+is_common c = is_printable c || (lies_in 0xAE 0x2FF c || (lies_in 0x370 0x482 c || (lies_in 0x5D0 0x5EA c || lies_in 0x620 0x64A c)))

@@ -8,6 +8,7 @@ pub mod Cells
 pub mod CharInfos
 pub mod Clusters
 pub mod Columns
+pub mod Counting
 pub mod Counts
 pub mod Engine
 pub mod Extents
@@ -23,10 +24,11 @@ pub mod Parts
 pub mod Printing
 pub mod Selections
 pub mod Separators
+pub mod Short
 pub mod Showing
 pub mod ShownParts
 pub mod Spans
-pub mod Sums
+pub mod FitsUpTo
 pub mod TabStops
 pub mod Tabs
 pub mod Reordering

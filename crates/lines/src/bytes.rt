@@ -1,13 +1,15 @@
 //! Writes the bytes of a line to a sink as they are produced. Each function writes one part of the line.
 //! `before` is the number of bytes already written, and the returned byte count includes it.
 ghost use Rattle.std.specs.Prelude.{◌≡◌, [], ◌∷◌, ◌++◌, ◌≤◌, ◌&&◌, IfOk, IfErr, if◌then◌else◌};
-ghost use Rattle.std.specs.Prelude.{◌+◌, ◌*◌, ◌<◌, take, codes};
+ghost use Rattle.std.specs.Prelude.{◌+◌, ◌*◌, ◌<◌, ℕ, true, take, codes};
 ghost use Rattle.std.specs.Prelude.{length, map, replicate, encode_utf8, encode_utf8_all, slice_index};
 ghost use Rattle.ucd.specs.Within.{AreWithin};
-ghost use Rattle.std.specs.List.{join_with_byte, slice_range};
+ghost use Rattle.std.specs.Char.{is_ascii};
+ghost use Rattle.std.specs.List.{join_with_byte, list_all, slice_range};
 ghost use Rattle.lines.specs.Bytes.{direction_line, numbers_line, padding, shown_chars, visual_line};
 ghost use Rattle.lines.specs.Bytes.{expanded, ordered_chars};
 ghost use Rattle.lines.specs.Cells.{AreCells};
+ghost use Rattle.lines.specs.Short.{is_short};
 ghost use Rattle.lines.specs.Tabs.{is_tab};
 ghost use Rattle.lines.specs.Writing.{PassedOn, StoppedIn};
 
@@ -72,6 +74,9 @@ pub fn write_chars<W: Sink>(writer: &mut W, before: u64, chars: &[char]) -> Resu
     Ok(written)
 }
 
+// The number of characters that are encoded together if they are ASCII.
+const GROUP: usize = 8;
+
 // Encodes characters as UTF-8 at the front of a buffer, and returns the number of bytes written.
 fn encode(piece: &[char], buffer: &mut [u8]) -> usize
     requires { 4 * length piece.now ≤ length buffer.old }
@@ -79,10 +84,74 @@ fn encode(piece: &[char], buffer: &mut [u8]) -> usize
     ensures bytes { take result buffer.new ≡ encode_utf8_all piece.now }
 {
     let mut len = 0;
+    let mut k = 0;
+    while k + GROUP <= piece.len() {
+        len = encode_group(&piece[k..k + GROUP], buffer, len);
+        k += GROUP;
+    }
+    encode_each(&piece[k..], buffer, len)
+}
+
+// Encodes characters at an index of a buffer, and returns the index after their bytes.
+#[inline(always)] // so that the loops over a group know its length
+fn encode_group(group: &[char], buffer: &mut [u8], at: usize) -> usize
+    requires { at + 4 * length group.now ≤ length buffer.old }
+    ensures within { result ≤ at + 4 * length group.now }
+    ensures bytes { take result buffer.new ≡ take at buffer.old ++ encode_utf8_all group.now }
+{
+    let highest = highest(group);
+    if highest < '\u{80}' {
+        put_ascii(group, buffer, at)
+    } else if highest < '\u{800}' {
+        encode_short(group, buffer, at)
+    } else {
+        encode_each(group, buffer, at)
+    }
+}
+
+// Does the work of `encode_group`, one character after another.
+#[inline(always)]
+fn encode_each(piece: &[char], buffer: &mut [u8], at: usize) -> usize
+    requires { at + 4 * length piece.now ≤ length buffer.old }
+    ensures within { result ≤ at + 4 * length piece.now }
+    ensures bytes { take result buffer.new ≡ take at buffer.old ++ encode_utf8_all piece.now }
+{
+    let mut len = at;
     for c in piece {
         len = encode_at(*c, buffer, len);
     }
     len
+}
+
+// Returns the highest character. The loop has no branches, so that the compiler compares several characters
+// at a time.
+#[inline(always)]
+fn highest(piece: &[char]) -> char
+    ensures { (k : ℕ) → k < length piece.now → slice_index piece.now k ≤ result }
+{
+    let mut highest = '\0';
+    for c in piece {
+        highest = highest.max(*c);
+    }
+    highest
+}
+
+// Does the work of `encode_group` for ASCII characters.
+#[inline(always)]
+fn put_ascii(piece: &[char], buffer: &mut [u8], at: usize) -> usize
+    requires ascii { list_all is_ascii piece.now ≡ true }
+    requires room { at + length piece.now ≤ length buffer.old }
+    ensures end { result ≡ at + length piece.now }
+    ensures bytes { take result buffer.new ≡ take at buffer.old ++ encode_utf8_all piece.now }
+{
+    let end = at + piece.len();
+    let part = &mut buffer[at..end];
+    let mut k = 0;
+    while k < piece.len() {
+        part[k] = piece[k] as u8;
+        k += 1;
+    }
+    end
 }
 
 // Encodes a character at an index of a buffer, and returns the index after its bytes.
@@ -93,6 +162,41 @@ fn encode_at(c: char, buffer: &mut [u8], at: usize) -> usize
 {
     let mut bytes = [0; 4];
     put_few(buffer, at, c.encode_utf8(&mut bytes).as_bytes())
+}
+
+// Does the work of `encode_group` for characters that have one or two bytes.
+#[inline(always)]
+fn encode_short(piece: &[char], buffer: &mut [u8], at: usize) -> usize
+    requires short { list_all is_short piece.now ≡ true }
+    requires room { at + 2 * length piece.now ≤ length buffer.old }
+    ensures within { result ≤ at + 2 * length piece.now }
+    ensures bytes { take result buffer.new ≡ take at buffer.old ++ encode_utf8_all piece.now }
+{
+    let mut len = at;
+    for c in piece {
+        len = put_short(*c, buffer, len);
+    }
+    len
+}
+
+// Encodes a character that has one or two bytes at an index of a buffer, and returns the index after them.
+// Always writes two bytes, which is faster than a branch. What is after the returned index does not matter.
+#[inline(always)]
+fn put_short(c: char, buffer: &mut [u8], at: usize) -> usize
+    requires short { c < 0x800 }
+    requires room { at + 2 ≤ length buffer.old }
+    ensures within { result ≤ at + 2 }
+    ensures bytes { take result buffer.new ≡ take at buffer.old ++ encode_utf8 c }
+{
+    let code = c as u32;
+    let (first, end) = if code < 0x80 {
+        (code, at + 1)
+    } else {
+        (0xc0 + code / 64, at + 2)
+    };
+    buffer[at] = first as u8;
+    buffer[at + 1] = (0x80 + code % 64) as u8;
+    end
 }
 
 // Writes a byte at an index of a buffer, and returns the next index.

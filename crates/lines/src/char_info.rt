@@ -1,5 +1,6 @@
 //! What filling needs to know about each character of a paragraph.
-ghost use Rattle.std.specs.Prelude.{◌≡◌, ◌+◌, ◌^◌, ◌<◌, ◌≤◌, false, Bool, length, map, OnOk};
+ghost use Rattle.std.specs.Prelude.{◌≡◌, ◌+◌, ◌^◌, ◌<◌, ◌≤◌, ℕ, false, Bool, length, map, slice_index, OnOk};
+ghost use Rattle.std.specs.List.{list_all};
 ghost use Rattle.ucd.specs.Properties.{properties_of};
 ghost use Rattle.ucd.specs.declared.tables.Tables.{Tables};
 ghost use Rattle.breaks.specs.Bases.{resolved};
@@ -8,7 +9,9 @@ ghost use Rattle.lines.specs.Bare.{with_ends};
 ghost use Rattle.lines.specs.BareInfos.{bare_infos};
 ghost use Rattle.lines.specs.Clusters.{cluster_ends};
 ghost use Rattle.lines.specs.CharInfos.{columns_of, info, infos_of, trailing_by};
-ghost use Rattle.lines.specs.KnownWidths.{is_narrow, is_wide};
+ghost use Rattle.lines.specs.Clusters.{lies_in};
+ghost use Rattle.lines.specs.KnownWidths.{is_common, is_narrow, is_printable, is_wide};
+ghost use Rattle.lines.specs.Filling.{is_must};
 ghost use Rattle.lines.specs.Paragraphs.{IsLookedUp};
 ghost use Rattle.lines.specs.Tabs.{is_tab, to_stop};
 
@@ -212,6 +215,57 @@ impl Trailing {
     }
 }
 
+/// Returns whether a line must end after a character with this break mark.
+pub(crate) fn is_must(mark: Mark) -> bool
+    ensures { result ≡ is_must mark }
+{
+    mark == Mark::Must
+}
+
+/// What some characters that follow one another have together.
+#[derive(Clone, Copy)]
+pub(crate) struct Sum {
+    /// Their columns, if there is no tab among them that moves to a tab stop.
+    pub(crate) columns: u32,
+    pub(crate) has_tab: bool,
+    /// Whether a line must end after one of them.
+    pub(crate) has_must: bool,
+}
+
+impl Sum {
+    ghost use Rattle.std.specs.Prelude.{ℕ, ◌+◌, ◌*◌, ◌≤◌, false, fold};
+    ghost use Rattle.std.specs.List.{list_any};
+    ghost use Rattle.lines.specs.CharInfos.{advance, moves};
+    ghost use Rattle.lines.specs.Filling.{is_must};
+    ghost use Rattle.lines.specs.declared.engine.TheConstants.{PARAGRAPH_LIMIT};
+
+    /// Adds up the columns of some characters.
+    #[inline(always)] // so that a group of known length needs no loop
+    pub(crate) fn of(piece: &[CharInfo]) -> Sum
+        requires { length piece.now ≤ PARAGRAPH_LIMIT }
+        ensures columns { result.has_tab ≡ false
+            → (before : ℕ) → fold advance before piece.now ≡ before + result.columns }
+        ensures most { result.columns ≤ 255 * length piece.now }
+        ensures tab { result.has_tab ≡ list_any (λ p. moves p.trailing) piece.now }
+        ensures must { result.has_must ≡ list_any (λ p. is_must p.mark) piece.now }
+    {
+        // The loop has no branches, so that the compiler adds up several characters at a time.
+        let mut columns = 0;
+        let mut has_tab = false;
+        let mut has_must = false;
+        for info in piece {
+            columns += u32::from(info.columns);
+            has_tab |= info.trailing.moves();
+            has_must |= is_must(info.mark);
+        }
+        Sum {
+            columns,
+            has_tab,
+            has_must,
+        }
+    }
+}
+
 /// Replaces the contents of `infos` with the info for each character of a paragraph. Each `ends_cluster` is
 /// `false`.
 pub(crate) fn fill_infos(
@@ -258,8 +312,65 @@ fn put_infos(
     }
 }
 
+// The number of characters that are tested together.
+const GROUP: usize = 8;
+
 // Overwrites `infos` if there are no tab stops.
 fn put_without_tabs(
+    tables: &Tables,
+    text: &[char],
+    properties: &[Properties],
+    marks: &[Mark],
+    infos: &mut [CharInfo],
+)
+    requires marks { length marks.now ≡ length text.now }
+    requires properties { properties.now ≡ map (properties_of tables.now) text.now }
+    requires len { length infos.old ≡ length text.now }
+    ensures { infos.new ≡ bare_infos tables.now 0 text.now marks.now }
+{
+    let mut k = 0;
+    while k + GROUP <= text.len() {
+        let end = k + GROUP;
+        put_group(
+            tables,
+            &text[k..end],
+            &properties[k..end],
+            &marks[k..end],
+            &mut infos[k..end],
+        );
+        k = end;
+    }
+    put_each(
+        tables,
+        &text[k..],
+        &properties[k..],
+        &marks[k..],
+        &mut infos[k..],
+    );
+}
+
+#[inline(always)] // so that the loops over a group know its length
+fn put_group(
+    tables: &Tables,
+    text: &[char],
+    properties: &[Properties],
+    marks: &[Mark],
+    infos: &mut [CharInfo],
+)
+    requires marks { length marks.now ≡ length text.now }
+    requires properties { properties.now ≡ map (properties_of tables.now) text.now }
+    requires len { length infos.old ≡ length text.now }
+    ensures { infos.new ≡ bare_infos tables.now 0 text.now marks.now }
+{
+    if are_printable(text) || are_common(text) {
+        put_narrow(tables, text, properties, marks, infos);
+    } else {
+        put_each(tables, text, properties, marks, infos);
+    }
+}
+
+#[inline(always)]
+fn put_each(
     _tables: &Tables,
     text: &[char],
     properties: &[Properties],
@@ -278,4 +389,60 @@ fn put_without_tabs(
         infos[k] = CharInfo::of_other(columns, properties[k], marks[k]);
         k += 1;
     }
+}
+
+// Does the work of `put_each` for characters that have one column.
+#[inline(always)]
+fn put_narrow(
+    _tables: &Tables,
+    _text: &[char],
+    properties: &[Properties],
+    marks: &[Mark],
+    infos: &mut [CharInfo],
+)
+    requires narrow { (k : ℕ) → k < length _text.now → 1 ≡ columns_of (slice_index _text.now k) }
+    requires marks { length marks.now ≡ length _text.now }
+    requires properties { properties.now ≡ map (properties_of _tables.now) _text.now }
+    requires len { length infos.old ≡ length _text.now }
+    ensures { infos.new ≡ bare_infos _tables.now 0 _text.now marks.now }
+{
+    let mut k = 0;
+    while k < properties.len() {
+        infos[k] = CharInfo::of_other(1, properties[k], marks[k]);
+        k += 1;
+    }
+}
+
+// The loops of these two functions have no branches, so that the compiler tests several characters at a time.
+
+#[inline(always)]
+fn are_printable(text: &[char]) -> bool
+    ensures { result ≡ list_all is_printable text.now }
+{
+    let mut all = true;
+    for c in text {
+        all &= is_within(*c, ' ', '~');
+    }
+    all
+}
+
+// Returns whether all characters are printable ASCII, or characters for which `is_narrow` is true, or U+05DC.
+#[inline(always)]
+fn are_common(text: &[char]) -> bool
+    ensures { result ≡ list_all is_common text.now }
+{
+    let mut all = true;
+    for c in text {
+        all &= is_within(*c, ' ', '~')
+            | (is_within(*c, '\u{AE}', '\u{2FF}')
+                | (is_within(*c, '\u{370}', '\u{482}')
+                    | (is_within(*c, '\u{5D0}', '\u{5EA}') | is_within(*c, '\u{620}', '\u{64A}'))));
+    }
+    all
+}
+
+fn is_within(c: char, first: char, last: char) -> bool
+    ensures { result ≡ lies_in first last c }
+{
+    (first <= c) & (c <= last)
 }

@@ -1,16 +1,17 @@
 //! Finds where the lines of a paragraph start.
-ghost use Rattle.std.specs.Prelude.{◌≡◌, ◌+◌, ◌||◌, ◌<◌, ◌≤◌, ◌^◌, List, length, drop, false, IsTrue};
-ghost use Rattle.std.specs.Prelude.{None, Some, IfOk, IfSome, OnErr, OnOk, if◌then◌else◌};
+ghost use Rattle.std.specs.Prelude.{◌≡◌, ◌+◌, ◌&&◌, ◌||◌, ◌<◌, ◌≤◌, ℕ, suc, Bool, List, length, drop};
+ghost use Rattle.std.specs.Prelude.{false, IsTrue, None, IfOk, IfSome, OnErr, OnOk};
+ghost use Rattle.bidi.specs.Brackets.{greatest};
 ghost use Rattle.lines.specs.Bare.{AreAlike, with_ends};
 ghost use Rattle.lines.specs.Clusters.{cluster_ends};
-ghost use Rattle.lines.specs.Filling.{by_break, by_cluster, first_end, line_end};
-ghost use Rattle.lines.specs.Filling.{is_break, is_must, line_len, line_starts_of, stop};
+ghost use Rattle.lines.specs.Filling.{by_break, cluster_ends_at, first_end, fits_to, is_break, line_end};
+ghost use Rattle.lines.specs.Filling.{line_len, line_starts_of, may_end, stop};
+ghost use Rattle.lines.specs.FitsUpTo.{FitsUpTo};
 ghost use Rattle.lines.specs.Kept.{AreStarts};
-ghost use Rattle.lines.specs.Sums.{sums_after};
 ghost use Rattle.lines.specs.declared.char_info.CharInfo.{CharInfo};
 ghost use Rattle.lines.specs.declared.engine.TheConstants.{PARAGRAPH_LIMIT};
 
-use crate::char_info::{CharInfo, Trailing};
+use crate::char_info::{CharInfo, Sum, is_must};
 use crate::clusters::ClusterBuffers;
 use crate::counts::Counted;
 use breaks::Mark;
@@ -89,17 +90,8 @@ fn broken_len(rest: &[CharInfo], width: u16, nobreak: bool) -> Option<usize>
     if nobreak {
         return Some(first_must(rest) + 1);
     }
-    match fitting_ends(rest, width) {
-        (Some(k), _) => Some(k + 1),
-        (None, _) => None,
-    }
-}
-
-// Returns whether a line must end after a character with this break mark.
-fn is_must(mark: Mark) -> bool
-    ensures { result ≡ is_must mark }
-{
-    mark == Mark::Must
+    let k = last_break(rest, fitting_len(rest, width))?;
+    Some(k + 1)
 }
 
 // Returns whether a line may or must end after a character with this break mark.
@@ -152,85 +144,103 @@ fn line_end(rest: &[CharInfo], width: u16) -> usize
     ensures end { result ≡ line_end width rest.now }
     ensures within { result < length rest.now }
 {
-    match fitting_ends(rest, width) {
-        (Some(k), _) => k,
-        (None, Some(k)) => k,
-        (None, None) => first_end(rest),
+    let len = fitting_len(rest, width);
+    if let Some(k) = last_break(rest, len) {
+        return k;
+    }
+    match last_cluster_end(rest, len) {
+        Some(k) => k,
+        None => first_end(rest),
     }
 }
 
-// Reads the characters that fit in the first line, up to the first one after which the line must end. Returns
-// the index of the last one after which the line may end, and of the last one after which a cluster ends.
-fn fitting_ends(rest: &[CharInfo], width: u16) -> (Option<usize>, Option<usize>)
-    requires { (0 < length rest.now) × (length rest.now ≤ PARAGRAPH_LIMIT) }
-    ensures by_break { result.0 ≡ by_break width rest.now }
-    ensures by_cluster { result.1 ≡ by_cluster width rest.now }
+// Returns the index of the last of the first `len` characters after which the line may end.
+fn last_break(rest: &[CharInfo], len: usize) -> Option<usize>
+    requires { len ≤ length rest.now }
+    ensures { result ≡ greatest (may_end rest.now) len }
 {
-    let mut by_break = None;
-    let mut by_cluster = None;
-    let mut sums = Sums {
-        columns: 0,
-        shown: 0,
-    };
+    let mut k = len;
+    while k > 0 {
+        k -= 1;
+        if is_break(rest[k].mark) {
+            return Some(k);
+        }
+    }
+    None
+}
+
+// Returns the index of the last of the first `len` characters after which a cluster ends.
+fn last_cluster_end(rest: &[CharInfo], len: usize) -> Option<usize>
+    requires { len ≤ length rest.now }
+    ensures { result ≡ greatest (cluster_ends_at rest.now) len }
+{
+    let mut k = len;
+    while k > 0 {
+        k -= 1;
+        if rest[k].ends_cluster {
+            return Some(k);
+        }
+    }
+    None
+}
+
+// Returns the number of characters at the start of the paragraph up to each of which the first line fits, and
+// after none of which it must end, except after the last one.
+fn fitting_len(rest: &[CharInfo], width: u16) -> usize
+    requires { (0 < length rest.now) × (length rest.now ≤ PARAGRAPH_LIMIT) }
+    ensures last { (test : ℕ → Bool) → greatest (λ k. test k && fits_to width rest.now k)
+        (suc (stop rest.now)) ≡ greatest test result }
+    ensures within { result ≤ length rest.now }
+{
+    let width = width as usize;
+    let (len, columns) = fitting_groups(rest, width);
+    fitting_after(rest, width, len, columns)
+}
+
+// The number of characters whose columns are added together.
+const GROUP: usize = 8;
+
+// Reads groups of characters as long as they fit in the first line, which must end after none of them.
+// Returns the number of characters and their columns.
+fn fitting_groups(rest: &[CharInfo], width: usize) -> (usize, usize)
+    requires { length rest.now ≤ PARAGRAPH_LIMIT }
+    ensures { FitsUpTo width rest.now result.0 result.1 }
+{
+    let mut columns = 0;
     let mut k = 0;
+    // Most characters have at least one column, so a group does not fit in less than `GROUP` columns.
+    while k + GROUP <= rest.len() && columns + GROUP <= width {
+        let sum = Sum::of(&rest[k..k + GROUP]);
+        let next = columns + sum.columns as usize;
+        if sum.has_tab | (sum.has_must | (next > width)) {
+            break;
+        }
+        columns = next;
+        k += GROUP;
+    }
+    (k, columns)
+}
+
+// Does the work of `fitting_len`, given the number of characters already read, and their columns.
+fn fitting_after(rest: &[CharInfo], width: usize, len: usize, columns: usize) -> usize
+    requires some { (0 < length rest.now) × (length rest.now ≤ PARAGRAPH_LIMIT) }
+    requires fits { FitsUpTo width rest.now len columns }
+    ensures last { (test : ℕ → Bool) → greatest (λ k. test k && fits_to width rest.now k)
+        (suc (stop rest.now)) ≡ greatest test result }
+    ensures within { result ≤ length rest.now }
+{
+    let mut columns = columns;
+    let mut k = len;
     while k < rest.len() {
         let info = rest[k];
-        sums = sums.after(info);
-        if sums.shown > width as usize {
-            return (by_break, by_cluster);
-        }
-        by_cluster = later(by_cluster, k, info.ends_cluster);
-        if is_break(info.mark) {
-            by_break = Some(k);
-            if is_must(info.mark) {
-                return (by_break, by_cluster);
-            }
+        columns = info.advance(columns);
+        if columns > width && !info.trailing.may_trail() {
+            return k;
         }
         k += 1;
-    }
-    (by_break, by_cluster)
-}
-
-// The width of a part of a line, and the width of its shown part, in columns.
-#[derive(Clone, Copy)]
-struct Sums {
-    columns: usize,
-    shown: usize,
-}
-
-impl Sums {
-    // Returns the sums after one more character.
-    fn after(self, info: CharInfo) -> Sums
-        requires { self.columns < 2 ^ 40 }
-        ensures sums { result ≡ sums_after self info }
-        ensures most { result.columns ≤ self.columns + 255 }
-    {
-        // Most characters are in no tail, and are no tabs.
-        if info.trailing == Trailing::No {
-            let columns = self.columns + info.columns as usize;
-            return Sums {
-                columns,
-                shown: columns,
-            };
-        }
-        let columns = info.advance(self.columns);
-        if info.trailing.may_trail() {
-            Sums {
-                columns,
-                shown: self.shown,
-            }
-        } else {
-            Sums {
-                columns,
-                shown: columns,
-            }
+        if is_must(info.mark) {
+            return k;
         }
     }
-}
-
-// Returns `Some(k)` if `passes` is true, or else `before`.
-fn later(before: Option<usize>, k: usize, passes: bool) -> Option<usize>
-    ensures { result ≡ if passes then Some k else before }
-{
-    if passes { Some(k) } else { before }
+    k
 }

@@ -25,7 +25,7 @@ ghost use Rattle.lines.specs.declared.char_info.CharInfo.{CharInfo};
 ghost use Rattle.lines.specs.declared.engine.TheConstants.{PARAGRAPH_LIMIT};
 
 use crate::buffers::LineBuffers;
-use crate::char_info::CharInfo;
+use crate::char_info::{CharInfo, Sum};
 use crate::counts::Count;
 use crate::fill::Shown;
 use crate::options::Options;
@@ -482,23 +482,12 @@ fn columns(piece: &[CharInfo]) -> u32
     ensures sum { result ≡ columns piece.now }
     ensures most { result ≤ 255 * length piece.now }
 {
-    if has_tab(piece) {
+    let sum = Sum::of(piece);
+    if sum.has_tab {
         columns_with_tabs(piece)
     } else {
-        columns_without_tabs(piece)
+        sum.columns
     }
-}
-
-// Returns whether a part of a line has a tab that moves to a tab stop.
-fn has_tab(piece: &[CharInfo]) -> bool
-    ensures { result ≡ list_any (λ p. moves p.trailing) piece.now }
-{
-    // The loop has no branches, so that the compiler tests many characters at a time.
-    let mut found = false;
-    for info in piece {
-        found |= info.trailing.moves();
-    }
-    found
 }
 
 fn columns_with_tabs(piece: &[CharInfo]) -> u32
@@ -509,19 +498,6 @@ fn columns_with_tabs(piece: &[CharInfo]) -> u32
     let mut columns = 0;
     for info in piece {
         columns = info.advance(columns as usize) as u32;
-    }
-    columns
-}
-
-fn columns_without_tabs(piece: &[CharInfo]) -> u32
-    requires limit { length piece.now ≤ PARAGRAPH_LIMIT }
-    requires plain { list_any (λ p. moves p.trailing) piece.now ≡ false }
-    ensures sum { result ≡ columns piece.now }
-    ensures most { result ≤ 255 * length piece.now }
-{
-    let mut columns = 0;
-    for info in piece {
-        columns += u32::from(info.columns);
     }
     columns
 }

@@ -4,10 +4,11 @@ use Rattle.std.proofs.Common.{◌≡◌, ℕ, zero, suc, ◌+◌, ◌-◌, ◌%�
 use Rattle.std.proofs.Common.{get_or, set, map, take, drop, reverse, Option, Some, None, unwrap_or, if◌then◌else◌}
 use Rattle.std.proofs.Common.{refl, sym, ap, ap₂, subst, ◌∙◌, inl, inr, arith, append_assoc, zero-add}
 use borrow.Rule.Slice.PartMut.{put_mid, same_len_mid}
-use Rattle.std.specs.List.{flat_map, fold, list_any, range_with_len}
+use Rattle.std.specs.List.{flat_map, fold, list_all, list_any, range_with_len}
+use Rattle.std.proofs.lemmas.List.Folds.{list_all_at}
 use Rattle.std.specs.List.Sorted.{IsPermutation}
 use Rattle.std.proofs.lemmas.Bool.{cases_Bool, cases_eq, cases_lt, cond-true, cond-false, and_from, and_parts, both_ways, eqb-true, eq-eqb, leb-true, leb-false, ne_eqb, or_left, or_right}
-use Rattle.std.proofs.lemmas.List.{append-nil, drop-drop, drop_all, get_or-take, length-append, length-drop, length-map, length-reverse, length-set, length-take-le, map-append}
+use Rattle.std.proofs.lemmas.List.{append-nil, drop-drop, drop_all, get_or-drop, get_or-take, length-append, length-drop, length-map, length-reverse, length-set, length-take-le, map-append}
 use Rattle.std.proofs.lemmas.List.{reverse-append, reverse-reverse, take-append-drop, take-take, take_all, take_more, take_more_set}
 use Rattle.std.proofs.lemmas.List.Concat.{flat_map-append}
 use Rattle.std.proofs.lemmas.List.FromFn.{length-range_with_len}
@@ -544,6 +545,27 @@ AlongRun-next levels start level «end» w below is = record {
   level_is = w.level_is;
   so_far = omega (arith, w.so_far, w.above, same_more levels level «end» below is);
 }
+
+-- the next m characters have the same level
+pub AlongRun-group : (levels : List ℕ) (start level «end» m : ℕ) → AlongRun levels start level «end» → «end» + m ≤ length levels
+    → ((j : ℕ) → j < m → level ≡ get_or levels («end» + j) 0) → AlongRun levels start level («end» + m)
+AlongRun-group levels start level «end» zero w within same =
+    let none : «end» ≡ «end» + 0 = omega arith in
+    subst (AlongRun levels start level) none w
+AlongRun-group levels start level «end» (suc m) w within same =
+    let more : «end» + m + 1 ≡ «end» + suc m = omega arith in
+    let before : AlongRun levels start level («end» + m) = AlongRun-group levels start level «end» m w (omega (arith, within)) (λ j below. same j (omega (arith, below))) in
+    subst (AlongRun levels start level) more (AlongRun-next levels start level («end» + m) before (omega (arith, within)) (same m (omega arith)))
+
+pub same_in_group : (levels : List ℕ) (level at m j : ℕ) → at + m ≤ length levels → j < m → list_all (λ one. one == level) (take m (drop at levels)) ≡ true
+    → level ≡ get_or levels (at + j) 0
+same_in_group levels level at m j within below all =
+    let same : get_or (take m (drop at levels)) j 0 ≡ get_or levels (at + j) 0 = get_or-take m (drop at levels) j 0 below ∙ get_or-drop at levels j 0 in
+    elim (cases_Bool (get_or (take m (drop at levels)) j 0 == level)) [
+      | inl passed ↦ sym (eqb-true (get_or (take m (drop at levels)) j 0) level passed) ∙ same
+      | inr failed ↦ absurd (both_ways (list_all (λ one. one == level) (take m (drop at levels)))
+          (list_all_at (λ one. one == level) (take m (drop at levels)) j 0 (omega (arith, below, within, length-take-le m (drop at levels) (omega (arith, within, length-drop at levels)))) failed) all)
+    ]
 
 pub AlongRun-end : (levels : List ℕ) (start level «end» : ℕ) → AlongRun levels start level «end» → («end» < length levels → level ≡ get_or levels «end» 0 → ⊥)
     → «end» - start ≡ level_run_len levels start

@@ -3,7 +3,7 @@ ghost use Rattle.std.specs.Prelude.{◌≡◌, ◌<◌, ◌≤◌, ◌==◌, ◌
 ghost use Rattle.std.specs.Prelude.{ℕ, Bool, true, false, List, [], length, map, take, drop, slice_index};
 ghost use Rattle.std.specs.Prelude.{unwrap_or, IfSome, None};
 ghost use Rattle.std.specs.Prelude.{◌+◌, reverse};
-ghost use Rattle.std.specs.List.{flat_map, position_or_len, prefix_len, range_with_len};
+ghost use Rattle.std.specs.List.{flat_map, list_all, position_or_len, prefix_len, range_with_len};
 ghost use Rattle.std.specs.List.Sorted.{IsPermutation};
 ghost use Rattle.ucd.specs.Within.{AreWithin};
 ghost use Rattle.ucd.specs.declared.bidi_class.BidiClass.{BidiClass};
@@ -151,6 +151,9 @@ fn find_runs(levels: &[u8], items: &mut [u32]) -> (usize, u8, Option<u8>)
     (count, highest, lowest)
 }
 
+// The number of levels that are tested together.
+const GROUP: usize = 8;
+
 /// Returns the length of the level run that starts at an index.
 pub fn level_run_len(levels: &[u8], start: usize) -> usize
     requires { start < length levels.now }
@@ -159,10 +162,26 @@ pub fn level_run_len(levels: &[u8], start: usize) -> usize
 {
     let level = levels[start];
     let mut end = start + 1;
+    while end + GROUP <= levels.len() && are_all(&levels[end..end + GROUP], level) {
+        end += GROUP;
+    }
     while end < levels.len() && levels[end] == level {
         end += 1;
     }
     end - start
+}
+
+// Returns whether all levels are `level`. The loop has no branches, so that the compiler tests several levels
+// at a time.
+#[inline(always)]
+fn are_all(levels: &[u8], level: u8) -> bool
+    ensures { result ≡ list_all (λ one. one == level) levels.now }
+{
+    let mut all = true;
+    for one in levels {
+        all &= *one == level;
+    }
+    all
 }
 
 // Replaces the starts of runs at the front of a list with the logical positions of all their characters.

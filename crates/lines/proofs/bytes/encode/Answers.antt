@@ -1,10 +1,22 @@
-use Rattle.std.proofs.Common.{◌++◌, encode_utf8, ap, sym, ◌∙◌, arith}
-use Rattle.lines.proofs.WriteLemmas.{encoded-more}
+use Rattle.std.proofs.Common.{◌≡◌, ◌+◌, ◌-◌, ◌++◌, drop, length, take, encode_utf8_all, ap, sym, ◌∙◌, arith}
+use Rattle.std.proofs.lemmas.List.{length-drop, length-take-le, take_all}
+use Rattle.lines.proofs.WriteLemmas.{encoded-part, encoded-rest}
 use Rattle.lines.proofs.bytes.encode.Goals as goal
 
-pub loop-c-preserved : goal.loop-c-preserved
-loop-c-preserved c = record {
-  within = omega (arith, c.loop-c.invariant.within, c.encode_at-len.ensures.within);
-  bytes_are = c.encode_at-len.ensures.bytes ∙ ap (λ front. front ++ encode_utf8 c.c-item.result) c.loop-c.invariant.bytes_are
-      ∙ sym (encoded-more c.args.piece.now c.loop-c.c-index c.c-item.result c.loop-c-test.true c.c-item.is);
-}
+pub loop-k-preserved : goal.loop-k-preserved
+loop-k-preserved c =
+    let k = c.loop-k.k in
+    record {
+      read = c.loop-k-test.true;
+      within = omega (arith, c.loop-k.invariant.within, c.encode_group-len.ensures.within, length-take-le (k + 8 - k) (drop k c.args.piece.now) (omega (arith, c.loop-k-test.true, length-drop k c.args.piece.now)));
+      bytes_are = c.encode_group-len.ensures.bytes ∙ ap (λ bytes. bytes ++ encode_utf8_all (take (k + 8 - k) (drop k c.args.piece.now))) c.loop-k.invariant.bytes_are
+          ∙ sym (encoded-part c.args.piece.now k (k + 8) (omega arith));
+    }
+
+pub returns-clause-bytes : goal.returns-clause-bytes
+returns-clause-bytes c =
+    let piece = c.args.piece.now in
+    let k = c.loop-k.k in
+    let rest : take (length piece - k) (drop k piece) ≡ drop k piece = take_all (length piece - k) (drop k piece) (omega (arith, length-drop k piece)) in
+    c.encode_each.ensures.bytes ∙ ap (λ bytes. bytes ++ encode_utf8_all (take (length piece - k) (drop k piece))) c.loop-k.invariant.bytes_are
+    ∙ ap (λ cs. encode_utf8_all (take k piece) ++ encode_utf8_all cs) rest ∙ sym (encoded-rest piece k)

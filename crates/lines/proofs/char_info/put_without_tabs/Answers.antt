@@ -1,21 +1,37 @@
-use Rattle.std.proofs.Common.{◌≡◌, ◌∙◌, get_or, refl, ap, sym, arith}
-use Rattle.std.proofs.lemmas.List.{get_or-map}
+use Rattle.std.proofs.Common.{◌≡◌, ◌+◌, ◌-◌, ◌∙◌, drop, take, length, ap, sym, subst, arith}
+use Rattle.std.proofs.lemmas.List.{drop-map, length-map, take-map}
+use borrow.Rule.Slice.PartMut.{put_mid}
 use Rattle.ucd.specs.Properties.{properties_of}
-use Rattle.breaks.specs.declared.mark.Mark.TheVariants.{Never}
-use Rattle.lines.proofs.BareLemmas.{PlacesPut-end, PlacesPut-next}
+use Rattle.lines.specs.BareInfos.{bare_infos}
+use Rattle.lines.proofs.BareLemmas.{PlacesPut, PlacesPut-group}
 use Rattle.lines.proofs.char_info.put_without_tabs.Goals as goal
+
+pub put_group-requires-clause-properties : goal.put_group-requires-clause-properties
+put_group-requires-clause-properties c =
+    let look = properties_of c.args.tables.now in
+    let k = c.loop-k.k in
+    ap (λ ps. take (k + 8 - k) (drop k ps)) c.requires.properties
+    ∙ ap (take (k + 8 - k)) (drop-map look k c.args.text.now)
+    ∙ take-map look (k + 8 - k) (drop k c.args.text.now)
 
 pub loop-k-preserved : goal.loop-k-preserved
 loop-k-preserved c =
-    let tables = c.args._tables.now in
-    let text = c.args.text.now in
     let k = c.loop-k.k in
-    let one = c.index-properties-k.result in
-    let looked : one ≡ properties_of tables c.index-text-k.result =
-    c.index-properties-k.is ∙ ap (λ ps. get_or ps k one) c.requires.properties
-    ∙ get_or-map (properties_of tables) text k c.index-text-k.result one c.loop-k-test.true ∙ ap (properties_of tables) (sym c.index-text-k.is) in
-    PlacesPut-next tables 0 text c.args.marks.now c.loop-k.infos k c.index-text-k.result _ Never c.of_other.result c.loop-k.invariant c.loop-k-test.true c.requires.marks
-    c.index-text-k.is refl (c.of_other.ensures tables 0 c.index-text-k.result c.columns-columns.ensures.value looked refl)
+    let few : k + 8 - k ≡ 8 = omega arith in
+    let text = c.args.text.now in
+    let marks = c.args.marks.now in
+    let piece = c.put_group.new.infos in
+    let is : piece ≡ bare_infos c.args.tables.now 0 (take 8 (drop k text)) (take 8 (drop k marks)) =
+    subst (λ n. piece ≡ bare_infos c.args.tables.now 0 (take n (drop k text)) (take n (drop k marks))) few c.put_group.ensures in
+    subst (λ n. PlacesPut c.args.tables.now 0 text marks (put_mid k n c.loop-k.infos piece) (k + 8)) (sym few)
+    (PlacesPut-group c.args.tables.now 0 text marks c.loop-k.infos piece k 8 c.loop-k.invariant c.loop-k-test.true c.requires.marks is)
 
-pub returns : goal.returns
-returns c = PlacesPut-end _ _ _ _ _ _ c.loop-k.invariant (omega (arith, c.loop-k-test.false))
+pub put_each-requires-clause-properties : goal.put_each-requires-clause-properties
+put_each-requires-clause-properties c =
+    let look = properties_of c.args.tables.now in
+    let k = c.loop-k.k in
+    let size : length c.args.properties.now ≡ length c.args.text.now = ap length c.requires.properties ∙ length-map c.args.text.now look in
+    ap (λ n. take (n - k) (drop k c.args.properties.now)) size
+    ∙ ap (λ ps. take (length c.args.text.now - k) (drop k ps)) c.requires.properties
+    ∙ ap (take (length c.args.text.now - k)) (drop-map look k c.args.text.now)
+    ∙ take-map look (length c.args.text.now - k) (drop k c.args.text.now)
