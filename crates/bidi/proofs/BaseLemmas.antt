@@ -1,7 +1,11 @@
 -- One step of the search for the first strong character outside all isolates.
-use Rattle.std.proofs.Common.{◌≡◌, ℕ, ◌+◌, ◌-◌, ◌<◌, true, List, length, Option, Some, None, is_some, if◌then◌else◌, sym, ap, ◌∙◌, inl, inr}
+use Rattle.std.proofs.Common.{◌≡◌, ℕ, ◌+◌, ◌-◌, ◌<◌, true, List, length, map, get_or, Option, Some, None, is_some, if◌then◌else◌, sym, ap, ◌∙◌, inl, inr}
 use Rattle.std.proofs.lemmas.Bool.{cond-true, cond-false, cases_Bool}
+use Rattle.std.proofs.lemmas.List.{get_or-map}
 use Rattle.ucd.specs.declared.bidi_class.BidiClass.{BidiClass}
+use Rattle.ucd.specs.declared.bidi_class.BidiClass.TheVariants.{ON}
+use Rattle.ucd.specs.declared.tables.Tables.{Tables}
+use Rattle.ucd.specs.Tables.{class_of}
 use Rattle.ucd.specs.Classes.{class_at, is_initiator, is_pdi, is_strong}
 use Rattle.bidi.specs.Base.{strong_level, first_strong_level}
 use Rattle.bidi.proofs.IsolateLemmas.{Reached, Reached-next, Reached-strong}
@@ -27,3 +31,8 @@ pub stepped : (classes : List BidiClass) (k d : ℕ) (class : BidiClass) (depth 
     → class ≡ class_at classes k → depth ≡ (if is_initiator class then d + 1 else (if is_pdi class then d - 1 else d)) → Reached classes (k + 1) depth
 stepped classes k d class depth within reached deep there e =
     rw (e, there) (Reached-next classes k d within reached (rw there at deep))
+
+-- the class of the character that is decoded next is the class at the index of the search
+pub class_decoded : (tables : Tables) (text : List ℕ) (k c : ℕ) → (k < length text) × (c ≡ get_or text k c) → class_of tables c ≡ class_at (map (class_of tables) text) k
+class_decoded tables text k c decoded =
+    ap (class_of tables) decoded.1 ∙ sym (get_or-map (class_of tables) text k c ON decoded.0)

@@ -1,5 +1,6 @@
 //! The base level of a paragraph (UAX #9, P2, P3 and HL1).
 ghost use Rattle.std.specs.Prelude.{◌≡◌, ◌+◌, ◌-◌, ◌<◌, map, if◌then◌else◌};
+ghost use Rattle.std.specs.Str.{chars};
 ghost use Rattle.ucd.specs.Tables.{class_of};
 ghost use Rattle.bidi.specs.Base.{base_level_of, first_strong_level, strong_level};
 ghost use Rattle.ucd.specs.Classes.{class_in, is_initiator, is_pdi, is_strong};
@@ -37,6 +38,19 @@ pub fn base_level(tables: &Tables, text: &[char], base: Base) -> u8
     base_level_in(&TextClasses { tables, text }, base)
 }
 
+/// Returns the base level of one paragraph of UTF-8 text, 0 or 1. Decodes only the characters up to the one
+/// that decides the level, and none if `base` is `Rtl` or `Ltr`.
+pub fn base_level_in_text(tables: &Tables, text: &str, base: Base) -> u8
+    ensures { result ≡ base_level_of (map (class_of tables.now) (chars text.now)) base }
+{
+    match base {
+        Base::Rtl => 1,
+        Base::Ltr => 0,
+        Base::WeakRtl => first_strong_level_in_text(tables, text).unwrap_or(1),
+        Base::WeakLtr => first_strong_level_in_text(tables, text).unwrap_or(0),
+    }
+}
+
 /// Returns the base level of one paragraph, 0 or 1, from the properties of its characters.
 pub fn base_level_by(properties: &[Properties], base: Base) -> u8
     ensures { result ≡ base_level_of (map class_in properties.now) base }
@@ -71,6 +85,22 @@ pub fn first_strong_level<C: Classes>(classes: &C) -> Option<u8>
     let mut depth = 0;
     for k in 0..classes.len() {
         let class = classes.class_at(k);
+        let level = strong_level(class);
+        if depth == 0 && level.is_some() {
+            return level;
+        }
+        depth = depth_after(class, depth);
+    }
+    None
+}
+
+// Does the work of `first_strong_level` for UTF-8 text.
+fn first_strong_level_in_text(tables: &Tables, text: &str) -> Option<u8>
+    ensures { result ≡ first_strong_level (map (class_of tables.now) (chars text.now)) }
+{
+    let mut depth = 0;
+    for c in text.chars() {
+        let class = tables.bidi_class(c);
         let level = strong_level(class);
         if depth == 0 && level.is_some() {
             return level;

@@ -29,7 +29,9 @@ mod text_cuts;
 mod weak;
 mod weak_table;
 
-pub use base::{Base, base_level, base_level_by, base_level_of, first_strong_level};
+pub use base::{
+    Base, base_level, base_level_by, base_level_in_text, base_level_of, first_strong_level,
+};
 pub use bracket_type::BracketType;
 pub use cuts::{first_cut, is_cut, paragraphs_are_pieces};
 pub use resolver::{Resolver, resolve, resolve_by};

@@ -7,6 +7,7 @@ mod BesideLemmas
 mod CellLemmas
 pub mod ClusterLemmas
 pub mod ColumnLemmas
+mod CountingLemmas
 pub mod EndLemmas
 mod ExtentLemmas
 mod FewLines

@@ -4,6 +4,7 @@ use Rattle.std.specs.List.{enumerate_from, flat_map}
 use Rattle.std.proofs.lemmas.Bool.Decides.{nat_tests}
 use Rattle.std.proofs.lemmas.List.{append-nil}
 use Rattle.ucd.specs.declared.tables.Tables.{Tables}
+use Rattle.breaks.proofs.WalkLemmas.{length-marks}
 use Rattle.breaks.specs.Marks.{marks_of}
 use Rattle.breaks.specs.declared.mark.Mark.{Mark}
 use Rattle.bidi.specs.Levels.{levels_of}
@@ -112,6 +113,13 @@ pub direction_only : (rules : Rules) (width : ℕ) (print : Print) (text : List 
     → (if print.basedir then direction_line (base_of rules text) else []) ≡ paragraph_bytes rules width print text
 direction_only rules width print text skips paragraph marks =
     sym (all_are width print skips (base_of rules text) (tab_width_in rules.tables rules.options) text (lines_of rules width text) (lines_of rules width text) (some_lines rules width text paragraph marks))
+
+-- the same for a base level that was found in the text, which has as many marks as characters
+pub direction_found : (rules : Rules) (width : ℕ) (print : Print) (text : List ℕ) (base : ℕ) → skips_lines print ≡ true → IsParagraph rules text
+    → base ≡ base_of rules text → (if print.basedir then direction_line base else []) ≡ paragraph_bytes rules width print text
+direction_found rules width print text base skips paragraph found =
+    ap (λ b. if print.basedir then direction_line b else []) found
+    ∙ direction_only rules width print text skips paragraph (length-marks rules.tables rules.options.whole_numbers text)
 
 -- if a property holds unless memory ran out, it holds after `Ok`
 pub on_ok : (P : Type 0) (result : Result (Unit {0}) PrintFault) → (¬ (IsErrOf result Memory) → P) → OnOk result P

@@ -2,7 +2,8 @@
 ghost use Rattle.std.specs.Prelude.{◌≡◌, ◌<◌, ◌≤◌, ℕ, [], true, false, length, map};
 ghost use Rattle.std.specs.Prelude.{IfOk, IfErr, IsErrOf, IsTrue, OnErr, OnOk};
 ghost use Rattle.std.specs.Prelude.{if◌then◌else◌};
-ghost use Rattle.device.specs.Device.{Wrote};
+ghost use Rattle.std.specs.Str.{chars};
+ghost use Rattle.device.specs.Device.{StoppedAt, Wrote};
 ghost use Rattle.bidi.specs.Levels.{levels_of};
 ghost use Rattle.lines.specs.Bytes.{direction_line};
 ghost use Rattle.lines.specs.Layouts.{AreWithin, base_of};
@@ -12,7 +13,8 @@ ghost use Rattle.lines.specs.Printing.{FailedAs, skips_lines};
 ghost use Rattle.lines.specs.Separators.{separator_len};
 
 use crate::buffers::LayoutBuffers;
-use crate::bytes::write_base;
+use crate::bytes::{WriteFault, write_base};
+use crate::counting::char_count;
 use crate::counts::Counts;
 use crate::extents::Extents;
 use crate::fill::Fill;
@@ -24,7 +26,7 @@ use crate::reflow::ReflowScratch;
 use crate::separators::ends_line;
 use crate::workspace::Workspace;
 use crate::writing::Form;
-use bidi::{base_level, first_cut, first_cut_in_text, is_cut};
+use bidi::{base_level, base_level_in_text, first_cut, first_cut_in_text, is_cut};
 use breaks::{Mark, marks_are_as_many, paragraphs_end_at_must};
 use device::Sink;
 use std::alloc::{AllocError, Global};
@@ -323,6 +325,42 @@ impl Engine {
         work.write(&rules, text, &form, &mut self.counts, writer)
     }
 
+    /// Writes the base direction of one paragraph of UTF-8 text, if `print.basedir` is set. `print` must
+    /// select no lines. Writes the same bytes as [`Engine::write_paragraph`] at any width, and counts the
+    /// same characters. Fails only if the sink fails.
+    ///
+    /// Allocates nothing. Reads each byte once to count the characters, but decodes only those up to the one
+    /// that decides the direction, which is usually the first one.
+    pub fn write_base_direction<W: Sink>(
+        &mut self,
+        text: &str,
+        print: &Print,
+        writer: &mut W,
+    ) -> Result<(), WriteFault>
+        requires paragraph { IsParagraph (rules_of self.old) (chars text.now) }
+        requires skips { skips_lines print.now ≡ true }
+        ensures ok { (width : ℕ) → OnOk result (Wrote
+            (paragraph_bytes (rules_of self.old) width print.now (chars text.now))
+            (W.state writer.old) (W.state writer.new)) }
+        ensures err { (width : ℕ) → IfErr result (λ fault. StoppedAt fault.written
+            (paragraph_bytes (rules_of self.old) width print.now (chars text.now))
+            (W.state writer.old) (W.state writer.new)) }
+
+        // Even after a failed write, the characters count as analysed. They count as neither filled nor
+        // written.
+        ensures counts { Prints (length (chars text.now)) print.now self.old self.new }
+        ensures at_most { LaysOutAtMost (length (chars text.now)) self.old self.new }
+        ensures analysed { analysed_of self.new
+            ≡ counted (analysed_of self.old) (length (chars text.now)) }
+        ensures skipped { (filled_of self.new ≡ filled_of self.old)
+            × (written_of self.new ≡ written_of self.old) }
+        ensures rules { SameRules self.old self.new }
+    {
+        let base = self.find_base_in_text(text);
+        write_base(writer, 0, print.basedir, base)?;
+        Ok(())
+    }
+
     /// Finds where each line of a paragraph starts at another width, which must not be 0, and how much of
     /// each line is shown. The paragraph must have been laid out with this engine's tables and options.
     pub fn extents(&mut self, alloc: Global, laid: &Laid, width: u16) -> Result<Extents, AllocError>
@@ -396,6 +434,18 @@ impl Engine {
     {
         self.counts.analysed.raise(text.len());
         base_level(&self.tables, text, self.options.base)
+    }
+
+    // Does the work of `find_base` for UTF-8 text.
+    fn find_base_in_text(&mut self, text: &str) -> u8
+        ensures base { result ≡ base_of (rules_of self.old) (chars text.now) }
+        ensures counts { self.new ≡ record self.old {
+          analysed = counted (analysed_of self.old) (length (chars text.now));
+        } }
+        ensures least { analysed_of self.old ≤ analysed_of self.new }
+    {
+        self.counts.analysed.raise(char_count(text));
+        base_level_in_text(&self.tables, text, self.options.base)
     }
 
     // Writes the base direction of a paragraph, if `print.basedir` is set. Counts the characters as analysed.

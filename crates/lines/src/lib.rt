@@ -22,14 +22,16 @@
 //! }
 //! ```
 //!
-//! An engine also writes a paragraph's lines without keeping them (`write_paragraph`), and changes the width
-//! of a layout in place (`extents`, `reflow`). For a text of many paragraphs, see the crate `session`.
+//! An engine also writes a paragraph's lines without keeping them (`write_paragraph`), or its base direction
+//! without decoding it (`write_base_direction`). It changes the width of a layout in place (`extents`,
+//! `reflow`). For a text of many paragraphs, see the crate `session`.
 #![tactic(auto)]
 
 mod buffers;
 mod bytes;
 mod char_info;
 mod clusters;
+mod counting;
 mod counts;
 mod engine;
 mod extents;

@@ -52,8 +52,8 @@ impl Print {
     ghost use Rattle.lines.specs.Asked.{asks_places};
     ghost use Rattle.lines.specs.Printing.{skips_lines};
 
-    // Returns whether at most the base direction is printed, which does not depend on the lines.
-    pub(crate) fn skips_lines(&self) -> bool
+    /// Returns whether at most the base direction is printed, which does not depend on the lines.
+    pub fn skips_lines(&self) -> bool
         ensures { result ≡ skips_lines self.now }
     {
         self.novisual && !self.ltov && !self.vtol && !self.levels

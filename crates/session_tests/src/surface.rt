@@ -4,10 +4,10 @@ ghost use Rattle.std.specs.Prelude.{◌<◌, IfSome};
 ghost use Rattle.lines.specs.Engine.{rules_of, SameRules};
 ghost use Rattle.lines.specs.Layouts.{AreLinesOf, IsLaidOut};
 
+mod directions;
+
 use crate::files::{FILES, engine};
 use std::alloc::{AllocError, Global};
-
-// lines
 
 // Whether a check holds for a new engine. False if its tables cannot be read.
 fn of_engine<F: FnOnce(&mut lines::Engine) -> bool>(alloc: Global, check: F) -> bool

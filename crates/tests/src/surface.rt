@@ -315,6 +315,16 @@ fn base_level_of_hebrew_is_one(rt: HostRuntime) {
 }
 
 #[test]
+fn base_level_of_hebrew_text_is_one(rt: HostRuntime) {
+    assert!(rt;
+        of_tables(rt.alloc(), |tables| {
+            let level: u8 = bidi::base_level_in_text(tables, "1אa", bidi::Base::WeakLtr);
+            level == 1
+        })
+    );
+}
+
+#[test]
 fn resolve_raises_a_number_after_hebrew_to_two(rt: HostRuntime) {
     let alloc = rt.alloc();
     assert!(rt;

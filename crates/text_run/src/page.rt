@@ -1,8 +1,10 @@
 //! Adds the lines of a paragraph to a page.
-ghost use Rattle.std.specs.Prelude.{◌≡◌, ◌++◌, ◌<◌, true, length, OnErr, OnOk};
+ghost use Rattle.std.specs.Prelude.{◌≡◌, ◌++◌, ◌<◌, ℕ, true, length, OnErr, OnOk};
+ghost use Rattle.std.specs.Str.{chars};
 ghost use Rattle.lines.specs.Engine.{rules_of, Prints, SameRules};
 ghost use Rattle.lines.specs.Layouts.{IsParagraph};
 ghost use Rattle.lines.specs.Pages.{paragraph_bytes};
+ghost use Rattle.lines.specs.Printing.{skips_lines};
 ghost use Rattle.lines.specs.declared.print.Print.{Print};
 ghost use Rattle.text_run.specs.Counts.{PrintsAtMost};
 ghost use Rattle.text_run.specs.Pages.{prints_some};
@@ -30,6 +32,30 @@ pub fn push_paragraph(
     ensures rules { SameRules engine.old engine.new }
 {
     match engine.write_paragraph(alloc, paragraph, width, print, page) {
+        Ok(()) => Ok(()),
+        Err(_) => Err(AllocError),
+    }
+}
+
+/// Adds the base direction of one paragraph of UTF-8 text, if `print.basedir` is set. `print` must select no
+/// lines. Decodes only the characters up to the one that decides the direction. Allocates nothing if `print`
+/// selects nothing.
+pub fn push_base_direction(
+    page: &mut Page,
+    engine: &mut Engine,
+    print: &Print,
+    paragraph: &str,
+) -> Result<(), AllocError>
+    requires paragraph { IsParagraph (rules_of engine.old) (chars paragraph.now) }
+    requires skips { skips_lines print.now ≡ true }
+    ensures ok { (width : ℕ) → OnOk result (page.new.bytes.items ≡ page.old.bytes.items
+        ++ paragraph_bytes (rules_of engine.old) width print.now (chars paragraph.now)) }
+    ensures memory { OnErr result (prints_some print.now ≡ true) }
+    ensures counts { Prints (length (chars paragraph.now)) print.now engine.old engine.new }
+    ensures at_most { PrintsAtMost (length (chars paragraph.now)) print.now engine.old engine.new }
+    ensures rules { SameRules engine.old engine.new }
+{
+    match engine.write_base_direction(paragraph, print, page) {
         Ok(()) => Ok(()),
         Err(_) => Err(AllocError),
     }

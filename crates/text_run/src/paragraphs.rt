@@ -5,16 +5,16 @@ ghost use Rattle.std.specs.Prelude.{vec_len, vec_capacity};
 ghost use Rattle.std.specs.Prelude.{None, Some, IfSome, OnErr, OnOk, MatchOption, if◌then◌else◌};
 ghost use Rattle.std.specs.Str.{chars};
 ghost use Rattle.bidi.specs.Cuts.{paragraphs, SplitsAt};
-ghost use Rattle.lines.specs.Engine.{rules_of, SameRules};
-ghost use Rattle.lines.specs.Layouts.{cut_by};
-ghost use Rattle.lines.specs.Pages.{page};
+ghost use Rattle.lines.specs.Engine.{rules_of, Prints, SameRules};
+ghost use Rattle.lines.specs.Layouts.{cut_by, IsParagraph};
+ghost use Rattle.lines.specs.Pages.{page, paragraph_bytes};
 ghost use Rattle.text_run.specs.Counts.{PrintsAtMost};
 ghost use Rattle.text_run.specs.Pages.{prints_some};
 ghost use Rattle.text_run.specs.Streaming.{IsEnded, IsFaultAhead, IsOpen, Pushed, StartsLong};
 ghost use Rattle.text_run.specs.TextRun.{are_within};
 
 use crate::faults::RunFault;
-use crate::page::{counts_fit, prints_some, push_paragraph};
+use crate::page::{counts_fit, prints_some, push_base_direction, push_paragraph};
 use bidi::paragraphs_are_pieces;
 use lines::{Engine, PARAGRAPH_LIMIT, Print};
 use std::alloc::{AllocError, Global};
@@ -189,12 +189,45 @@ fn push_ended(
     let mut rest = text;
     while let Some(end) = engine.first_cut_in_text(held, rest) {
         let (front, after) = rest.split_at(end);
-        push_characters(front, held)?;
-        push_paragraph(alloc, page, engine, width, print, held)?;
+        push_first(alloc, page, engine, width, print, held, front)?;
         held.clear();
         rest = after;
     }
     push_characters(rest, held)
+}
+
+// Adds the lines of the paragraph whose characters are those of `held` followed by `front`. May add the
+// characters of `front` to `held`. If nothing is printed, `held` already has capacity for them.
+fn push_first(
+    alloc: Global,
+    page: &mut Page,
+    engine: &mut Engine,
+    width: u16,
+    print: &Print,
+    held: &mut Vec<char>,
+    front: &str,
+) -> Result<(), AllocError>
+    requires paragraph { IsParagraph (rules_of engine.old) (held.old.items ++ chars front.now) }
+    requires width { 0 < width }
+    requires room { prints_some print.now ≡ false
+        → vec_len held.old + length front.now ≤ vec_capacity held.old }
+    ensures ok { OnOk result (page.new.bytes.items ≡ page.old.bytes.items
+        ++ paragraph_bytes (rules_of engine.old) width print.now (held.old.items ++ chars front.now)) }
+    ensures some { OnErr result (prints_some print.now ≡ true) }
+    ensures counts { OnOk result (Prints (length (held.old.items ++ chars front.now)) print.now
+        engine.old engine.new) }
+    ensures at_most { PrintsAtMost (length (held.old.items ++ chars front.now)) print.now
+        engine.old engine.new }
+    ensures capacity { vec_capacity held.old ≤ vec_capacity held.new }
+    ensures rules { SameRules engine.old engine.new }
+{
+    // Fast path: if `held` is empty, the whole paragraph is in `front`. Only its first characters decide the
+    // direction, so the others are not decoded.
+    if held.is_empty() && print.skips_lines() {
+        return push_base_direction(page, engine, print, front);
+    }
+    push_characters(front, held)?;
+    push_paragraph(alloc, page, engine, width, print, held)
 }
 
 /// Adds the lines of all paragraphs of a text to a page. No paragraph may be too long. Uses `held` as a

@@ -28,8 +28,8 @@ loop-end-init c = record {
 pub split_at-requires : goal.split_at-requires
 split_at-requires c = IsCharBoundary-from_drop c.loop-end.rest.now c.in-Some.end c.in-Some.ensures.within c.in-Some.ensures.rest
 
-pub push_paragraph-requires-clause-paragraph : goal.push_paragraph-requires-clause-paragraph
-push_paragraph-requires-clause-paragraph c =
+pub push_first-requires-clause-paragraph : goal.push_first-requires-clause-paragraph
+push_first-requires-clause-paragraph c =
     let held = c.loop-end.held.items in
     let rest = c.loop-end.rest.now in
     let rules = rules_of c.loop-end.engine in
@@ -39,7 +39,7 @@ push_paragraph-requires-clause-paragraph c =
     let first = first_within (cut_by (rules_of c.args.engine.now)) (held ++ chars rest) k c.loop-end.invariant.so_far.within
     (subst (λ (r : Rules). SplitsAt (cut_by r) (held ++ chars rest) (Some k)) c.loop-end.invariant.kept ends.splits) in
     first_is_paragraph c.paragraphs_are_pieces.ensures rules (held ++ chars rest) _ k ends.splits first.0
-    (c.deref-in-Some.ensures.value ∙ c.in_ok-push_characters.ensures.ok ∙ ap (λ t. held ++ chars t) c.split_at.ensures.front ∙ parts.0)
+    (ap (λ t. held ++ chars t) c.split_at.ensures.front ∙ parts.0)
 
 pub loop-end-smaller : goal.loop-end-smaller
 loop-end-smaller c =
@@ -63,22 +63,22 @@ loop-end-preserved c =
     let ends : EndsAfter (cut_by rules) held rest c.in-Some.end = subst (λ (h : _). EndsAfter (cut_by rules) h rest c.in-Some.end) c.deref.ensures.value c.in-Some.ensures in
     let k = length (held ++ chars (take c.in-Some.end rest)) in
     let parts = ends_parts held rest c.in-Some.end ends.front in
-    let paragraph_is : c.deref-in-Some.result.now ≡ take k (held ++ chars rest) =
-    c.deref-in-Some.ensures.value ∙ c.in_ok-push_characters.ensures.ok ∙ ap (λ t. held ++ chars t) c.split_at.ensures.front ∙ parts.0 in
+    let paragraph = held ++ chars c.split_at.result.0.now in
+    let paragraph_is : paragraph ≡ take k (held ++ chars rest) = ap (λ t. held ++ chars t) c.split_at.ensures.front ∙ parts.0 in
     let after_is : c.clear.new.self.items ++ chars c.split_at.result.1.now ≡ drop k (held ++ chars rest) =
     ap (λ t. t ++ chars c.split_at.result.1.now) c.clear.ensures.items ∙ ap chars c.split_at.ensures.back ∙ parts.1 in
     record {
       utf8 = subst IsUtf8 (sym c.split_at.ensures.back) ends.rest;
-      kept = c.push_paragraph.ensures.rules ∙ kept;
+      kept = c.push_first.ensures.rules ∙ kept;
       uncut = λ some. absurd (omega (arith, some, ap length c.clear.ensures.items));
-      room = λ none. omega (arith, c.clear.ensures.len, c.clear.ensures.capacity, c.push_characters.ensures.capacity, c.loop-end.invariant.room none, c.split_at.ensures.back_len);
+      room = λ none. omega (arith, c.clear.ensures.len, c.clear.ensures.capacity, c.push_first.ensures.capacity, c.loop-end.invariant.room none, c.split_at.ensures.back_len);
       few = omega (arith, c.split_at.ensures.back_len, c.loop-end.invariant.few);
       so_far = pushed_more (rules_of c.args.engine.now) c.args.width c.args.print.now (c.args.held.now.items ++ chars c.args.text.now)
           c.args.page.now.bytes.items c.args.engine.now (held ++ chars rest) _ _ _ k c.loop-end.page.bytes.items _
-          c.loop-end.engine c.push_paragraph.new.engine
+          c.loop-end.engine c.push_first.new.engine
           (subst (λ (r : Rules). SplitsAt (cut_by r) (held ++ chars rest) (Some k)) kept ends.splits) paragraph_is after_is
-          (subst (λ (r : Rules). c.push_paragraph.new.page.bytes.items ≡ c.loop-end.page.bytes.items
-          ++ paragraph_bytes r c.args.width c.args.print.now c.deref-in-Some.result.now) kept
-          c.in_ok-push_paragraph.ensures.ok)
-          c.in_ok-push_paragraph.ensures.counts c.push_paragraph.ensures.at_most c.loop-end.invariant.so_far;
+          (subst (λ (r : Rules). c.push_first.new.page.bytes.items ≡ c.loop-end.page.bytes.items
+          ++ paragraph_bytes r c.args.width c.args.print.now paragraph) kept
+          c.in_ok-push_first.ensures.ok)
+          c.in_ok-push_first.ensures.counts c.push_first.ensures.at_most c.loop-end.invariant.so_far;
     }
