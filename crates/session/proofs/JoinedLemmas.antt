@@ -1,10 +1,11 @@
 -- A text that is given in three parts, and the layout of a text one paragraph at a time.
-use Rattle.std.proofs.Common.{◌≡◌, ℕ, ◌<◌, ◌≤◌, Bool, true, false, not, ◌&&◌, ◌==◌, List, [], ◌∷◌, ◌++◌, length, map, take, drop, Some, None, nat_lt, nat_le, ⊎_elim, refl, sym, ap, ap₂, subst, ◌∙◌, arith}
+use Rattle.std.proofs.Common.{◌≡◌, ℕ, ◌+◌, ◌<◌, ◌≤◌, Bool, true, false, not, ◌&&◌, ◌==◌, List, [], ◌∷◌, ◌++◌, length, map, take, drop, Some, None, nat_lt, nat_le, ⊎_elim, refl, sym, ap, ap₂, subst, ◌∙◌, arith}
+use Rattle.std.specs.List.{concat}
 use Rattle.std.specs.Str.{chars, IsUtf8}
 use Rattle.std.proofs.Math.Utf8.{encodes, scalars}
 use Rattle.std.proofs.lemmas.Str.{chars-encodes, chars-nil}
 use Rattle.std.proofs.lemmas.Bool.{and_parts, both_ways, eqb-true, cases_lt, le-leb, le-ltb, leb-true, lt-leb, lt-ltb, not-false, not-true}
-use Rattle.std.proofs.lemmas.List.{append-nil, append_assoc, nil_from_length}
+use Rattle.std.proofs.lemmas.List.{append-nil, append_assoc, length-append, nil_from_length}
 use Rattle.bidi.specs.Cuts.{paragraphs, SplitsAt}
 use Rattle.bidi.specs.TextCuts.{EndsAfter}
 use Rattle.bidi.proofs.TextCutLemmas.{ends_parts}
@@ -67,6 +68,23 @@ module _ (is_cut : ℕ → ℕ → Bool) where
   within_uncut [] split = refl
   within_uncut (c ∷ text) split = ap are_within (split (omega arith)) ∙ and-true (nat_le (length (c ∷ text)) PARAGRAPH_LIMIT)
 
+-- if the first paragraph of a text is followed by the others, it is one paragraph, and its length and theirs
+-- add up to that of the text
+module _ (law : ParagraphsArePieces) (rules : Rules) (text first after : List ℕ) (split : paragraphs (cut_by rules) text ≡ first ∷ paragraphs (cut_by rules) after) where
+  pub first_paragraph : is_within_limit (cut_by rules) text ≡ true → IsParagraph rules first
+  first_paragraph within = record {
+    whole = whole_piece (cut_by rules) law text first (paragraphs (cut_by rules) after) split;
+    within = (within_parts (cut_by rules) text first (paragraphs (cut_by rules) after) split within).0;
+  }
+
+  pub others_within : is_within_limit (cut_by rules) text ≡ true → is_within_limit (cut_by rules) after ≡ true
+  others_within within = (within_parts (cut_by rules) text first (paragraphs (cut_by rules) after) split within).1
+
+  pub split_length : length text ≡ length first + length after
+  split_length =
+      ap length (sym (law.whole (cut_by rules) text) ∙ ap concat split ∙ ap (λ b. first ++ b) (law.whole (cut_by rules) after))
+      ∙ length-append first after
+
 module _ (law : ParagraphsArePieces) (rules : Rules) (text : List ℕ) (within : is_within_limit (cut_by rules) text ≡ true) where
   pub paragraph_in_front : (k : ℕ) → SplitsAt (cut_by rules) text (Some k) → IsParagraph rules (take k text)
   paragraph_in_front k split = record {
@@ -83,26 +101,27 @@ module _ (law : ParagraphsArePieces) (rules : Rules) (text : List ℕ) (within :
     within = (within_parts (cut_by rules) text text [] (split some) within).0;
   }
 
--- if the layouts so far, followed by those of the remaining text, are the layouts of the whole text, this
--- stays true after one more paragraph is laid out
-pub layouts_more : (rules : Rules) (width : ℕ) (text rest first after : List ℕ) (kept more : List Layout) (one : Layout) → paragraphs (cut_by rules) rest ≡ first ∷ paragraphs (cut_by rules) after
-    → one ≡ layout_of rules width first → more ≡ kept ++ one ∷ [] → kept ++ layouts_of rules width rest
-    ≡ layouts_of rules width text → more ++ layouts_of rules width after ≡ layouts_of rules width text
-layouts_more rules width text rest first after kept more one split one-is more-is so_far =
+-- if the layouts so far, followed by those of the remaining text, are all layouts, this stays true after one
+-- more paragraph is laid out
+pub layouts_more : (rules : Rules) (width : ℕ) (all : List Layout) (rest first after : List ℕ) (kept more : List Layout) (one : Layout)
+    → paragraphs (cut_by rules) rest ≡ first ∷ paragraphs (cut_by rules) after
+    → one ≡ layout_of rules width first → more ≡ kept ++ one ∷ [] → kept ++ layouts_of rules width rest ≡ all
+    → more ++ layouts_of rules width after ≡ all
+layouts_more rules width all rest first after kept more one split one-is more-is so_far =
     ap (λ ks. ks ++ layouts_of rules width after) more-is
     ∙ append_assoc kept (one ∷ []) (layouts_of rules width after)
     ∙ ap (λ k. kept ++ k ∷ layouts_of rules width after) one-is
     ∙ ap (λ ps. kept ++ map (layout_of rules width) ps) (sym split)
     ∙ so_far
 
-pub layouts_last : (rules : Rules) (width : ℕ) (text rest : List ℕ) (kept more : List Layout) (one : Layout) → paragraphs (cut_by rules) rest ≡ rest ∷ []
-    → one ≡ layout_of rules width rest → more ≡ kept ++ one ∷ [] → kept ++ layouts_of rules width rest ≡ layouts_of rules width text → more ≡ layouts_of rules width text
-layouts_last rules width text rest kept more one split one-is more-is so_far =
+pub layouts_last : (rules : Rules) (width : ℕ) (all : List Layout) (rest : List ℕ) (kept more : List Layout) (one : Layout) → paragraphs (cut_by rules) rest ≡ rest ∷ []
+    → one ≡ layout_of rules width rest → more ≡ kept ++ one ∷ [] → kept ++ layouts_of rules width rest ≡ all → more ≡ all
+layouts_last rules width all rest kept more one split one-is more-is so_far =
     more-is ∙ ap (λ k. kept ++ k ∷ []) one-is ∙ ap (λ ps. kept ++ map (layout_of rules width) ps) (sym split) ∙ so_far
 
-pub layouts_none : (rules : Rules) (width : ℕ) (text rest : List ℕ) (kept : List Layout) → rest ≡ [] → kept
-    ++ layouts_of rules width rest ≡ layouts_of rules width text → kept ≡ layouts_of rules width text
-layouts_none rules width text rest kept none so_far = sym (append-nil kept) ∙ ap (λ r. kept ++ layouts_of rules width r) (sym none) ∙ so_far
+pub layouts_none : (rules : Rules) (width : ℕ) (all : List Layout) (rest : List ℕ) (kept : List Layout) → rest ≡ [] → kept
+    ++ layouts_of rules width rest ≡ all → kept ≡ all
+layouts_none rules width all rest kept none so_far = sym (append-nil kept) ∙ ap (λ r. kept ++ layouts_of rules width r) (sym none) ∙ so_far
 
 -- a list has items if and only if the test for an empty list fails
 pub some_left : (xs : List ℕ) (b : Bool) → b ≡ (length xs == 0) → b ≡ false → 0 < length xs
@@ -120,9 +139,16 @@ some_spelled bytes (c ∷ cs) s e some = omega (arith, ap length (ap chars (sym 
 pub some_chars : (bytes : List ℕ) → IsUtf8 bytes → 0 < length bytes → 0 < length (chars bytes)
 some_chars bytes u some = some_spelled bytes u.0 u.1.0 u.1.1 some
 
+-- a text whose bytes are tested for being none
+pub text_some : (bytes : List ℕ) (b : Bool) → IsUtf8 bytes → b ≡ (length bytes == 0) → b ≡ false → 0 < length (chars bytes)
+text_some bytes b utf8 e t = some_chars bytes utf8 (some_left bytes b e t)
+
 pub no_chars : (bytes : List ℕ) → length bytes ≡ 0 → length (chars bytes) ≡ 0
 no_chars [] none = ap length chars-nil
 no_chars (b ∷ bytes) none = absurd (omega (arith, none))
+
+pub text_none : (bytes : List ℕ) (b : Bool) → b ≡ (length bytes == 0) → b ≡ true → chars bytes ≡ []
+text_none bytes b e t = nil_from_length (chars bytes) (no_chars bytes (ap length (none_left bytes b e t)))
 
 -- the tests of a length against the limit
 pub is_short : (n : ℕ) → n ≤ PARAGRAPH_LIMIT → false ≡ not (nat_le n PARAGRAPH_LIMIT)

@@ -1,19 +1,24 @@
 -- Opening a session, and the reasons why it can fail.
-use Rattle.std.proofs.Common.{◌≡◌, ℕ, ◌≤◌, ◌<◌, ◌^◌, ◌==◌, true, List, [], length, sum_by, Some, None, refl, sym, ap, subst, ◌∙◌, arith}
-use Rattle.std.specs.List.{splice}
+use Rattle.std.proofs.Common.{◌≡◌, ℕ, ◌≤◌, ◌<◌, ◌^◌, ◌==◌, true, false, List, [], ◌∷◌, ◌++◌, length, sum_by, Some, None, refl, sym, ap, subst, ◌∙◌, arith}
+use Rattle.std.specs.Char.{len_utf8}
 use Rattle.std.proofs.lemmas.Bool.{cond-true, cond-false, ne_eqb}
-use Rattle.std.proofs.lemmas.List.{append-nil}
+use Rattle.std.proofs.lemmas.List.{append_assoc}
+use Rattle.std.proofs.lemmas.List.Sums.{sum_by-append}
+use Rattle.bidi.specs.Cuts.{paragraphs}
 use Rattle.bidi.specs.Pieces.{ParagraphsArePieces}
 use Rattle.lines.specs.Engine.{rules_of, SameRules, LaysOutAtMost}
-use Rattle.lines.specs.Layouts.{Layout, cut_by}
+use Rattle.lines.specs.Layouts.{Layout, Rules, cut_by, layout_of}
 use Rattle.lines.specs.declared.engine.Engine.{Engine}
 use Rattle.session.specs.Sessions.{IsCountedFor, Opens, OpensNot, opening_refusal}
 use Rattle.session.specs.Edits.{is_within_limit, paragraphs_refusal, text_refusal}
-use Rattle.session.specs.Kept.{text_of, layouts_of}
+use Rattle.session.specs.Kept.{text_of, layouts_of, TotalsFit}
+use Rattle.session.specs.Offsets.{len_utf16, units_of}
+use Rattle.session.specs.declared.offsets.Encoding.TheVariants.{Utf8, Utf16}
 use Rattle.session.specs.Sessions.{IsAnswerFor}
 use Rattle.session.specs.declared.edits.EditFault.{EditFault}
 use Rattle.session.specs.declared.edits.EditFault.TheVariants.{WidthOutOfRange, TextTooLong, ParagraphTooLong, NoMemory}
-use Rattle.session.proofs.UnitLemmas.{few_in_all, AreFew}
+use Rattle.session.proofs.JoinedLemmas.{layouts_more}
+use Rattle.session.proofs.UnitLemmas.{few_in_all, utf8_few, utf16_few, AreFew}
 use Rattle.session.proofs.BorderLemmas.{chars_of, lines_of}
 use Rattle.session.proofs.EditLemmas.{LinesAreFew, chars-laid, few-laid, text-layouts, IsWholeLayout-same}
 use Rattle.session.proofs.RefusalLemmas.{text_refusal-long, text_refusal-short}
@@ -21,10 +26,6 @@ use Rattle.session.specs.declared.edits.TheConstants.{TEXT_LIMIT}
 
 pub positive : (n : ℕ) → (n ≡ 0 → ⊥) → 0 < n
 positive n some = omega (arith, some)
-
--- inserting items into an empty store gives these items
-pub splice_all : {A : Type 0} (new : List A) → splice [] 0 0 new ≡ new
-splice_all new = append-nil new
 
 module _ (engine : Engine) (whole : List ℕ) (width : ℕ) (some : width ≡ 0 → ⊥) where
   opening-width : opening_refusal (cut_by (rules_of engine)) whole width ≡ text_refusal (cut_by (rules_of engine)) whole
@@ -48,6 +49,11 @@ module _ (engine : Engine) (whole : List ℕ) (width : ℕ) (some : width ≡ 0 
       rules = same;
       counts = counts;
     }
+
+    pub OpensNot-long_paragraph : is_within_limit (cut_by (rules_of engine)) whole ≡ false → new_engine ≡ engine
+        → OpensNot engine whole width (new_engine, ParagraphTooLong)
+    OpensNot-long_paragraph long unchanged =
+        OpensNot-refused ParagraphTooLong (cond-false (is_within_limit (cut_by (rules_of engine)) whole) None (Some ParagraphTooLong) long) unchanged
 
     module _ (within : is_within_limit (cut_by (rules_of engine)) whole ≡ true) (counts : LaysOutAtMost (length whole) engine new_engine) where
       allowed : paragraphs_refusal (cut_by (rules_of engine)) whole ≡ None
@@ -73,17 +79,40 @@ module _ (engine : Engine) (whole : List ℕ) (width : ℕ) (some : width ≡ 0 
             counts = counts;
           }
 
--- the sums of a newly opened session are below 2^64
-module _ (law : ParagraphsArePieces) (few : LinesAreFew) (engine : Engine) (whole : List ℕ) (width : ℕ)
-    (new : List Layout) (laid : new ≡ layouts_of (rules_of engine) width whole) (short : length whole ≤ TEXT_LIMIT)
-  where
-    pub opening-chars : (before : List Layout) → before ≡ [] → sum_by chars_of (splice before 0 0 new) < 2 ^ 64
-    opening-chars before none = rw (ap (λ ks. splice ks 0 0 new) none ∙ splice_all new) (omega (arith, chars-laid law few (rules_of engine) width whole new laid))
+-- the totals of the fresh layouts of a text fit in a `usize`
+module _ (law : ParagraphsArePieces) (few : LinesAreFew) (rules : Rules) (width : ℕ) (whole : List ℕ) (short : length whole ≤ TEXT_LIMIT) where
+  units-laid : (size : ℕ → ℕ) → AreFew size → sum_by (λ l. sum_by size l.text) (layouts_of rules width whole) < 2 ^ 64
+  units-laid size few_units =
+      omega (arith, few_in_all size few_units (layouts_of rules width whole), chars-laid law few rules width whole (layouts_of rules width whole) refl)
 
-    pub opening-units : (size : ℕ → ℕ) → AreFew size → (before : List Layout) → before ≡ [] → sum_by (λ l. sum_by size l.text) (splice before 0 0 new) < 2 ^ 64
-    opening-units size few_units before none =
-        rw (ap (λ ks. splice ks 0 0 new) none ∙ splice_all new)
-        (omega (arith, few_in_all size few_units new, chars-laid law few (rules_of engine) width whole new laid))
+  pub TotalsFit-laid : TotalsFit (layouts_of rules width whole)
+  TotalsFit-laid =
+      let new = layouts_of rules width whole in
+      record {
+        chars = omega (arith, chars-laid law few rules width whole new refl);
+        lines = omega (arith, few-laid law few rules width whole new refl);
+        bytes = units-laid len_utf8 utf8_few;
+        utf16 = units-laid len_utf16 utf16_few;
+      }
 
-    pub opening-lines : (before : List Layout) → before ≡ [] → sum_by lines_of (splice before 0 0 new) < 2 ^ 64
-    opening-lines before none = rw (ap (λ ks. splice ks 0 0 new) none ∙ splice_all new) (omega (arith, few-laid law few (rules_of engine) width whole new laid))
+-- so do those of the first layouts of a list
+sum-front : (size : Layout → ℕ) (front more all : List Layout) → front ++ more ≡ all → sum_by size all < 2 ^ 64 → sum_by size front < 2 ^ 64
+sum-front size front more all parts fits = omega (arith, fits, sum_by-append size front more, ap (sum_by size) parts)
+
+pub TotalsFit-front : (front more all : List Layout) → front ++ more ≡ all → TotalsFit all → TotalsFit front
+TotalsFit-front front more all parts fits = record {
+  chars = sum-front chars_of front more all parts fits.chars;
+  lines = sum-front lines_of front more all parts fits.lines;
+  bytes = sum-front (units_of Utf8) front more all parts fits.bytes;
+  utf16 = sum-front (units_of Utf16) front more all parts fits.utf16;
+}
+
+-- if the layouts in a store, those that are not in it yet and those of the remaining text are all layouts, this
+-- stays true after one more paragraph is laid out
+pub layouts_stored : (rules : Rules) (width : ℕ) (all : List Layout) (rest first after : List ℕ) (stored new more : List Layout) (one : Layout)
+    → paragraphs (cut_by rules) rest ≡ first ∷ paragraphs (cut_by rules) after
+    → one ≡ layout_of rules width first → more ≡ new ++ one ∷ [] → stored ++ new ++ layouts_of rules width rest ≡ all
+    → stored ++ more ++ layouts_of rules width after ≡ all
+layouts_stored rules width all rest first after stored new more one split one-is more-is so_far =
+    layouts_more rules width all rest first after (stored ++ new) (stored ++ more) one split one-is
+    (ap (λ ks. stored ++ ks) more-is ∙ sym (append_assoc stored new (one ∷ []))) so_far

@@ -1,10 +1,12 @@
 -- What a session keeps for a text: the layout of each of its paragraphs.
-use Rattle.std.specs.Prelude.{◌≡◌, ℕ, ◌-◌, ◌<◌, ◌≤◌, Bool, true, false, List, length, map, sum_by, slice_index, Option, Some, None, if◌then◌else◌, refl}
+use Rattle.std.specs.Prelude.{◌≡◌, ℕ, ◌-◌, ◌<◌, ◌≤◌, ◌^◌, Bool, true, false, List, length, map, sum_by, slice_index, Option, Some, None, if◌then◌else◌, refl}
 use Rattle.std.specs.List.{concat, flat_map}
 use Rattle.bidi.specs.Cuts.{paragraphs}
 use Rattle.lines.specs.Extents.{extents_in, extents_of, reflowed, LineExtents}
 use Rattle.lines.specs.Layouts.{Layout, Rules, IsLaidOut, cut_by, keeps_lines, layout_of, lines_of, visuals}
 use Rattle.lines.specs.Visual.{Visual}
+use Rattle.session.specs.Offsets.{units_of}
+use Rattle.session.specs.declared.offsets.Encoding.TheVariants.{Utf8, Utf16}
 
 -- whether there is a paragraph boundary between two texts, or one of them is empty
 abbrev pub IsCutAt : (ℕ → ℕ → Bool) → List ℕ → List ℕ → Type 0
@@ -19,6 +21,13 @@ text_of kept = concat (pars_of kept)
 
 abbrev pub lines_in : List Layout → List Visual
 lines_in kept = flat_map visuals kept
+
+-- whether the totals of layouts fit in a `usize`
+pub record TotalsFit (kept : List Layout) : Type 0 where
+  pub chars : sum_by (λ l. length l.text) kept < 2 ^ 64
+  pub lines : sum_by (λ l. length l.lines) kept < 2 ^ 64
+  pub bytes : sum_by (units_of Utf8) kept < 2 ^ 64
+  pub utf16 : sum_by (units_of Utf16) kept < 2 ^ 64
 
 -- the fresh layouts of a text at a width
 abbrev pub layouts_of : Rules → ℕ → List ℕ → List Layout

@@ -38,8 +38,9 @@ fn is_long(text: &str) -> bool
     text.chars().count() > PARAGRAPH_LIMIT
 }
 
-// Returns whether any paragraph of a text is too long. Only paragraphs with too many bytes are decoded.
-fn has_long_in_text(engine: &Engine, text: &str) -> bool
+/// Returns whether any paragraph of a text is too long. Only paragraphs with too many bytes are decoded.
+/// Allocates nothing.
+pub fn has_long_in_text(engine: &Engine, text: &str) -> bool
     ensures { result ≡ not (is_within_limit (cut_by (rules_of engine.now)) (chars text.now)) }
 {
     paragraphs_are_pieces();
@@ -91,9 +92,9 @@ fn are_empty(front: &[char], piece: &str, back: &[char]) -> bool
     piece.is_empty()
 }
 
-// Adds the characters of a text to a list that has capacity for as many items as the text has bytes.
-fn with_text(list: Vec<char>, text: &str) -> Vec<char>
-    requires { vec_len list + length text.now ≤ vec_capacity list }
+/// Adds the characters of a text to a list that has capacity for them.
+pub fn with_text(list: Vec<char>, text: &str) -> Vec<char>
+    requires { vec_len list + length (chars text.now) ≤ vec_capacity list }
     ensures { result.items ≡ list.items ++ chars text.now }
 {
     let mut list = list;
@@ -121,8 +122,8 @@ fn joined(
     Ok(text)
 }
 
-// Copies one paragraph and lays it out.
-fn lay_out_one(
+/// Copies one paragraph and lays it out.
+pub fn lay_out_one(
     alloc: Global,
     engine: &mut Engine,
     text: &[char],

@@ -32,6 +32,7 @@ mod joined;
 mod kept;
 mod laws;
 mod offsets;
+mod opening;
 mod places;
 mod printing;
 mod reading;

@@ -30,9 +30,10 @@ use crate::carets::{Caret, caret_in};
 use crate::clusters::{Cluster, cluster_of, line_clusters};
 use crate::edits::{Damage, Edit, EditFault, TEXT_LIMIT};
 use crate::hits::{Hit, hit_in};
-use crate::joined::lay_out_joined;
+use crate::joined::has_long_in_text;
 use crate::kept::Kept;
 use crate::offsets::{Encoding, offset_of, position_of};
+use crate::opening::{append_all, is_too_long};
 use crate::places::{
     Place, char_at, is_closed, line_start, paragraph_first_line, paragraph_start, place_of,
 };
@@ -95,18 +96,20 @@ fn fill_store<S: ParagraphStore<Kept> + Drop>(
     if width == 0 {
         return Err(EditFault::WidthOutOfRange);
     }
-    if text.chars().count() > TEXT_LIMIT {
+    if is_too_long(text) {
         return Err(EditFault::TextTooLong);
     }
     // By these theorems, the paragraphs make up the text, and the sum of lines does not overflow.
     paragraphs_are_pieces();
     lines_are_few();
-    let paragraphs = match lay_out_joined(alloc, engine, &[], text, &[], width) {
-        Ok(paragraphs) => paragraphs,
-        Err(fault) => return Err(fault),
-    };
+    if has_long_in_text(engine, text) {
+        return Err(EditFault::ParagraphTooLong);
+    }
     let mut store = S::new(alloc);
-    if store.replace(0..0, paragraphs).is_err() {
+    if text.is_empty() {
+        return Ok(store);
+    }
+    if append_all(alloc, engine, &mut store, text, width).is_err() {
         return Err(EditFault::NoMemory);
     }
     Ok(store)

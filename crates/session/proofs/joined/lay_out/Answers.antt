@@ -3,6 +3,7 @@ use Rattle.bidi.specs.Cuts.{paragraphs, SplitsAt}
 use Rattle.lines.specs.Engine.{rules_of}
 use Rattle.lines.specs.Layouts.{cut_by, layout_of, IsParagraph}
 use Rattle.session.specs.Edits.{is_within_limit}
+use Rattle.session.specs.Kept.{layouts_of}
 use Rattle.session.proofs.JoinedLemmas.{paragraph_in_front, rest_within, layouts_more, layouts_last, layouts_none, some_left, none_left}
 use Rattle.session.proofs.joined.lay_out.Goals as goal
 use Rattle.session.proofs.joined.lay_out.Goals.{then-not-is_empty+in_ok-lay_out_one-2+in_ok-push-2, else-not-is_empty}
@@ -27,7 +28,7 @@ loop-end-preserved c =
     split.2 ∙ ap (λ f. f ∷ paragraphs (cut_by by) (drop k rest)) (sym front) ∙ ap (λ b. c.split_at.result.0.now ∷ paragraphs (cut_by by) b) (sym back) in
     let one = c.in_ok-lay_out_one.ensures.ok ∙ ap (λ r. layout_of r c.args.width c.split_at.result.0.now) c.loop-end.invariant.rules in
     record {
-      laid_out = layouts_more by c.args.width c.args.text.now rest c.split_at.result.0.now c.split_at.result.1.now _ _ _ parts one c.in_ok-push.ensures.items c.loop-end.invariant.laid_out;
+      laid_out = layouts_more by c.args.width (layouts_of by c.args.width c.args.text.now) rest c.split_at.result.0.now c.split_at.result.1.now _ _ _ parts one c.in_ok-push.ensures.items c.loop-end.invariant.laid_out;
       within = subst (λ b. is_within_limit (cut_by by) b ≡ true) (sym back) (rest_within c.paragraphs_are_pieces.ensures by rest c.loop-end.invariant.within k split);
       rules = c.in_ok-lay_out_one.ensures.rules ∙ c.loop-end.invariant.rules;
       analysed = omega (arith, c.loop-end.invariant.analysed, c.in_ok-lay_out_one.ensures.counts.analysed.least);
@@ -48,8 +49,8 @@ returns-clause-ok c =
       | then-not-is_empty+in_ok-lay_out_one-2+in_ok-push-2 w ↦
           let some : 0 < length rest = some_left rest _ c.is_empty.ensures w.if-not-is_empty.true in
           let one = w.in_ok-lay_out_one-2.ensures.ok ∙ ap (λ r. layout_of r c.args.width rest) c.loop-end.invariant.rules in
-          ap (λ v. v.items) w.kept-is ∙ layouts_last by c.args.width c.args.text.now rest _ _ _ (split some) one w.in_ok-push-2.ensures.items c.loop-end.invariant.laid_out
+          ap (λ v. v.items) w.kept-is ∙ layouts_last by c.args.width (layouts_of by c.args.width c.args.text.now) rest _ _ _ (split some) one w.in_ok-push-2.ensures.items c.loop-end.invariant.laid_out
       | else-not-is_empty w ↦
           let nothing : rest ≡ [] = none_left rest _ c.is_empty.ensures w.if-not-is_empty.false in
-          ap (λ v. v.items) w.kept-is ∙ layouts_none by c.args.width c.args.text.now rest _ nothing c.loop-end.invariant.laid_out
+          ap (λ v. v.items) w.kept-is ∙ layouts_none by c.args.width (layouts_of by c.args.width c.args.text.now) rest _ nothing c.loop-end.invariant.laid_out
     ]

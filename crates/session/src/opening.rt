@@ -1,0 +1,117 @@
+//! Lays out the paragraphs of a text that a session is opened on. Each paragraph is decoded on its own, and
+//! the layouts are put into the store in batches. So besides the store, opening needs little memory.
+ghost use Rattle.std.specs.Prelude.{◌≡◌, ◌<◌, ◌∷◌, ◌++◌, ℕ, true, length, nat_lt};
+ghost use Rattle.std.specs.Prelude.{IfOk, IsUtf8, OnOk};
+ghost use Rattle.std.specs.Str.{chars};
+ghost use Rattle.bidi.specs.Cuts.{paragraphs};
+ghost use Rattle.lines.specs.Engine.{rules_of, LaysOutAtMost, SameRules};
+ghost use Rattle.lines.specs.Layouts.{cut_by};
+ghost use Rattle.session.specs.Edits.{is_within_limit};
+ghost use Rattle.session.specs.Kept.{layouts_of, TotalsFit};
+ghost use Rattle.session.specs.declared.edits.TheConstants.{TEXT_LIMIT};
+
+use crate::edits::TEXT_LIMIT;
+use crate::joined::{lay_out_one, with_text};
+use crate::kept::Kept;
+use bidi::paragraphs_are_pieces;
+use lines::Engine;
+use std::alloc::{AllocError, Global};
+use store::ParagraphStore;
+
+// The number of layouts that are put into the store at a time.
+const BATCH: usize = 1_024;
+
+/// Returns whether a text has too many characters.
+pub fn is_too_long(text: &str) -> bool
+    ensures { result ≡ nat_lt TEXT_LIMIT (length (chars text.now)) }
+{
+    // Fast path: a text has at most as many characters as bytes.
+    if text.len() <= TEXT_LIMIT {
+        return false;
+    }
+    text.chars().count() > TEXT_LIMIT
+}
+
+// Replaces the characters of a list with those of a text.
+fn decoded(list: Vec<char>, text: &str) -> Result<Vec<char>, AllocError>
+    ensures { IfOk result (λ list. list.items ≡ chars text.now) }
+{
+    let mut list = list;
+    list.clear();
+    list.reserve(text.len())?;
+    Ok(with_text(list, text))
+}
+
+// Splits a text after its first paragraph.
+fn split_first<'a>(engine: &Engine, text: &'a str) -> (&'a str, &'a str)
+    requires { 0 < length text.now }
+    ensures text { IsUtf8 result.0.now × IsUtf8 result.1.now }
+    ensures shorter { length result.1.now < length text.now }
+    ensures paragraphs { paragraphs (cut_by (rules_of engine.now)) (chars text.now)
+        ≡ chars result.0.now ∷ paragraphs (cut_by (rules_of engine.now)) (chars result.1.now) }
+{
+    match engine.first_cut_in_text(&[], text) {
+        Some(end) => text.split_at(end),
+        None => (text, ""),
+    }
+}
+
+// Appends layouts to a store.
+fn append<S: ParagraphStore<Kept>>(store: &mut S, new: Vec<Kept>) -> Result<(), AllocError>
+    requires { TotalsFit (S.items store.old ++ new.items) }
+    ensures { OnOk result (S.items store.new ≡ S.items store.old ++ new.items) }
+{
+    let count = store.count();
+    match store.replace(count..count, new) {
+        Ok(_) => Ok(()),
+        Err((_, error)) => Err(error),
+    }
+}
+
+// Appends layouts to a store if they make up a batch. Returns those that are not in the store.
+fn append_batch<S: ParagraphStore<Kept>>(
+    alloc: Global,
+    store: &mut S,
+    new: Vec<Kept>,
+) -> Result<Vec<Kept>, AllocError>
+    requires { TotalsFit (S.items store.old ++ new.items) }
+    ensures { IfOk result (λ left. S.items store.new ++ left.items ≡ S.items store.old ++ new.items) }
+{
+    if new.len() < BATCH {
+        return Ok(new);
+    }
+    append(store, new)?;
+    Ok(Vec::new(alloc))
+}
+
+/// Lays out each paragraph of a text once, and appends the layouts to a store. No paragraph may be too long.
+pub fn append_all<S: ParagraphStore<Kept>>(
+    alloc: Global,
+    engine: &mut Engine,
+    store: &mut S,
+    text: &str,
+    width: u16,
+) -> Result<(), AllocError>
+    requires within { is_within_limit (cut_by (rules_of engine.old)) (chars text.now) ≡ true }
+    requires width { 0 < width }
+    requires fit { TotalsFit (S.items store.old
+        ++ layouts_of (rules_of engine.old) width (chars text.now)) }
+    ensures ok { OnOk result (S.items store.new ≡ S.items store.old
+        ++ layouts_of (rules_of engine.old) width (chars text.now)) }
+    ensures rules { SameRules engine.old engine.new }
+    ensures counts { LaysOutAtMost (length (chars text.now)) engine.old engine.new }
+{
+    // By this theorem, the text between two boundaries is one paragraph.
+    paragraphs_are_pieces();
+    let mut new = Vec::new(alloc);
+    let mut list = Vec::new(alloc);
+    let mut rest = text;
+    while !rest.is_empty() {
+        let (first, after) = split_first(engine, rest);
+        list = decoded(list, first)?;
+        new.push(lay_out_one(alloc, engine, &list, width)?)?;
+        new = append_batch(alloc, store, new)?;
+        rest = after;
+    }
+    append(store, new)
+}
