@@ -15,6 +15,7 @@ pub mod LengthLemmas
 mod LevelLemmas
 mod MatchLemmas
 mod NeutralLemmas
+mod NeutralTableLemmas
 mod NoBracketLemmas
 mod OpenersLemmas
 pub mod PairLemmas
@@ -27,6 +28,7 @@ mod RunLemmas
 pub mod TextCutLemmas
 mod WaitingLemmas
 mod WeakLemmas
+mod WeakStateLemmas
 mod WeakTableLemmas
 mod WorkedBrackets
 mod WorkedLevels

@@ -3,12 +3,13 @@ use Rattle.std.proofs.Common.{◌≡◌, ℕ, ◌+◌, ◌-◌, ◌<◌, ◌≤�
 use Rattle.std.proofs.lemmas.Bool.{cond-true, cond-false, cases_Bool}
 use Rattle.std.proofs.lemmas.List.{append-nil, length-set, length-take-le, drop-drop, drop-set-lt, drop_more, drop_all, take-take, take-append-le, take-set, take-set-le, take_all, take_more_set, replicate_more}
 use Rattle.ucd.specs.declared.bidi_class.BidiClass.{BidiClass}
-use Rattle.ucd.specs.declared.bidi_class.BidiClass.TheVariants.{L, R, AL, EN, ES, ET, AN, CS, ON}
+use Rattle.ucd.specs.declared.bidi_class.BidiClass.TheVariants.{L, R, AL, EN, ES, ET, AN, CS, NSM, ON}
 use Rattle.bidi.specs.declared.weak_table.Row.{Row}
 use Rattle.bidi.specs.declared.weak_table.Row.TheVariants.{Nothing, European, Arabic, EuropeanTerminators, EuropeanSeparator, ArabicSeparator, Terminators}
 use Rattle.ucd.specs.Classes.{is_strong}
 use Rattle.ucd.specs.Classes.{is_mark}
-use Rattle.bidi.specs.Weak.{is_left, w3_type, weak}
+use Rattle.bidi.specs.Weak.{is_left, mark_after, w3_type, weak}
+use Rattle.bidi.specs.WeakTable.{is_simple}
 use Rattle.bidi.specs.Waiting.{mark_type, digit_type, read_types, waits, lengthens, completes, written, row_after, start_after, types_after, AreTypesSoFar}
 use Rattle.bidi.proofs.WeakLemmas.{left-w3, weak-is}
 
@@ -226,3 +227,125 @@ types-end sos old current before strong row start at so_far past =
     sym (take_all at current past) ∙ so_far.waiting
     ∙ ap (λ xs. take start current ++ types_after row (at - start) (w3_type strong) (read_types before strong xs)) (sym (drop_all at old (omega (arith, so_far.sizes))))
     ∙ so_far.whole ∙ weak-is sos old
+
+-- a type that W1, W2 and W4 to W7 leave unchanged
+simple-mark : (class : BidiClass) → is_simple class ≡ true → is_mark class ≡ false
+simple-mark NSM e = absurd (cc)
+simple-mark _ e = refl
+
+simple-digit : (strong class : BidiClass) → is_simple class ≡ true → digit_type strong class ≡ class
+simple-digit strong EN e = absurd (cc)
+simple-digit strong _ e = refl
+
+simple-w3 : (class : BidiClass) → is_simple class ≡ true → is_simple (w3_type class) ≡ true
+simple-w3 AL e = refl
+simple-w3 _ e = e
+
+simple-lengthens : (row : Row) (type : BidiClass) → is_simple type ≡ true → lengthens row type ≡ false
+simple-lengthens Terminators ET e = absurd (cc)
+simple-lengthens _ _ e = refl
+
+simple-completes : (row : Row) (type : BidiClass) → is_simple type ≡ true → completes row type ≡ false
+simple-completes EuropeanSeparator EN e = absurd (cc)
+simple-completes ArabicSeparator AN e = absurd (cc)
+simple-completes Terminators EN e = absurd (cc)
+simple-completes _ _ e = refl
+
+simple-row : (row : Row) (type : BidiClass) → is_simple type ≡ true → row_after row type ≡ Nothing
+simple-row row EN e = absurd (cc)
+simple-row row AN e = absurd (cc)
+simple-row row ET e = absurd (cc)
+simple-row row ES e = absurd (cc)
+simple-row row CS e = absurd (cc)
+simple-row row _ e = refl
+
+simple-written : (row : Row) (left : Bool) (type : BidiClass) → is_simple type ≡ true → written row left type ≡ type
+simple-written row left EN e = absurd (cc)
+simple-written row left ET e = absurd (cc)
+simple-written row left ES e = absurd (cc)
+simple-written row left CS e = absurd (cc)
+simple-written row left _ e = refl
+
+simple-after : (row : Row) (n : ℕ) (strong type : BidiClass) (types : List BidiClass) → is_simple type ≡ true
+    → types_after row n strong (type ∷ types) ≡ replicate n ON ++ (type ∷ types_after Nothing 0 (if is_strong type then type else strong) types)
+simple-after row n strong type types e =
+    let left = is_left strong in
+    let next = if is_strong type then type else strong in
+    cond-false (lengthens row type) (types_after row (n + 1) strong types)
+    (replicate n (if completes row type then written row left type else ON)
+    ++ (if waits (row_after row type) then types_after (row_after row type) 1 next types else written row left type ∷ types_after (row_after row type) 0 next types))
+    (simple-lengthens row type e)
+    ∙ ap (λ b. replicate n (if b then written row left type else ON)
+    ++ (if waits (row_after row type) then types_after (row_after row type) 1 next types else written row left type ∷ types_after (row_after row type) 0 next types)) (simple-completes row type e)
+    ∙ ap (λ r. replicate n ON ++ (if waits r then types_after r 1 next types else written row left type ∷ types_after r 0 next types)) (simple-row row type e)
+    ∙ ap (λ t. replicate n ON ++ (t ∷ types_after Nothing 0 next types)) (simple-written row left type e)
+
+module _ (sos : BidiClass) (old current : List BidiClass) (before strong : BidiClass) (at : ℕ) (d : BidiClass) (within : at < length current)
+    (simple : is_simple (get_or current at d) ≡ true) where
+  abbrev class : BidiClass
+  class = get_or current at d
+
+  is_marked : class ≡ mark_type before class
+  is_marked = sym (cond-false (is_mark class) (mark_after before) class (simple-mark class simple))
+
+  -- before such a type, pending types stay ON
+  pub types-settle : (row : Row) (start : ℕ) → AreTypesSoFar sos old current before strong row start at → AreTypesSoFar sos old current before strong Nothing at at
+  types-settle row start so_far =
+      let none : at - at ≡ 0 = omega arith in
+      let type = w3_type (digit_type strong (mark_type before class)) in
+      let later = read_types (if not (is_mark class) then class else before) (if is_strong (mark_type before class) then mark_type before class else strong) (drop (at + 1) old) in
+      let beyond : drop (at + 1) current ≡ drop (at + 1) old = sym (drop-drop 1 at current) ∙ ap (drop 1) so_far.rest ∙ drop-drop 1 at old in
+      let item : drop at old ≡ class ∷ drop (at + 1) old = sym so_far.rest ∙ drop_more current at d within ∙ ap (λ xs. class ∷ xs) beyond in
+      let read : read_types before strong (drop at old) ≡ type ∷ later = ap (read_types before strong) item in
+      let type_is : type ≡ w3_type class = ap (λ m. w3_type (digit_type strong m)) (sym is_marked) ∙ ap w3_type (simple-digit strong class simple) in
+      let stays : is_simple type ≡ true = ap is_simple type_is ∙ simple-w3 class simple in
+      let after = type ∷ types_after Nothing 0 (if is_strong type then type else w3_type strong) later in
+      record {
+        sizes = so_far.sizes;
+        order = omega arith;
+        rest = so_far.rest;
+        waiting = sym (ap (λ n. take at current ++ replicate n ON) none ∙ append-nil (take at current));
+        whole = ap (λ n. take at current ++ types_after Nothing n (w3_type strong) (read_types before strong (drop at old))) none
+            ∙ ap (λ xs. take at current ++ types_after Nothing 0 (w3_type strong) xs) read
+            ∙ ap (λ xs. take at current ++ xs) (simple-after Nothing 0 (w3_type strong) type later stays)
+            ∙ ap (λ xs. xs ++ after) so_far.waiting
+            ∙ append_assoc (take start current) (replicate (at - start) ON) after
+            ∙ ap (λ xs. take start current ++ xs) (sym (simple-after row (at - start) (w3_type strong) type later stays))
+            ∙ ap (λ xs. take start current ++ types_after row (at - start) (w3_type strong) xs) (sym read)
+            ∙ so_far.whole;
+      }
+
+  -- the pass changes such a type only by W3
+  pub types-simple : AreTypesSoFar sos old current before strong Nothing at at
+      → AreTypesSoFar sos old (set current at (w3_type class)) class (if is_strong class then class else strong) Nothing (at + 1) (at + 1)
+  types-simple so_far =
+      let none : at - at ≡ 0 = omega arith in
+      let type = w3_type (digit_type strong class) in
+      let type_is : type ≡ w3_type class = ap w3_type (simple-digit strong class simple) in
+      let stays : is_simple type ≡ true = ap is_simple type_is ∙ simple-w3 class simple in
+      let value = w3_type class in
+      let marker = if completes Nothing type then value else ON in
+      let next = if is_strong class then class else strong in
+      let moved = set current at value in
+      subst (λ r. AreTypesSoFar sos old moved class next r (at + 1) (at + 1)) (simple-row Nothing type stays)
+      (subst (λ b. AreTypesSoFar sos old moved b next (row_after Nothing type) (at + 1) (at + 1)) (ap (λ b. if not b then class else before) (simple-mark class simple))
+      (types-next sos old current before strong Nothing at at so_far d within class type value current is_marked refl
+      (sym (simple-written Nothing (is_left strong) type stays ∙ type_is)) refl refl
+      (sym (ap (λ n. take at current ++ replicate n marker) none ∙ append-nil (take at current)))
+      (at + 1) (sym (ap (λ r. if waits r then at else at + 1) (simple-row Nothing type stays)))))
+
+-- where the pending types start is at most the next index
+pub start-low : (row : Row) (type : BidiClass) (start at : ℕ) → start ≤ at → start_after row type start at ≤ at + 1
+start-low row type start at order =
+    elim (lengthens row type) as (λ b. (if b then start else (if waits (row_after row type) then at else at + 1)) ≤ at + 1) [
+      | true ↦ omega (arith, order)
+      | false ↦ elim (waits (row_after row type)) as (λ b. (if b then at else at + 1) ≤ at + 1) [ true ↦ omega arith | false ↦ omega arith ]
+    ]
+
+-- where the pending types start is at most the index
+pub pending-low : (row : Row) (start at : ℕ) → (waits row ≡ true → start ≤ at) → (if waits row then start else at) ≤ at
+pending-low row start at order =
+    elim (cases_Bool (waits row)) [
+      | inl e ↦ subst (λ n. n ≤ at) (sym (cond-true (waits row) start at e)) (order e)
+      | inr e ↦ subst (λ n. n ≤ at) (sym (cond-false (waits row) start at e)) (omega arith)
+    ]

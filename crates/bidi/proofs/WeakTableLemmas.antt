@@ -18,7 +18,7 @@ next-entries = refl
 value-entries : VALUES ≡ map (λ i. value_by (i / 32) (bidi_class_at (i % 32))) (range_with_len 0 672)
 value-entries = refl
 
-class-is : (class : BidiClass) → bidi_class_at (bidi_tag class) ≡ class
+pub class-is : (class : BidiClass) → bidi_class_at (bidi_tag class) ≡ class
 class-is L = refl
 class-is _ = refl
 

@@ -21,4 +21,5 @@ pub mod Stayed
 pub mod TextCuts
 pub mod Waiting
 pub mod Weak
+pub mod WeakState
 pub mod WeakTable

@@ -1,9 +1,10 @@
 -- The state of the pass for the neutral and implicit rules. All levels before the latest run of neutrals have
 -- been written.
-use Rattle.std.specs.Prelude.{◌≡◌, ℕ, ◌+◌, ◌-◌, ◌≤◌, List, [], ◌∷◌, ◌++◌, length, take, drop, replicate, if◌then◌else◌}
+use Rattle.std.specs.Prelude.{◌≡◌, ℕ, ◌+◌, ◌-◌, ◌<◌, ◌≤◌, Bool, true, false, not, List, [], ◌∷◌, ◌++◌, length, get_or, take, drop, replicate, if◌then◌else◌}
 use Rattle.ucd.specs.declared.bidi_class.BidiClass.{BidiClass}
-use Rattle.bidi.specs.Neutral.{between, implicit_level, is_neutral}
+use Rattle.bidi.specs.Neutral.{agree, between, implicit_level, is_neutral}
 use Rattle.bidi.specs.Sequences.{direction}
+use Rattle.bidi.specs.Weak.{is_left}
 
 -- the level of a run of neutrals, from the types on both sides
 abbrev pub row_level : ℕ → BidiClass → BidiClass → ℕ
@@ -23,10 +24,41 @@ pub record AreLevelsSoFar (level : ℕ) (sos eos : BidiClass) (types : List Bidi
   pub order : start ≤ at
   pub whole : take start levels ++ levels_after level eos (at - start) before (drop at types) ≡ levels_after level eos 0 sos types
 
--- Writing the levels of the run of the type `class` from `at` up to `next` gives `put`. The levels of all
--- neutrals before the run must have been written to `levels`.
-abbrev pub PutsRow : ℕ → List BidiClass → List ℕ → ℕ → BidiClass → List ℕ → ℕ → Type 0
-PutsRow level types levels at class put next =
-    (sos eos before : BidiClass) (old : List ℕ) (start : ℕ) → AreLevelsSoFar level sos eos types old before start at → length levels ≡ length old
-    → take at levels ≡ take start old ++ replicate (at - start) (row_level level before class)
-    → AreLevelsSoFar level sos eos types put class next next
+-- whether a type has the direction opposite to the embedding direction
+abbrev pub is_opposite : ℕ → BidiClass → Bool
+is_opposite level type = not (agree (is_left (direction level)) (is_left type))
+
+-- the level of neutrals between types that have the same direction, and by how much it is raised
+abbrev pub raised : ℕ → Bool → ℕ
+raised level opposite = if opposite then level + 1 else level
+
+abbrev pub beside : ℕ → BidiClass → ℕ
+beside level type = if is_opposite level type then 1 else 0
+
+-- the entries of the tables for a type
+abbrev pub turn : ℕ → BidiClass → ℕ
+turn level type = if is_neutral type then 1 else (if is_opposite level type then 2 else 0)
+
+abbrev pub above : ℕ → BidiClass → ℕ
+above level type = if is_neutral type then 1 else (implicit_level level type + 1) - (level + beside level type)
+
+-- The types from `start` up to `at` are neutral, and the type before them is not, if there is one.
+pub record IsRun (types : List BidiClass) (start at : ℕ) : Type 0 where
+  pub order : start ≤ at
+  pub neutrals : (k : ℕ) (d : BidiClass) → start ≤ k → k < at → is_neutral (get_or types k d) ≡ true
+  pub bounded : (k : ℕ) (d : BidiClass) → k + 1 ≡ start → is_neutral (get_or types k d) ≡ false
+
+-- The state of the pass at the index `at`. The latest run of neutrals has the levels that it has if the type
+-- after it has the same direction as the type before it.
+pub record AreGuessed (level : ℕ) (sos eos : BidiClass) (types : List BidiClass) (levels : List ℕ) (opposite : Bool) (at : ℕ) : Type 0 where
+  pub before : BidiClass
+  pub start : ℕ
+  pub so_far : AreLevelsSoFar level sos eos types levels before start at
+  pub run : IsRun types start at
+  pub direction_is : is_opposite level before ≡ opposite
+  pub guessed : take at levels ≡ take start levels ++ replicate (at - start) (raised level opposite)
+
+-- Writing the embedding level for the run of neutrals that ends at `at` gives `put`.
+abbrev pub LowersRun : ℕ → List BidiClass → List ℕ → ℕ → List ℕ → Type 0
+LowersRun level types levels at put =
+    (start : ℕ) → IsRun types start at → take at put ≡ take start levels ++ replicate (at - start) level

@@ -3,7 +3,7 @@
 use Rattle.std.specs.Prelude.{ℕ, ◌+◌, ◌*◌, ◌/◌, ◌%◌, Bool, true, false, ◌&&◌, not, [], ◌∷◌, get_or, if◌then◌else◌}
 use Rattle.ucd.specs.Classes.{is_strong}
 use Rattle.ucd.specs.declared.bidi_class.BidiClass.{BidiClass}
-use Rattle.ucd.specs.declared.bidi_class.BidiClass.TheVariants.{L, R, AL}
+use Rattle.ucd.specs.declared.bidi_class.BidiClass.TheVariants.{L, R, AL, EN, ES, ET, AN, CS, NSM}
 use Rattle.bidi.specs.declared.weak_table.Row.{Row}
 use Rattle.bidi.specs.declared.weak_table.Row.TheVariants.{Nothing, European, Arabic, EuropeanTerminators, EuropeanSeparator, ArabicSeparator, Terminators}
 use Rattle.bidi.specs.declared.weak_table.TheConstants.{BEGINS, COMPLETES, KEEPS, PARTS, ROW_LEN}
@@ -63,3 +63,13 @@ value_by state class = written (run_at state) (is_left (strong_at state)) (turne
 -- where the pending types of a state start; if none are pending, at the index itself
 abbrev pub pending : ℕ → ℕ → ℕ → ℕ
 pending state start at = if waits (run_at state) then start else at
+
+-- whether W1, W2 and W4 to W7 leave a type unchanged, whatever is before and after it
+abbrev pub is_simple : BidiClass → Bool
+is_simple EN = false
+is_simple ES = false
+is_simple ET = false
+is_simple AN = false
+is_simple CS = false
+is_simple NSM = false
+is_simple _ = true

@@ -22,6 +22,7 @@ mod fill;
 mod isolates;
 mod levels;
 mod neutral;
+mod neutral_table;
 mod resolver;
 mod sequence_levels;
 mod sequences;

@@ -1,18 +1,18 @@
 //! Applies the neutral and implicit rules (UAX #9, N1, N2, I1 and I2) to the types of one isolating run
 //! sequence.
-ghost use Rattle.std.specs.Prelude.{◌≡◌, ◌<◌, ◌≤◌, false, length, map};
-ghost use Rattle.bidi.specs.Neutral.{is_neutral, between, neutral, implicit_level};
-ghost use Rattle.bidi.specs.Rows.{row_level, PutsRow};
-ghost use Rattle.ucd.specs.Classes.{class_at};
+ghost use Rattle.std.specs.Prelude.{◌≡◌, ◌≤◌, length, map};
+ghost use Rattle.bidi.specs.Neutral.{implicit_level, is_neutral, neutral};
+ghost use Rattle.bidi.specs.Rows.{beside, LowersRun};
 ghost use Rattle.bidi.specs.Sequences.{direction};
 
-use crate::fill::fill;
-use crate::sequences::direction;
+use crate::neutral_table::{above, turn};
 use ucd::BidiClass;
 
 /// Applies N1, N2, I1 and I2 in one pass. A run of neutrals gets the direction of the types on both sides if
-/// they have the same direction, or else the embedding direction. Its levels are written after the type that
-/// follows it has been read.
+/// they have the same direction, or else the embedding direction. To have few branches that depend on the
+/// types, the pass writes the level of a neutral at once, as if the type after the run had the direction of
+/// the type before it. If it has the other direction, the levels of the run may be too high, and the pass
+/// writes them again.
 #[inline(never)] // so that the loop has all registers
 pub(crate) fn resolve_neutral(
     types: &[BidiClass],
@@ -25,59 +25,48 @@ pub(crate) fn resolve_neutral(
     requires bounded { level ≤ 125 }
     ensures { levels.new ≡ map (implicit_level level) (neutral (direction level) sos eos types.now) }
 {
-    // The last type that was not neutral, and the index after it, where a run of neutrals may begin.
-    let mut before = sos;
-    let mut start = 0;
+    // By how much neutrals are raised between two types of the last direction.
+    let mut rise = rise_beside(level, sos);
     let mut at = 0;
     while at < types.len() {
         let class = types[at];
-        if is_neutral(class) {
-            at += 1;
-        } else {
-            if start < at {
-                fill(levels, start, at, row_level(level, before, class));
-            }
-            at = put_row(types, level, at, class, levels);
-            before = class;
-            start = at;
+        let next = (rise + turn(level, class)) / 2;
+        if next < rise {
+            lower_run(types, level, at, levels);
         }
-    }
-    fill(levels, start, types.len(), row_level(level, before, eos));
-}
-
-// Writes the levels of a run of equal types that are not neutral. Returns the end of the run.
-fn put_row(
-    types: &[BidiClass],
-    level: u8,
-    start: usize,
-    class: BidiClass,
-    levels: &mut [u8],
-) -> usize
-    requires length { length levels.old ≡ length types.now }
-    requires bounded { level ≤ 125 }
-    requires within { start < length types.now }
-    requires class { class_at types.now start ≡ class }
-    requires other { is_neutral class ≡ false }
-    ensures above { start < result }
-    ensures within { result ≤ length types.now }
-    ensures put { PutsRow level types.now levels.old start class levels.new result }
-{
-    let value = implicit_level(level, class);
-    levels[start] = value;
-    let mut at = start + 1;
-    while at < types.len() && types[at] == class {
-        levels[at] = value;
+        levels[at] = level + next + above(level, class) - 1;
+        rise = next;
         at += 1;
     }
-    at
+    if rise_beside(level, eos) < rise {
+        lower_run(types, level, types.len(), levels);
+    }
 }
 
-// Returns the level of a run of neutrals, given the types on both sides.
-fn row_level(level: u8, before: BidiClass, after: BidiClass) -> u8
-    requires { level ≤ 125 }
-    ensures { result ≡ row_level level before after }
+// Writes the embedding level for the run of neutrals that ends at `end`.
+#[cold]
+#[inline(never)]
+fn lower_run(types: &[BidiClass], level: u8, end: usize, levels: &mut [u8])
+    requires length { length levels.old ≡ length types.now }
+    requires within { end ≤ length types.now }
+    ensures { LowersRun level types.now levels.old end levels.new }
 {
-    implicit_level(level, between(direction(level), before, after))
+    let mut at = end;
+    while at > 0 && is_neutral(types[at - 1]) {
+        at -= 1;
+        levels[at] = level;
+    }
+}
+
+// Returns by how much neutrals are raised if the types on both sides have the direction of `class`.
+fn rise_beside(level: u8, class: BidiClass) -> u8
+    ensures { result ≡ beside level class }
+{
+    match (level % 2, class) {
+        (0, BidiClass::L) => 0,
+        (0, _) | (_, BidiClass::L) => 1,
+        _ => 0,
+    }
 }
 
 fn is_neutral(class: BidiClass) -> bool
@@ -94,29 +83,4 @@ fn is_neutral(class: BidiClass) -> bool
             | BidiClass::FSI
             | BidiClass::PDI
     )
-}
-
-// Returns the direction of the neutrals between two types that are not neutral.
-fn between(embedding: BidiClass, before: BidiClass, after: BidiClass) -> BidiClass
-    ensures { result ≡ between embedding before after }
-{
-    match (before, after) {
-        (BidiClass::L, BidiClass::L) => BidiClass::L,
-        (BidiClass::L, _) | (_, BidiClass::L) => embedding,
-        _ => BidiClass::R,
-    }
-}
-
-/// Returns the level of a character, given its type after N2 (I1 and I2).
-pub(crate) fn implicit_level(level: u8, class: BidiClass) -> u8
-    requires { level ≤ 125 }
-    ensures { result ≡ implicit_level level class }
-{
-    match (level % 2, class) {
-        (0, BidiClass::R) => level + 1,
-        (0, BidiClass::AN | BidiClass::EN) => level + 2,
-        (0, _) => level,
-        (_, BidiClass::L | BidiClass::AN | BidiClass::EN) => level + 1,
-        _ => level,
-    }
 }

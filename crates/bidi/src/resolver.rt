@@ -57,23 +57,62 @@ fn is_flat_rtl(class: BidiClass) -> bool
 fn are_plain(classes: &[BidiClass]) -> bool
     ensures { result ≡ list_all is_plain classes.now }
 {
-    classes.iter().all(|class| is_plain(*class))
+    let mut all = true;
+    for class in classes {
+        all &= is_plain(*class);
+    }
+    all
 }
+
+// The number of characters whose classes are tested together.
+const AT_ONCE: usize = 128;
 
 // Returns whether no character raises a level above the base level.
 fn are_flat(classes: &[BidiClass], base: u8) -> bool
     requires { base ≤ 1 }
     ensures { result ≡ list_all (is_flat_at base) classes.now }
 {
+    let mut at = 0;
+    while at < classes.len() {
+        let end = classes.len().min(at + AT_ONCE);
+        if !are_classes_flat(&classes[at..end], base) {
+            return false;
+        }
+        at = end;
+    }
+    true
+}
+
+fn are_classes_flat(classes: &[BidiClass], base: u8) -> bool
+    requires { base ≤ 1 }
+    ensures { result ≡ list_all (is_flat_at base) classes.now }
+{
     if base == 0 {
-        classes.iter().all(|class| is_flat(*class))
+        are_classes_flat_ltr(classes)
     } else {
-        classes.iter().all(|class| is_flat_rtl(*class))
+        are_classes_flat_rtl(classes)
     }
 }
 
-// The number of characters whose classes are tested together.
-const AT_ONCE: usize = 128;
+fn are_classes_flat_ltr(classes: &[BidiClass]) -> bool
+    ensures { result ≡ list_all is_flat classes.now }
+{
+    let mut flat = true;
+    for class in classes {
+        flat &= is_flat(*class);
+    }
+    flat
+}
+
+fn are_classes_flat_rtl(classes: &[BidiClass]) -> bool
+    ensures { result ≡ list_all is_flat_rtl classes.now }
+{
+    let mut flat = true;
+    for class in classes {
+        flat &= is_flat_rtl(*class);
+    }
+    flat
+}
 
 // Fewer characters than these are tested one after another.
 const FEW: usize = 8;
@@ -143,7 +182,11 @@ fn are_flat_rtl(properties: &[Properties]) -> bool
 fn has_brackets(brackets: &[BracketType]) -> bool
     ensures { result ≡ list_any is_bracket brackets.now }
 {
-    brackets.iter().any(|bracket| is_bracket(*bracket))
+    let mut any = false;
+    for bracket in brackets {
+        any |= is_bracket(*bracket);
+    }
+    any
 }
 
 // The facts that decide which rules a paragraph needs.

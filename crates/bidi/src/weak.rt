@@ -1,31 +1,73 @@
 //! Applies the weak rules (UAX #9, W1 to W7) in one pass over the types of one isolating run sequence.
-ghost use Rattle.std.specs.Prelude.{◌≡◌, ◌≢◌, ◌-◌, ◌≤◌, ◌++◌, true, not, if◌then◌else◌};
-ghost use Rattle.std.specs.Prelude.{length, take, drop, replicate};
+ghost use Rattle.std.specs.Prelude.{◌≡◌, ◌≢◌, ℕ, ◌-◌, ◌/◌, ◌%◌, ◌<◌, ◌≤◌, ◌++◌, true, not, if◌then◌else◌};
+ghost use Rattle.std.specs.Prelude.{length, take, drop, replicate, slice_index_or};
+ghost use Rattle.std.specs.List.{list_all};
+ghost use Rattle.ucd.specs.declared.bidi_class.BidiClass.{BidiClass};
 ghost use Rattle.bidi.specs.Waiting.{mark_type};
-ghost use Rattle.ucd.specs.Classes.{is_mark};
-ghost use Rattle.bidi.specs.Weak.{is_left, mark_after, weak};
-ghost use Rattle.bidi.specs.WeakTable.{is_side};
-ghost use Rattle.bidi.specs.declared.weak_table.TheConstants.{COMPLETES};
+ghost use Rattle.ucd.specs.Classes.{is_mark, is_strong};
+ghost use Rattle.bidi.specs.Weak.{is_left, mark_after, w3_type, weak};
+ghost use Rattle.bidi.specs.WeakState.{IsState, Reads};
+ghost use Rattle.bidi.specs.WeakTable.{is_side, is_simple, strong_after, strong_at};
+ghost use Rattle.bidi.specs.declared.weak_table.TheConstants.{COMPLETES, RUN_LEN};
 
 use crate::fill::fill;
-use crate::weak_table::{COMPLETES, KEEPS, LEFT, PARTS, RIGHT, next, value};
+use crate::weak_table::{COMPLETES, KEEPS, LEFT, PARTS, RIGHT, ROW_LEN, RUN_LEN, next, value};
 use ucd::BidiClass;
 
-/// Applies W1 to W7 in one pass that reads each type once. A separator, or a run of terminators, is pending
-/// while a later type may still turn it into a number. A pending type is ON.
+// What the pass knows about the types that it has read.
+#[derive(Clone, Copy)]
+struct State {
+    // The last type that was not NSM.
+    before: BidiClass,
+    // The start of the state's row in the tables.
+    row: usize,
+    // The start of the pending types, if any are pending.
+    start: usize,
+}
+
+// The number of types that are tested together.
+const GROUP: usize = 8;
+
+/// Applies W1 to W7 in one pass. A separator, or a run of terminators, is pending while a later type may
+/// still turn it into a number. A pending type is ON. Groups of types that only W3 changes are read without
+/// the tables, so that the next type need not wait for a table entry.
 #[inline(never)] // so that the loop has all registers
 pub(crate) fn resolve_weak(types: &mut [BidiClass], sos: BidiClass)
     requires side { is_side sos ≡ true }
     ensures { types.new ≡ weak sos types.old }
 {
-    // The last type that was not NSM.
-    let mut before = sos;
-    // The start of the state's row in the tables.
-    let mut row = if is_left(sos) { LEFT } else { RIGHT };
-    // The start of the pending types, if any are pending.
-    let mut start = 0;
+    let mut state = State {
+        before: sos,
+        row: if is_left(sos) { LEFT } else { RIGHT },
+        start: 0,
+    };
     let mut at = 0;
     while at < types.len() {
+        if at + GROUP <= types.len() && are_simple(&types[at..at + GROUP]) {
+            state = read_simple(types, at, at + GROUP, state);
+            at += GROUP;
+        } else {
+            let end = types.len().min(at + GROUP);
+            state = read_each(types, at, end, state);
+            at = end;
+        }
+    }
+}
+
+// Applies the rules to the types in `begin..end`.
+#[inline(always)]
+fn read_each(types: &mut [BidiClass], begin: usize, end: usize, state: State) -> State
+    requires state { IsState state.row state.start begin }
+    requires order { begin ≤ end }
+    requires within { end ≤ length types.old }
+    ensures state { IsState result.row result.start end }
+    ensures read { Reads types.old state begin types.new result end }
+{
+    let mut before = state.before;
+    let mut row = state.row;
+    let mut start = state.start;
+    let mut at = begin;
+    while at < end {
         let class = types[at];
         let marked = mark_type(&mut before, class);
         let next = next(row, marked);
@@ -36,6 +78,85 @@ pub(crate) fn resolve_weak(types: &mut [BidiClass], sos: BidiClass)
         types[at] = value;
         row = (next / PARTS) as usize;
         at += 1;
+    }
+    State { before, row, start }
+}
+
+// Applies the rules to types that only W3 changes, without the tables.
+#[inline(always)] // so that the loop over a group knows its length
+fn read_simple(types: &mut [BidiClass], begin: usize, end: usize, state: State) -> State
+    requires state { IsState state.row state.start begin }
+    requires order { begin < end }
+    requires within { end ≤ length types.old }
+    requires simple { (k : ℕ) (d : BidiClass) → begin ≤ k → k < end
+        → is_simple (slice_index_or types.old k d) ≡ true }
+    ensures state { IsState result.row result.start end }
+    ensures read { Reads types.old state begin types.new result end }
+{
+    let mut before = state.before;
+    let mut row = state.row % RUN_LEN;
+    let mut at = begin;
+    while at < end {
+        let class = types[at];
+        before = class;
+        row = strong_row(row, class);
+        types[at] = w3_type(class);
+        at += 1;
+    }
+    State {
+        before,
+        row,
+        start: state.start,
+    }
+}
+
+// Returns whether only W3 changes the types. The loop has no branches, so that the compiler tests several
+// types at a time.
+#[inline(always)]
+fn are_simple(types: &[BidiClass]) -> bool
+    ensures { result ≡ list_all is_simple types.now }
+{
+    let mut all = true;
+    for class in types {
+        all &= is_simple(*class);
+    }
+    all
+}
+
+// This compares, and does not match, for the same reason.
+fn is_simple(class: BidiClass) -> bool
+    ensures { result ≡ is_simple class }
+{
+    ((class as u8) < BidiClass::EN as u8) | (class as u8 > BidiClass::NSM as u8)
+}
+
+// Returns the start of the row of the state after a type that only W3 changes.
+fn strong_row(row: usize, class: BidiClass) -> usize
+    requires bounded { row < RUN_LEN }
+    requires starts { row % 32 ≡ 0 }
+    ensures bounded { result < RUN_LEN }
+    ensures starts { result % 32 ≡ 0 }
+    ensures strong { strong_at (result / 32) ≡ strong_after (strong_at (row / 32)) class }
+{
+    if is_strong(class) {
+        class as usize * ROW_LEN
+    } else {
+        row
+    }
+}
+
+fn is_strong(class: BidiClass) -> bool
+    ensures { result ≡ is_strong class }
+{
+    matches!(class, BidiClass::L | BidiClass::R | BidiClass::AL)
+}
+
+fn w3_type(class: BidiClass) -> BidiClass
+    ensures { result ≡ w3_type class }
+{
+    match class {
+        BidiClass::AL => BidiClass::R,
+        _ => class,
     }
 }
 

@@ -46,6 +46,9 @@ pub const STATE_COUNT: usize = 21;
 /// The number of entries of a row. There are fewer classes, so the last entries are not used.
 pub const ROW_LEN: usize = 32;
 
+/// The number of entries of the rows of a run. The states with no run come first.
+pub const RUN_LEN: usize = 3 * ROW_LEN;
+
 /// The start of the last state's row.
 pub const LAST_ROW: usize = (STATE_COUNT - 1) * ROW_LEN;
 

@@ -1,89 +1,16 @@
-use Rattle.std.proofs.Common.{◌≡◌, ◌≢◌, true, ◌+◌, ◌-◌, ◌/◌, ◌%◌, ◌<◌, ◌≤◌, ◌++◌, length, take, drop, replicate, refl, sym, ap, subst, ◌∙◌, inl, inr, arith, if◌then◌else◌}
-use Rattle.std.proofs.lemmas.Bool.{cases_eq, cond-true}
-use Rattle.std.proofs.lemmas.List.{length-set}
-use Rattle.ucd.specs.declared.bidi_class.BidiClass.TheVariants.{L}
-use Rattle.bidi.specs.declared.weak_table.TheConstants.{BEGINS, COMPLETES, KEEPS}
-use Rattle.bidi.specs.Waiting.{row_after, waits, written}
-use Rattle.bidi.specs.Weak.{is_left}
-use Rattle.bidi.specs.WeakTable.{done_by, next_by, run_at, strong_at, turned}
-use Rattle.bidi.proofs.WaitingLemmas.{types-next, types-end}
-use Rattle.bidi.proofs.WeakTableLemmas.{completes-waits, done-is, front-next, next-is, row-starts, row-within, run-is, starts-next, strong-is, value-is}
+use Rattle.std.proofs.Common.{◌+◌, ◌/◌, sym, ◌∙◌}
+use Rattle.bidi.specs.WeakTable.{pending, run_at, strong_at}
+use Rattle.bidi.proofs.WaitingLemmas.{types-end}
+use Rattle.bidi.proofs.WeakStateLemmas.{simple-at}
 use Rattle.bidi.proofs.weak.resolve_weak.Goals as goal
-use Rattle.bidi.proofs.weak.resolve_weak.Goals.{then-next-ne-KEEPS, else-next-ne-KEEPS}
 
-pub act-start-requires-clause-order : goal.act-start-requires-clause-order
-act-start-requires-clause-order c completed =
-    let state = c.loop-at.row / 32 in
-    let marked = c.mark_type-marked.result in
-    let inv = c.loop-at.invariant in
-    let is : c.next-next.result ≡ next_by state marked = c.next-next.ensures ∙ next-is c.loop-at.row marked inv.row inv.starts in
-    let waiting : waits (run_at state) ≡ true =
-    completes-waits (run_at state) (turned (strong_at state) marked) (sym (done-is state marked c.next-next.result is) ∙ completed) in
-    subst (λ n. n ≤ c.loop-at.at) (cond-true (waits (run_at state)) c.loop-at.start c.loop-at.at waiting) inv.so_far.order
-
-pub loop-at-preserved : goal.loop-at-preserved
-loop-at-preserved c =
-    let row = c.loop-at.row in
-    let state = row / 32 in
-    let start = c.loop-at.start in
-    let at = c.loop-at.at in
-    let current = c.loop-at.types in
-    let inv = c.loop-at.invariant in
-    let marked = c.mark_type-marked.result in
-    let next = c.next-next.result in
-    let value = c.value-value.result in
-    let filled = c.if-next-ne-KEEPS.types in
-    let begins = c.if-next-ne-KEEPS.start in
-    let run = run_at state in
-    let strong = strong_at state in
-    let type = turned strong marked in
-    let inside : at < length current = c.loop-at-test.true in
-    let is : next ≡ next_by state marked = c.next-next.ensures ∙ next-is row marked inv.row inv.starts in
-    let done : next % 4 ≡ done_by run type = done-is state marked next is in
-    let is_value : value ≡ written run (is_left strong) type = c.value-value.ensures ∙ value-is row marked inv.row inv.starts in
-    let completed : done_by run type ≡ COMPLETES → take at filled ≡ take start current ++ replicate (at - start) value =
-    λ e. elim c.if-next-ne-KEEPS.branch [
-      | then-next-ne-KEEPS w ↦ ap (take at) w.types-is ∙ w.act-start.ensures.front (done ∙ e)
-      | else-next-ne-KEEPS w ↦ absurd (omega (arith, w.if-next-ne-KEEPS.false, done, e))
-    ] in
-    let kept : done_by run type ≢ COMPLETES → filled ≡ current =
-    λ other. elim c.if-next-ne-KEEPS.branch [
-      | then-next-ne-KEEPS w ↦ w.types-is ∙ w.act-start.ensures.kept (λ e. other (sym done ∙ e))
-      | else-next-ne-KEEPS w ↦ w.types-is
-    ] in
-    let after : drop at filled ≡ drop at current =
-    elim c.if-next-ne-KEEPS.branch [
-      | then-next-ne-KEEPS w ↦ elim (cases_eq (next % 4) COMPLETES) [
-        | inl e ↦ ap (drop at) w.types-is ∙ w.act-start.ensures.rest e
-        | inr other ↦ ap (drop at) (w.types-is ∙ w.act-start.ensures.kept other)
-      ]
-      | else-next-ne-KEEPS w ↦ ap (drop at) w.types-is
-    ] in
-    let begun : done_by run type ≡ BEGINS → begins ≡ at =
-    λ e. elim c.if-next-ne-KEEPS.branch [
-      | then-next-ne-KEEPS w ↦ w.start-is ∙ w.act-start.ensures.begins (λ f. absurd (omega (arith, done, e, f)))
-      | else-next-ne-KEEPS w ↦ absurd (omega (arith, w.if-next-ne-KEEPS.false, done, e))
-    ] in
-    let stays : done_by run type ≡ KEEPS → begins ≡ start =
-    λ e. elim c.if-next-ne-KEEPS.branch [
-      | then-next-ne-KEEPS w ↦ absurd (w.if-next-ne-KEEPS.true (done ∙ e))
-      | else-next-ne-KEEPS w ↦ w.start-is
-    ] in
-    let size : length filled ≡ length current = c.if-next-ne-KEEPS.auto.types in
-    let pending = if waits run then start else at in
-    let later = if waits (row_after run type) then begins else at + 1 in
-    record {
-      within = omega (arith, inside, size, length-set filled at value);
-      row = row-within state marked next is;
-      starts = row-starts state marked next is;
-      so_far = rw (c.mark_type-marked.ensures.before, run-is state marked next is, strong-is state marked next is) (
-          types-next c.args.sos c.args.types.now current c.loop-at.before strong run pending at inv.so_far L inside marked type value filled
-          c.mark_type-marked.ensures.marked refl is_value size after
-          (front-next run type current filled start at value inv.so_far.waiting completed kept)
-          later (starts-next run type start begins at begun stays));
-    }
+pub read_simple-state-requires-clause-simple : goal.read_simple-state-requires-clause-simple
+read_simple-state-requires-clause-simple c k d from below =
+    simple-at c.loop-at.types c.loop-at.at (c.loop-at.at + 8) k d (sym c.are_simple.ensures ∙ c.if-are_simple.true) from below c.if-at-types.true
 
 pub returns : goal.returns
 returns c =
-    types-end c.args.sos c.args.types.now c.loop-at.types c.loop-at.before (strong_at (c.loop-at.row / 32)) (run_at (c.loop-at.row / 32))
-    (if waits (run_at (c.loop-at.row / 32)) then c.loop-at.start else c.loop-at.at) c.loop-at.at c.loop-at.invariant.so_far (omega arith)
+    let state = c.loop-at.state in
+    let at = c.loop-at.at in
+    types-end c.args.sos c.args.types.now c.loop-at.types state.before (strong_at (state.row / 32)) (run_at (state.row / 32))
+    (pending (state.row / 32) state.start at) at c.loop-at.invariant.read c.loop-at-test.false
