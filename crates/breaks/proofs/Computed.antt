@@ -1,5 +1,5 @@
 -- Each entry of the break table agrees with the rules, which is checked by computation.
-use Rattle.std.proofs.Common.{◌≡◌, ℕ, ◌+◌, ◌*◌, ◌/◌, ◌%◌, ◌==◌, nat_lt, nat_le, Bool, true, false, not, ◌&&◌, ◌||◌, List, [], ◌∷◌, map, get_or, refl, if◌then◌else◌}
+use Rattle.std.proofs.Common.{◌≡◌, ℕ, ◌+◌, ◌*◌, ◌/◌, ◌==◌, nat_lt, nat_le, Bool, true, false, not, ◌&&◌, ◌||◌, List, [], ◌∷◌, map, get_or, refl, if◌then◌else◌}
 use Rattle.std.proofs.Math.ListN.{set}
 use Rattle.ucd.specs.declared.line_class.LineClass.TheVariants.{CM, NU, OP, ZWJ}
 use Rattle.breaks.specs.Bases.{Base, Character, alone}
@@ -10,8 +10,8 @@ use Rattle.breaks.specs.Walk.{base, bases_at, unattached, answers, carried, deci
 use Rattle.breaks.specs.declared.mark.Mark.{Mark}
 use Rattle.breaks.specs.declared.mark.Mark.TheVariants.{Never, May, Must}
 use Rattle.breaks.specs.declared.symbol.TheConstants.{ATTACHED, DIGIT, JOINER, SYMBOLS, SYMBOL_COUNT}
-use Rattle.breaks.specs.declared.entries.TheConstants.{TABLE}
-use Rattle.breaks.specs.declared.table.TheConstants.{ENTRY_COUNT, LAST_ROW, PARTS, STATE_COUNT, STAYS, WAITS}
+use Rattle.breaks.specs.declared.entries.TheConstants.{NEXT_ROWS, OUTCOMES}
+use Rattle.breaks.specs.declared.table.TheConstants.{ENTRY_COUNT, LAST_ROW, STATE_COUNT, STAYS, WAITS}
 use Rattle.breaks.proofs.BoolLemmas.{same, all_same, all_below}
 use Rattle.ucd.specs.declared.properties.TheConstants.{LINE_INDEX_COUNT}
 
@@ -93,17 +93,20 @@ leads whole_numbers false state symbol outcome next =
     && (same (is_one_of unattached (shown symbol).class) (is unattached (bases_at next))
     && (waits_for_base symbol outcome && gives_each whole_numbers state symbol outcome)))
 
-abbrev pub entry_leads : Bool → ℕ → ℕ → ℕ → ℕ → Bool
-entry_leads whole_numbers state symbol entry next =
-    (entry / PARTS == next * SYMBOL_COUNT)
-    && (nat_lt next STATE_COUNT && leads whole_numbers (stays state symbol) state symbol (entry % PARTS) next)
+abbrev pub row_leads : Bool → ℕ → ℕ → ℕ → ℕ → ℕ → Bool
+row_leads whole_numbers state symbol row outcome next =
+    (row == next * SYMBOL_COUNT)
+    && (nat_lt next STATE_COUNT && leads whole_numbers (stays state symbol) state symbol outcome next)
 
-abbrev pub is_right : Bool → ℕ → ℕ → ℕ → Bool
-is_right whole_numbers state symbol entry = entry_leads whole_numbers state symbol entry (entry / PARTS / SYMBOL_COUNT)
+-- whether the start of the next row and the outcome are right for a state and a symbol
+abbrev pub is_right : Bool → ℕ → ℕ → ℕ → ℕ → Bool
+is_right whole_numbers state symbol row outcome = row_leads whole_numbers state symbol row outcome (row / SYMBOL_COUNT)
+
+abbrev pub is_right_at : Bool → ℕ → ℕ → ℕ → Bool
+is_right_at whole_numbers state symbol place = is_right whole_numbers state symbol (get_or NEXT_ROWS place 0) (get_or OUTCOMES place 0)
 
 abbrev pub all_right : Bool → ℕ → Bool
-all_right whole_numbers state =
-    all_below SYMBOL_COUNT (λ symbol. is_right whole_numbers state symbol (get_or TABLE (state * SYMBOL_COUNT + symbol) 0))
+all_right whole_numbers state = all_below SYMBOL_COUNT (λ symbol. is_right_at whole_numbers state symbol (state * SYMBOL_COUNT + symbol))
 
 -- A type that has a proof if and only if the test is true. A false test is rejected at once.
 abbrev Holds : Bool → Type 0
@@ -122,8 +125,11 @@ pub table_is_right_whole : all_below STATE_COUNT (all_right true) ≡ true
 unfolding rows rows_before_numbers rows_of_numbers rows_after_numbers
 table_is_right_whole = holds (all_below STATE_COUNT (all_right true)) tt
 
-pub entries_are_within : all_below ENTRY_COUNT (λ place. nat_le (get_or TABLE place 0 / PARTS) LAST_ROW) ≡ true
-entries_are_within = refl
+pub rows_are_within : all_below ENTRY_COUNT (λ place. nat_le (get_or NEXT_ROWS place 0) LAST_ROW) ≡ true
+rows_are_within = refl
+
+pub outcomes_are_within : all_below ENTRY_COUNT (λ place. nat_lt (get_or OUTCOMES place 0) 8) ≡ true
+outcomes_are_within = refl
 
 pub symbols_are_within : all_below LINE_INDEX_COUNT (λ place. nat_lt (get_or SYMBOLS place 0) SYMBOL_COUNT) ≡ true
 symbols_are_within = refl

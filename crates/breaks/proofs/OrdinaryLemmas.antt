@@ -1,5 +1,5 @@
 -- Ordinary characters: the table alone decides the marks between them.
-use Rattle.std.proofs.Common.{◌≡◌, ◌∙◌, ℕ, ◌+◌, ◌/◌, ◌%◌, ◌<◌, ◌==◌, Bool, true, false, not, ◌&&◌, List, ◌∷◌, length, get_or, refl, ap, subst, sym, inl, inr}
+use Rattle.std.proofs.Common.{◌≡◌, ◌∙◌, ℕ, ◌+◌, ◌<◌, ◌==◌, Bool, true, false, not, ◌&&◌, List, ◌∷◌, length, get_or, refl, ap, subst, sym, inl, inr}
 use Rattle.std.specs.List.{list_all}
 use Rattle.std.proofs.lemmas.Bool.{both_ways, cases_Bool}
 use Rattle.std.proofs.lemmas.List.Folds.{list_all_at}
@@ -9,9 +9,9 @@ use Rattle.breaks.specs.Bases.{Base}
 use Rattle.breaks.specs.Classes.{is_same}
 use Rattle.breaks.specs.Symbols.{character_by, shown, told}
 use Rattle.breaks.specs.Walk.{FollowsOrdinary, Stands, Passes, decided_at, is_ordinary}
-use Rattle.breaks.specs.declared.entries.TheConstants.{TABLE}
+use Rattle.breaks.specs.declared.entries.TheConstants.{NEXT_ROWS, OUTCOMES}
 use Rattle.breaks.specs.declared.symbol.TheConstants.{JOINER, SYMBOL_COUNT}
-use Rattle.breaks.specs.declared.table.TheConstants.{PARTS, STAYS, UNLESS}
+use Rattle.breaks.specs.declared.table.TheConstants.{STAYS, UNLESS}
 use Rattle.breaks.specs.declared.walk.Walk.{Walk}
 use Rattle.breaks.proofs.PassLemmas.{kept, passes_as}
 use Rattle.breaks.proofs.SymbolLemmas.{is_joiner}
@@ -57,19 +57,19 @@ decides_alone outcome false false none other =
 decides_alone outcome true b none other = cc
 decides_alone outcome false true none other = cc
 
-pub passes_ordinary : (walk : Walk) (symbol entry : ℕ) (p : Properties) → symbol < SYMBOL_COUNT → shown symbol ≡ told (character_by p)
-    → entry ≡ get_or TABLE (walk.row + symbol) 0 → FollowsOrdinary walk → is_ordinary p ≡ true
+pub passes_ordinary : (walk : Walk) (symbol next_row outcome : ℕ) (p : Properties) → symbol < SYMBOL_COUNT → shown symbol ≡ told (character_by p)
+    → next_row ≡ get_or NEXT_ROWS (walk.row + symbol) 0 → outcome ≡ get_or OUTCOMES (walk.row + symbol) 0 → FollowsOrdinary walk → is_ordinary p ≡ true
     → (whole_numbers : Bool) (last : Base) (others : List Base) → Stands whole_numbers walk last others
-    → Passes whole_numbers (record walk { row = entry / PARTS }) last others (character_by p) (entry % PARTS)
-passes_ordinary walk symbol entry p below shows reads before next whole_numbers last others stands =
+    → Passes whole_numbers (record walk { row = next_row }) last others (character_by p) outcome
+passes_ordinary walk symbol next_row outcome p below shows reads_row reads_outcome before next whole_numbers last others stands =
     let both = parts (is_same (character_by p).class ZWJ) p.is_future_pictograph next in
     let unjoined : (symbol == JOINER) ≡ walk.is_joined = joins symbol p below shows ∙ both.0 ∙ sym before.unjoined in
     subst
-    (λ joined. Passes whole_numbers (record { row = entry / PARTS; is_joined = joined; is_pictograph = walk.is_pictograph }) last others (character_by p) (entry % PARTS))
+    (λ joined. Passes whole_numbers (record { row = next_row; is_joined = joined; is_pictograph = walk.is_pictograph }) last others (character_by p) outcome)
     unjoined
-    (passes_as walk symbol entry (character_by p) walk.is_pictograph (entry % PARTS) below shows reads
-    (none_kept walk (entry % PARTS) p before.no_pictograph both.1 ∙ sym before.no_pictograph)
-    (decides_alone (entry % PARTS) walk.is_joined walk.is_pictograph before.unjoined before.no_pictograph)
+    (passes_as walk symbol next_row outcome (character_by p) walk.is_pictograph outcome below shows reads_row reads_outcome
+    (none_kept walk outcome p before.no_pictograph both.1 ∙ sym before.no_pictograph)
+    (decides_alone outcome walk.is_joined walk.is_pictograph before.unjoined before.no_pictograph)
     whole_numbers last others stands)
 
 -- an item of a list that passes throughout

@@ -1,5 +1,5 @@
 -- One step of the pass: the new state belongs to the bases so far, and the mark agrees with the rules.
-use Rattle.std.proofs.Common.{◌≡◌, ℕ, ◌+◌, ◌*◌, ◌/◌, ◌%◌, ◌<◌, ◌≤◌, ◌==◌, nat_lt, nat_le, Bool, true, false, not, ◌&&◌, ◌||◌, List, [], ◌∷◌, ◌++◌, map, get_or, refl, sym, ap, ◌∙◌, arith, if◌then◌else◌, inl, inr}
+use Rattle.std.proofs.Common.{◌≡◌, ℕ, ◌+◌, ◌*◌, ◌/◌, ◌<◌, ◌≤◌, ◌==◌, nat_lt, nat_le, Bool, true, false, not, ◌&&◌, ◌||◌, List, [], ◌∷◌, ◌++◌, map, get_or, refl, sym, ap, ◌∙◌, arith, if◌then◌else◌, inl, inr}
 use Rattle.std.proofs.lemmas.Bool.{cases_Bool}
 use Rattle.ucd.specs.declared.line_class.LineClass.{LineClass}
 use Rattle.ucd.specs.declared.line_class.LineClass.TheVariants.{CM, NU, OP, ZWJ}
@@ -11,11 +11,11 @@ use Rattle.breaks.specs.Walk.{Stands, Passes, with_attached, bases_at, unattache
 use Rattle.breaks.specs.declared.mark.Mark.{Mark}
 use Rattle.breaks.specs.declared.mark.Mark.TheVariants.{Never, May, Must}
 use Rattle.breaks.specs.declared.symbol.TheConstants.{JOINER, SYMBOL_COUNT}
-use Rattle.breaks.specs.declared.entries.TheConstants.{TABLE}
-use Rattle.breaks.specs.declared.table.TheConstants.{ENTRY_COUNT, LAST_ROW, NEVER, PARTS, STATE_COUNT, STAYS, UNLESS, WAITS}
+use Rattle.breaks.specs.declared.entries.TheConstants.{NEXT_ROWS, OUTCOMES}
+use Rattle.breaks.specs.declared.table.TheConstants.{ENTRY_COUNT, LAST_ROW, NEVER, STATE_COUNT, STAYS, UNLESS, WAITS}
 use Rattle.breaks.specs.declared.walk.Walk.{Walk}
 use Rattle.breaks.proofs.BoolLemmas.{both, same, same_is, all_same, all_same_is, below, is_below, is_within, is_equal}
-use Rattle.breaks.proofs.Computed.{all_right, decide, marks_by_row, answers_after, answered_with, is_mark, stays, is_as, gives_both, gives_each, leads, is_right, table_is_right, table_is_right_whole, entries_are_within, waits_for_base}
+use Rattle.breaks.proofs.Computed.{all_right, decide, marks_by_row, answers_after, answered_with, is_mark, stays, is_as, gives_both, gives_each, leads, is_right, is_right_at, table_is_right, table_is_right_whole, rows_are_within, outcomes_are_within, waits_for_base}
 use Rattle.breaks.proofs.StepLemmas.{end_attached, marked, answers_attached, carried_attached, answers_same, carried_same, answers_told, carried_told}
 use Rattle.breaks.proofs.SymbolLemmas.{is_joiner, answers_after_told}
 
@@ -83,25 +83,26 @@ given whole_numbers state symbol outcome true is_pictograph before_digit free ea
     ]
 
 -- the next state of an entry, and the proof that the entry is right
-pub record Leads (whole_numbers : Bool) (state symbol entry : ℕ) : Type 0 where
+pub record Leads (whole_numbers : Bool) (state symbol next_row outcome : ℕ) : Type 0 where
   pub next : ℕ
   pub below : next < STATE_COUNT
-  pub row : entry / PARTS ≡ next * SYMBOL_COUNT
-  pub leads : leads whole_numbers (stays state symbol) state symbol (entry % PARTS) next ≡ true
+  pub row : next_row ≡ next * SYMBOL_COUNT
+  pub leads : leads whole_numbers (stays state symbol) state symbol outcome next ≡ true
 
 state_is_right : (whole_numbers : Bool) (state : ℕ) → state < STATE_COUNT → all_right whole_numbers state ≡ true
 state_is_right true state state_lt = below STATE_COUNT (all_right true) table_is_right_whole state state_lt
 state_is_right false state state_lt = below STATE_COUNT (all_right false) table_is_right state state_lt
 
-pub entry_is_right : (whole_numbers : Bool) (state symbol row entry : ℕ) → state < STATE_COUNT → symbol < SYMBOL_COUNT
-    → row ≡ state * SYMBOL_COUNT → entry ≡ get_or TABLE (row + symbol) 0 → Leads whole_numbers state symbol entry
-entry_is_right whole_numbers state symbol row entry state_lt symbol_lt begins reads =
+pub entry_is_right : (whole_numbers : Bool) (state symbol row next_row outcome : ℕ) → state < STATE_COUNT → symbol < SYMBOL_COUNT
+    → row ≡ state * SYMBOL_COUNT → next_row ≡ get_or NEXT_ROWS (row + symbol) 0 → outcome ≡ get_or OUTCOMES (row + symbol) 0
+    → Leads whole_numbers state symbol next_row outcome
+entry_is_right whole_numbers state symbol row next_row outcome state_lt symbol_lt begins reads_row reads_outcome =
     let at_state = state_is_right whole_numbers state state_lt in
-    let at_symbol = below SYMBOL_COUNT (λ symbol. is_right whole_numbers state symbol (get_or TABLE (state * SYMBOL_COUNT + symbol) 0)) at_state symbol symbol_lt in
-    let right : is_right whole_numbers state symbol entry ≡ true = rw (reads, begins) at_symbol in
-    let next : ℕ = entry / PARTS / SYMBOL_COUNT in
-    let leading : Bool = leads whole_numbers (stays state symbol) state symbol (entry % PARTS) next in
-    let row_and : ((entry / PARTS == next * SYMBOL_COUNT) ≡ true) × ((nat_lt next STATE_COUNT && leading) ≡ true) = both _ _ right in
+    let at_symbol = below SYMBOL_COUNT (λ symbol. is_right_at whole_numbers state symbol (state * SYMBOL_COUNT + symbol)) at_state symbol symbol_lt in
+    let right : is_right whole_numbers state symbol next_row outcome ≡ true = rw (reads_row, reads_outcome, begins) at_symbol in
+    let next : ℕ = next_row / SYMBOL_COUNT in
+    let leading : Bool = leads whole_numbers (stays state symbol) state symbol outcome next in
+    let row_and : ((next_row == next * SYMBOL_COUNT) ≡ true) × ((nat_lt next STATE_COUNT && leading) ≡ true) = both _ _ right in
     let next_and : (nat_lt next STATE_COUNT ≡ true) × (leading ≡ true) = both _ _ row_and.1 in
     record { next = next; below = is_below _ _ next_and.0; row = is_equal _ _ row_and.0; leads = next_and.1 }
 
@@ -135,17 +136,17 @@ beginning whole_numbers state symbol outcome next led =
 
 -- After a character that begins a base, the new state belongs to the bases that include it. The bases before
 -- it must have the same `carried` as the example bases of the old state.
-pub begins : (whole_numbers : Bool) (state symbol entry : ℕ) (c : Character) (before : List Base)
-    → symbol < SYMBOL_COUNT → shown symbol ≡ told c → Leads whole_numbers state symbol entry → stays state symbol
+pub begins : (whole_numbers : Bool) (state symbol next_row outcome : ℕ) (c : Character) (before : List Base)
+    → symbol < SYMBOL_COUNT → shown symbol ≡ told c → Leads whole_numbers state symbol next_row outcome → stays state symbol
     ≡ false → carried before ≡ carried (bases_at state)
     → Stands whole_numbers (record {
-      row = entry / PARTS;
+      row = next_row;
       is_joined = symbol == JOINER;
       is_pictograph =
           c.is_future_pictograph;
     }) (alone c) before
-begins whole_numbers state symbol entry c before symbol_lt shows entry_leads begun carry =
-    let says : Begins whole_numbers state symbol (entry % PARTS) entry_leads.next = beginning _ _ _ _ _ (rw begun at entry_leads.leads) in
+begins whole_numbers state symbol next_row outcome c before symbol_lt shows entry_leads begun carry =
+    let says : Begins whole_numbers state symbol outcome entry_leads.next = beginning _ _ _ _ _ (rw begun at entry_leads.leads) in
     record {
       state = entry_leads.next;
       below = entry_leads.below;
@@ -163,20 +164,20 @@ begins whole_numbers state symbol entry c before symbol_lt shows entry_leads beg
 
 -- after a character that joins the last base, the new state belongs to the bases with the character attached
 attached : (whole_numbers : Bool) (walk : Walk) (last : Base) (others : List Base)
-    (stands : Stands whole_numbers walk last others) (symbol entry : ℕ) (c : Character) → symbol < SYMBOL_COUNT
-    → shown symbol ≡ told c → Leads whole_numbers stands.state symbol entry → stays stands.state symbol ≡ true
+    (stands : Stands whole_numbers walk last others) (symbol next_row outcome : ℕ) (c : Character) → symbol < SYMBOL_COUNT
+    → shown symbol ≡ told c → Leads whole_numbers stands.state symbol next_row outcome → stays stands.state symbol ≡ true
     → Stands whole_numbers (record {
-      row = entry / PARTS;
+      row = next_row;
       is_joined = symbol == JOINER;
       is_pictograph =
           walk.is_pictograph;
     }) (with_attached last c) others
-attached whole_numbers walk last others stands symbol entry c symbol_lt shows entry_leads stay =
-    let led : leads whole_numbers true stands.state symbol (entry % PARTS) entry_leads.next ≡ true = rw stay at entry_leads.leads in
+attached whole_numbers walk last others stands symbol next_row outcome c symbol_lt shows entry_leads stay =
+    let led : leads whole_numbers true stands.state symbol outcome entry_leads.next ≡ true = rw stay at entry_leads.leads in
     let here : List Base = bases_at stands.state in
     let next : List Base = bases_at entry_leads.next in
     let attaching : Bool = same (is unattached here) (is unattached next) in
-    let facts : ((entry % PARTS == STAYS) ≡ true) × ((is_as whole_numbers here next && attaching) ≡ true) = both _ _ led in
+    let facts : ((outcome == STAYS) ≡ true) × ((is_as whole_numbers here next && attaching) ≡ true) = both _ _ led in
     let likes : (is_as whole_numbers here next ≡ true) × (attaching ≡ true) = both _ _ facts.1 in
     let as_next : (all_same (answers whole_numbers here) (answers whole_numbers next) ≡ true) × (all_same (carried here) (carried next) ≡ true) = both _ _ likes.0 in
     let mark_and : (is_one_of (CM ∷ ZWJ ∷ []) (shown symbol).class ≡ true) × (not (is unattached here) ≡ true) = both _ _ stay in
@@ -290,17 +291,17 @@ same_of_digit whole_numbers symbol outcome c text is_joined is_pictograph shows 
 
 -- before a character that begins a base, the outcome gives the mark of the rules
 marks_begun : (whole_numbers : Bool) (walk : Walk) (last : Base) (others : List Base)
-    (stands : Stands whole_numbers walk last others) (symbol entry : ℕ) (c : Character) (text : List Character)
-    → shown symbol ≡ told c → Leads whole_numbers stands.state symbol entry → stays stands.state symbol ≡ false
-    → mark_of whole_numbers (decided_at (entry % PARTS) walk.is_joined walk.is_pictograph) (is_before_digit text)
+    (stands : Stands whole_numbers walk last others) (symbol next_row outcome : ℕ) (c : Character) (text : List Character)
+    → shown symbol ≡ told c → Leads whole_numbers stands.state symbol next_row outcome → stays stands.state symbol ≡ false
+    → mark_of whole_numbers (decided_at outcome walk.is_joined walk.is_pictograph) (is_before_digit text)
     ≡ mark_by (rules whole_numbers) (last ∷ others) (bases_of (c ∷ text))
-marks_begun whole_numbers walk last others stands symbol entry c text shows entry_leads begun =
-    let says : Begins whole_numbers stands.state symbol (entry % PARTS) entry_leads.next = beginning _ _ _ _ _ (rw begun at entry_leads.leads) in
+marks_begun whole_numbers walk last others stands symbol next_row outcome c text shows entry_leads begun =
+    let says : Begins whole_numbers stands.state symbol outcome entry_leads.next = beginning _ _ _ _ _ (rw begun at entry_leads.leads) in
     let digit : Bool = second_is_digit (bases_of (c ∷ text)) in
     let free : walk.is_joined ≡ true → is unattached (bases_at stands.state) ≡ false =
     λ joined. sym stands.attaches ∙ joiner_attaches (end_of last).class (sym stands.is_joined ∙ joined) in
-    same_of_digit whole_numbers symbol (entry % PARTS) c text walk.is_joined walk.is_pictograph shows says.waits
-    ∙ given whole_numbers stands.state symbol (entry % PARTS) walk.is_joined walk.is_pictograph digit free says.gives
+    same_of_digit whole_numbers symbol outcome c text walk.is_joined walk.is_pictograph shows says.waits
+    ∙ given whole_numbers stands.state symbol outcome walk.is_joined walk.is_pictograph digit free says.gives
     ∙ ap (λ row. decide (marks_by_row whole_numbers) (answered_with whole_numbers walk.is_joined walk.is_pictograph row) (answers_after whole_numbers (shown symbol) digit)) (sym stands.answered)
     ∙ ap (λ joined. decide (marks_by_row whole_numbers)
     (answered_with whole_numbers joined walk.is_pictograph (answers whole_numbers (last ∷ others)))
@@ -323,15 +324,15 @@ stays_is whole_numbers walk last others stands symbol c shows =
 
 -- the outcome is `STAYS` if and only if the next character joins the last base
 outcome_stays : (whole_numbers : Bool) (walk : Walk) (last : Base) (others : List Base)
-    (stands : Stands whole_numbers walk last others) (symbol entry : ℕ) → Leads whole_numbers stands.state symbol entry
-    → (entry % PARTS == STAYS) ≡ stays stands.state symbol
-outcome_stays whole_numbers walk last others stands symbol entry entry_leads =
+    (stands : Stands whole_numbers walk last others) (symbol next_row outcome : ℕ) → Leads whole_numbers stands.state symbol next_row outcome
+    → (outcome == STAYS) ≡ stays stands.state symbol
+outcome_stays whole_numbers walk last others stands symbol next_row outcome entry_leads =
     elim (cases_Bool (stays stands.state symbol)) [
       | inl stay ↦
-          let led : leads whole_numbers true stands.state symbol (entry % PARTS) entry_leads.next ≡ true = rw stay at entry_leads.leads in
+          let led : leads whole_numbers true stands.state symbol outcome entry_leads.next ≡ true = rw stay at entry_leads.leads in
           (both _ _ led).0 ∙ sym stay
       | inr begun ↦
-          let led : leads whole_numbers false stands.state symbol (entry % PARTS) entry_leads.next ≡ true = rw begun at entry_leads.leads in
+          let led : leads whole_numbers false stands.state symbol outcome entry_leads.next ≡ true = rw begun at entry_leads.leads in
           not_true _ (both _ _ led).0 ∙ sym begun
     ]
 
@@ -355,62 +356,69 @@ never_stays whole_numbers outcome false is_pictograph before_digit stay =
     ap (λ o. mark_of whole_numbers (decided_at o false is_pictograph) before_digit) (is_equal outcome STAYS stay)
     ∙ never_outcome whole_numbers before_digit is_pictograph
 
-pub passes : (whole_numbers : Bool) (walk : Walk) (symbol entry : ℕ) (c : Character) → symbol < SYMBOL_COUNT
-    → shown symbol ≡ told c → entry ≡ get_or TABLE (walk.row + symbol) 0 → (last : Base) (others : List Base)
+pub passes : (whole_numbers : Bool) (walk : Walk) (symbol next_row outcome : ℕ) (c : Character) → symbol < SYMBOL_COUNT
+    → shown symbol ≡ told c → next_row ≡ get_or NEXT_ROWS (walk.row + symbol) 0 → outcome ≡ get_or OUTCOMES (walk.row + symbol) 0 → (last : Base) (others : List Base)
     → Stands whole_numbers walk last others
     → Passes whole_numbers (record {
-      row = entry / PARTS;
+      row = next_row;
       is_joined = symbol == JOINER;
       is_pictograph =
-          kept walk (entry % PARTS) c;
-    }) last others c (decided_at (entry % PARTS) walk.is_joined walk.is_pictograph)
-passes whole_numbers walk symbol entry c symbol_lt shows reads last others stands =
-    let entry_leads : Leads whole_numbers stands.state symbol entry = entry_is_right whole_numbers stands.state symbol walk.row entry stands.below symbol_lt stands.row reads in
+          kept walk outcome c;
+    }) last others c (decided_at outcome walk.is_joined walk.is_pictograph)
+passes whole_numbers walk symbol next_row outcome c symbol_lt shows reads_row reads_outcome last others stands =
+    let entry_leads : Leads whole_numbers stands.state symbol next_row outcome = entry_is_right whole_numbers stands.state symbol walk.row next_row outcome stands.below symbol_lt stands.row reads_row reads_outcome in
     let whether = stays_is whole_numbers walk last others stands symbol c shows in
-    let outcome = outcome_stays whole_numbers walk last others stands symbol entry entry_leads in
+    let staying = outcome_stays whole_numbers walk last others stands symbol next_row outcome entry_leads in
     elim (cases_Bool (stays stands.state symbol)) [
       | inl stay ↦
-          rw (whether, outcome, stay) (
-            λ digit. never_stays whole_numbers (entry % PARTS) walk.is_joined walk.is_pictograph digit (outcome ∙ stay),
-            attached whole_numbers walk last others stands symbol entry c symbol_lt shows entry_leads stay,
+          rw (whether, staying, stay) (
+            λ digit. never_stays whole_numbers outcome walk.is_joined walk.is_pictograph digit (staying ∙ stay),
+            attached whole_numbers walk last others stands symbol next_row outcome c symbol_lt shows entry_leads stay,
           )
       | inr begun ↦
-          rw (whether, outcome, begun) (
-            λ text. marks_begun whole_numbers walk last others stands symbol entry c text shows entry_leads begun,
-            begins whole_numbers stands.state symbol entry c (last ∷ others) symbol_lt shows entry_leads begun stands.carries,
+          rw (whether, staying, begun) (
+            λ text. marks_begun whole_numbers walk last others stands symbol next_row outcome c text shows entry_leads begun,
+            begins whole_numbers stands.state symbol next_row outcome c (last ∷ others) symbol_lt shows entry_leads begun stands.carries,
           )
     ]
 
 -- the first character of a text is read as if it came after BK, and the resulting state belongs to the base
 -- with that character
-pub starts : (symbol entry : ℕ) (c : Character) → symbol < SYMBOL_COUNT → shown symbol ≡ told c → entry
-    ≡ get_or TABLE (0 + symbol) 0 → (whole_numbers : Bool)
+pub starts : (symbol next_row : ℕ) (c : Character) → symbol < SYMBOL_COUNT → shown symbol ≡ told c → next_row
+    ≡ get_or NEXT_ROWS (0 + symbol) 0 → (whole_numbers : Bool)
     → Stands whole_numbers (record {
-      row = entry / PARTS;
+      row = next_row;
       is_joined = symbol == JOINER;
       is_pictograph =
           c.is_future_pictograph;
     }) (alone c) []
-starts symbol entry c symbol_lt shows reads whole_numbers =
-    begins whole_numbers 0 symbol entry c [] symbol_lt shows (entry_is_right whole_numbers 0 symbol 0 entry (omega arith) symbol_lt refl reads) (and_false _) refl
+starts symbol next_row c symbol_lt shows reads_row whole_numbers =
+    let outcome : ℕ = get_or OUTCOMES (0 + symbol) 0 in
+    begins whole_numbers 0 symbol next_row outcome c [] symbol_lt shows (entry_is_right whole_numbers 0 symbol 0 next_row outcome (omega arith) symbol_lt refl reads_row refl) (and_false _) refl
 
 -- one step of the pass, stated for the values that the program computes
-pub passes_as : (walk : Walk) (symbol entry : ℕ) (c : Character) (is_pictograph : Bool) (decided : ℕ)
-    → symbol < SYMBOL_COUNT → shown symbol ≡ told c → entry ≡ get_or TABLE (walk.row + symbol) 0
-    → kept walk (entry % PARTS) c ≡ is_pictograph → decided
-    ≡ decided_at (entry % PARTS) walk.is_joined walk.is_pictograph
+pub passes_as : (walk : Walk) (symbol next_row outcome : ℕ) (c : Character) (is_pictograph : Bool) (decided : ℕ)
+    → symbol < SYMBOL_COUNT → shown symbol ≡ told c → next_row ≡ get_or NEXT_ROWS (walk.row + symbol) 0 → outcome ≡ get_or OUTCOMES (walk.row + symbol) 0
+    → kept walk outcome c ≡ is_pictograph → decided
+    ≡ decided_at outcome walk.is_joined walk.is_pictograph
     → (whole_numbers : Bool) (last : Base) (others : List Base) → Stands whole_numbers walk last others
     → Passes whole_numbers (record {
-      row = entry / PARTS;
+      row = next_row;
       is_joined = symbol == JOINER;
       is_pictograph =
           is_pictograph;
     }) last others c decided
-passes_as walk symbol entry c is_pictograph decided symbol_lt shows reads keeps is whole_numbers last others stands =
-    rw (← keeps, is) (passes whole_numbers walk symbol entry c symbol_lt shows reads last others stands)
+passes_as walk symbol next_row outcome c is_pictograph decided symbol_lt shows reads_row reads_outcome keeps is whole_numbers last others stands =
+    rw (← keeps, is) (passes whole_numbers walk symbol next_row outcome c symbol_lt shows reads_row reads_outcome last others stands)
 
 -- the next row in each entry is a row of the table
-pub row_within : (place entry : ℕ) → place < ENTRY_COUNT → entry ≡ get_or TABLE place 0 → entry / PARTS ≤ LAST_ROW
-row_within place entry lt reads =
-    let test : nat_le (get_or TABLE place 0 / PARTS) LAST_ROW ≡ true = below ENTRY_COUNT (λ place. nat_le (get_or TABLE place 0 / PARTS) LAST_ROW) entries_are_within place lt in
-    is_within (entry / PARTS) LAST_ROW (ap (λ e. nat_le (e / PARTS) LAST_ROW) reads ∙ test)
+pub row_within : (place next_row : ℕ) → place < ENTRY_COUNT → next_row ≡ get_or NEXT_ROWS place 0 → next_row ≤ LAST_ROW
+row_within place next_row lt reads =
+    let test : nat_le (get_or NEXT_ROWS place 0) LAST_ROW ≡ true = below ENTRY_COUNT (λ place. nat_le (get_or NEXT_ROWS place 0) LAST_ROW) rows_are_within place lt in
+    is_within next_row LAST_ROW (ap (λ row. nat_le row LAST_ROW) reads ∙ test)
+
+-- the outcome in each entry is one of the eight
+pub outcome_below : (place outcome : ℕ) → place < ENTRY_COUNT → outcome ≡ get_or OUTCOMES place 0 → outcome < 8
+outcome_below place outcome lt reads =
+    let test : nat_lt (get_or OUTCOMES place 0) 8 ≡ true = below ENTRY_COUNT (λ place. nat_lt (get_or OUTCOMES place 0) 8) outcomes_are_within place lt in
+    is_below outcome 8 (ap (λ o. nat_lt o 8) reads ∙ test)

@@ -140,12 +140,7 @@ fn mark_ordinary<C: Characters>(
 
 // Returns the mark before a character, given its outcome. If the outcome is `WAITS`, the mark also depends on
 // the characters after that character.
-fn mark_before<C: Characters>(
-    characters: C,
-    after: usize,
-    decided: u16,
-    whole_numbers: bool,
-) -> Mark
+fn mark_before<C: Characters>(characters: C, after: usize, decided: u8, whole_numbers: bool) -> Mark
     requires place { after ≤ length (C.all characters) }
     requires below { decided < 8 }
     ensures { result ≡ mark_of whole_numbers decided

@@ -1,10 +1,11 @@
 //! The break table. For each state and each symbol of the next character, it has the outcome before that
 //! character and the next state. It implements LB4 to LB31, except for two rules that the walk decides with
-//! one bit each: LB8a, and LB30b for future pictographs. The entries are in entries.rt.
+//! one bit each: LB8a, and LB30b for future pictographs. The entries are in entries.rt, in an array of next
+//! states and an array of outcomes, because the pass needs only the next state to read the next entry.
 ghost use Rattle.std.specs.Prelude.{◌≡◌, ◌<◌, ◌≤◌, ◌+◌, slice_index};
 ghost use Rattle.breaks.specs.declared.table.TheConstants.{ENTRY_COUNT};
 
-use crate::entries::TABLE;
+use crate::entries::{NEXT_ROWS, OUTCOMES};
 use crate::symbol::SYMBOL_COUNT;
 
 /// The states, one for each row: the class of the last base, and what the rules need to know about the bases
@@ -76,30 +77,30 @@ pub enum State {
 }
 
 /// LB9: the next character joins the last base.
-pub const STAYS: u16 = 0;
+pub const STAYS: u8 = 0;
 
 /// No line ends before the next character.
-pub const NEVER: u16 = 1;
+pub const NEVER: u8 = 1;
 
 /// A line may end before the next character if the last base is not a future pictograph.
-pub const UNLESS: u16 = 2;
+pub const UNLESS: u8 = 2;
 
 /// A line may end before the next character.
-pub const MAY: u16 = 3;
+pub const MAY: u8 = 3;
 
 /// A line must end before the next character.
-pub const MUST: u16 = 4;
+pub const MUST: u8 = 4;
 
 /// LB25 for two bases: no line ends between them, but with whole numbers a line may end there.
-pub const PAIR: u16 = 5;
+pub const PAIR: u8 = 5;
 
 /// A position inside a number that LB25 for two bases does not cover: a line may end there, but not with
 /// whole numbers.
-pub const INSIDE: u16 = 6;
+pub const INSIDE: u8 = 6;
 
 /// LB25 for two bases: no line ends between them. With whole numbers, a line may end there if the base after
 /// the next one is not NU.
-pub const WAITS: u16 = 7;
+pub const WAITS: u8 = 7;
 
 /// The number of states, which is also the number of rows.
 pub const STATE_COUNT: usize = State::NumberCP as usize + 1;
@@ -110,19 +111,26 @@ pub const ENTRY_COUNT: usize = STATE_COUNT * SYMBOL_COUNT;
 /// The start of the last state's row.
 pub const LAST_ROW: usize = ENTRY_COUNT - SYMBOL_COUNT;
 
-/// The divisor of an entry: the quotient is the start of the next row, and the remainder is the outcome.
-pub const PARTS: u16 = 8;
-
-/// The difference between two entries with the same outcome whose next rows are adjacent.
-pub const ROW: u16 = SYMBOL_COUNT as u16 * PARTS;
+/// The number of entries in a row, in the type of the entries of `NEXT_ROWS`.
+pub const ROW: u32 = SYMBOL_COUNT as u32;
 
 /// The start of the row used at the start of a text, where a line begins, as after BK.
 pub const START: usize = 0;
 
-/// Returns the entry of a row for a symbol.
-pub fn entry(row: usize, symbol: u8) -> u16
+/// Returns the start of the next row. The slice does not depend on the row, so each step of a pass waits for
+/// only one load.
+pub fn next_row(row: usize, symbol: u8) -> usize
     requires { row + symbol < ENTRY_COUNT }
-    ensures { result ≡ slice_index TABLE (row + symbol) }
+    ensures { result ≡ slice_index NEXT_ROWS (row + symbol) }
 {
-    TABLE[row + symbol as usize]
+    NEXT_ROWS[symbol as usize..][row] as usize
+}
+
+/// Returns the outcome before a character with this symbol.
+pub fn outcome(row: usize, symbol: u8) -> u8
+    requires { row + symbol < ENTRY_COUNT }
+    ensures outcome { result ≡ slice_index OUTCOMES (row + symbol) }
+    ensures below { result < 8 }
+{
+    OUTCOMES[row + symbol as usize]
 }

@@ -8,7 +8,7 @@ ghost use Rattle.breaks.specs.Walk.{FollowsOrdinary, Stands, Passes, decided_at,
 
 use crate::mark::Mark;
 use crate::symbol::{JOINER, symbol_of};
-use crate::table::{NEVER, PARTS, START, STAYS, UNLESS, entry};
+use crate::table::{NEVER, START, STAYS, UNLESS, next_row, outcome};
 use ucd::Properties;
 
 /// The state of the pass: what the rules need to know about the bases before a position.
@@ -32,14 +32,14 @@ impl Walk {
     {
         let symbol = symbol_of(first);
         Walk {
-            row: (entry(START, symbol) / PARTS) as usize,
+            row: next_row(START, symbol),
             is_joined: symbol == JOINER,
             is_pictograph: first.is_future_pictograph(),
         }
     }
 
     /// Returns the outcome before the next character, and moves past that character.
-    pub fn pass(&mut self, next: Properties) -> u16
+    pub fn pass(&mut self, next: Properties) -> u8
         requires { self.old.row ≤ LAST_ROW }
         ensures passes { (whole_numbers : Bool) (last : Base) (others : List Base)
             → Stands whole_numbers self.old last others
@@ -48,10 +48,9 @@ impl Walk {
         ensures below { result < 8 }
     {
         let symbol = symbol_of(next);
-        let entry = entry(self.row, symbol);
-        let outcome = entry % PARTS;
+        let outcome = outcome(self.row, symbol);
         let decided = decide(outcome, self.is_joined, self.is_pictograph);
-        self.row = (entry / PARTS) as usize;
+        self.row = next_row(self.row, symbol);
         self.is_joined = symbol == JOINER;
         let is_pictograph = next.is_future_pictograph();
         self.is_pictograph = is_now_pictograph(outcome, self.is_pictograph, is_pictograph);
@@ -59,7 +58,7 @@ impl Walk {
     }
 
     /// Does the same as `pass` between ordinary characters, for which the table decides alone.
-    pub fn pass_ordinary(&mut self, next: Properties) -> u16
+    pub fn pass_ordinary(&mut self, next: Properties) -> u8
         requires row { self.old.row ≤ LAST_ROW }
         requires before { FollowsOrdinary self.old }
         requires next { is_ordinary next ≡ true }
@@ -70,9 +69,10 @@ impl Walk {
         ensures within { self.new.row ≤ LAST_ROW }
         ensures below { result < 8 }
     {
-        let found = entry(self.row, symbol_of(next));
-        self.row = (found / PARTS) as usize;
-        found % PARTS
+        let symbol = symbol_of(next);
+        let row = self.row;
+        self.row = next_row(row, symbol);
+        outcome(row, symbol)
     }
 }
 
@@ -85,7 +85,7 @@ pub fn is_ordinary(one: Properties) -> bool
 
 // Returns whether the last base is a future pictograph after the next character has been read. An attached
 // character does not change that.
-fn is_now_pictograph(outcome: u16, before: bool, next: bool) -> bool
+fn is_now_pictograph(outcome: u8, before: bool, next: bool) -> bool
     ensures { result ≡ (if outcome == STAYS then before else next) }
 {
     if outcome == STAYS { before } else { next }
@@ -93,7 +93,7 @@ fn is_now_pictograph(outcome: u16, before: bool, next: bool) -> bool
 
 // Returns the outcome after LB8a and LB30b: `NEVER` if the last character is a ZWJ, or if the outcome is
 // `UNLESS` and the last base is a future pictograph.
-fn decide(outcome: u16, is_joined: bool, is_pictograph: bool) -> u16
+fn decide(outcome: u8, is_joined: bool, is_pictograph: bool) -> u8
     requires { outcome < 8 }
     ensures decided { result ≡ decided_at outcome is_joined is_pictograph }
     ensures below { result < 8 }
@@ -106,7 +106,7 @@ fn decide(outcome: u16, is_joined: bool, is_pictograph: bool) -> u16
 }
 
 /// Returns the mark before the next character if the base after that character is not NU or does not matter.
-pub fn mark_alone(decided: u16, whole_numbers: bool) -> Mark
+pub fn mark_alone(decided: u8, whole_numbers: bool) -> Mark
     requires { decided < 8 }
     ensures { result ≡ get_or (marks_alone whole_numbers) decided Never }
 {

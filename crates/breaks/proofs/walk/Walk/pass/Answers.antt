@@ -6,10 +6,10 @@ use Rattle.breaks.specs.declared.table.TheConstants.{ENTRY_COUNT}
 
 pub returns-clause-passes : goal.returns-clause-passes
 returns-clause-passes c =
-    passes_as c.args.self.now _ _ (character_by c.args.next) _ _ c.symbol_of-symbol.ensures.below c.symbol_of-symbol.ensures.shown c.entry-entry.ensures
+    passes_as c.args.self.now _ _ _ (character_by c.args.next) _ _ c.symbol_of-symbol.ensures.below c.symbol_of-symbol.ensures.shown c.next_row-self.ensures c.outcome-outcome.ensures.outcome
     (sym (rw c.is_future_pictograph-is_pictograph.ensures at c.is_now_pictograph-self.ensures)) c.decide-decided.ensures.decided
 
 pub returns-clause-within : goal.returns-clause-within
 returns-clause-within c =
     let below : c.args.self.now.row + c.symbol_of-symbol.result < ENTRY_COUNT = omega arith in
-    row_within _ _ below c.entry-entry.ensures
+    row_within _ _ below c.next_row-self.ensures

@@ -6,9 +6,9 @@ use Rattle.breaks.specs.declared.table.TheConstants.{ENTRY_COUNT}
 
 pub returns-clause-passes : goal.returns-clause-passes
 returns-clause-passes c =
-    passes_ordinary c.args.self.now _ _ c.args.next c.symbol_of.ensures.below c.symbol_of.ensures.shown c.entry-found.ensures c.requires.before c.requires.next
+    passes_ordinary c.args.self.now _ _ _ c.args.next c.symbol_of-symbol.ensures.below c.symbol_of-symbol.ensures.shown c.next_row-self.ensures c.outcome.ensures.outcome c.requires.before c.requires.next
 
 pub returns-clause-within : goal.returns-clause-within
 returns-clause-within c =
-    let below : c.args.self.now.row + c.symbol_of.result < ENTRY_COUNT = omega arith in
-    row_within _ _ below c.entry-found.ensures
+    let below : c.args.self.now.row + c.symbol_of-symbol.result < ENTRY_COUNT = omega arith in
+    row_within _ _ below c.next_row-self.ensures

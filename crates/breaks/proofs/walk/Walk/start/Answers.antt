@@ -6,12 +6,12 @@ use Rattle.breaks.proofs.walk.Walk.start.Goals as goal
 use Rattle.breaks.specs.declared.table.TheConstants.{ENTRY_COUNT}
 
 pub returns-clause-stands : goal.returns-clause-stands
-returns-clause-stands c = rw c.is_future_pictograph.ensures (starts _ _ (character_by c.args.first) c.symbol_of-symbol.ensures.below c.symbol_of-symbol.ensures.shown c.entry.ensures)
+returns-clause-stands c = rw c.is_future_pictograph.ensures (starts _ _ (character_by c.args.first) c.symbol_of-symbol.ensures.below c.symbol_of-symbol.ensures.shown c.next_row.ensures)
 
 pub returns-clause-within : goal.returns-clause-within
 returns-clause-within c =
     let below : 0 + c.symbol_of-symbol.result < ENTRY_COUNT = omega arith in
-    row_within _ _ below c.entry.ensures
+    row_within _ _ below c.next_row.ensures
 
 pub returns-clause-ordinary : goal.returns-clause-ordinary
 returns-clause-ordinary c =
