@@ -82,10 +82,11 @@ fn visual_run(
         chars.copy_from_slice(run);
         return;
     }
-    for (k, c) in run.iter().enumerate() {
-        chars[k] = mirrored(tables, 1, *c, properties[k]);
+    let mut k = run.len();
+    for at in 0..run.len() {
+        k -= 1;
+        chars[at] = mirrored(tables, 1, run[k], properties[k]);
     }
-    chars.reverse();
 }
 
 // Returns a character as it is shown at a level.
