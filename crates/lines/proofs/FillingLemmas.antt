@@ -247,16 +247,21 @@ none_at p xs k d none past =
       | inr after ↦ ap p (get_or_past xs k d after) ∙ past
     ]
 
+-- the columns up to the end of a group of characters
+pub columns_group : (rest : List CharInfo) (n m sum more : ℕ) (piece : List CharInfo) → n ≤ m → piece ≡ slice_range rest n m → sum ≡ columns (take n rest)
+    → fold advance sum piece ≡ sum + more → sum + more ≡ columns (take m rest)
+columns_group rest n m sum more piece forward is before total =
+    let joined : take m rest ≡ take n rest ++ piece =
+    let whole : n + (m - n) ≡ m = omega (arith, forward) in
+    ap (λ j. take j rest) (sym whole) ∙ take-add n (m - n) rest ∙ ap (λ (xs : List CharInfo). take n rest ++ xs) (sym is) in
+    sym total ∙ ap (λ j. fold advance j piece) before ∙ sym (fold-append advance 0 (take n rest) piece) ∙ ap columns (sym joined)
+
 -- a group of characters that fits, and after none of which the line must end
 pub fits_group : (width : ℕ) (rest : List CharInfo) (n m sum more : ℕ) (piece : List CharInfo) → FitsUpTo width rest n sum → n ≤ m → m ≤ length rest
     → piece ≡ slice_range rest n m → fold advance sum piece ≡ sum + more → more ≤ 255 * (m - n) → sum + more ≤ width → list_any (λ p. is_must p.mark) piece ≡ false
     → FitsUpTo width rest m (sum + more)
 fits_group width rest n m sum more piece read forward within is total most narrow none =
-    let joined : take m rest ≡ take n rest ++ piece =
-    let whole : n + (m - n) ≡ m = omega (arith, forward) in
-    ap (λ j. take j rest) (sym whole) ∙ take-add n (m - n) rest ∙ ap (λ (xs : List CharInfo). take n rest ++ xs) (sym is) in
-    let sum_is : sum + more ≡ columns (take m rest) =
-    sym total ∙ ap (λ j. fold advance j piece) read.sum_is ∙ sym (fold-append advance 0 (take n rest) piece) ∙ ap columns (sym joined) in
+    let sum_is : sum + more ≡ columns (take m rest) = columns_group rest n m sum more piece forward is read.sum_is total in
     record {
       within = within;
       sum_is = sum_is;

@@ -6,6 +6,7 @@ mod BeginningLemmas
 mod BesideLemmas
 mod CellLemmas
 pub mod ClusterLemmas
+pub mod ColumnCacheLemmas
 pub mod ColumnLemmas
 mod CountingLemmas
 pub mod EndLemmas

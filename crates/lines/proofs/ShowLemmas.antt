@@ -1,5 +1,5 @@
 -- Writing the lines of a paragraph one at a time gives all its lines.
-use Rattle.std.proofs.Common.{◌≡◌, ℕ, zero, suc, ◌+◌, ◌-◌, ◌<◌, ◌≤◌, Bool, Option, List, [], ◌∷◌, ◌++◌, length, map, take}
+use Rattle.std.proofs.Common.{◌≡◌, ℕ, zero, suc, ◌+◌, ◌*◌, ◌-◌, ◌<◌, ◌≤◌, Bool, Option, List, [], ◌∷◌, ◌++◌, length, map, take}
 use Rattle.std.proofs.Common.{drop, get_or, refl, sym, ap, ap₂, subst, ◌∙◌, take-take, drop-drop, below_more, length-append, arith, inl, inr}
 use borrow.Rule.Slice.PartMut.{put_mid}
 use Rattle.std.proofs.lemmas.Bool.{cases_eq, cases_lt}
@@ -300,42 +300,42 @@ module _ (tables : Tables) (options : Options) (base : ℕ) (text old : List ℕ
   lines_are levels ltov vtol chars (s ∷ t ∷ starts) (part ∷ parts) same each =
       ap₂ ◌∷◌ (each zero (omega arith)) (lines_are levels ltov vtol chars (t ∷ starts) parts (omega (arith, same)) (λ j below. each (suc j) (omega (arith, below))))
 
-  pub all_shown : (levels ltov vtol chars starts : List ℕ) (parts : List Shown) → length parts ≡ length starts
-      → AreShown tables options base text old starts (length starts) parts levels ltov vtol chars
-      → lines_in starts parts levels ltov vtol chars ≡ lines_shown tables options base text old starts parts
-  all_shown levels ltov vtol chars starts parts same each = lines_are levels ltov vtol chars starts parts same (λ j below. (each j below).line_is)
+  -- whether the lists hold all lines, with both position maps in one list
+  abbrev AllShown : List ℕ → List ℕ → List ℕ → List ℕ → List Shown → Type 0
+  AllShown levels maps chars starts parts =
+      AreShown tables options base text old starts (length starts) parts levels (take (length levels) maps) (drop (length levels) maps) chars
+
+  pub all_shown : (levels maps chars starts : List ℕ) (parts : List Shown) → length parts ≡ length starts → AllShown levels maps chars starts parts
+      → lines_in starts parts levels maps chars ≡ lines_shown tables options base text old starts parts
+  all_shown levels maps chars starts parts same each = lines_are levels _ _ chars starts parts same (λ j below. (each j below).line_is)
 
   -- there is one level for each character of a shown part
   length_part : (levels : List ℕ) (part : Shown) (s e : ℕ) → e ≤ length levels → s + part.len ≤ e → length (slice_range levels s (s + part.len)) ≡ part.len
   length_part levels part s e within below =
       length_range levels s (s + part.len) (omega arith) (omega (arith, within, below)) ∙ omega arith
 
-  pub sound : (levels ltov vtol chars starts : List ℕ) (parts : List Shown) → AreStarts (length text) starts → length parts ≡ length starts
-      → length levels ≡ length text → length ltov ≡ length text → length vtol ≡ length text → length chars ≡ length text
-      → AreShown tables options base text old starts (length starts) parts levels ltov vtol chars
-      → IsSound starts parts levels ltov vtol chars
-  sound levels ltov vtol chars starts parts are h wl wt wv wh each = record {
+  pub sound : (levels maps chars starts : List ℕ) (parts : List Shown) → AreStarts (length text) starts → length parts ≡ length starts
+      → length levels ≡ length text → length maps ≡ 2 * length text → length chars ≡ length text
+      → AllShown levels maps chars starts parts → IsSound starts parts levels maps chars
+  sound levels maps chars starts parts are h wl wm wh each = record {
     all_shown = h;
-    ltov_len = wt ∙ sym wl;
-    vtol_len = wv ∙ sym wl;
+    maps_len = omega (arith, wm, wl);
     chars_len = wh ∙ sym wl;
-    places = all_lines (λ line. AreWithin (length line.levels) line.vtol) levels ltov vtol chars starts parts h
+    places = all_lines (λ line. AreWithin (length line.levels) line.vtol) levels _ _ chars starts parts h
         (λ j below.
         let is = each j below in
         let w = end_within (length text) starts j are below in
-        subst (λ (n : ℕ). AreWithin n (slice_range vtol (get_or starts j 0) (get_or starts j 0 + (get_or parts j nothing_shown).len)))
+        subst (λ (n : ℕ). AreWithin n (slice_range (drop (length levels) maps) (get_or starts j 0) (get_or starts j 0 + (get_or parts j nothing_shown).len)))
         (sym (length_part levels (get_or parts j nothing_shown) (get_or starts j 0) (end_of (length text) starts j) (omega (arith, w.1, wl)) is.within)) is.vtol_within);
     within = λ j below.
         let w = end_within (length text) starts j are below in
         omega (arith, (each j below).within, w.1, wl);
   }
 
-  pub all_within : (levels ltov vtol chars starts : List ℕ) (parts : List Shown) → AreStarts (length text) starts → length parts ≡ length starts
-      → length levels ≡ length text
-      → AreShown tables options base text old starts (length starts) parts levels ltov vtol chars
-      → LinesAreWithin (length text) (lines_in starts parts levels ltov vtol chars)
-  all_within levels ltov vtol chars starts parts are h wl each =
-      all_lines (λ line. line.start + length line.levels ≤ length text) levels ltov vtol chars starts parts h
+  pub all_within : (levels maps chars starts : List ℕ) (parts : List Shown) → AreStarts (length text) starts → length parts ≡ length starts
+      → length levels ≡ length text → AllShown levels maps chars starts parts → LinesAreWithin (length text) (lines_in starts parts levels maps chars)
+  all_within levels maps chars starts parts are h wl each =
+      all_lines (λ line. line.start + length line.levels ≤ length text) levels _ _ chars starts parts h
       (λ j below.
       let is = each j below in
       let w = end_within (length text) starts j are below in

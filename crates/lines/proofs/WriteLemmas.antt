@@ -2,7 +2,7 @@
 use Rattle.std.specs.Char.{is_ascii}
 use Rattle.std.specs.List.{list_all}
 use Rattle.std.proofs.lemmas.Str.{encode_ascii}
-use Rattle.std.proofs.str.Laws.{two}
+use Rattle.std.proofs.str.Laws.{two, three, four}
 use Rattle.std.proofs.lemmas.List.{length-set, take-set-le, take_more_set}
 use Rattle.std.proofs.lemmas.Bool.{and_parts, lt-ltb, ltb-true}
 use Rattle.std.proofs.Common.{◌&&◌, nat_lt, ◌/◌, ◌%◌, set, true, ap₂, ◌≡◌, ℕ, zero, suc, ◌+◌, ◌-◌, ◌<◌, ◌≤◌, ◌==◌, false, min, List, [], ◌∷◌, ◌++◌, length, map, get_or, take}
@@ -160,8 +160,36 @@ put_two bytes at a b room =
     ∙ ap (λ front. front ++ b ∷ []) (take_more_set bytes at a (omega (arith, room)))
     ∙ append_assoc (take at bytes) (a ∷ []) (b ∷ [])
 
+pub put_three : (bytes : List ℕ) (at a b d : ℕ) → at + 2 < length bytes
+    → take (at + 3) (set (set (set bytes at a) (at + 1) b) (at + 2) d) ≡ take at bytes ++ a ∷ b ∷ d ∷ []
+put_three bytes at a b d room =
+    let next : at + 3 ≡ at + 2 + 1 = omega arith in
+    let two = set (set bytes at a) (at + 1) b in
+    ap (λ n. take n (set two (at + 2) d)) next
+    ∙ take_more_set two (at + 2) d (omega (arith, room, length-set (set bytes at a) (at + 1) b, length-set bytes at a))
+    ∙ ap (λ front. front ++ d ∷ []) (put_two bytes at a b (omega (arith, room)))
+    ∙ append_assoc (take at bytes) (a ∷ b ∷ []) (d ∷ [])
+
+pub put_four : (bytes : List ℕ) (at a b d e : ℕ) → at + 3 < length bytes
+    → take (at + 4) (set (set (set (set bytes at a) (at + 1) b) (at + 2) d) (at + 3) e) ≡ take at bytes ++ a ∷ b ∷ d ∷ e ∷ []
+put_four bytes at a b d e room =
+    let next : at + 4 ≡ at + 3 + 1 = omega arith in
+    let two = set (set bytes at a) (at + 1) b in
+    let three = set two (at + 2) d in
+    ap (λ n. take n (set three (at + 3) e)) next
+    ∙ take_more_set three (at + 3) e
+    (omega (arith, room, length-set two (at + 2) d, length-set (set bytes at a) (at + 1) b, length-set bytes at a))
+    ∙ ap (λ front. front ++ e ∷ []) (put_three bytes at a b d (omega (arith, room)))
+    ∙ append_assoc (take at bytes) (a ∷ b ∷ d ∷ []) (e ∷ [])
+
 pub two_bytes : (c : ℕ) → 128 ≤ c → c < 2048 → encode_utf8 c ≡ (192 + c / 64) ∷ (128 + c % 64) ∷ []
 two_bytes c low high = two c low high
+
+pub three_bytes : (c : ℕ) → 0x800 ≤ c → c < 0x10000 → encode_utf8 c ≡ (224 + c / 4096) ∷ (128 + c / 64 % 64) ∷ (128 + c % 64) ∷ []
+three_bytes c low high = three c low high
+
+pub four_bytes : (c : ℕ) → 0x10000 ≤ c → encode_utf8 c ≡ (240 + c / 262144) ∷ (128 + c / 4096 % 64) ∷ (128 + c / 64 % 64) ∷ (128 + c % 64) ∷ []
+four_bytes c low = four c low
 
 -- the given lists, with a space before each list but the first
 abbrev pub spaced : List (List ℕ) → List (List ℕ)

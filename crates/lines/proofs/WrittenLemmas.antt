@@ -3,7 +3,7 @@
 use Rattle.std.proofs.Common.{◌≡◌, ℕ, zero, suc, ◌+◌, ◌-◌, ◌<◌, ◌≤◌, ◌==◌, ◌++◌, Bool, Option, List, [], ◌∷◌, length, map, take, drop, get_or, Some, refl, sym, ap, ap₂, ◌∙◌, arith}
 use Rattle.std.specs.Prelude.{option_map, slice_get, slice_range}
 use Rattle.std.proofs.lemmas.List.{length-map, length-take-le, take-take}
-use Rattle.std.proofs.Math.Seq.{take-append_seam}
+use Rattle.std.proofs.Math.Seq.{drop-append_seam, take-append_seam}
 use Rattle.ucd.specs.Tables.{class_of}
 use Rattle.ucd.specs.declared.bidi_class.BidiClass.{BidiClass}
 use Rattle.ucd.specs.declared.tables.Tables.{Tables}
@@ -29,10 +29,14 @@ use Rattle.lines.specs.declared.print.Print.{Print}
 use Rattle.lines.proofs.PageLemmas.{piece_at, pieces}
 use Rattle.lines.proofs.ShowLemmas.{length_range}
 
--- Taking n items from a list that starts with n new items gives these items. If all items of a list are 0, so
--- are the first n.
+-- Taking n items from a list that starts with n new items gives these items. Taking the next n items gives
+-- the n new items that follow. If all items of a list are 0, so are the first n.
 pub front_is : (n : ℕ) (new rest : List ℕ) → length new ≡ n → take n (new ++ rest) ≡ new
 front_is n new rest size = ap (λ (m : ℕ). take m (new ++ rest)) (sym size) ∙ take-append_seam new rest
+
+pub back_is : (n : ℕ) (first new rest : List ℕ) → length first ≡ n → length new ≡ n → take n (drop n (first ++ (new ++ rest))) ≡ new
+back_is n first new rest size same =
+    ap (λ (m : ℕ). take n (drop m (first ++ (new ++ rest)))) (sym size) ∙ ap (take n) (drop-append_seam first (new ++ rest)) ∙ front_is n new rest same
 
 pub front_of_zeros : (n : ℕ) (levels : List ℕ) → ((k : ℕ) → get_or levels k 0 ≡ 0) → (k : ℕ) → get_or (take n levels) k 0 ≡ 0
 front_of_zeros zero levels all k = refl

@@ -1,6 +1,6 @@
 -- Where the lines of a paragraph start, and how much of each is shown. A layout depends on the width only
 -- through these extents.
-use Rattle.std.specs.Prelude.{ℕ, List, [], ◌∷◌, length, map, slice_range, Option}
+use Rattle.std.specs.Prelude.{ℕ, ◌/◌, List, [], ◌∷◌, length, map, take, drop, slice_range, Option}
 use Rattle.lines.specs.Filling.{columns, line_starts_of}
 use Rattle.lines.specs.Layouts.{Layout, Rules, start_of}
 use Rattle.lines.specs.CharInfos.{infos_of}
@@ -13,6 +13,19 @@ use Rattle.lines.specs.declared.fill.Shown.{Shown}
 pub record LineExtents : Type 0 where
   pub starts : List ℕ
   pub shown : List Shown
+
+-- the length and the columns of each shown part, and the shown parts with these
+abbrev pub in_pairs : List Shown → List ℕ
+in_pairs [] = []
+in_pairs (part ∷ parts) = part.len ∷ part.columns ∷ in_pairs parts
+
+abbrev pub from_pairs : List ℕ → List Shown
+from_pairs (len ∷ columns ∷ items) = record { len = len; columns = columns } ∷ from_pairs items
+from_pairs items = []
+
+-- the extents in a list of the start of each line, and then the length and the columns of each shown part
+abbrev pub unpacked : List ℕ → LineExtents
+unpacked items = record { starts = take (length items / 3) items; shown = from_pairs (drop (length items / 3) items) }
 
 -- how many characters of the line from s to e are shown, and their columns
 abbrev pub shown_between : Option ℕ → List CharInfo → ℕ → ℕ → Shown

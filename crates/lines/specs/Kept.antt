@@ -1,6 +1,6 @@
 -- How the lines of a paragraph are stored: in lists of the paragraph's length, where the items of a line
--- start at the index of its first character.
-use Rattle.std.specs.Prelude.{◌≡◌, ℕ, ◌+◌, ◌<◌, ◌≤◌, List, [], ◌∷◌, length, slice_index, slice_index_or, slice_range, All}
+-- start at the index of its first character. One list holds both position maps, one after the other.
+use Rattle.std.specs.Prelude.{◌≡◌, ℕ, ◌+◌, ◌*◌, ◌<◌, ◌≤◌, List, [], ◌∷◌, length, take, drop, slice_index, slice_index_or, slice_range, All}
 use Rattle.ucd.specs.Within.{AreWithin}
 use Rattle.lines.specs.Visual.{Line}
 use Rattle.lines.specs.declared.fill.Shown.{Shown}
@@ -21,17 +21,17 @@ module _ (levels ltov vtol chars : List ℕ) where
   lines_by (s ∷ starts) (shown ∷ others) = line_in s shown ∷ lines_by starts others
   lines_by starts others = []
 
-abbrev pub lines_in : List ℕ → List Shown → List ℕ → List ℕ → List ℕ → List ℕ → List Line
-lines_in starts shown levels ltov vtol chars = lines_by levels ltov vtol chars starts shown
+-- the first half of `maps` is ltov, the second is vtol
+abbrev pub lines_in : List ℕ → List Shown → List ℕ → List ℕ → List ℕ → List Line
+lines_in starts shown levels maps chars = lines_by levels (take (length levels) maps) (drop (length levels) maps) chars starts shown
 
--- `shown` has one item per line, and the other lists have one per character. The shown part of each line is
--- inside the lists.
-pub record IsSound (starts : List ℕ) (shown : List Shown) (levels ltov vtol chars : List ℕ) : Type 0 where
+-- `shown` has one item per line, `levels` and `chars` have one per character, and `maps` has two per
+-- character. The shown part of each line is inside the lists.
+pub record IsSound (starts : List ℕ) (shown : List Shown) (levels maps chars : List ℕ) : Type 0 where
   pub all_shown : length shown ≡ length starts
-  pub ltov_len : length ltov ≡ length levels
-  pub vtol_len : length vtol ≡ length levels
+  pub maps_len : length maps ≡ 2 * length levels
   pub chars_len : length chars ≡ length levels
-  pub places : All (λ line. AreWithin (length line.levels) line.vtol) (lines_in starts shown levels ltov vtol chars)
+  pub places : All (λ line. AreWithin (length line.levels) line.vtol) (lines_in starts shown levels maps chars)
   pub within : (k : ℕ) → k < length starts → slice_index starts k + (slice_index_or shown k (record { len = 0; columns = 0 })).len ≤ length levels
 
 -- each line starts before the next one, and before the end at n

@@ -2,11 +2,13 @@ pub mod Asked
 pub mod Bare
 pub mod BareInfos
 pub mod Beginnings
+pub mod BufferedExtents
 pub mod Buffers
 pub mod Bytes
 pub mod Cells
 pub mod CharInfos
 pub mod Clusters
+pub mod ColumnCache
 pub mod Columns
 pub mod Counting
 pub mod Counts
@@ -16,7 +18,6 @@ pub mod Filling
 pub mod Kept
 pub mod KnownWidths
 pub mod Layouts
-pub mod LentExtents
 pub mod Ordered
 pub mod Pages
 pub mod Paragraphs

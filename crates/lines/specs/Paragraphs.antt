@@ -1,6 +1,6 @@
 -- What is known about a paragraph, or about one of its lines, before the lines are reordered. No contract of
 -- an exported function uses these definitions.
-use Rattle.std.specs.Prelude.{◌≡◌, ℕ, ◌≤◌, List, length, map, take}
+use Rattle.std.specs.Prelude.{◌≡◌, ℕ, ◌≤◌, List, length, map, take, drop}
 use Rattle.ucd.specs.Properties.{properties_of}
 use Rattle.ucd.specs.Tables.{class_of}
 use Rattle.reorder.specs.Spaces.{line_levels}
@@ -68,7 +68,7 @@ shown_levels line =
 abbrev pub shown_of : LogicalLine → Visual
 shown_of line = shown_by line (shown_levels line)
 
--- the visual line that buffers hold
+-- the visual line that buffers hold: at the front of `maps`, its ltov and then its vtol
 abbrev pub held_line : LogicalLine → VisualBuffers → Visual
 held_line line visual =
     let n = line.shown.len in
@@ -81,7 +81,7 @@ held_line line visual =
       text = take (length levels) line.text.characters.now;
       columns = line.shown.columns;
       levels = levels;
-      ltov = take n visual.ltov.items;
-      vtol = take n visual.vtol.items;
+      ltov = take n visual.maps.items;
+      vtol = take n (drop n visual.maps.items);
       chars = take n visual.chars.items;
     }

@@ -1,19 +1,21 @@
 //! Buffers for the layout of a paragraph, reused for the next one.
-ghost use Rattle.std.specs.Prelude.{◌≡◌, length, max, OnOk};
+ghost use Rattle.std.specs.Prelude.{◌≡◌, ◌*◌, ◌≤◌, length, max, OnOk};
 ghost use Rattle.lines.specs.Buffers.{CanHold};
+ghost use Rattle.lines.specs.declared.engine.TheConstants.{PARAGRAPH_LIMIT};
 
-use crate::fill::Shown;
+use crate::extents::Extents;
 use crate::reserve::grow;
 use breaks::Mark;
 use std::alloc::{AllocError, Global};
 
-/// The levels, both position maps, and the characters in visual order. Each line's items start at the index
-/// of the line's first character, or at 0 if the buffers are used for one line at a time.
+/// The levels, the position maps, and the characters in visual order. `maps` holds the visual position of
+/// each logical position, and then the logical position of each visual position. If the buffers hold the
+/// lines of a paragraph, each map has one item per character, and a line's items start at the index of its
+/// first character. If the buffers are used for one line at a time, its items are at the front.
 #[derive(Debug, Drop)]
 pub(crate) struct VisualBuffers {
     pub(crate) levels: Vec<u8>,
-    pub(crate) ltov: Vec<u32>,
-    pub(crate) vtol: Vec<u32>,
+    pub(crate) maps: Vec<u32>,
     pub(crate) chars: Vec<char>,
 }
 
@@ -22,23 +24,22 @@ impl VisualBuffers {
     pub(crate) fn new(alloc: Global) -> VisualBuffers {
         VisualBuffers {
             levels: Vec::new(alloc),
-            ltov: Vec::new(alloc),
-            vtol: Vec::new(alloc),
+            maps: Vec::new(alloc),
             chars: Vec::new(alloc),
         }
     }
 
-    /// Grows each buffer to at least `len` items.
+    /// Grows the buffers to hold a line of `len` characters.
     pub(crate) fn grow_to(&mut self, len: usize) -> Result<(), AllocError>
+        requires { len ≤ PARAGRAPH_LIMIT }
         ensures fit { OnOk result (CanHold len self.new) }
         ensures levels { OnOk result (length self.new.levels.items ≡ max (length self.old.levels.items) len) }
-        ensures ltov { OnOk result (length self.new.ltov.items ≡ max (length self.old.ltov.items) len) }
-        ensures vtol { OnOk result (length self.new.vtol.items ≡ max (length self.old.vtol.items) len) }
+        ensures maps { OnOk result
+            (length self.new.maps.items ≡ max (length self.old.maps.items) (2 * len)) }
         ensures chars { OnOk result (length self.new.chars.items ≡ max (length self.old.chars.items) len) }
     {
         grow(&mut self.levels, len, 0)?;
-        grow(&mut self.ltov, len, 0)?;
-        grow(&mut self.vtol, len, 0)?;
+        grow(&mut self.maps, 2 * len, 0)?;
         grow(&mut self.chars, len, '\0')
     }
 }
@@ -46,8 +47,7 @@ impl VisualBuffers {
 /// Where each line of a paragraph starts, how much of it is shown, and the visual lines.
 #[derive(Debug, Drop)]
 pub(crate) struct LineBuffers {
-    pub(crate) starts: Vec<u32>,
-    pub(crate) shown: Vec<Shown>,
+    pub(crate) extents: Extents,
     pub(crate) visual: VisualBuffers,
 }
 
@@ -55,8 +55,7 @@ impl LineBuffers {
     /// Makes empty buffers. Allocates nothing.
     pub(crate) fn new(alloc: Global) -> LineBuffers {
         LineBuffers {
-            starts: Vec::new(alloc),
-            shown: Vec::new(alloc),
+            extents: Extents::new(alloc),
             visual: VisualBuffers::new(alloc),
         }
     }

@@ -89,7 +89,7 @@ fn encode(piece: &[char], buffer: &mut [u8]) -> usize
         len = encode_group(&piece[k..k + GROUP], buffer, len);
         k += GROUP;
     }
-    encode_each(&piece[k..], buffer, len)
+    encode_group(&piece[k..], buffer, len)
 }
 
 // Encodes characters at an index of a buffer, and returns the index after their bytes.
@@ -154,14 +154,33 @@ fn put_ascii(piece: &[char], buffer: &mut [u8], at: usize) -> usize
     end
 }
 
-// Encodes a character at an index of a buffer, and returns the index after its bytes.
+// Encodes a character at an index of a buffer, and returns the index after its bytes. Always writes four
+// bytes, which is faster than a branch. What is after the returned index does not matter.
+#[inline(always)]
 fn encode_at(c: char, buffer: &mut [u8], at: usize) -> usize
     requires { at + 4 ≤ length buffer.old }
     ensures within { result ≤ at + 4 }
     ensures bytes { take result buffer.new ≡ take at buffer.old ++ encode_utf8 c }
 {
-    let mut bytes = [0; 4];
-    put_few(buffer, at, c.encode_utf8(&mut bytes).as_bytes())
+    let code = c as u32;
+    // Each byte after the first has six bits of the code.
+    let low = 0x80 + code % 64;
+    let middle = 0x80 + code / 64 % 64;
+    let high = 0x80 + code / 4_096 % 64;
+    let (first, second, third, end) = if code < 0x80 {
+        (code, low, low, at + 1)
+    } else if code < 0x800 {
+        (0xc0 + code / 64, low, low, at + 2)
+    } else if code < 0x1_0000 {
+        (0xe0 + code / 4_096, middle, low, at + 3)
+    } else {
+        (0xf0 + code / 262_144, high, middle, at + 4)
+    };
+    buffer[at] = first as u8;
+    buffer[at + 1] = second as u8;
+    buffer[at + 2] = third as u8;
+    buffer[at + 3] = low as u8;
+    end
 }
 
 // Does the work of `encode_group` for characters that have one or two bytes.

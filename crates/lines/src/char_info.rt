@@ -15,10 +15,11 @@ ghost use Rattle.lines.specs.Filling.{is_must};
 ghost use Rattle.lines.specs.Paragraphs.{IsLookedUp};
 ghost use Rattle.lines.specs.Tabs.{is_tab, to_stop};
 
+use crate::column_cache::ColumnCache;
 use crate::paragraph::Text;
 use crate::widths::is_tab;
 use breaks::{Mark, marks_are_as_many};
-use std::alloc::AllocError;
+use std::alloc::{AllocError, Global};
 use ucd::{LineClass, Properties, Tables};
 use unicode_width::UnicodeWidthChar;
 
@@ -125,7 +126,7 @@ fn next_stop(column: usize, tab_width: usize) -> usize
 }
 
 /// Returns the width of a character in columns, or 0 if the crate `unicode_width` has no width for it.
-#[inline(always)] // so that the loop over a paragraph calls nothing for most characters
+#[inline(always)] // so that a lookup makes one call less
 pub(crate) fn columns(c: char) -> u8
     ensures value { result ≡ columns_of c }
     ensures few { result ≤ 3 }
@@ -266,26 +267,48 @@ impl Sum {
     }
 }
 
-/// Replaces the contents of `infos` with the info for each character of a paragraph. Each `ends_cluster` is
-/// `false`.
-pub(crate) fn fill_infos(
-    text: &Text<'_>,
-    marks: &[Mark],
-    infos: &mut Vec<CharInfo>,
-) -> Result<(), AllocError>
-    requires text { IsLookedUp text.now }
-    requires marks { marks.now ≡ marks_of text.now.rules.tables.now
-        text.now.rules.options.whole_numbers text.now.characters.now }
-    ensures infos { OnOk result (with_ends infos.new.items (cluster_ends text.now.characters.now)
-        ≡ infos_of text.now.rules.tables.now text.now.rules.options text.now.characters.now) }
-    ensures len { OnOk result (length infos.new.items ≡ length text.now.characters.now) }
-{
-    let (tables, characters) = (text.rules.tables, text.characters);
-    marks_are_as_many(tables, characters, text.rules.options.whole_numbers);
-    infos.resize(characters.len(), NOTHING)?;
-    let tab_width = text.rules.tab_width();
-    put_infos(tables, characters, text.properties, marks, tab_width, infos);
-    Ok(())
+/// The infos for the characters of a paragraph, reused for the next one, and a cache of columns.
+#[derive(Debug, Drop)]
+pub(crate) struct InfoBuffers {
+    pub(crate) infos: Vec<CharInfo>,
+    cache: ColumnCache,
+}
+
+impl InfoBuffers {
+    /// Makes empty buffers. Allocates nothing.
+    pub(crate) fn new(alloc: Global) -> InfoBuffers {
+        InfoBuffers {
+            infos: Vec::new(alloc),
+            cache: ColumnCache::new(alloc),
+        }
+    }
+
+    /// Replaces the contents of `infos` with the info for each character of a paragraph. Each `ends_cluster`
+    /// is `false`.
+    pub(crate) fn fill(&mut self, text: &Text<'_>, marks: &[Mark]) -> Result<(), AllocError>
+        requires text { IsLookedUp text.now }
+        requires marks { marks.now ≡ marks_of text.now.rules.tables.now
+            text.now.rules.options.whole_numbers text.now.characters.now }
+        ensures infos { OnOk result (with_ends self.new.infos.items (cluster_ends text.now.characters.now)
+            ≡ infos_of text.now.rules.tables.now text.now.rules.options text.now.characters.now) }
+        ensures len { OnOk result (length self.new.infos.items ≡ length text.now.characters.now) }
+    {
+        let (tables, characters) = (text.rules.tables, text.characters);
+        marks_are_as_many(tables, characters, text.rules.options.whole_numbers);
+        self.infos.resize(characters.len(), NOTHING)?;
+        self.cache.prepare()?;
+        let tab_width = text.rules.tab_width();
+        put_infos(
+            tables,
+            characters,
+            text.properties,
+            marks,
+            tab_width,
+            &mut self.cache,
+            &mut self.infos,
+        );
+        Ok(())
+    }
 }
 
 // Overwrites `infos` with the info for each character. Each `ends_cluster` is `false`.
@@ -295,6 +318,7 @@ fn put_infos(
     properties: &[Properties],
     marks: &[Mark],
     tab_width: u8,
+    cache: &mut ColumnCache,
     infos: &mut [CharInfo],
 )
     requires marks { length marks.now ≡ length text.now }
@@ -303,7 +327,7 @@ fn put_infos(
     ensures { infos.new ≡ bare_infos tables.now tab_width text.now marks.now }
 {
     if tab_width == 0 {
-        return put_without_tabs(tables, text, properties, marks, infos);
+        return put_without_tabs(tables, text, properties, marks, cache, infos);
     }
     let mut k = 0;
     while k < text.len() {
@@ -312,8 +336,8 @@ fn put_infos(
     }
 }
 
-// The number of characters that are tested together.
-const GROUP: usize = 8;
+/// The number of characters that are tested together, or whose columns are added together.
+pub(crate) const GROUP: usize = 8;
 
 // Overwrites `infos` if there are no tab stops.
 fn put_without_tabs(
@@ -321,6 +345,7 @@ fn put_without_tabs(
     text: &[char],
     properties: &[Properties],
     marks: &[Mark],
+    cache: &mut ColumnCache,
     infos: &mut [CharInfo],
 )
     requires marks { length marks.now ≡ length text.now }
@@ -336,6 +361,7 @@ fn put_without_tabs(
             &text[k..end],
             &properties[k..end],
             &marks[k..end],
+            cache,
             &mut infos[k..end],
         );
         k = end;
@@ -345,6 +371,7 @@ fn put_without_tabs(
         &text[k..],
         &properties[k..],
         &marks[k..],
+        cache,
         &mut infos[k..],
     );
 }
@@ -355,6 +382,7 @@ fn put_group(
     text: &[char],
     properties: &[Properties],
     marks: &[Mark],
+    cache: &mut ColumnCache,
     infos: &mut [CharInfo],
 )
     requires marks { length marks.now ≡ length text.now }
@@ -365,7 +393,7 @@ fn put_group(
     if are_printable(text) || are_common(text) {
         put_narrow(tables, text, properties, marks, infos);
     } else {
-        put_each(tables, text, properties, marks, infos);
+        put_each(tables, text, properties, marks, cache, infos);
     }
 }
 
@@ -375,6 +403,7 @@ fn put_each(
     text: &[char],
     properties: &[Properties],
     marks: &[Mark],
+    cache: &mut ColumnCache,
     infos: &mut [CharInfo],
 )
     requires marks { length marks.now ≡ length text.now }
@@ -385,7 +414,7 @@ fn put_each(
     let mut k = 0;
     while k < text.len() {
         // The columns come first, so that less must be kept while they are looked up.
-        let columns = columns(text[k]);
+        let columns = cache.columns(text[k]);
         infos[k] = CharInfo::of_other(columns, properties[k], marks[k]);
         k += 1;
     }

@@ -8,7 +8,7 @@ ghost use Rattle.lines.specs.Counting.{is_lead_byte};
 const BLOCK: usize = 240;
 
 /// Returns the number of characters of a text.
-pub(crate) fn char_count(text: &str) -> usize
+pub fn char_count(text: &str) -> usize
     ensures { result ≡ length (chars text.now) }
 {
     count_lead_bytes(text.as_bytes())

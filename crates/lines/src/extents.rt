@@ -1,14 +1,14 @@
 //! Where each line of a paragraph starts at a width, and how much of it is shown.
-ghost use Rattle.std.specs.Prelude.{◌≡◌, ◌≤◌, length, OnOk};
+ghost use Rattle.std.specs.Prelude.{◌≡◌, ◌<◌, ◌≤◌, length, OnOk, slice_index_or};
 ghost use Rattle.lines.specs.Bare.{with_ends};
 ghost use Rattle.lines.specs.Clusters.{cluster_ends};
 ghost use Rattle.lines.specs.Extents.{shown_from};
 ghost use Rattle.lines.specs.Filling.{line_starts_of};
 ghost use Rattle.lines.specs.Kept.{AreStarts};
+ghost use Rattle.lines.specs.Showing.{nothing_shown};
 ghost use Rattle.lines.specs.ShownParts.{margin_of};
 ghost use Rattle.lines.specs.declared.engine.TheConstants.{PARAGRAPH_LIMIT};
 
-use crate::buffers::LineBuffers;
 use crate::char_info::CharInfo;
 use crate::clusters::ClusterBuffers;
 use crate::counts::Counted;
@@ -16,56 +16,76 @@ use crate::fill::Shown;
 use crate::filling::line_starts;
 use crate::options::Options;
 use crate::showing::fill_shown;
-use std::alloc::AllocError;
+use std::alloc::{AllocError, Global};
 use std::marker::Model;
 
 /// Where each line of a paragraph starts at a width, and how much of it is shown. Given its extents, a
 /// paragraph's lines can be written without allocating.
 #[derive(Debug, Drop)]
 pub struct Extents {
-    pub(crate) starts: Vec<u32>,
-    pub(crate) shown: Vec<Shown>,
+    // The start of each line, and then the length and the columns of each line's shown part. One list saves
+    // an allocation per paragraph.
+    items: Vec<u32>,
 }
 
 impl Model for Extents {
-    ghost use Rattle.lines.specs.Extents.{LineExtents};
+    ghost use Rattle.lines.specs.Extents.{LineExtents, unpacked};
 
     ghost Value = { LineExtents };
 
-    ghost view = { λ e. record { starts = e.starts.items; shown = e.shown.items } };
+    ghost view = { λ e. unpacked e.items.items };
 }
 
-/// Finds where each line of a paragraph starts, and how much of it is shown. `infos` need not contain the
-/// cluster ends.
-pub(crate) fn fill_spans_by(
-    clusters: &mut ClusterBuffers,
-    text: &[char],
-    infos: &mut [CharInfo],
-    width: u16,
-    options: Options,
-    lines: &mut LineBuffers,
-    filled: Counted,
-) -> Result<(), AllocError>
-    requires counted { filled ≡ length text.now }
-    requires len { length infos.old ≡ length text.now }
-    requires within { length text.now ≤ PARAGRAPH_LIMIT }
-    ensures starts { OnOk result (lines.new.starts.items
-        ≡ line_starts_of options.nobreak width (with_ends infos.old (cluster_ends text.now))) }
-    ensures shown { OnOk result (lines.new.shown.items
-        ≡ shown_from (margin_of options width) (length text.now)
-        (with_ends infos.old (cluster_ends text.now)) lines.new.starts.items) }
-    ensures ordered { OnOk result (AreStarts (length text.now) lines.new.starts.items) }
-    ensures visual { lines.new.visual ≡ lines.old.visual }
-{
-    line_starts(
-        clusters,
-        text,
-        infos,
-        width,
-        options.nobreak,
-        &mut lines.starts,
-        filled,
-    )?;
-    let margin = options.margin(width);
-    fill_shown(infos, margin, &lines.starts, &mut lines.shown)
+impl Extents {
+    /// Makes the extents of no lines. Allocates nothing.
+    pub(crate) fn new(alloc: Global) -> Extents {
+        Extents {
+            items: Vec::new(alloc),
+        }
+    }
+
+    /// Returns where each line starts.
+    pub(crate) fn starts(&self) -> &[u32]
+        ensures { result.now ≡ self.now.starts }
+    {
+        &self.items[..self.items.len() / 3]
+    }
+
+    /// Returns how much of line `k` is shown.
+    pub(crate) fn shown(&self, k: usize) -> Shown
+        requires { k < length self.now.starts }
+        ensures { result ≡ slice_index_or self.now.shown k nothing_shown }
+    {
+        let place = self.items.len() / 3 + 2 * k;
+        Shown {
+            len: self.items[place],
+            columns: self.items[place + 1],
+        }
+    }
+
+    /// Finds where each line of a paragraph starts, and how much of it is shown. `infos` need not contain the
+    /// cluster ends.
+    pub(crate) fn find(
+        &mut self,
+        clusters: &mut ClusterBuffers,
+        text: &[char],
+        infos: &mut [CharInfo],
+        width: u16,
+        options: Options,
+        filled: Counted,
+    ) -> Result<(), AllocError>
+        requires counted { filled ≡ length text.now }
+        requires len { length infos.old ≡ length text.now }
+        requires within { length text.now ≤ PARAGRAPH_LIMIT }
+        ensures starts { OnOk result (self.new.starts
+            ≡ line_starts_of options.nobreak width (with_ends infos.old (cluster_ends text.now))) }
+        ensures shown { OnOk result (self.new.shown
+            ≡ shown_from (margin_of options width) (length text.now)
+            (with_ends infos.old (cluster_ends text.now)) self.new.starts) }
+        ensures ordered { OnOk result (AreStarts (length text.now) self.new.starts) }
+    {
+        let (items, nobreak) = (&mut self.items, options.nobreak);
+        line_starts(clusters, text, infos, width, nobreak, items, filled)?;
+        fill_shown(infos, options.margin(width), &mut self.items)
+    }
 }

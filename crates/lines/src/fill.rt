@@ -17,9 +17,9 @@ use crate::buffers::{LineBuffers, VisualBuffers};
 use crate::bytes::WriteFault;
 use crate::counts::Count;
 use crate::extents::Extents;
-use crate::paragraph::{LentExtents, Text};
+use crate::paragraph::Text;
 use crate::print::Print;
-use crate::showing::{end_of, show_each};
+use crate::showing::{end_of, show_all};
 use crate::visual_line::VisualLine;
 use device::Sink;
 use std::marker::Model;
@@ -33,26 +33,24 @@ pub struct Shown {
     pub columns: u32,
 }
 
-/// The lines of a paragraph at a width. The first two lists have one item per line. In each of the others, a
-/// line's items start at the index of the line's first character.
+/// The lines of a paragraph at a width. In `levels` and `chars`, a line's items start at the index of the
+/// line's first character. `maps` holds the visual position of each logical position, and then the logical
+/// position of each visual position. A line's items start at the same index in each half. One list for both
+/// maps saves an allocation per paragraph.
 #[derive(Debug)]
 pub struct Fill {
-    pub(crate) starts: Vec<u32>,
-    pub(crate) shown: Vec<Shown>,
+    pub(crate) extents: Extents,
     pub(crate) levels: Vec<u8>,
-    pub(crate) ltov: Vec<u32>,
-    pub(crate) vtol: Vec<u32>,
+    pub(crate) maps: Vec<u32>,
     pub(crate) chars: Vec<char>,
 }
 
 impl Drop for Fill {
     fn drop(self) {
         let Fill {
-            starts: _,
-            shown: _,
+            extents: _,
             levels: _,
-            ltov: _,
-            vtol: _,
+            maps: _,
             chars: _,
         } = self;
     }
@@ -66,12 +64,12 @@ impl Model for Fill {
     ghost Value = { Filled };
 
     ghost view = { λ f. record {
-      lines = lines_in f.starts.items f.shown.items f.levels.items f.ltov.items f.vtol.items f.chars.items;
+      lines = lines_in f.extents.starts f.extents.shown f.levels.items f.maps.items f.chars.items;
       len = length f.levels.items;
     } };
 
     ghost invariant = { λ f.
-        IsSound f.starts.items f.shown.items f.levels.items f.ltov.items f.vtol.items f.chars.items };
+        IsSound f.extents.starts f.extents.shown f.levels.items f.maps.items f.chars.items };
 }
 
 impl Fill {
@@ -89,16 +87,13 @@ impl Fill {
     {
         let VisualBuffers {
             levels,
-            ltov,
-            vtol,
+            maps,
             chars,
         } = lines.visual;
         Fill {
-            starts: lines.starts,
-            shown: lines.shown,
+            extents: lines.extents,
             levels,
-            ltov,
-            vtol,
+            maps,
             chars,
         }
     }
@@ -128,40 +123,27 @@ impl Fill {
         ensures counts { written.new ≡ counted written.old (length text.now.characters.now) }
         ensures least { written.old ≤ written.new }
     {
-        std::mem::swap(&mut self.starts, &mut extents.starts);
-        std::mem::swap(&mut self.shown, &mut extents.shown);
+        std::mem::swap(&mut self.extents, extents);
         self.levels.copy_from_slice(levels);
-        let spans = LentExtents {
-            starts: &self.starts,
-            shown: &self.shown,
-        };
-        show_each(
-            text,
-            &spans,
-            &mut self.levels,
-            &mut self.ltov,
-            &mut self.vtol,
-            &mut self.chars,
-            written,
-        );
+        let (extents, levels, maps) = (&self.extents, &mut self.levels, &mut self.maps);
+        show_all(text, extents, levels, maps, &mut self.chars, written);
     }
 
     /// Returns where each line starts.
     pub(crate) fn starts(&self) -> &[u32]
         ensures { result.now ≡ map start_of self.now.lines }
     {
-        &self.starts
+        self.extents.starts()
     }
 
     /// Returns whether there is exactly one line, at most `width` columns wide.
     pub(crate) fn is_line_within(&self, width: u16) -> bool
         ensures { result ≡ is_line_within width self.now.lines }
     {
-        let shown = self.shown.as_slice();
-        if shown.len() != 1 {
+        if self.extents.starts().len() != 1 {
             return false;
         }
-        shown[0].columns <= u32::from(width)
+        self.extents.shown(0).columns <= u32::from(width)
     }
 
     /// Returns line `n`, or `None` past the last line.
@@ -170,15 +152,17 @@ impl Fill {
         ensures within { IfSome result (λ part. AreWithin (length part.levels.now) part.vtol.now) }
         ensures size { IfSome result (λ part. length part.vtol.now ≡ length part.levels.now) }
     {
-        if n >= self.starts.len() {
+        let starts = self.extents.starts();
+        if n >= starts.len() {
             return None;
         }
+        let (ltov, vtol) = self.maps.split_at(self.levels.len());
         Some(part_of(
-            self.starts[n],
-            self.shown[n],
+            starts[n],
+            self.extents.shown(n),
             &self.levels,
-            &self.ltov,
-            &self.vtol,
+            ltov,
+            vtol,
             &self.chars,
         ))
     }

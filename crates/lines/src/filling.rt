@@ -11,7 +11,7 @@ ghost use Rattle.lines.specs.Kept.{AreStarts};
 ghost use Rattle.lines.specs.declared.char_info.CharInfo.{CharInfo};
 ghost use Rattle.lines.specs.declared.engine.TheConstants.{PARAGRAPH_LIMIT};
 
-use crate::char_info::{CharInfo, Sum, is_must};
+use crate::char_info::{CharInfo, GROUP, Sum, is_must};
 use crate::clusters::ClusterBuffers;
 use crate::counts::Counted;
 use breaks::Mark;
@@ -197,9 +197,6 @@ fn fitting_len(rest: &[CharInfo], width: u16) -> usize
     fitting_after(rest, width, len, columns)
 }
 
-// The number of characters whose columns are added together.
-const GROUP: usize = 8;
-
 // Reads groups of characters as long as they fit in the first line, which must end after none of them.
 // Returns the number of characters and their columns.
 fn fitting_groups(rest: &[CharInfo], width: usize) -> (usize, usize)
@@ -209,7 +206,7 @@ fn fitting_groups(rest: &[CharInfo], width: usize) -> (usize, usize)
     let mut columns = 0;
     let mut k = 0;
     // Most characters have at least one column, so a group does not fit in less than `GROUP` columns.
-    while k + GROUP <= rest.len() && columns + GROUP <= width {
+    while k + GROUP <= rest.len() && columns + GROUP <= width && !is_must(rest[k].mark) {
         let sum = Sum::of(&rest[k..k + GROUP]);
         let next = columns + sum.columns as usize;
         if sum.has_tab | (sum.has_must | (next > width)) {

@@ -10,10 +10,9 @@ ghost use Rattle.lines.specs.Paragraphs.{HasEnds, IsLookedUp, IsPrepared, lines_
 ghost use Rattle.lines.specs.declared.engine.TheConstants.{PARAGRAPH_LIMIT};
 
 use crate::buffers::{LayoutBuffers, LineBuffers};
-use crate::char_info::{CharInfo, fill_infos};
+use crate::char_info::{CharInfo, InfoBuffers};
 use crate::clusters::ClusterBuffers;
 use crate::counts::{Count, Counted, Counts};
-use crate::filling::line_starts;
 use crate::paragraph::{LentRules, Paragraph, Text};
 use crate::showing::show_lines;
 use crate::workspace::{Workspace, fill_ends, fill_marks};
@@ -85,7 +84,7 @@ impl Workspace {
 pub(crate) fn fill_lines(
     clusters: &mut ClusterBuffers,
     paragraph: &Paragraph<'_>,
-    infos: &mut Vec<CharInfo>,
+    infos: &mut InfoBuffers,
     width: u16,
     lines: &mut LineBuffers,
     filled: Counted,
@@ -105,7 +104,8 @@ pub(crate) fn fill_lines(
     ensures unwritten { OnErr result (written.new ≡ written.old) }
     ensures at_most { RisesBy (length paragraph.now.text.characters.now) written.old written.new }
 {
-    fill_infos(&paragraph.text, paragraph.marks, infos)?;
+    infos.fill(&paragraph.text, paragraph.marks)?;
+    let infos = &mut infos.infos;
     fill_lines_by(clusters, paragraph, infos, width, lines, filled, written)
 }
 
@@ -140,15 +140,9 @@ fn fill_lines_by(
     ensures unwritten { OnErr result (written.new ≡ written.old) }
     ensures at_most { RisesBy (length paragraph.now.text.characters.now) written.old written.new }
 {
-    let text = &paragraph.text;
-    line_starts(
-        clusters,
-        text.characters,
-        infos,
-        width,
-        text.rules.options.nobreak,
-        &mut lines.starts,
-        filled,
-    )?;
-    show_lines(paragraph, infos, width, lines, written)
+    let (text, options) = (paragraph.text.characters, paragraph.text.rules.options);
+    lines
+        .extents
+        .find(clusters, text, infos, width, options, filled)?;
+    show_lines(paragraph, lines, written)
 }

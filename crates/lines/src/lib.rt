@@ -31,6 +31,7 @@ mod buffers;
 mod bytes;
 mod char_info;
 mod clusters;
+mod column_cache;
 mod counting;
 mod counts;
 mod engine;
@@ -58,6 +59,7 @@ mod writing;
 
 pub use bytes::{WriteFault, write_chars};
 pub use clusters::{cluster_begin, cluster_end, cluster_ends};
+pub use counting::char_count;
 pub use engine::{Engine, PARAGRAPH_LIMIT};
 pub use extents::Extents;
 pub use fill::Fill;

@@ -49,13 +49,6 @@ pub(crate) struct Paragraph<'a> {
     pub(crate) marks: &'a [Mark],
 }
 
-/// Where each line of a paragraph starts, and how much of it is shown.
-#[derive(Clone, Copy)]
-pub(crate) struct LentExtents<'a> {
-    pub(crate) starts: &'a [u32],
-    pub(crate) shown: &'a [Shown],
-}
-
 /// A line in logical order, with the level of each character before L1, and how much of the line is shown.
 #[derive(Clone, Copy)]
 pub(crate) struct LogicalLine<'a> {

@@ -5,16 +5,15 @@ ghost use Rattle.lines.specs.Engine.{counted, RisesBy};
 ghost use Rattle.lines.specs.Pages.{paragraph_bytes};
 ghost use Rattle.lines.specs.Paragraphs.{IsLookedUp, IsPrepared, IsResolved, rules_in};
 ghost use Rattle.lines.specs.Printing.{FailedAs};
-ghost use Rattle.lines.specs.LentExtents.{AreExtentsOf};
+ghost use Rattle.lines.specs.BufferedExtents.{AreExtentsOf};
 ghost use Rattle.lines.specs.Whole.{IsWhole};
 ghost use Rattle.lines.specs.declared.engine.TheConstants.{PARAGRAPH_LIMIT};
 
 use crate::buffers::LineBuffers;
-use crate::char_info::{CharInfo, fill_infos};
+use crate::char_info::InfoBuffers;
 use crate::clusters::ClusterBuffers;
 use crate::counts::{Count, Counted, Counts};
-use crate::extents::fill_spans_by;
-use crate::paragraph::{LentExtents, LentRules, Paragraph, Text};
+use crate::paragraph::{LentRules, Paragraph, Text};
 use crate::print::PrintFault;
 use crate::whole::{is_whole, write_whole};
 use crate::workspace::{Workspace, fill_ends, fill_marks};
@@ -170,7 +169,7 @@ fn write_one_line<W: Sink>(
 fn fill_spans(
     clusters: &mut ClusterBuffers,
     paragraph: &Paragraph<'_>,
-    infos: &mut Vec<CharInfo>,
+    infos: &mut InfoBuffers,
     width: u16,
     lines: &mut LineBuffers,
     filled: Counted,
@@ -180,21 +179,16 @@ fn fill_spans(
     ensures { OnOk result (AreExtentsOf paragraph.now.text width lines.new) }
 {
     let text = &paragraph.text;
-    fill_infos(text, paragraph.marks, infos)?;
+    infos.fill(text, paragraph.marks)?;
     lines.visual.grow_to(text.characters.len())?;
     let options = text.rules.options;
-    fill_spans_by(
-        clusters,
-        text.characters,
-        infos,
-        width,
-        options,
-        lines,
-        filled,
-    )
+    let (text, infos) = (text.characters, &mut infos.infos);
+    lines
+        .extents
+        .find(clusters, text, infos, width, options, filled)
 }
 
-// Writes the lines of a paragraph, whose starts and shown parts are in `lines`.
+// Writes the lines of a paragraph, whose extents are in `lines`.
 fn write_lines<W: Sink>(
     writer: &mut W,
     form: &Form<'_>,
@@ -214,16 +208,12 @@ fn write_lines<W: Sink>(
     ensures counts { written.new ≡ counted written.old (length paragraph.now.text.characters.now) }
     ensures least { written.old ≤ written.new }
 {
-    let spans = LentExtents {
-        starts: &lines.starts,
-        shown: &lines.shown,
-    };
     let (text, levels) = (&paragraph.text, paragraph.levels);
     match write_each(
         writer,
         form,
         text,
-        &spans,
+        &lines.extents,
         levels,
         &mut lines.visual,
         written,

@@ -8,10 +8,10 @@ ghost use Rattle.lines.specs.ShownParts.{margin_of};
 ghost use Rattle.lines.specs.declared.engine.TheConstants.{PARAGRAPH_LIMIT};
 
 use crate::buffers::LineBuffers;
-use crate::char_info::{CharInfo, fill_infos};
+use crate::char_info::CharInfo;
 use crate::clusters::ClusterBuffers;
 use crate::counts::{Count, Counted, Counts};
-use crate::extents::{Extents, fill_spans_by};
+use crate::extents::Extents;
 use crate::fill::Fill;
 use crate::laid::Laid;
 use crate::layout::fill_lines;
@@ -104,8 +104,8 @@ impl Workspace {
             ends: &[],
             base: laid.base(),
         };
-        let infos = &mut self.infos;
-        fill_infos(&known, laid.marks(), infos)?;
+        self.infos.fill(&known, laid.marks())?;
+        let infos = &mut self.infos.infos;
         let (clusters, options) = (&mut self.clusters, rules.options);
         extents_by(alloc, clusters, text, infos, width, options, filled)
     }
@@ -171,10 +171,7 @@ fn extents_by(
         ≡ shown_from (margin_of options width) (length text.now)
         (with_ends infos.old (cluster_ends text.now)) extents.starts) }
 {
-    let mut lines = LineBuffers::new(alloc);
-    fill_spans_by(clusters, text, infos, width, options, &mut lines, filled)?;
-    Ok(Extents {
-        starts: lines.starts,
-        shown: lines.shown,
-    })
+    let mut extents = Extents::new(alloc);
+    extents.find(clusters, text, infos, width, options, filled)?;
+    Ok(extents)
 }

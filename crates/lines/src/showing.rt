@@ -1,7 +1,7 @@
 //! The visual lines of a paragraph: the levels of each line after L1, and its shown part in visual order (L2,
 //! L3), mirrored (L4).
 ghost use Rattle.std.specs.Prelude.{◌≡◌, ◌*◌, ◌<◌, ◌≤◌, ℕ, List, Option, Some, true, false, OnErr, OnOk};
-ghost use Rattle.std.specs.Prelude.{length, map, take, slice_index};
+ghost use Rattle.std.specs.Prelude.{◌++◌, drop, length, map, take, slice_index};
 ghost use Rattle.std.specs.List.{list_any, range_with_len, slice_range};
 ghost use Rattle.ucd.specs.Properties.{properties_of};
 ghost use Rattle.ucd.specs.Classes.{class_in};
@@ -9,7 +9,7 @@ ghost use Rattle.reorder.specs.Spaces.{line_levels};
 ghost use Rattle.ucd.specs.Within.{AreWithin};
 ghost use Rattle.lines.specs.CharInfos.{moves};
 ghost use Rattle.lines.specs.Engine.{counted, RisesBy};
-ghost use Rattle.lines.specs.Extents.{shown_from};
+ghost use Rattle.lines.specs.Extents.{in_pairs, shown_between, shown_from};
 ghost use Rattle.lines.specs.Filling.{before_tail, columns, text_len};
 ghost use Rattle.lines.specs.Kept.{AreStarts};
 ghost use Rattle.lines.specs.Layouts;
@@ -18,18 +18,19 @@ ghost use Rattle.reorder.specs.Mirroring.{visual_chars};
 ghost use Rattle.reorder.specs.Order.{is_odd};
 ghost use Rattle.lines.specs.Paragraphs.{HasEnds, IsLookedUp};
 ghost use Rattle.lines.specs.Reordering.{ltov_by, reorders, vtol_by};
-ghost use Rattle.lines.specs.Showing.{AreShown, IsShown};
-ghost use Rattle.lines.specs.ShownParts.{margin_of, shown};
-ghost use Rattle.lines.specs.Visual.{end_of, lines_from};
+ghost use Rattle.lines.specs.Showing.{lines_shown, AreShown, IsShown};
+ghost use Rattle.lines.specs.ShownParts.{shown};
+ghost use Rattle.lines.specs.Visual.{end_of};
 ghost use Rattle.lines.specs.declared.char_info.CharInfo.{CharInfo};
 ghost use Rattle.lines.specs.declared.engine.TheConstants.{PARAGRAPH_LIMIT};
 
 use crate::buffers::LineBuffers;
-use crate::char_info::{CharInfo, Sum};
+use crate::char_info::{CharInfo, GROUP, Sum};
 use crate::counts::Count;
+use crate::extents::Extents;
 use crate::fill::Shown;
 use crate::options::Options;
-use crate::paragraph::{LentExtents, Paragraph, Text};
+use crate::paragraph::{Paragraph, Text};
 use crate::reserve::reserve;
 use reorder::{
     ClusterClasses, identity, order_runs, reset_levels, visual_chars, visual_order, visual_places,
@@ -38,26 +39,25 @@ use reorder::{
 use std::alloc::AllocError;
 use ucd::{KnownClasses, Properties};
 
-/// Computes the visual lines of a paragraph from their starts in `lines.starts`: applies L1 to each line, and
-/// L2, L3 and L4 to its shown part.
+/// Computes the visual lines of a paragraph from their extents in `lines.extents`: applies L1 to each line,
+/// and L2, L3 and L4 to its shown part.
 pub(crate) fn show_lines(
     paragraph: &Paragraph<'_>,
-    infos: &[CharInfo],
-    width: u16,
     lines: &mut LineBuffers,
     written: &mut Count,
 ) -> Result<(), AllocError>
     requires text { IsLookedUp paragraph.now.text }
     requires ends { HasEnds paragraph.now.text }
-    requires infos { length paragraph.now.text.characters.now ≡ length infos.now }
     requires limit { length paragraph.now.text.characters.now ≤ PARAGRAPH_LIMIT }
     requires levels { length paragraph.now.levels.now ≡ length paragraph.now.text.characters.now }
-    requires starts { AreStarts (length paragraph.now.text.characters.now) lines.old.starts.items }
+    requires starts { AreStarts (length paragraph.now.text.characters.now) lines.old.extents.starts }
+    requires shown { (margin : Option ℕ) × (infos : List CharInfo) × (lines.old.extents.shown ≡ shown_from
+        margin (length paragraph.now.text.characters.now) infos lines.old.extents.starts) }
     ensures sound { OnOk result (AreSound lines.new) }
     ensures lines { OnOk result (held_lines lines.new
-        ≡ lines_from paragraph.now.text.rules.tables.now paragraph.now.text.rules.options
-        (margin_of paragraph.now.text.rules.options width) paragraph.now.text.base
-        paragraph.now.text.characters.now paragraph.now.levels.now infos.now lines.old.starts.items) }
+        ≡ lines_shown paragraph.now.text.rules.tables.now paragraph.now.text.rules.options
+        paragraph.now.text.base paragraph.now.text.characters.now paragraph.now.levels.now
+        lines.old.extents.starts lines.old.extents.shown) }
     ensures within { OnOk result
         (Layouts.AreWithin (length paragraph.now.text.characters.now) (held_lines lines.new)) }
     ensures lines_len { OnOk result
@@ -68,23 +68,15 @@ pub(crate) fn show_lines(
     ensures at_most { RisesBy (length paragraph.now.text.characters.now) written.old written.new }
 {
     let len = paragraph.text.characters.len();
-    let margin = paragraph.text.rules.options.margin(width);
-    fill_shown(infos, margin, &lines.starts, &mut lines.shown)?;
     let visual = &mut lines.visual;
     copy(paragraph.levels, &mut visual.levels)?;
-    make_numbers(&mut visual.ltov, len)?;
-    make_numbers(&mut visual.vtol, len)?;
+    make_numbers(&mut visual.maps, 2 * len)?;
     make_characters(&mut visual.chars, len)?;
-    let spans = LentExtents {
-        starts: &lines.starts,
-        shown: &lines.shown,
-    };
-    show_each(
+    show_all(
         &paragraph.text,
-        &spans,
+        &lines.extents,
         &mut visual.levels,
-        &mut visual.ltov,
-        &mut visual.vtol,
+        &mut visual.maps,
         &mut visual.chars,
         written,
     );
@@ -117,36 +109,77 @@ fn make_characters(list: &mut Vec<char>, len: usize) -> Result<(), AllocError>
     list.resize(len, '\0')
 }
 
-/// Replaces the contents of `shown` with how much of each line is shown: all but the tail, and the spaces of
-/// the tail that end within the margin.
+/// Appends to the starts of the lines the length and the columns of each line's shown part: all but the tail,
+/// and the spaces of the tail that end within the margin.
 pub(crate) fn fill_shown(
     infos: &[CharInfo],
     margin: Option<u16>,
-    starts: &[u32],
-    shown: &mut Vec<Shown>,
+    items: &mut Vec<u32>,
 ) -> Result<(), AllocError>
     requires len { length infos.now ≤ PARAGRAPH_LIMIT }
-    requires starts { AreStarts (length infos.now) starts.now }
-    ensures { OnOk result (shown.new.items
-        ≡ shown_from margin (length infos.now) infos.now starts.now) }
+    requires starts { AreStarts (length infos.now) items.old.items }
+    ensures { OnOk result (items.new.items ≡ items.old.items
+        ++ in_pairs (shown_from margin (length infos.now) infos.now items.old.items)) }
 {
-    shown.clear();
-    reserve(shown, starts.len())?;
+    let count = items.len();
+    reserve(items, count.saturating_mul(3))?;
     let mut k = 0;
-    while k < starts.len() {
-        let start = starts[k] as usize;
-        let end = end_of(starts, k, infos.len());
-        shown.push(shown_of(&infos[start..end], margin))?;
+    while k < count {
+        let shown = shown_at(infos, margin, &items[..count], k);
+        items.push(shown.len)?;
+        items.push(shown.columns)?;
         k += 1;
     }
     Ok(())
 }
 
+// Returns how much of line `k` is shown, given where each line starts.
+fn shown_at(infos: &[CharInfo], margin: Option<u16>, starts: &[u32], k: usize) -> Shown
+    requires len { length infos.now ≤ PARAGRAPH_LIMIT }
+    requires starts { AreStarts (length infos.now) starts.now }
+    requires k { k < length starts.now }
+    ensures { result ≡ shown_between margin infos.now (slice_index starts.now k)
+        (end_of (length infos.now) starts.now k) }
+{
+    let start = starts[k] as usize;
+    let end = end_of(starts, k, infos.len());
+    shown_of(&infos[start..end], margin)
+}
+
 /// Overwrites the levels before L1 with those after L1, and writes the position maps and characters of each
-/// line's shown part. Counts the characters.
-pub(crate) fn show_each(
+/// line's shown part. `maps` has one half per position map. Counts the characters.
+pub(crate) fn show_all(
     text: &Text<'_>,
-    spans: &LentExtents<'_>,
+    extents: &Extents,
+    levels: &mut [u8],
+    maps: &mut [u32],
+    chars: &mut [char],
+    written: &mut Count,
+)
+    requires text { IsLookedUp text.now }
+    requires ends { HasEnds text.now }
+    requires limit { length text.now.characters.now ≤ PARAGRAPH_LIMIT }
+    requires starts { AreStarts (length text.now.characters.now) extents.now.starts }
+    requires shown { (margin : Option ℕ) × (infos : List CharInfo) × (extents.now.shown
+        ≡ shown_from margin (length text.now.characters.now) infos extents.now.starts) }
+    requires levels { length levels.old ≡ length text.now.characters.now }
+    requires maps { length maps.old ≡ 2 * length text.now.characters.now }
+    requires chars { length chars.old ≡ length text.now.characters.now }
+    ensures shown { AreShown text.now.rules.tables.now text.now.rules.options text.now.base
+        text.now.characters.now levels.old extents.now.starts (length extents.now.starts)
+        extents.now.shown levels.new (take (length levels.new) maps.new)
+        (drop (length levels.new) maps.new) chars.new }
+    ensures counts { written.new ≡ counted written.old (length text.now.characters.now) }
+    ensures least { written.old ≤ written.new }
+{
+    let (ltov, vtol) = maps.split_at_mut(levels.len());
+    show_each(text, extents, levels, ltov, vtol, chars, written);
+}
+
+// Does the work of `show_all`, with one list per position map.
+fn show_each(
+    text: &Text<'_>,
+    extents: &Extents,
     levels: &mut [u8],
     ltov: &mut [u32],
     vtol: &mut [u32],
@@ -156,24 +189,23 @@ pub(crate) fn show_each(
     requires text { IsLookedUp text.now }
     requires ends { HasEnds text.now }
     requires limit { length text.now.characters.now ≤ PARAGRAPH_LIMIT }
-    requires starts { AreStarts (length text.now.characters.now) spans.now.starts.now }
-    requires shown { (margin : Option ℕ) × (infos : List CharInfo) × (spans.now.shown.now
-        ≡ shown_from margin (length text.now.characters.now) infos spans.now.starts.now) }
+    requires starts { AreStarts (length text.now.characters.now) extents.now.starts }
+    requires shown { (margin : Option ℕ) × (infos : List CharInfo) × (extents.now.shown
+        ≡ shown_from margin (length text.now.characters.now) infos extents.now.starts) }
     requires levels { length levels.old ≡ length text.now.characters.now }
     requires ltov { length ltov.old ≡ length text.now.characters.now }
     requires vtol { length vtol.old ≡ length text.now.characters.now }
     requires chars { length chars.old ≡ length text.now.characters.now }
     ensures shown { AreShown text.now.rules.tables.now text.now.rules.options text.now.base
-        text.now.characters.now levels.old spans.now.starts.now (length spans.now.starts.now)
-        spans.now.shown.now levels.new ltov.new vtol.new chars.new }
+        text.now.characters.now levels.old extents.now.starts (length extents.now.starts)
+        extents.now.shown levels.new ltov.new vtol.new chars.new }
     ensures counts { written.new ≡ counted written.old (length text.now.characters.now) }
     ensures least { written.old ≤ written.new }
 {
     let characters = text.characters;
     let properties = text.properties;
     let ends = text.ends;
-    let starts = spans.starts;
-    let shown = spans.shown;
+    let starts = extents.starts();
     written.raise(characters.len());
     let mut k = 0;
     while k < starts.len() {
@@ -188,7 +220,7 @@ pub(crate) fn show_each(
         };
         show_line(
             &line,
-            shown[k],
+            extents.shown(k),
             &mut levels[start..end],
             &mut ltov[start..end],
             &mut vtol[start..end],
@@ -482,22 +514,33 @@ fn columns(piece: &[CharInfo]) -> u32
     ensures sum { result ≡ columns piece.now }
     ensures most { result ≤ 255 * length piece.now }
 {
-    let sum = Sum::of(piece);
-    if sum.has_tab {
-        columns_with_tabs(piece)
-    } else {
-        sum.columns
+    let mut columns = 0;
+    let mut k = 0;
+    while k + GROUP <= piece.len() {
+        let sum = Sum::of(&piece[k..k + GROUP]);
+        if sum.has_tab {
+            break;
+        }
+        columns += sum.columns;
+        k += GROUP;
     }
+    columns_after(piece, k, columns)
 }
 
-fn columns_with_tabs(piece: &[CharInfo]) -> u32
-    requires { length piece.now ≤ PARAGRAPH_LIMIT }
+// Does the work of `columns`, given the columns of the first `len` characters.
+fn columns_after(piece: &[CharInfo], len: usize, before: u32) -> u32
+    requires limit { length piece.now ≤ PARAGRAPH_LIMIT }
+    requires within { len ≤ length piece.now }
+    requires sum { before ≡ columns (take len piece.now) }
+    requires most { before ≤ 255 * len }
     ensures sum { result ≡ columns piece.now }
     ensures most { result ≤ 255 * length piece.now }
 {
-    let mut columns = 0;
-    for info in piece {
-        columns = info.advance(columns as usize) as u32;
+    let mut columns = before;
+    let mut k = len;
+    while k < piece.len() {
+        columns = piece[k].advance(columns as usize) as u32;
+        k += 1;
     }
     columns
 }

@@ -9,7 +9,7 @@ ghost use Rattle.lines.specs.Paragraphs.{IsLookedUp, rules_in};
 ghost use Rattle.lines.specs.Reordering.{ends_by};
 
 use crate::buffers::LayoutBuffers;
-use crate::char_info::CharInfo;
+use crate::char_info::InfoBuffers;
 use crate::clusters::ClusterBuffers;
 use crate::counts::Count;
 use crate::options::Options;
@@ -26,7 +26,7 @@ use ucd::Properties;
 #[derive(Debug)]
 pub(crate) struct Workspace {
     pub(crate) analysis: Analysis,
-    pub(crate) infos: Vec<CharInfo>,
+    pub(crate) infos: InfoBuffers,
     pub(crate) clusters: ClusterBuffers,
     // For paragraphs that are printed and not kept.
     pub(crate) printed: LayoutBuffers,
@@ -51,7 +51,7 @@ impl Workspace {
                 properties: Vec::new(alloc),
                 resolver: Resolver::new(alloc),
             },
-            infos: Vec::new(alloc),
+            infos: InfoBuffers::new(alloc),
             clusters: ClusterBuffers::new(alloc),
             printed: LayoutBuffers::new(alloc),
         }

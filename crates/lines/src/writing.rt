@@ -1,7 +1,7 @@
 //! Writes the lines of a paragraph one after another without keeping them. Computes only the parts of a line
 //! that are printed.
-ghost use Rattle.std.specs.Prelude.{◌≡◌, ◌≤◌, ℕ, List, Option, true, false, length, slice_index, take};
-ghost use Rattle.std.specs.Prelude.{IfOk, IfErr};
+ghost use Rattle.std.specs.Prelude.{◌≡◌, ◌*◌, ◌≤◌, ℕ, List, Option, true, false, length, slice_index};
+ghost use Rattle.std.specs.Prelude.{IfOk, IfErr, drop, take};
 ghost use Rattle.ucd.specs.Within.{AreWithin};
 ghost use Rattle.lines.specs.Asked.{asks_places};
 ghost use Rattle.lines.specs.Buffers.{CanHold, SameLengths};
@@ -21,7 +21,8 @@ ghost use Rattle.lines.specs.declared.engine.TheConstants.{PARAGRAPH_LIMIT};
 use crate::buffers::VisualBuffers;
 use crate::bytes::WriteFault;
 use crate::counts::Count;
-use crate::paragraph::{LentExtents, LogicalLine, Text};
+use crate::extents::Extents;
+use crate::paragraph::{LogicalLine, Text};
 use crate::print::Print;
 use crate::showing::{end_of, ends_between, is_plain, reset_line, show_chars, show_part};
 use crate::visual_line::VisualLine;
@@ -40,7 +41,7 @@ pub(crate) fn write_each<W: Sink>(
     writer: &mut W,
     form: &Form<'_>,
     text: &Text<'_>,
-    spans: &LentExtents<'_>,
+    extents: &Extents,
     levels: &[u8],
     visual: &mut VisualBuffers,
     count: &mut Count,
@@ -48,29 +49,28 @@ pub(crate) fn write_each<W: Sink>(
     requires text { IsLookedUp text.now }
     requires ends { HasEnds text.now }
     requires limit { length text.now.characters.now ≤ PARAGRAPH_LIMIT }
-    requires starts { AreStarts (length text.now.characters.now) spans.now.starts.now }
-    requires shown { (margin : Option ℕ) × (infos : List CharInfo) × (spans.now.shown.now
-        ≡ shown_from margin (length text.now.characters.now) infos spans.now.starts.now) }
+    requires starts { AreStarts (length text.now.characters.now) extents.now.starts }
+    requires shown { (margin : Option ℕ) × (infos : List CharInfo) × (extents.now.shown
+        ≡ shown_from margin (length text.now.characters.now) infos extents.now.starts) }
     requires levels { length levels.now ≡ length text.now.characters.now }
     requires visual { CanHold (length text.now.characters.now) visual.old }
     ensures ok { IfOk result (λ n. PassedOn (lines_bytes form.now.width form.now.print.now text.now.base
         (tab_width_in text.now.rules.tables.now text.now.rules.options)
         text.now.characters.now (lines_shown text.now.rules.tables.now text.now.rules.options text.now.base
-        text.now.characters.now levels.now spans.now.starts.now spans.now.shown.now)) 0
+        text.now.characters.now levels.now extents.now.starts extents.now.shown)) 0
         (W.state writer.old) (W.state writer.new) n) }
     ensures err { IfErr result (λ fault. StoppedIn (lines_bytes form.now.width form.now.print.now
         text.now.base (tab_width_in text.now.rules.tables.now text.now.rules.options)
         text.now.characters.now (lines_shown text.now.rules.tables.now
-        text.now.rules.options text.now.base text.now.characters.now levels.now spans.now.starts.now
-        spans.now.shown.now)) 0 (W.state writer.old) (W.state writer.new) fault.written) }
+        text.now.rules.options text.now.base text.now.characters.now levels.now extents.now.starts
+        extents.now.shown)) 0 (W.state writer.old) (W.state writer.new) fault.written) }
     ensures counts { count.new ≡ counted count.old (length text.now.characters.now) }
     ensures least { count.old ≤ count.new }
 {
     let characters = text.characters;
     let properties = text.properties;
     let ends = text.ends;
-    let starts = spans.starts;
-    let shown = spans.shown;
+    let starts = extents.starts();
     count.raise(characters.len());
     let mut written = 0;
     let mut k = 0;
@@ -86,7 +86,7 @@ pub(crate) fn write_each<W: Sink>(
                 base: text.base,
             },
             levels: &levels[start..end],
-            shown: shown[k],
+            shown: extents.shown(k),
             is_first: k == 0,
         };
         written = write_line(writer, written, form, &line, visual)?;
@@ -153,22 +153,16 @@ fn write_part<W: Sink>(
 {
     let n = line.shown.len as usize;
     if form.print.asks_places(line.text.rules.tab_width()) {
-        order_front(
-            line,
-            is_flat,
-            &visual.levels,
-            &mut visual.ltov,
-            &mut visual.vtol,
-            &mut visual.chars,
-        );
+        let (maps, chars) = (&mut visual.maps, &mut visual.chars);
+        order_front(line, is_flat, &visual.levels, maps, chars);
         return write_visual(writer, before, form, line, visual);
     }
     if form.print.novisual || is_plain(&visual.levels[..n], is_flat) {
         let part = &line.text.characters[..n];
         return write_ordered(writer, before, form, line, &visual.levels[..n], part);
     }
-    let (vtol, chars) = (&mut visual.vtol, &mut visual.chars);
-    chars_front(line, &visual.levels, vtol, chars);
+    let (places, chars) = (&mut visual.maps, &mut visual.chars);
+    chars_front(line, &visual.levels, places, chars);
     write_ordered(
         writer,
         before,
@@ -195,13 +189,12 @@ fn reset_front(line: &LogicalLine<'_>, levels: &mut [u8]) -> bool
 }
 
 // Applies L2, L3 and L4 to the shown part of a line. Its levels after L1 are at the front of `levels`. Writes
-// the results to the front of the other lists.
+// the position maps, one after the other, and the characters to the front of the other lists.
 fn order_front(
     line: &LogicalLine<'_>,
     is_flat: bool,
     levels: &[u8],
-    ltov: &mut [u32],
-    vtol: &mut [u32],
+    maps: &mut [u32],
     chars: &mut [char],
 )
     requires line { IsLookedUp line.now.text }
@@ -209,23 +202,24 @@ fn order_front(
     requires shown { line.now.shown.len ≤ length line.now.text.characters.now }
     requires levels { line.now.shown.len ≤ length levels.now }
     requires flat { is_flat ≡ true → (k : ℕ) → slice_index (take line.now.shown.len levels.now) k ≡ 0 }
-    requires ltov { line.now.shown.len ≤ length ltov.old }
-    requires vtol { line.now.shown.len ≤ length vtol.old }
+    requires maps { 2 * line.now.shown.len ≤ length maps.old }
     requires chars { line.now.shown.len ≤ length chars.old }
-    ensures ltov { take line.now.shown.len ltov.new
+    ensures ltov { take line.now.shown.len maps.new
         ≡ (shown_by line.now (take line.now.shown.len levels.now)).ltov }
-    ensures vtol { take line.now.shown.len vtol.new
+    ensures vtol { take line.now.shown.len (drop line.now.shown.len maps.new)
         ≡ (shown_by line.now (take line.now.shown.len levels.now)).vtol }
     ensures chars { take line.now.shown.len chars.new
         ≡ (shown_by line.now (take line.now.shown.len levels.now)).chars }
-    ensures within { AreWithin line.now.shown.len (take line.now.shown.len vtol.new) }
+    ensures within { AreWithin line.now.shown.len
+        (take line.now.shown.len (drop line.now.shown.len maps.new)) }
 {
     let n = line.shown.len as usize;
+    let (ltov, vtol) = maps.split_at_mut(n);
     show_part(
         &line.text,
         &levels[..n],
         is_flat,
-        &mut ltov[..n],
+        ltov,
         &mut vtol[..n],
         &mut chars[..n],
     );
@@ -247,7 +241,8 @@ fn chars_front(line: &LogicalLine<'_>, levels: &[u8], places: &mut [u32], chars:
     show_chars(&line.text, &levels[..n], &mut places[..n], &mut chars[..n]);
 }
 
-// Writes a line whose levels, position maps and characters are at the front of the buffers.
+// Writes a line whose levels and characters are at the front of the buffers, and whose position maps are at
+// the front of `visual.maps`, one after the other.
 fn write_visual<W: Sink>(
     writer: &mut W,
     before: u64,
@@ -259,7 +254,8 @@ fn write_visual<W: Sink>(
     requires limit { length line.now.text.characters.now ≤ PARAGRAPH_LIMIT }
     requires shown { line.now.shown.len ≤ length line.now.text.characters.now }
     requires visual { CanHold (length line.now.text.characters.now) visual.now }
-    requires within { AreWithin line.now.shown.len (take line.now.shown.len visual.now.vtol.items) }
+    requires within { AreWithin line.now.shown.len
+        (take line.now.shown.len (drop line.now.shown.len visual.now.maps.items)) }
     ensures ok { IfOk result (λ n.
         PassedOn (line_bytes form.now.width form.now.print.now (held_line line.now visual.now)) before
         (W.state writer.old) (W.state writer.new) n) }
@@ -270,6 +266,7 @@ fn write_visual<W: Sink>(
 {
     let n = line.shown.len as usize;
     let levels = &visual.levels[..n];
+    let (ltov, vtol) = visual.maps.split_at(n);
     let view = VisualLine {
         is_first: line.is_first,
         base: line.text.base,
@@ -278,8 +275,8 @@ fn write_visual<W: Sink>(
         text: &line.text.characters[..levels.len()],
         columns: line.shown.columns,
         levels,
-        ltov: &visual.ltov[..n],
-        vtol: &visual.vtol[..n],
+        ltov,
+        vtol: &vtol[..n],
         chars: &visual.chars[..n],
     };
     view.write_after(writer, before, form.width, form.print)

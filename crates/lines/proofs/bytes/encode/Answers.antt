@@ -18,5 +18,5 @@ returns-clause-bytes c =
     let piece = c.args.piece.now in
     let k = c.loop-k.k in
     let rest : take (length piece - k) (drop k piece) ≡ drop k piece = take_all (length piece - k) (drop k piece) (omega (arith, length-drop k piece)) in
-    c.encode_each.ensures.bytes ∙ ap (λ bytes. bytes ++ encode_utf8_all (take (length piece - k) (drop k piece))) c.loop-k.invariant.bytes_are
+    c.encode_group.ensures.bytes ∙ ap (λ bytes. bytes ++ encode_utf8_all (take (length piece - k) (drop k piece))) c.loop-k.invariant.bytes_are
     ∙ ap (λ cs. encode_utf8_all (take k piece) ++ encode_utf8_all cs) rest ∙ sym (encoded-rest piece k)

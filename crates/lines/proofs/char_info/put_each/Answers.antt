@@ -15,7 +15,7 @@ loop-k-preserved c =
     c.index-properties-k.is ∙ ap (λ ps. get_or ps k one) c.requires.properties
     ∙ get_or-map (properties_of tables) text k c.index-text-k.result one c.loop-k-test.true ∙ ap (properties_of tables) (sym c.index-text-k.is) in
     PlacesPut-next tables 0 text c.args.marks.now c.loop-k.infos k c.index-text-k.result _ Never c.of_other.result c.loop-k.invariant c.loop-k-test.true c.requires.marks
-    c.index-text-k.is refl (c.of_other.ensures tables 0 c.index-text-k.result c.columns-columns.ensures.value looked refl)
+    c.index-text-k.is refl (c.of_other.ensures tables 0 c.index-text-k.result c.columns-columns.ensures looked refl)
 
 pub returns : goal.returns
 returns c = PlacesPut-end _ _ _ _ _ _ c.loop-k.invariant (omega (arith, c.loop-k-test.false))

@@ -1,4 +1,4 @@
-use Rattle.std.proofs.Common.{◌≡◌, ◌-◌, ◌∙◌, ℕ, List, ap, ap₂, subst, arith}
+use Rattle.std.proofs.Common.{◌≡◌, ◌-◌, ◌∙◌, ℕ, List, ap, subst, arith}
 use Rattle.device.specs.Device.{StoppedAt, Wrote}
 use Rattle.lines.specs.CharInfos.{infos_of}
 use Rattle.lines.specs.Pages.{lines_bytes, paragraph_bytes}
@@ -15,10 +15,10 @@ returns-in-Ok-clause-ok g c =
     let rules = rules_in text.rules in
     let chars = text.characters.now in
     let levels = c.args.paragraph.now.levels.now in
-    let starts = c.args.lines.now.starts.items in
+    let starts = c.args.lines.now.extents.starts in
     let form = c.args.form.now in
     let lines = lines_shown rules.tables rules.options text.base chars levels in
-    let found = ap₂ lines c.deref.ensures.value c.deref-2.ensures.value ∙ ap (lines starts) c.requires.spans.shown
+    let found = ap (lines starts) c.requires.spans.shown
     ∙ shown_lines rules.tables rules.options text.base chars levels (margin_of rules.options form.width) (infos_of rules.tables rules.options chars) starts in
     let same = ap (lines_bytes form.width form.print.now text.base (tab_width_in rules.tables rules.options) chars) found
     ∙ page_is rules form.width form.print.now chars text.base levels starts c.requires.paragraph.text.base c.requires.paragraph.text.levels_are c.requires.spans.starts in
@@ -31,10 +31,10 @@ returns-in-Err-clause-err g c =
     let rules = rules_in text.rules in
     let chars = text.characters.now in
     let levels = c.args.paragraph.now.levels.now in
-    let starts = c.args.lines.now.starts.items in
+    let starts = c.args.lines.now.extents.starts in
     let form = c.args.form.now in
     let lines = lines_shown rules.tables rules.options text.base chars levels in
-    let found = ap₂ lines c.deref.ensures.value c.deref-2.ensures.value ∙ ap (lines starts) c.requires.spans.shown
+    let found = ap (lines starts) c.requires.spans.shown
     ∙ shown_lines rules.tables rules.options text.base chars levels (margin_of rules.options form.width) (infos_of rules.tables rules.options chars) starts in
     let same = ap (lines_bytes form.width form.print.now text.base (tab_width_in rules.tables rules.options) chars) found
     ∙ page_is rules form.width form.print.now chars text.base levels starts c.requires.paragraph.text.base c.requires.paragraph.text.levels_are c.requires.spans.starts in

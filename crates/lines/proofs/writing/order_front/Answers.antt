@@ -5,7 +5,7 @@ use Rattle.ucd.specs.Within.{AreWithin}
 use Rattle.reorder.specs.Mirroring.{visual_chars}
 use Rattle.lines.specs.Reordering.{ltov_by, vtol_by}
 use Rattle.reorder.proofs.PlainLemmas.{classes_are}
-use Rattle.lines.proofs.WrittenLemmas.{front_is}
+use Rattle.lines.proofs.WrittenLemmas.{back_is, front_is}
 use Rattle.lines.proofs.writing.order_front.Goals as goal
 
 pub returns : goal.returns
@@ -17,9 +17,13 @@ returns c =
     let levels = take n c.args.levels.now in
     let classes = ap (map class_in) c.requires.line ∙ classes_are text.rules.tables.now text.characters.now in
     let size : length levels ≡ n = length-take-le n c.args.levels.now c.requires.levels in
-    let ltov = front_is n c.show_part.new.ltov _ (omega (arith, length-take-le n c.args.ltov.now c.requires.ltov)) in
-    let vtol = front_is n c.show_part.new.vtol _ (omega (arith, length-take-le n c.args.vtol.now c.requires.vtol)) in
-    let chars = front_is n c.show_part.new.chars _ (omega (arith, length-take-le n c.args.chars.now c.requires.chars)) in
+    let first : length c.show_part.new.ltov ≡ n = omega (arith, c.split_at_mut-ltov.ensures.front_len) in
+    let second : length c.show_part.new.vtol ≡ n =
+    omega (arith, length-take-le n c.split_at_mut-ltov.result.1.now (omega (arith, c.split_at_mut-ltov.ensures.back_len, c.requires.maps))) in
+    let third : length c.show_part.new.chars ≡ n = omega (arith, length-take-le n c.args.chars.now c.requires.chars) in
+    let ltov = front_is n c.show_part.new.ltov _ first in
+    let vtol = back_is n c.show_part.new.ltov c.show_part.new.vtol _ first second in
+    let chars = front_is n c.show_part.new.chars _ third in
     record {
       ltov = ltov ∙ c.show_part.ensures.ltov ∙ ap (λ cs. ltov_by options cs ends levels) classes;
       vtol = vtol ∙ c.show_part.ensures.vtol ∙ ap (λ cs. vtol_by options cs ends levels) classes;

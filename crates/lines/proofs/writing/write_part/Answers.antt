@@ -1,4 +1,4 @@
-use Rattle.std.proofs.Common.{◌≡◌, ◌∙◌, ℕ, List, IfErr, IfOk, false, length, map, take, slice_index, ap, refl, subst, sym, arith}
+use Rattle.std.proofs.Common.{◌≡◌, ◌∙◌, ℕ, List, IfErr, IfOk, false, length, map, take, drop, slice_index, ap, refl, subst, sym, arith}
 use Rattle.std.proofs.lemmas.Bool.{both_ways}
 use Rattle.std.proofs.lemmas.List.{length-take-le, with_items_is}
 use Rattle.ucd.specs.Tables.{class_of}
@@ -15,7 +15,7 @@ use Rattle.lines.proofs.writing.write_part.Goals.{then-form-via-then-form, then-
 
 pub write_visual-requires-clause-within : goal.write_visual-requires-clause-within
 write_visual-requires-clause-within g c =
-    rw (with_items_is c.args.visual.now.vtol c.order_front.new.vtol (omega arith)) c.order_front.ensures.within
+    rw (with_items_is c.args.visual.now.maps c.order_front.new.maps (omega arith)) c.order_front.ensures.within
 
 pub returns-then-asks_places-clause-ok : goal.returns-then-asks_places-clause-ok
 returns-then-asks_places-clause-ok g c =
@@ -23,8 +23,9 @@ returns-then-asks_places-clause-ok g c =
     let n = line.shown.len in
     let before = c.args.visual.now in
     let order = c.order_front.ensures in
-    let ltov = ap (take n) (with_items_is before.ltov c.order_front.new.ltov (omega arith)) ∙ order.ltov ∙ ap (λ (ls : List ℕ). (shown_by line (take n ls)).ltov) c.deref.ensures.value in
-    let vtol = ap (take n) (with_items_is before.vtol c.order_front.new.vtol (omega arith)) ∙ order.vtol ∙ ap (λ (ls : List ℕ). (shown_by line (take n ls)).vtol) c.deref.ensures.value in
+    let maps = with_items_is before.maps c.order_front.new.maps (omega arith) in
+    let ltov = ap (take n) maps ∙ order.ltov ∙ ap (λ (ls : List ℕ). (shown_by line (take n ls)).ltov) c.deref.ensures.value in
+    let vtol = ap (λ ms. take n (drop n ms)) maps ∙ order.vtol ∙ ap (λ (ls : List ℕ). (shown_by line (take n ls)).vtol) c.deref.ensures.value in
     let chars = ap (take n) (with_items_is before.chars c.order_front.new.chars (omega arith)) ∙ order.chars ∙ ap (λ (ls : List ℕ). (shown_by line (take n ls)).chars) c.deref.ensures.value in
     let same = is_part line.text.rules.tables.now line.text.rules.options line.text.base line.is_first line.text.characters.now line.text.ends.now line.shown.columns (take n before.levels.items)
     _ _ _ _ refl ltov vtol chars in
@@ -37,8 +38,9 @@ returns-then-asks_places-clause-err g c =
     let n = line.shown.len in
     let before = c.args.visual.now in
     let order = c.order_front.ensures in
-    let ltov = ap (take n) (with_items_is before.ltov c.order_front.new.ltov (omega arith)) ∙ order.ltov ∙ ap (λ (ls : List ℕ). (shown_by line (take n ls)).ltov) c.deref.ensures.value in
-    let vtol = ap (take n) (with_items_is before.vtol c.order_front.new.vtol (omega arith)) ∙ order.vtol ∙ ap (λ (ls : List ℕ). (shown_by line (take n ls)).vtol) c.deref.ensures.value in
+    let maps = with_items_is before.maps c.order_front.new.maps (omega arith) in
+    let ltov = ap (take n) maps ∙ order.ltov ∙ ap (λ (ls : List ℕ). (shown_by line (take n ls)).ltov) c.deref.ensures.value in
+    let vtol = ap (λ ms. take n (drop n ms)) maps ∙ order.vtol ∙ ap (λ (ls : List ℕ). (shown_by line (take n ls)).vtol) c.deref.ensures.value in
     let chars = ap (take n) (with_items_is before.chars c.order_front.new.chars (omega arith)) ∙ order.chars ∙ ap (λ (ls : List ℕ). (shown_by line (take n ls)).chars) c.deref.ensures.value in
     let same = is_part line.text.rules.tables.now line.text.rules.options line.text.base line.is_first line.text.characters.now line.text.ends.now line.shown.columns (take n before.levels.items)
     _ _ _ _ refl ltov vtol chars in
@@ -76,8 +78,7 @@ returns-then-asks_places-clause-visual g c =
     let before = c.args.visual.now in
     record {
       levels = refl;
-      ltov = omega (arith, ap length (with_items_is before.ltov c.order_front.new.ltov (omega arith)));
-      vtol = omega (arith, ap length (with_items_is before.vtol c.order_front.new.vtol (omega arith)));
+      maps = omega (arith, ap length (with_items_is before.maps c.order_front.new.maps (omega arith)));
       chars = omega (arith, ap length (with_items_is before.chars c.order_front.new.chars (omega arith)));
     }
 
@@ -86,7 +87,6 @@ returns-clause-visual g c =
     let before = c.args.visual.now in
     record {
       levels = refl;
-      ltov = refl;
-      vtol = omega (arith, ap length (with_items_is before.vtol c.chars_front.new.places (omega arith)));
+      maps = omega (arith, ap length (with_items_is before.maps c.chars_front.new.places (omega arith)));
       chars = omega (arith, ap length (with_items_is before.chars c.chars_front.new.chars (omega arith)));
     }

@@ -5,7 +5,7 @@ use Rattle.lines.specs.Clusters.{cluster_ends}
 use Rattle.lines.specs.CharInfos.{infos, infos_of}
 use Rattle.lines.specs.Tabs.{tab_width_in}
 use Rattle.lines.proofs.BareLemmas.{with_infos, length-bare_infos}
-use Rattle.lines.proofs.char_info.fill_infos.Goals as goal
+use Rattle.lines.proofs.char_info.InfoBuffers.fill.Goals as goal
 
 pub returns-clause-infos : goal.returns-clause-infos
 unfolding infos_of

@@ -11,9 +11,9 @@ use Rattle.lines.specs.declared.buffers.LineBuffers.{LineBuffers}
 use Rattle.lines.specs.declared.paragraph.Text.{Text}
 
 pub record AreExtentsOf (text : Text) (width : ℕ) (lines : LineBuffers) : Type 0 where
-  pub starts : lines.starts.items
+  pub starts : lines.extents.starts
       ≡ line_starts_of text.rules.options.nobreak width (infos_of text.rules.tables.now text.rules.options text.characters.now)
-  pub shown : lines.shown.items
-      ≡ shown_from (margin_of text.rules.options width) (length text.characters.now) (infos_of text.rules.tables.now text.rules.options text.characters.now) lines.starts.items
-  pub ordered : AreStarts (length text.characters.now) lines.starts.items
+  pub shown : lines.extents.shown
+      ≡ shown_from (margin_of text.rules.options width) (length text.characters.now) (infos_of text.rules.tables.now text.rules.options text.characters.now) lines.extents.starts
+  pub ordered : AreStarts (length text.characters.now) lines.extents.starts
   pub visual : CanHold (length text.characters.now) lines.visual

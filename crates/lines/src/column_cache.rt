@@ -1,0 +1,86 @@
+//! A cache of the columns of characters. The columns of a character depend on the character alone.
+ghost use Rattle.std.specs.Prelude.{◌≡◌, ◌≤◌, ℕ, OnOk};
+ghost use Rattle.lines.specs.CharInfos.{columns_of};
+ghost use Rattle.lines.specs.ColumnCache.{is_right};
+
+use crate::char_info::columns;
+use crate::reserve::reserve;
+use std::alloc::{AllocError, Global};
+use std::marker::Model;
+
+// The number of entries. Characters whose numbers differ by a multiple of it share an entry.
+const ENTRIES: usize = 1_024;
+
+/// The columns of some characters. An entry is the number of a character, times 4, plus its columns. A new
+/// entry is 0, which says that U+0000 has no columns.
+#[derive(Debug)]
+pub(crate) struct ColumnCache {
+    entries: Vec<u32>,
+}
+
+impl Drop for ColumnCache {
+    fn drop(self) {
+        let ColumnCache { entries: _ } = self;
+    }
+}
+
+impl Model for ColumnCache {
+    ghost use Rattle.std.specs.Prelude.{◌≡◌, ℕ, List, true};
+    ghost use Rattle.std.specs.List.{list_all};
+    ghost use Rattle.lines.specs.ColumnCache.{is_right};
+
+    ghost Value = { List ℕ };
+
+    ghost view = { λ c. c.entries.items };
+
+    ghost invariant = { λ c. list_all is_right c.entries.items ≡ true };
+}
+
+impl ColumnCache {
+    ghost use Rattle.std.specs.Prelude.{◌≡◌};
+    ghost use Rattle.lines.specs.CharInfos.{columns_of};
+
+    /// Makes a cache without entries. Allocates nothing.
+    pub(crate) fn new(alloc: Global) -> ColumnCache {
+        ColumnCache {
+            entries: Vec::new(alloc),
+        }
+    }
+
+    /// Allocates the entries, at the first call.
+    pub(crate) fn prepare(&mut self) -> Result<(), AllocError> {
+        if self.entries.is_empty() {
+            reserve(&mut self.entries, ENTRIES)?;
+            self.entries.resize(ENTRIES, 0)?;
+        }
+        Ok(())
+    }
+
+    /// Returns the width of a character in columns.
+    #[inline(always)]
+    pub(crate) fn columns(&mut self, c: char) -> u8
+        ensures { result ≡ columns_of c }
+    {
+        let code = c as u32;
+        if let Some(entry) = self.entries.get(code as usize % ENTRIES) {
+            if *entry / 4 == code {
+                return (*entry % 4) as u8;
+            }
+        }
+        self.look_up(c)
+    }
+
+    // Finds the columns of a character that has no entry, and replaces an entry with the character's.
+    #[inline(never)]
+    fn look_up(&mut self, c: char) -> u8
+        ensures { result ≡ columns_of c }
+    {
+        let columns = columns(c);
+        let code = c as u32;
+        let at = code as usize % ENTRIES;
+        if at < self.entries.len() {
+            self.entries[at] = 4 * code + u32::from(columns);
+        }
+        columns
+    }
+}
