@@ -9,8 +9,8 @@ ghost use Rattle.hordguli_c.specs.declared.status.Status.TheVariants.{Ok};
 use crate::session_handle::{SessionHandle, SessionObject};
 use crate::status::{Status, number_of};
 use session::{Damage, EditFault};
+use simdutf8::compat::from_utf8;
 use std::alloc::Global;
-use std::str::from_utf8;
 
 /// What an edit replaced (`hordguli_damage` in C).
 #[repr(C)]

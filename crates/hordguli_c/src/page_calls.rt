@@ -7,8 +7,8 @@ ghost use Rattle.hordguli_c.specs.Statuses.{Returns};
 use crate::options::page_form_of;
 use crate::status::{Status, number_of};
 use crate::tables_handle::TablesHandle;
+use simdutf8::compat::from_utf8;
 use std::alloc::Global;
-use std::str::from_utf8;
 
 /// Copies the lines of a text, in the form in which they are printed, to an array as UTF-8, if they fit.
 #[unsafe(no_mangle)]

@@ -15,8 +15,8 @@ use crate::status::{Status, number_of};
 use crate::tables_handle::TablesHandle;
 use lines::{Engine, Options};
 use session::Session;
+use simdutf8::compat::from_utf8;
 use std::alloc::Global;
-use std::str::from_utf8;
 use ucd::Tables;
 
 // Opens a session with a new engine. After an error, returns the status of the fault.

@@ -16,10 +16,10 @@ use crate::arrays::{put_bytes, put_each_character};
 use crate::options::print_of;
 use crate::session_handle::{SessionHandle, SessionObject};
 use crate::status::{Status, number_of};
-use lines::Print;
+use lines::{Print, char_count};
 use session::RangeFault;
+use simdutf8::compat::from_utf8;
 use std::alloc::Global;
-use std::str::from_utf8;
 use stream::Page;
 
 // Returns lines in the form in which they are printed.
@@ -243,12 +243,6 @@ pub extern "C" fn hordguli_core_utf8_length(
         }
         None => number_of(Status::Closed),
     }
-}
-
-fn char_count(text: &str) -> usize
-    ensures { result ≡ length (chars text.now) }
-{
-    text.chars().count()
 }
 
 /// Stores the number of characters in UTF-8 text.

@@ -1,6 +1,6 @@
 //! Converts positions to offsets in UTF-8 bytes or UTF-16 code units, and back. The sums in the store find
 //! the paragraph. A paragraph with as many units as characters is not scanned.
-ghost use Rattle.std.specs.Prelude.{◌≡◌, ◌<◌, ◌≤◌, List, ℕ, length, slice_index, sum_by, take};
+ghost use Rattle.std.specs.Prelude.{◌≡◌, ◌*◌, ◌<◌, ◌≤◌, List, ℕ, length, slice_index, sum_by, take};
 ghost use Rattle.session.specs.Kept.{text_of};
 ghost use Rattle.session.specs.Offsets.{before_in, length_in, offset_of, position_of, size_in};
 ghost use Rattle.session.specs.Offsets.{units_of, IsUnitAt};
@@ -10,6 +10,10 @@ ghost use Rattle.store.specs.Finding.{Finds};
 use crate::borders::front;
 use crate::kept::Kept;
 use store::{Found, Measured, ParagraphStore};
+
+// The number of characters in a block. The number of its units fits a `u32`, so vector instructions add four
+// at a time.
+const BLOCK: usize = 65_536;
 
 /// An encoding, whose units are counted.
 #[derive(Clone, Copy)]
@@ -34,9 +38,25 @@ impl Encoding {
     pub fn length(self, text: &[char]) -> usize
         ensures { result ≡ length_in self text.now }
     {
+        let mut rest = text;
         let mut length = 0;
-        for c in text {
-            length += self.size_of(*c);
+        while rest.len() > BLOCK {
+            let (block, after) = rest.split_at(BLOCK);
+            length += self.length_of_block(block) as usize;
+            rest = after;
+        }
+        length + self.length_of_block(rest) as usize
+    }
+
+    // Returns the number of units of a block of characters.
+    fn length_of_block(self, block: &[char]) -> u32
+        requires { length block.now ≤ BLOCK }
+        ensures units { result ≡ length_in self block.now }
+        ensures few { result ≤ 4 * length block.now }
+    {
+        let mut length = 0;
+        for c in block {
+            length += self.size_of(*c) as u32;
         }
         length
     }

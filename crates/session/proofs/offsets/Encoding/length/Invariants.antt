@@ -1,9 +1,13 @@
-use Rattle.std.proofs.Common.{◌≡◌, ◌≤◌, ◌*◌, take}
+use Rattle.std.proofs.Common.{◌≡◌, ◌+◌, ◌≤◌, ◌*◌, length}
 use Rattle.session.specs.Offsets.{length_in}
 use Rattle.session.proofs.offsets.Encoding.length.Given as goal
 
-abbrev pub invariant-loop-c : goal.invariant-loop-c
-invariant-loop-c l = record {
-  so_far : l.length ≡ length_in l.self (take l.c-index l.text);
-  few : l.length ≤ 4 * l.c-index;
+-- the units counted so far and those of the rest are all units
+abbrev pub invariant-loop-rest : goal.invariant-loop-rest
+invariant-loop-rest l = record {
+  all : l.length + length_in l.self l.rest ≡ length_in l.self l.text;
+  few : l.length + 4 * length l.rest ≤ 4 * length l.text;
 }
+
+abbrev pub decreases-loop-rest : goal.decreases-loop-rest
+decreases-loop-rest l = length l.rest
