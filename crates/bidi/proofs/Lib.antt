@@ -7,6 +7,7 @@ mod ExplicitLemmas
 mod FlatLemmas
 mod FlatRtlLemmas
 pub mod FrontLemmas
+pub mod GroupLemmas
 mod IsolateLemmas
 mod JumpLemmas
 pub mod LastLemmas
@@ -19,7 +20,7 @@ mod NeutralTableLemmas
 mod NoBracketLemmas
 mod OpenersLemmas
 pub mod PairLemmas
-mod PartLemmas
+pub mod PartLemmas
 mod PiecesLemmas
 mod PlainLemmas
 mod ResolverLemmas

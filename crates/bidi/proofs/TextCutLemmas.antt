@@ -1,5 +1,5 @@
 -- Where the first paragraph of a text in UTF-8 ends.
-use Rattle.std.proofs.Common.{◌≡◌, ℕ, min, get_or, ◌+◌, ◌-◌, ◌<◌, ◌≤◌, Bool, true, false, List, [], ◌∷◌, ◌++◌, length, take, drop, Option, Some, None, MatchOption, refl, sym, subst, ap, ap₂, ◌∙◌, arith, if◌then◌else◌, true≢false, ⊎_elim}
+use Rattle.std.proofs.Common.{◌≡◌, ℕ, min, get_or, ◌+◌, ◌-◌, ◌<◌, ◌≤◌, Bool, true, false, List, [], ◌∷◌, ◌++◌, length, take, drop, Option, Some, None, MatchOption, refl, sym, subst, ap, ap₂, ◌∙◌, arith, if◌then◌else◌, true≢false, ⊎_elim, inl, inr}
 use Rattle.std.specs.Prelude.{⊤, IsUtf8}
 use Rattle.std.specs.List.{onto_first, slice_get}
 use Rattle.std.specs.Str.{chars, IsCharBoundary}
@@ -45,6 +45,20 @@ leads_within bytes at n k lt =
     (get_or-take n (drop at bytes) (k + 1) 0 (omega (arith, lt)) ∙ get_or-drop at bytes (k + 1) 0 ∙ ap (λ i. get_or bytes i 0) one)
     ∙ ap (λ c. may_lead (get_or bytes (at + k) 0) (get_or bytes (at + k + 1) 0) c)
     (get_or-take n (drop at bytes) (k + 2) 0 lt ∙ get_or-drop at bytes (k + 2) 0 ∙ ap (λ i. get_or bytes i 0) two)
+
+-- if no separator may begin before a block, or at its first m positions, none may begin before `at + m`
+pub plain_to : (bytes : List ℕ) (at n m : ℕ) → m + 2 ≤ n → ((k : ℕ) → k < at → leads_at bytes k ≡ false)
+    → ((k : ℕ) → k < m → leads_at (take n (drop at bytes)) k ≡ false) → (k : ℕ) → k < at + m → leads_at bytes k ≡ false
+plain_to bytes at n m within before block k lt = elim (cases_lt k at) [
+  | inl below ↦ before k below
+  | inr from ↦
+      let there : at + (k - at) ≡ k = omega arith in
+      subst (λ i. leads_at bytes i ≡ false) there (sym (leads_within bytes at n (k - at) (omega arith)) ∙ block (k - at) (omega arith))
+]
+
+-- if a separator may begin at position m of a block, it may begin at `at + m`
+pub lead_at : (bytes : List ℕ) (at n m : ℕ) → m + 2 < n → leads_at (take n (drop at bytes)) m ≡ true → leads_at bytes (at + m) ≡ true
+lead_at bytes at n m within lead = sym (leads_within bytes at n m within) ∙ lead
 
 -- if the bytes of a character cannot begin a separator, the character is not a separator
 lead_by : (c : ℕ) (rest : List ℕ) → Shape c → leads_at (encode c ++ rest) 0 ≡ false → may_separate c ≡ false

@@ -85,9 +85,41 @@ pub(crate) fn next_bracket<T: MaybeBracket>(items: &[T], from: usize) -> usize
     ensures passed { (m : ℕ) (e : T) → from ≤ m → m < result
         → T.is_one (slice_index_or items.now m e) ≡ false }
 {
-    let mut at = from;
+    let mut at = after_groups(items, from);
     while at < items.len() && !items[at].is_one() {
         at += 1;
     }
     at
+}
+
+// The number of items that are tested together.
+const AT_ONCE: usize = 8;
+
+// Returns the index after groups of items at and after `from` in which there is no bracket.
+fn after_groups<T: MaybeBracket>(items: &[T], from: usize) -> usize
+    requires { from ≤ length items.now }
+    ensures reached { from ≤ result }
+    ensures within { result ≤ length items.now }
+    ensures passed { (m : ℕ) (e : T) → from ≤ m → m < result
+        → T.is_one (slice_index_or items.now m e) ≡ false }
+{
+    let mut at = from;
+    while items.len() - at >= AT_ONCE && !has_bracket(&items[at..at + AT_ONCE]) {
+        at += AT_ONCE;
+    }
+    at
+}
+
+// Returns whether any of the items is a bracket. The loop has no branches, so that the compiler tests several
+// items at a time.
+#[inline(always)] // so that the loop over a group knows its length
+fn has_bracket<T: MaybeBracket>(items: &[T]) -> bool
+    ensures { result ≡ false → (m : ℕ) (e : T) → m < length items.now
+        → T.is_one (slice_index_or items.now m e) ≡ false }
+{
+    let mut any = false;
+    for item in items {
+        any |= item.is_one();
+    }
+    any
 }

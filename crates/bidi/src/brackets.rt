@@ -249,11 +249,41 @@ fn next_pair(closers: &[usize], from: usize) -> usize
     ensures stops { result < length closers.now
         → slice_index closers.now result < length closers.now }
 {
-    let mut at = from;
+    let mut at = after_groups(closers, from);
     while at < closers.len() && closers[at] >= closers.len() {
         at += 1;
     }
     at
+}
+
+// The number of items that are tested together.
+const AT_ONCE: usize = 8;
+
+// Returns the index after groups of items at and after `from` in which no pair opens.
+fn after_groups(closers: &[usize], from: usize) -> usize
+    requires { from ≤ length closers.now }
+    ensures reached { from ≤ result }
+    ensures within { result ≤ length closers.now }
+    ensures passed { (m : ℕ) → from ≤ m → m < result → length closers.now ≤ slice_index closers.now m }
+{
+    let mut at = from;
+    while closers.len() - at >= AT_ONCE && are_at_least(&closers[at..at + AT_ONCE], closers.len()) {
+        at += AT_ONCE;
+    }
+    at
+}
+
+// Returns whether no item is below `least`. The loop has no branches, so that the compiler tests several
+// items at a time.
+#[inline(always)] // so that the loop over a group knows its length
+fn are_at_least(items: &[usize], least: usize) -> bool
+    ensures { result ≡ true → (m : ℕ) → m < length items.now → least ≤ slice_index items.now m }
+{
+    let mut all = true;
+    for item in items {
+        all &= *item >= least;
+    }
+    all
 }
 
 // Returns whether a strong type of a direction is inside a pair. Moves `next` to the first index inside the

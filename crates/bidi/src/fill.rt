@@ -1,5 +1,7 @@
-//! Fills a range of a slice with a value.
-ghost use Rattle.std.specs.Prelude.{◌≡◌, ◌-◌, ◌≤◌, ◌++◌, length, take, drop, replicate};
+//! Fills a range of a slice with a value, and lengthens lists that are reused.
+ghost use Rattle.std.specs.Prelude.{◌≡◌, ◌-◌, ◌≤◌, ◌++◌, length, take, drop, replicate, OnOk};
+
+use std::alloc::AllocError;
 
 /// Sets each item in `start..end` to a value.
 pub(crate) fn fill<T: Copy>(items: &mut [T], start: usize, end: usize, value: T)
@@ -24,4 +26,15 @@ fn fill_more<T: Copy>(items: &mut [T], start: usize, end: usize, value: T)
     for at in start..end {
         items[at] = value;
     }
+}
+
+/// Appends items to a reused list until it has at least `len`. Never shortens the list: a list that is
+/// shortened for one paragraph has to be filled again for the next one.
+pub(crate) fn lengthen<T: Copy>(items: &mut Vec<T>, len: usize, value: T) -> Result<(), AllocError>
+    ensures { OnOk result (len ≤ length items.new.items) }
+{
+    if items.len() < len {
+        items.resize(len, value)?;
+    }
+    Ok(())
 }

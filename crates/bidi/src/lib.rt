@@ -19,6 +19,7 @@ mod classes;
 mod cuts;
 mod explicit;
 mod fill;
+mod groups;
 mod isolates;
 mod levels;
 mod neutral;

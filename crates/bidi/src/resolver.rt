@@ -1,7 +1,7 @@
 //! Finds the levels of paragraphs before L1 (UAX #9, X1 to I2), reusing its lists.
 ghost use Rattle.std.specs.Prelude.{◌≡◌, ℕ, ◌<◌, ◌≤◌, map, length, replicate, IfOk, List, OnErr, OnOk};
 ghost use Rattle.std.specs.Prelude.{vec_capacity};
-ghost use Rattle.std.specs.Prelude.{Option, true, false, slice_index_or};
+ghost use Rattle.std.specs.Prelude.{Option, true, false, slice_index_or, take};
 ghost use Rattle.std.specs.List.{list_all, list_any};
 ghost use Rattle.ucd.specs.Properties.{properties_of};
 ghost use Rattle.ucd.specs.Tables.{class_of, bracket_of};
@@ -18,6 +18,8 @@ ghost use Rattle.bidi.specs.Plain.{has_bracket_in, is_flat, is_flat_at, is_flat_
 
 use crate::base::{Base, base_level_by, base_level_of};
 use crate::bracket_type::{BracketType, bracket_type, is_bracket, next_bracket};
+use crate::fill::lengthen;
+use crate::groups::{GROUP, copy_each};
 use crate::levels::{Classified, Work, resolve_classes, resolve_plain};
 use crate::sequence_levels::Brackets;
 use std::alloc::{AllocError, Global};
@@ -114,28 +116,44 @@ fn are_classes_flat_rtl(classes: &[BidiClass]) -> bool
     flat
 }
 
-// Fewer characters than these are tested one after another.
-const FEW: usize = 8;
+// The number of characters in a group of a paragraph that is shorter than `GROUP`. Fewer characters than
+// these are tested one after another.
+const SMALL_GROUP: usize = 8;
 
 // Returns whether no character raises a level above the base level, given the properties of the characters.
 fn are_flat_by(properties: &[Properties], base: u8) -> bool
     requires { base ≤ 1 }
     ensures { result ≡ list_all (λ one. is_flat_at base (class_in one)) properties.now }
 {
-    if properties.len() < FEW {
-        return are_few_flat(properties, base);
+    if properties.len() < SMALL_GROUP {
+        are_few_flat(properties, base)
+    } else if properties.len() < GROUP {
+        are_groups_flat(properties, base, SMALL_GROUP)
+    } else {
+        are_groups_flat(properties, base, GROUP)
     }
-    let mut at = 0;
-    while at < properties.len() {
-        let end = properties.len().min(at + AT_ONCE);
-        if !are_flat_in(&properties[at..end], base) {
-            return false;
-        }
-        at = end;
-    }
-    true
 }
 
+// Does the same as `are_flat_by`, in groups of `group` characters.
+#[inline(always)]
+fn are_groups_flat(properties: &[Properties], base: u8, group: usize) -> bool
+    requires low { base ≤ 1 }
+    requires some { 0 < group }
+    requires enough { group ≤ length properties.now }
+    ensures { result ≡ list_all (λ one. is_flat_at base (class_in one)) properties.now }
+{
+    let last = properties.len() - group;
+    let mut at = 0;
+    while at < last {
+        if !are_flat_in(&properties[at..at + group], base) {
+            return false;
+        }
+        at += group;
+    }
+    are_flat_in(&properties[last..], base)
+}
+
+#[inline(always)]
 fn are_flat_in(properties: &[Properties], base: u8) -> bool
     requires { base ≤ 1 }
     ensures { result ≡ list_all (λ one. is_flat_at base (class_in one)) properties.now }
@@ -159,6 +177,7 @@ fn are_few_flat(properties: &[Properties], base: u8) -> bool
     }
 }
 
+#[inline(always)]
 fn are_flat_ltr(properties: &[Properties]) -> bool
     ensures { result ≡ list_all (λ one. is_flat (class_in one)) properties.now }
 {
@@ -169,6 +188,7 @@ fn are_flat_ltr(properties: &[Properties]) -> bool
     flat
 }
 
+#[inline(always)]
 fn are_flat_rtl(properties: &[Properties]) -> bool
     ensures { result ≡ list_all (λ one. is_flat_rtl (class_in one)) properties.now }
 {
@@ -197,24 +217,111 @@ struct Summary {
     has_brackets: bool,
 }
 
-// Replaces the contents of `classes` with the classes in `properties`, and returns a summary of the
-// properties.
+// Writes the classes in `properties` to the front of `classes`, and returns a summary of the properties.
 fn fill_classes(
     properties: &[Properties],
     classes: &mut Vec<BidiClass>,
 ) -> Result<Summary, AllocError>
-    ensures classes { OnOk result (classes.new.items ≡ map class_in properties.now) }
+    ensures enough { OnOk result (length properties.now ≤ length classes.new.items) }
+    ensures classes { OnOk result
+        (take (length properties.now) classes.new.items ≡ map class_in properties.now) }
     ensures plain { IfOk result (λ summary.
         summary.is_plain ≡ list_all is_plain (map class_in properties.now)) }
     ensures brackets { IfOk result (λ summary.
         summary.has_brackets ≡ list_any has_bracket_in properties.now) }
 {
-    // All items are overwritten below, so their values do not matter.
-    classes.resize(properties.len(), BidiClass::L)?;
-    Ok(put_classes(properties, classes))
+    // All items that are used are overwritten below, so their values do not matter.
+    lengthen(classes, properties.len(), BidiClass::L)?;
+    Ok(put_front(properties, classes))
 }
 
+// Overwrites the front of `classes` with the classes in `properties`, and returns a summary of the
+// properties.
+fn put_front(properties: &[Properties], classes: &mut [BidiClass]) -> Summary
+    requires { length properties.now ≤ length classes.old }
+    ensures classes { take (length properties.now) classes.new ≡ map class_in properties.now }
+    ensures plain { result.is_plain ≡ list_all is_plain (map class_in properties.now) }
+    ensures brackets { result.has_brackets ≡ list_any has_bracket_in properties.now }
+{
+    put_classes(properties, &mut classes[..properties.len()])
+}
+
+// Overwrites `classes` with the classes in `properties`, and returns a summary of the properties.
 fn put_classes(properties: &[Properties], classes: &mut [BidiClass]) -> Summary
+    requires { length classes.old ≡ length properties.now }
+    ensures classes { classes.new ≡ map class_in properties.now }
+    ensures plain { result.is_plain ≡ list_all is_plain (map class_in properties.now) }
+    ensures brackets { result.has_brackets ≡ list_any has_bracket_in properties.now }
+{
+    if properties.len() < GROUP {
+        put_each(properties, classes)
+    } else {
+        put_groups(properties, classes, GROUP)
+    }
+}
+
+// Does the same as `put_classes`, in groups of `group` characters. Leaves the loop at the first group that is
+// not plain. Without such an exit, LLVM would vectorize the loop over the groups, and not each group.
+#[inline(always)]
+fn put_groups(properties: &[Properties], classes: &mut [BidiClass], group: usize) -> Summary
+    requires same { length classes.old ≡ length properties.now }
+    requires exact { group ≡ 16 }
+    requires enough { group ≤ length properties.now }
+    ensures classes { classes.new ≡ map class_in properties.now }
+    ensures plain { result.is_plain ≡ list_all is_plain (map class_in properties.now) }
+    ensures brackets { result.has_brackets ≡ list_any has_bracket_in properties.now }
+{
+    let last = properties.len() - group;
+    let mut has_brackets = false;
+    let mut at = 0;
+    while at < last {
+        let part = put_group(&properties[at..at + group], &mut classes[at..at + group]);
+        if !part.is_plain {
+            let rest = put_each(&properties[at..], &mut classes[at..]);
+            return Summary {
+                is_plain: false,
+                has_brackets: has_brackets | rest.has_brackets,
+            };
+        }
+        has_brackets |= part.has_brackets;
+        at += group;
+    }
+    let part = put_group(&properties[last..], &mut classes[last..]);
+    Summary {
+        is_plain: part.is_plain,
+        has_brackets: has_brackets | part.has_brackets,
+    }
+}
+
+// Does the same as `put_classes` for one group. LLVM does not know that the lists are different, so the
+// classes go through a local array: all properties are read before the first class is written.
+#[inline(always)]
+fn put_group(properties: &[Properties], classes: &mut [BidiClass]) -> Summary
+    requires same { length classes.old ≡ length properties.now }
+    requires exact { length properties.now ≡ 16 }
+    ensures classes { classes.new ≡ map class_in properties.now }
+    ensures plain { result.is_plain ≡ list_all is_plain (map class_in properties.now) }
+    ensures brackets { result.has_brackets ≡ list_any has_bracket_in properties.now }
+{
+    let mut group = [BidiClass::L; GROUP];
+    let summary = put_inlined(properties, &mut group);
+    copy_each(&group, classes);
+    summary
+}
+
+// Does the same as `put_classes`, without groups.
+fn put_each(properties: &[Properties], classes: &mut [BidiClass]) -> Summary
+    requires { length classes.old ≡ length properties.now }
+    ensures classes { classes.new ≡ map class_in properties.now }
+    ensures plain { result.is_plain ≡ list_all is_plain (map class_in properties.now) }
+    ensures brackets { result.has_brackets ≡ list_any has_bracket_in properties.now }
+{
+    put_inlined(properties, classes)
+}
+
+// The loop of `put_group` and `put_each`.
+#[inline(always)]
+fn put_inlined(properties: &[Properties], classes: &mut [BidiClass]) -> Summary
     requires { length classes.old ≡ length properties.now }
     ensures classes { classes.new ≡ map class_in properties.now }
     ensures plain { result.is_plain ≡ list_all is_plain (map class_in properties.now) }
@@ -428,7 +535,7 @@ impl Resolver {
                 types: &self.brackets,
                 has_any,
             },
-            classes: &self.classes,
+            classes: &self.classes[..properties.len()],
             base,
         };
         resolve_classified(

@@ -9,8 +9,12 @@ ghost use Rattle.bidi.specs.TextCuts.{AreUsual, FindsEnd, FindsEndAfter, BeginsA
 use crate::cuts::is_cut;
 use ucd::Tables;
 
-// The number of text positions that are tested together.
-const AT_ONCE: usize = 16;
+// The number of text positions that are tested together. With 16, the compiler unrolls the loop of
+// `first_lead`, and uses no vector instructions.
+const AT_ONCE: usize = 32;
+
+// The number of bytes that the tests at these positions read.
+const BLOCK: usize = AT_ONCE + 2;
 
 /// Finds the first paragraph boundary in `before` followed by `text`. Returns its byte index in `text`, or
 /// `None` if there is no boundary. `before` must contain no boundary. A boundary between `before` and `text`
@@ -90,8 +94,21 @@ fn next_lead(bytes: &[u8]) -> usize
         return 0;
     }
     let mut at = 1;
-    while at + AT_ONCE + 2 <= bytes.len() && !has_lead(&bytes[at..at + AT_ONCE + 2]) {
+    while at + BLOCK <= bytes.len() {
+        let first = first_lead(&bytes[at..at + BLOCK]);
+        if first < AT_ONCE {
+            return at + first;
+        }
         at += AT_ONCE;
+    }
+    if bytes.len() >= BLOCK {
+        // The last block may overlap the one before.
+        let last = bytes.len() - BLOCK;
+        let first = first_lead(&bytes[last..last + BLOCK]);
+        if first < AT_ONCE {
+            return last + first;
+        }
+        at = last + AT_ONCE;
     }
     while at < bytes.len() && !is_lead(bytes, at) {
         at += 1;
@@ -99,8 +116,30 @@ fn next_lead(bytes: &[u8]) -> usize
     at
 }
 
+// Returns the first index of a block at which a paragraph separator may begin, or `AT_ONCE` if there is none.
+// Reads the whole block, since the processor cannot predict where a loop that ends early would end.
+#[inline(always)] // so that the loops know their length
+fn first_lead(block: &[u8]) -> usize
+    requires { length block.now ≡ BLOCK }
+    ensures within { result ≤ AT_ONCE }
+    ensures before { (k : ℕ) → k < result → leads_at block.now k ≡ false }
+    ensures here { result < AT_ONCE → leads_at block.now result ≡ true }
+{
+    // In most blocks of a long paragraph there is none. This test is faster than the minimum.
+    if !has_lead(block) {
+        return AT_ONCE;
+    }
+    let mut first = AT_ONCE as u8;
+    for k in 0..AT_ONCE {
+        let is_lead = may_lead(block[k], block[k + 1], block[k + 2]);
+        first = first.min(if is_lead { k as u8 } else { AT_ONCE as u8 });
+    }
+    first as usize
+}
+
 // Returns whether a paragraph separator may begin anywhere before the last two bytes. Reads all bytes, which
 // is faster than leaving the loop early.
+#[inline(always)]
 fn has_lead(bytes: &[u8]) -> bool
     ensures { result ≡ false → (k : ℕ) → k + 2 < length bytes.now → leads_at bytes.now k ≡ false }
 {

@@ -52,6 +52,10 @@ fn separator_end<C: Classes>(line: &C, end: usize) -> usize
     while at >= AT_ONCE && !has_separator(line, at - AT_ONCE, at) {
         at -= AT_ONCE;
     }
+    // The first group may overlap the one after it, so that no characters are left to be tested one by one.
+    if at < AT_ONCE && end >= AT_ONCE && !has_separator(line, 0, AT_ONCE) {
+        return 0;
+    }
     while at > 0 && !ends_segment(line.class_at(at - 1)) {
         at -= 1;
     }

@@ -2,7 +2,7 @@ use Rattle.std.proofs.Common.{◌≡◌, ◌≤◌, ◌-◌, true, length, take}
 use Rattle.std.specs.List.{list_all}
 use Rattle.ucd.specs.Classes.{class_in}
 use Rattle.bidi.specs.Plain.{is_flat_at}
-use Rattle.bidi.proofs.resolver.are_flat_by.Given as goal
+use Rattle.bidi.proofs.resolver.are_groups_flat.Given as goal
 
 abbrev pub invariant-loop-at : goal.invariant-loop-at
 invariant-loop-at l = record {
