@@ -12,12 +12,14 @@ mod CountingLemmas
 pub mod EndLemmas
 mod ExtentLemmas
 mod FewLines
+mod GroupLemmas
 pub mod FillingLemmas
 pub mod InfoLemmas
 pub mod KeptLemmas
 mod KnownWidthLemmas
 pub mod LayoutLemmas
 mod LengthLemmas
+mod OneLineLemmas
 mod OrderedLemmas
 pub mod PageLemmas
 pub mod RunColumnLemmas

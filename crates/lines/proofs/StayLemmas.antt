@@ -89,7 +89,7 @@ may_at : (mark : Mark) → mark ≡ Must → is_break mark ≡ true
 may_at mark e = ap is_break e
 
 -- if all characters fit in one line, and the line must end only after the last of them, it ends there
-end_whole : (width : ℕ) (rest : List CharInfo) (last : ℕ) → length rest ≡ suc last → (place_at rest last).mark ≡ Must → columns (before_tail rest) ≤ width → stop rest ≡ last
+pub end_whole : (width : ℕ) (rest : List CharInfo) (last : ℕ) → length rest ≡ suc last → (place_at rest last).mark ≡ Must → columns (before_tail rest) ≤ width → stop rest ≡ last
     → line_end width rest ≡ last
 end_whole width rest last size ends fit stops =
     let all : take (suc last) rest ≡ rest = take_all (suc last) rest (omega (arith, size)) in
@@ -105,7 +105,7 @@ none_left nobreak width place left [] e = omega arith
 none_left nobreak width place zero (p ∷ rest) e = cc
 none_left nobreak width place (suc left) (p ∷ rest) e = omega (arith, none_left nobreak width (suc place) left rest e)
 
-all_left : (nobreak : Bool) (width place left : ℕ) (rest : List CharInfo) → length rest ≤ left → starts nobreak width place left rest ≡ []
+pub all_left : (nobreak : Bool) (width place left : ℕ) (rest : List CharInfo) → length rest ≤ left → starts nobreak width place left rest ≡ []
 all_left nobreak width place zero [] within = refl
 all_left nobreak width place (suc left) [] within = refl
 all_left nobreak width place zero (p ∷ rest) within = absurd (omega (arith, within))
@@ -139,7 +139,7 @@ same_starts nobreak old width s (p ∷ rest) some e ends fit =
 
 -- ---- the last position
 
-mark_at : (t : Tables) (tab_width : ℕ) (text : List ℕ) (marks : List Mark) (clusters : List Bool) (k : ℕ) (mark : Mark) → slice_get marks k ≡ Some mark → k < length text
+pub mark_at : (t : Tables) (tab_width : ℕ) (text : List ℕ) (marks : List Mark) (clusters : List Bool) (k : ℕ) (mark : Mark) → slice_get marks k ≡ Some mark → k < length text
     → length clusters ≡ length text → (place_at (infos t tab_width text marks clusters) k).mark ≡ mark
 mark_at t tab_width [] marks clusters k mark e within c = absurd (omega (arith, within))
 mark_at t tab_width (x ∷ text) [] clusters k mark e within c = absurd (omega (arith, slice_get_within {A = Mark} [] k mark e))

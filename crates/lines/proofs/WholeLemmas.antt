@@ -1,10 +1,10 @@
 -- If lines end only at mandatory breaks, a paragraph without a mandatory break before its end is one line.
 use Rattle.std.proofs.Common.{◌≡◌, ℕ, zero, suc, ◌+◌, ◌-◌, ◌<◌, ◌≤◌, Bool, true, false, not, ◌&&◌, ◌⊎◌, Option, Some, None, List, [], ◌∷◌, ◌++◌, length, map, take, drop, get_or}
 use Rattle.std.proofs.Common.{slice_range, if◌then◌else◌, refl, sym, ap, ap₂, subst, ◌∙◌, inl, inr, arith}
-use Rattle.std.specs.List.{suffix_len}
+use Rattle.std.specs.List.{list_all, suffix_len}
 use Rattle.std.proofs.lemmas.Bool.{and_left, and_parts, both_ways, cases_Bool, cases_eq, cond-true, cond-false, not-true, or_parts}
-use Rattle.std.proofs.lemmas.List.{append-nil, get_or-map, length-take-le, take_all}
-use Rattle.std.proofs.lemmas.List.Sums.{suffix_len_is}
+use Rattle.std.proofs.lemmas.List.{append-nil, get_or-map, get_or-take, get_or_default, length-map, length-take-le, take_all}
+use Rattle.std.proofs.lemmas.List.Sums.{AllPass-from_list_all, list_all-from_AllPass, suffix_len_is}
 use Rattle.ucd.specs.Properties.{properties_of}
 use Rattle.ucd.specs.Tables.{class_of}
 use Rattle.ucd.specs.declared.line_class.LineClass.TheVariants.{BK, CR, LF, NL}
@@ -28,7 +28,7 @@ use Rattle.lines.specs.CharInfos.{infos, infos_of, may_trail, trailing_in}
 use Rattle.reorder.specs.Spaces.{line_levels}
 use Rattle.lines.specs.Tabs.{tab_width_in}
 use Rattle.lines.specs.Visual.{Line, Visual, line_between, lines_from, visual_of}
-use Rattle.lines.specs.Whole.{IsShownLen, IsWhole}
+use Rattle.lines.specs.Whole.{ends_line, may_go_on, IsShownLen, IsWhole}
 use Rattle.lines.specs.declared.options.Options.{Options}
 use Rattle.lines.specs.declared.char_info.CharInfo.{CharInfo}
 use Rattle.lines.specs.declared.print.Print.{Print}
@@ -183,13 +183,13 @@ bases_quiet (c ∷ d ∷ text) quiet =
           (quiet_before (alone c) (bases_of (d ∷ text)) quiet.0 rest)
     ]
 
-quiet_marks : (t : Tables) (whole_numbers : Bool) (text : List ℕ) → IsWhole t text → Tame (marks_of t whole_numbers text)
+pub quiet_marks : (t : Tables) (whole_numbers : Bool) (text : List ℕ) → IsWhole t text → Tame (marks_of t whole_numbers text)
 unfolding marks_of
 quiet_marks t whole_numbers text is = tame_marks whole_numbers [] (bases_of (map (character t) text)) (bases_quiet (map (character t) text) (whole_quiet t text is))
 
 -- ---- only the last `CharInfo` has a mandatory break
 
-tame_infos : (t : Tables) (n : ℕ) (text : List ℕ) (marks : List Mark) (ends : List Bool) (j : ℕ) → Tame marks → j + 1 < length (infos t n text marks ends)
+pub tame_infos : (t : Tables) (n : ℕ) (text : List ℕ) (marks : List Mark) (ends : List Bool) (j : ℕ) → Tame marks → j + 1 < length (infos t n text marks ends)
     → must_end (infos t n text marks ends) j ≡ false
 unfolding Tame
 tame_infos t n [] marks ends j quiet below = absurd (omega (arith, below))
@@ -209,7 +209,7 @@ trailing_place t (c ∷ text) (m ∷ marks) [] k below = absurd (omega (arith, b
 trailing_place t (c ∷ text) (m ∷ marks) (e ∷ ends) zero below = refl
 trailing_place t (c ∷ text) (m ∷ marks) (e ∷ ends) (suc k) below = trailing_place t text marks ends k (omega (arith, below))
 
-stop_last : (rest : List CharInfo) → 0 < length rest → ((j : ℕ) → j + 1 < length rest → must_end rest j ≡ false) → stop rest ≡ length rest - 1
+pub stop_last : (rest : List CharInfo) → 0 < length rest → ((j : ℕ) → j + 1 < length rest → must_end rest j ≡ false) → stop rest ≡ length rest - 1
 stop_last rest some fails =
     let last : ℕ = length rest - 1 in
     elim (cases_Bool (must_end rest last)) [
@@ -223,7 +223,7 @@ passed nobreak width place left [] within = refl
 passed nobreak width place zero (p ∷ rest) within = absurd (omega (arith, within))
 passed nobreak width place (suc left) (p ∷ rest) within = passed nobreak width (suc place) left rest (omega (arith, within))
 
-one_start : (width : ℕ) (rest : List CharInfo) → 0 < length rest → ((j : ℕ) → j + 1 < length rest → must_end rest j ≡ false)
+pub one_start : (width : ℕ) (rest : List CharInfo) → 0 < length rest → ((j : ℕ) → j + 1 < length rest → must_end rest j ≡ false)
     → line_starts_of true width rest ≡ 0 ∷ []
 unfolding line_starts_of
 one_start width [] some fails = absurd (omega (arith, some))
@@ -233,10 +233,10 @@ one_start width (p ∷ rest) some fails =
 
 -- ---- the printed bytes of a paragraph of one line, if its visual line is not printed
 
-whole_range : {X : Type 0} (xs : List X) (n : ℕ) → n ≡ length xs → slice_range xs 0 n ≡ xs
+pub whole_range : {X : Type 0} (xs : List X) (n : ℕ) → n ≡ length xs → slice_range xs 0 n ≡ xs
 whole_range xs n e = take_all (n - 0) xs (omega arith)
 
-shown_is : (t : Tables) (text : List ℕ) (marks : List Mark) (ends : List Bool) (len : ℕ) → length (infos t 0 text marks ends) ≡ length text
+pub shown_is : (t : Tables) (text : List ℕ) (marks : List Mark) (ends : List Bool) (len : ℕ) → length (infos t 0 text marks ends) ≡ length text
     → IsShownLen t text len → len ≡ length (before_tail (slice_range (infos t 0 text marks ends) 0 (length text)))
 shown_is t text marks ends len size is =
     let all : List CharInfo = infos t 0 text marks ends in
@@ -310,3 +310,29 @@ pub looked_up : (t : Tables) (text : List ℕ) (properties : List Properties) (k
     → p ≡ get_or properties k p → p ≡ properties_of t (get_or text k 0)
 looked_up t text properties k p are below is =
     is ∙ ap (λ (ps : List Properties). get_or ps k p) are ∙ get_or-map (properties_of t) text k 0 p below
+
+-- ---- a test of the looked-up properties
+
+module _ (t : Tables) (text : List ℕ) where
+  -- the properties of all characters but the last
+  abbrev pub tested : List Properties
+  tested = take (length text - 1) (map (properties_of t) text)
+
+  at_place : (j : ℕ) → j + 1 < length text → get_or tested j (properties_of t 0) ≡ properties_of t (get_or text j 0)
+  at_place j below =
+      get_or-take (length text - 1) (map (properties_of t) text) j (properties_of t 0) (omega (arith, below)) ∙ get_or-map (properties_of t) text j 0 (properties_of t 0) (omega (arith, below))
+
+  size_tested : length tested ≡ length text - 1
+  size_tested = length-take-le (length text - 1) (map (properties_of t) text) (omega (arith, length-map text (properties_of t)))
+
+  pub whole_by : list_all may_go_on tested ≡ true → IsWhole t text
+  whole_by all j below =
+      let passes = AllPass-from_list_all may_go_on tested all j (properties_of t 0) (omega (arith, size_tested, below)) in
+      not-true (ends_line (character t (get_or text j 0)).class) (ap may_go_on (sym (at_place j below)) ∙ passes)
+
+  pub not_whole : list_all may_go_on tested ≡ false → ¬ (IsWhole t text)
+  not_whole fails whole =
+      both_ways (list_all may_go_on tested) fails
+      (list_all-from_AllPass may_go_on tested (λ j d inside.
+      let below : j + 1 < length text = omega (arith, size_tested, inside) in
+      ap may_go_on (get_or_default tested j d (properties_of t 0) inside ∙ at_place j below) ∙ ap not (whole j below)))

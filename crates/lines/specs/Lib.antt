@@ -18,6 +18,7 @@ pub mod Filling
 pub mod Kept
 pub mod KnownWidths
 pub mod Layouts
+pub mod OneLine
 pub mod Ordered
 pub mod Pages
 pub mod Paragraphs

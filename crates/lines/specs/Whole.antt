@@ -1,17 +1,22 @@
 -- Paragraphs without a mandatory break before their end (UAX #14, LB4 and LB5). If lines end only at
 -- mandatory breaks, each of these paragraphs is one line. No contract of an exported function uses these
 -- definitions.
-use Rattle.std.specs.Prelude.{◌≡◌, ℕ, ◌+◌, ◌-◌, ◌<◌, ◌≤◌, Bool, true, false, ◌||◌, List, [], ◌∷◌, length, slice_index}
+use Rattle.std.specs.Prelude.{◌≡◌, ℕ, ◌+◌, ◌-◌, ◌<◌, ◌≤◌, Bool, true, false, ◌||◌, not, List, [], ◌∷◌, length, slice_index}
 use Rattle.ucd.specs.declared.line_class.LineClass.{LineClass}
 use Rattle.ucd.specs.declared.line_class.LineClass.TheVariants.{BK, CR, LF, NL}
+use Rattle.ucd.specs.declared.properties.Properties.{Properties}
 use Rattle.ucd.specs.declared.tables.Tables.{Tables}
-use Rattle.breaks.specs.Bases.{base_class, character}
+use Rattle.breaks.specs.Bases.{base_class, character, resolved}
 use Rattle.breaks.specs.Classes.{is_one_of}
 use Rattle.lines.specs.CharInfos.{may_trail, trailing_in}
 
 -- whether a line must end after a character of this class, as resolved by LB1; the exception for CR LF is not covered
 abbrev pub ends_line : LineClass → Bool
 ends_line class = is_one_of (BK ∷ []) (base_class class) || is_one_of (CR ∷ LF ∷ NL ∷ []) (base_class class)
+
+-- whether no line must end after a character with these properties; the exception for CR LF is not covered
+abbrev pub may_go_on : Properties → Bool
+may_go_on p = not (ends_line (resolved p.line_class p.is_mark))
 
 -- whether no character except the last requires a line to end after it
 abbrev pub IsWhole : Tables → List ℕ → Type 0

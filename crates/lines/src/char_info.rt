@@ -1,5 +1,6 @@
 //! What filling needs to know about each character of a paragraph.
-ghost use Rattle.std.specs.Prelude.{◌≡◌, ◌+◌, ◌^◌, ◌<◌, ◌≤◌, ℕ, false, Bool, length, map, slice_index, OnOk};
+ghost use Rattle.std.specs.Prelude.{◌≡◌, ◌+◌, ◌^◌, ◌<◌, ◌≤◌, ℕ, false, Bool, length, map};
+ghost use Rattle.std.specs.Prelude.{slice_index, take, OnOk};
 ghost use Rattle.std.specs.List.{list_all};
 ghost use Rattle.ucd.specs.Properties.{properties_of};
 ghost use Rattle.ucd.specs.declared.tables.Tables.{Tables};
@@ -17,6 +18,7 @@ ghost use Rattle.lines.specs.Tabs.{is_tab, to_stop};
 
 use crate::column_cache::ColumnCache;
 use crate::paragraph::Text;
+use crate::reserve::grow;
 use crate::widths::is_tab;
 use breaks::{Mark, marks_are_as_many};
 use std::alloc::{AllocError, Global};
@@ -271,7 +273,7 @@ impl Sum {
 #[derive(Debug, Drop)]
 pub(crate) struct InfoBuffers {
     pub(crate) infos: Vec<CharInfo>,
-    cache: ColumnCache,
+    pub(crate) cache: ColumnCache,
 }
 
 impl InfoBuffers {
@@ -283,22 +285,24 @@ impl InfoBuffers {
         }
     }
 
-    /// Replaces the contents of `infos` with the info for each character of a paragraph. Each `ends_cluster`
-    /// is `false`.
+    /// Writes the info for each character of a paragraph to the front of `infos`. Each `ends_cluster` is
+    /// `false`.
     pub(crate) fn fill(&mut self, text: &Text<'_>, marks: &[Mark]) -> Result<(), AllocError>
         requires text { IsLookedUp text.now }
         requires marks { marks.now ≡ marks_of text.now.rules.tables.now
             text.now.rules.options.whole_numbers text.now.characters.now }
-        ensures infos { OnOk result (with_ends self.new.infos.items (cluster_ends text.now.characters.now)
+        ensures infos { OnOk result (with_ends
+            (take (length text.now.characters.now) self.new.infos.items)
+            (cluster_ends text.now.characters.now)
             ≡ infos_of text.now.rules.tables.now text.now.rules.options text.now.characters.now) }
-        ensures len { OnOk result (length self.new.infos.items ≡ length text.now.characters.now) }
+        ensures len { OnOk result (length text.now.characters.now ≤ length self.new.infos.items) }
     {
         let (tables, characters) = (text.rules.tables, text.characters);
         marks_are_as_many(tables, characters, text.rules.options.whole_numbers);
-        self.infos.resize(characters.len(), NOTHING)?;
+        grow(&mut self.infos, characters.len(), NOTHING)?;
         self.cache.prepare()?;
         let tab_width = text.rules.tab_width();
-        put_infos(
+        put_front(
             tables,
             characters,
             text.properties,
@@ -309,6 +313,25 @@ impl InfoBuffers {
         );
         Ok(())
     }
+}
+
+// Writes the info for each character to the front of `infos`. Each `ends_cluster` is `false`.
+fn put_front(
+    tables: &Tables,
+    text: &[char],
+    properties: &[Properties],
+    marks: &[Mark],
+    tab_width: u8,
+    cache: &mut ColumnCache,
+    infos: &mut [CharInfo],
+)
+    requires marks { length marks.now ≡ length text.now }
+    requires properties { properties.now ≡ map (properties_of tables.now) text.now }
+    requires len { length text.now ≤ length infos.old }
+    ensures { take (length text.now) infos.new ≡ bare_infos tables.now tab_width text.now marks.now }
+{
+    let front = &mut infos[..text.len()];
+    put_infos(tables, text, properties, marks, tab_width, cache, front);
 }
 
 // Overwrites `infos` with the info for each character. Each `ends_cluster` is `false`.

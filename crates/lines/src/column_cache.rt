@@ -37,8 +37,9 @@ impl Model for ColumnCache {
 }
 
 impl ColumnCache {
-    ghost use Rattle.std.specs.Prelude.{◌≡◌};
+    ghost use Rattle.std.specs.Prelude.{◌≡◌, ◌≤◌, length, map, sum};
     ghost use Rattle.lines.specs.CharInfos.{columns_of};
+    ghost use Rattle.lines.specs.declared.engine.TheConstants.{PARAGRAPH_LIMIT};
 
     /// Makes a cache without entries. Allocates nothing.
     pub(crate) fn new(alloc: Global) -> ColumnCache {
@@ -68,6 +69,18 @@ impl ColumnCache {
             }
         }
         self.look_up(c)
+    }
+
+    /// Returns the sum of the columns of some characters.
+    pub(crate) fn sum(&mut self, text: &[char]) -> u32
+        requires { length text.now ≤ PARAGRAPH_LIMIT }
+        ensures { result ≡ sum (map columns_of text.now) }
+    {
+        let mut sum = 0;
+        for c in text {
+            sum += u32::from(self.columns(*c));
+        }
+        sum
     }
 
     // Finds the columns of a character that has no entry, and replaces an entry with the character's.

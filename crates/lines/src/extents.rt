@@ -1,5 +1,5 @@
 //! Where each line of a paragraph starts at a width, and how much of it is shown.
-ghost use Rattle.std.specs.Prelude.{◌≡◌, ◌<◌, ◌≤◌, length, OnOk, slice_index_or};
+ghost use Rattle.std.specs.Prelude.{◌≡◌, ◌<◌, ◌≤◌, [], ◌∷◌, length, OnOk, slice_index_or};
 ghost use Rattle.lines.specs.Bare.{with_ends};
 ghost use Rattle.lines.specs.Clusters.{cluster_ends};
 ghost use Rattle.lines.specs.Extents.{shown_from};
@@ -15,6 +15,7 @@ use crate::counts::Counted;
 use crate::fill::Shown;
 use crate::filling::line_starts;
 use crate::options::Options;
+use crate::reserve::reserve;
 use crate::showing::fill_shown;
 use std::alloc::{AllocError, Global};
 use std::marker::Model;
@@ -61,6 +62,15 @@ impl Extents {
             len: self.items[place],
             columns: self.items[place + 1],
         }
+    }
+
+    /// Replaces the extents with those of a single line, which starts at the first character.
+    pub(crate) fn put_line(&mut self, shown: Shown, _filled: Counted) -> Result<(), AllocError>
+        ensures { OnOk result (self.new ≡ record { starts = 0 ∷ []; shown = shown ∷ [] }) }
+    {
+        self.items.clear();
+        reserve(&mut self.items, 3)?;
+        self.items.extend_from_slice(&[0, shown.len, shown.columns])
     }
 
     /// Finds where each line of a paragraph starts, and how much of it is shown. `infos` need not contain the

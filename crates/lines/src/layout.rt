@@ -1,11 +1,12 @@
 //! Lays out a paragraph, and keeps its layout.
-ghost use Rattle.std.specs.Prelude.{◌≡◌, ◌≤◌, length, IfOk, OnErr, OnOk};
+ghost use Rattle.std.specs.Prelude.{◌≡◌, ◌<◌, ◌≤◌, length, IfOk, OnErr, OnOk};
 ghost use Rattle.lines.specs.Bare.{with_ends};
 ghost use Rattle.lines.specs.Buffers.{held_lines, AreSound};
 ghost use Rattle.lines.specs.CharInfos.{infos_of};
 ghost use Rattle.lines.specs.Clusters.{cluster_ends};
 ghost use Rattle.lines.specs.Engine.{counted, RisesBy};
 ghost use Rattle.lines.specs.Layouts.{AreWithin, lines_of};
+ghost use Rattle.lines.specs.OneLine.{IsOneLine};
 ghost use Rattle.lines.specs.Paragraphs.{HasEnds, IsLookedUp, IsPrepared, lines_at, rules_in};
 ghost use Rattle.lines.specs.declared.engine.TheConstants.{PARAGRAPH_LIMIT};
 
@@ -13,6 +14,8 @@ use crate::buffers::{LayoutBuffers, LineBuffers};
 use crate::char_info::{CharInfo, InfoBuffers};
 use crate::clusters::ClusterBuffers;
 use crate::counts::{Count, Counted, Counts};
+use crate::fill::Shown;
+use crate::one_line::one_line;
 use crate::paragraph::{LentRules, Paragraph, Text};
 use crate::showing::show_lines;
 use crate::workspace::{Workspace, fill_ends, fill_marks};
@@ -63,7 +66,7 @@ impl Workspace {
         let text = Text {
             rules: *rules,
             characters: text,
-            properties: analysis.properties.as_slice(),
+            properties: &analysis.properties[..text.len()],
             ends: &kept.ends,
             base,
         };
@@ -104,9 +107,42 @@ pub(crate) fn fill_lines(
     ensures unwritten { OnErr result (written.new ≡ written.old) }
     ensures at_most { RisesBy (length paragraph.now.text.characters.now) written.old written.new }
 {
+    infos.cache.prepare()?;
+    if let Some(shown) = one_line(&paragraph.text, width, &mut infos.cache) {
+        return show_one_line(paragraph, shown, width, lines, filled, written);
+    }
     infos.fill(&paragraph.text, paragraph.marks)?;
-    let infos = &mut infos.infos;
+    let infos = &mut infos.infos[..paragraph.text.characters.len()];
     fill_lines_by(clusters, paragraph, infos, width, lines, filled, written)
+}
+
+// Replaces the contents of `lines` with the line of a paragraph that is one line at a width.
+fn show_one_line(
+    paragraph: &Paragraph<'_>,
+    shown: Shown,
+    _width: u16,
+    lines: &mut LineBuffers,
+    filled: Counted,
+    written: &mut Count,
+) -> Result<(), AllocError>
+    requires counted { filled ≡ length paragraph.now.text.characters.now }
+    requires paragraph { IsPrepared paragraph.now }
+    requires some { 0 < length paragraph.now.text.characters.now }
+    requires shown { IsOneLine paragraph.now.text _width shown }
+    ensures lines { OnOk result (held_lines lines.new
+        ≡ lines_at paragraph.now.text paragraph.now.levels.now _width) }
+    ensures sound { OnOk result (AreSound lines.new) }
+    ensures within { OnOk result
+        (AreWithin (length paragraph.now.text.characters.now) (held_lines lines.new)) }
+    ensures lines_len { OnOk result
+        (length lines.new.visual.levels.items ≡ length paragraph.now.text.characters.now) }
+    ensures counts { OnOk result
+        (written.new ≡ counted written.old (length paragraph.now.text.characters.now)) }
+    ensures unwritten { OnErr result (written.new ≡ written.old) }
+    ensures at_most { RisesBy (length paragraph.now.text.characters.now) written.old written.new }
+{
+    lines.extents.put_line(shown, filled)?;
+    show_lines(paragraph, lines, written)
 }
 
 // Replaces the contents of `lines` with the lines of a paragraph. `infos` need not contain the cluster ends.

@@ -41,6 +41,7 @@ mod filling;
 mod laid;
 mod laws;
 mod layout;
+mod one_line;
 mod options;
 mod paragraph;
 mod print;

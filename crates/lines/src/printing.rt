@@ -3,7 +3,7 @@ ghost use Rattle.std.specs.Prelude.{◌≡◌, ◌<◌, ◌≤◌, true, false, 
 ghost use Rattle.device.specs.Device.{Wrote};
 ghost use Rattle.lines.specs.Engine.{counted, RisesBy};
 ghost use Rattle.lines.specs.Pages.{paragraph_bytes};
-ghost use Rattle.lines.specs.Paragraphs.{IsLookedUp, IsPrepared, IsResolved, rules_in};
+ghost use Rattle.lines.specs.Paragraphs.{IsLookedUp, IsResolved, rules_in};
 ghost use Rattle.lines.specs.Printing.{FailedAs};
 ghost use Rattle.lines.specs.BufferedExtents.{AreExtentsOf};
 ghost use Rattle.lines.specs.Whole.{IsWhole};
@@ -13,11 +13,13 @@ use crate::buffers::LineBuffers;
 use crate::char_info::InfoBuffers;
 use crate::clusters::ClusterBuffers;
 use crate::counts::{Count, Counted, Counts};
-use crate::paragraph::{LentRules, Paragraph, Text};
+use crate::one_line::one_line;
+use crate::paragraph::{LentRules, Text};
 use crate::print::PrintFault;
 use crate::whole::{is_whole, write_whole};
 use crate::workspace::{Workspace, fill_ends, fill_marks};
 use crate::writing::{Form, write_each};
+use breaks::Mark;
 use device::Sink;
 use std::alloc::{AllocError, Global};
 
@@ -67,7 +69,7 @@ impl Workspace {
         let text = Text {
             rules: *rules,
             characters: text,
-            properties: self.analysis.properties.as_slice(),
+            properties: &self.analysis.properties[..text.len()],
             ends: &self.printed.ends,
             base,
         };
@@ -76,19 +78,12 @@ impl Workspace {
             let (levels, lines) = (&self.printed.levels, &mut self.printed.lines);
             return write_one_line(writer, form, &text, levels, lines, filled, written);
         }
-        let Ok(()) = fill_marks(&text, &mut self.printed.marks) else {
+        let (marks, lines) = (&mut self.printed.marks, &mut self.printed.lines);
+        let infos = &mut self.infos;
+        let Ok(()) = fill_spans(clusters, &text, marks, infos, form.width, lines, filled) else {
             return Err(PrintFault::Memory);
         };
-        let paragraph = Paragraph {
-            text,
-            levels: &self.printed.levels,
-            marks: &self.printed.marks,
-        };
-        let (infos, lines) = (&mut self.infos, &mut self.printed.lines);
-        let Ok(()) = fill_spans(clusters, &paragraph, infos, form.width, lines, filled) else {
-            return Err(PrintFault::Memory);
-        };
-        write_lines(writer, form, &paragraph, lines, written)
+        write_lines(writer, form, &text, &self.printed.levels, lines, written)
     }
 }
 
@@ -165,24 +160,31 @@ fn write_one_line<W: Sink>(
 }
 
 // Finds where each line of a paragraph starts, and how much of it is shown. Grows the other buffers to the
-// length of the paragraph.
+// length of the paragraph. Uses `marks` as a buffer for its break marks.
 fn fill_spans(
     clusters: &mut ClusterBuffers,
-    paragraph: &Paragraph<'_>,
+    text: &Text<'_>,
+    marks: &mut Vec<Mark>,
     infos: &mut InfoBuffers,
     width: u16,
     lines: &mut LineBuffers,
     filled: Counted,
 ) -> Result<(), AllocError>
-    requires counted { filled ≡ length paragraph.now.text.characters.now }
-    requires paragraph { IsPrepared paragraph.now }
-    ensures { OnOk result (AreExtentsOf paragraph.now.text width lines.new) }
+    requires counted { filled ≡ length text.now.characters.now }
+    requires text { IsLookedUp text.now }
+    requires limit { length text.now.characters.now ≤ PARAGRAPH_LIMIT }
+    ensures { OnOk result (AreExtentsOf text.now width lines.new) }
 {
-    let text = &paragraph.text;
-    infos.fill(text, paragraph.marks)?;
     lines.visual.grow_to(text.characters.len())?;
+    infos.cache.prepare()?;
+    if let Some(shown) = one_line(text, width, &mut infos.cache) {
+        return lines.extents.put_line(shown, filled);
+    }
+    fill_marks(text, marks)?;
+    infos.fill(text, marks)?;
     let options = text.rules.options;
-    let (text, infos) = (text.characters, &mut infos.infos);
+    let text = text.characters;
+    let infos = &mut infos.infos[..text.len()];
     lines
         .extents
         .find(clusters, text, infos, width, options, filled)
@@ -192,23 +194,23 @@ fn fill_spans(
 fn write_lines<W: Sink>(
     writer: &mut W,
     form: &Form<'_>,
-    paragraph: &Paragraph<'_>,
+    text: &Text<'_>,
+    levels: &[u8],
     lines: &mut LineBuffers,
     written: &mut Count,
 ) -> Result<(), PrintFault>
-    requires paragraph { IsPrepared paragraph.now }
-    requires spans { AreExtentsOf paragraph.now.text form.now.width lines.old }
-    ensures ok { OnOk result (Wrote (paragraph_bytes (rules_in paragraph.now.text.rules)
-        form.now.width form.now.print.now paragraph.now.text.characters.now)
+    requires text { IsResolved text.now levels.now }
+    requires spans { AreExtentsOf text.now form.now.width lines.old }
+    ensures ok { OnOk result (Wrote (paragraph_bytes (rules_in text.now.rules)
+        form.now.width form.now.print.now text.now.characters.now)
         (W.state writer.old) (W.state writer.new)) }
     ensures err { IfErr result (λ fault. FailedAs fault (paragraph_bytes
-        (rules_in paragraph.now.text.rules) form.now.width form.now.print.now
-        paragraph.now.text.characters.now) (W.state writer.old) (W.state writer.new)) }
+        (rules_in text.now.rules) form.now.width form.now.print.now
+        text.now.characters.now) (W.state writer.old) (W.state writer.new)) }
     ensures memory { ¬ (IsErrOf result PrintFault.Memory) }
-    ensures counts { written.new ≡ counted written.old (length paragraph.now.text.characters.now) }
+    ensures counts { written.new ≡ counted written.old (length text.now.characters.now) }
     ensures least { written.old ≤ written.new }
 {
-    let (text, levels) = (&paragraph.text, paragraph.levels);
     match write_each(
         writer,
         form,

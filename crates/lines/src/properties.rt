@@ -1,21 +1,32 @@
 //! The properties of a paragraph's characters.
-ghost use Rattle.std.specs.Prelude.{◌≡◌, length, map, OnOk};
+ghost use Rattle.std.specs.Prelude.{◌≡◌, ◌≤◌, length, map, take, OnOk};
 ghost use Rattle.ucd.specs.Properties.{properties_of};
 
+use crate::reserve::grow;
 use std::alloc::AllocError;
 use ucd::{Properties, Tables};
 
-/// Replaces the contents of `properties` with the properties of each character of `text`.
+/// Writes the properties of each character of `text` to the front of `properties`. The list never becomes
+/// shorter, so that its end need not be filled again for a longer text.
 pub(crate) fn fill_properties(
     tables: &Tables,
     text: &[char],
     properties: &mut Vec<Properties>,
 ) -> Result<(), AllocError>
-    ensures { OnOk result (properties.new.items ≡ map (properties_of tables.now) text.now) }
+    ensures properties { OnOk result
+        (take (length text.now) properties.new.items ≡ map (properties_of tables.now) text.now) }
+    ensures len { OnOk result (length text.now ≤ length properties.new.items) }
 {
-    properties.resize(text.len(), tables.properties('\0'))?;
-    look_up(tables, text, properties);
+    grow(properties, text.len(), tables.properties('\0'))?;
+    look_up_front(tables, text, properties);
     Ok(())
+}
+
+fn look_up_front(tables: &Tables, text: &[char], properties: &mut [Properties])
+    requires { length text.now ≤ length properties.old }
+    ensures { take (length text.now) properties.new ≡ map (properties_of tables.now) text.now }
+{
+    look_up(tables, text, &mut properties[..text.len()]);
 }
 
 /// Overwrites `properties` with the properties of each character of `text`.

@@ -1,5 +1,5 @@
 //! Finds the lines of a paragraph at another width.
-ghost use Rattle.std.specs.Prelude.{◌≡◌, ◌<◌, ◌≤◌, length, IfOk, OnErr, OnOk};
+ghost use Rattle.std.specs.Prelude.{◌≡◌, ◌<◌, ◌≤◌, [], ◌∷◌, length, IfOk, OnErr, OnOk};
 ghost use Rattle.lines.specs.Bare.{with_ends};
 ghost use Rattle.lines.specs.Clusters.{cluster_ends};
 ghost use Rattle.lines.specs.Extents.{shown_from};
@@ -12,9 +12,10 @@ use crate::char_info::CharInfo;
 use crate::clusters::ClusterBuffers;
 use crate::counts::{Count, Counted, Counts};
 use crate::extents::Extents;
-use crate::fill::Fill;
+use crate::fill::{Fill, Shown};
 use crate::laid::Laid;
 use crate::layout::fill_lines;
+use crate::one_line::one_line;
 use crate::options::Options;
 use crate::paragraph::{LentRules, Paragraph, Text};
 use crate::properties::fill_properties;
@@ -100,12 +101,16 @@ impl Workspace {
         let known = Text {
             rules: *rules,
             characters: text,
-            properties: properties.as_slice(),
+            properties: &properties[..text.len()],
             ends: &[],
             base: laid.base(),
         };
+        self.infos.cache.prepare()?;
+        if let Some(shown) = one_line(&known, width, &mut self.infos.cache) {
+            return extents_of_line(alloc, shown, filled);
+        }
         self.infos.fill(&known, laid.marks())?;
-        let infos = &mut self.infos.infos;
+        let infos = &mut self.infos.infos[..text.len()];
         let (clusters, options) = (&mut self.clusters, rules.options);
         extents_by(alloc, clusters, text, infos, width, options, filled)
     }
@@ -135,7 +140,7 @@ impl Workspace {
             text: Text {
                 rules: *rules,
                 characters: text,
-                properties: properties.as_slice(),
+                properties: &properties[..text.len()],
                 ends: laid.ends(),
                 base: laid.base(),
             },
@@ -150,6 +155,15 @@ impl Workspace {
         )?;
         Ok(Fill::of(lines))
     }
+}
+
+// Returns the extents of a single line, of which `shown` is shown.
+fn extents_of_line(alloc: Global, shown: Shown, filled: Counted) -> Result<Extents, AllocError>
+    ensures { IfOk result (λ extents. extents ≡ record { starts = 0 ∷ []; shown = shown ∷ [] }) }
+{
+    let mut extents = Extents::new(alloc);
+    extents.put_line(shown, filled)?;
+    Ok(extents)
 }
 
 // Finds the extents of the lines of a paragraph. `infos` need not contain the cluster ends.

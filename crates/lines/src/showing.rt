@@ -287,8 +287,29 @@ pub(crate) fn reset_line(properties: &[Properties], base: u8, levels: &mut [u8])
     false
 }
 
+// The number of levels that are tested together. The last group overlaps the one before it if the number of
+// levels is no multiple of it, so that no levels are left to be tested one by one.
+const AT_ONCE: usize = 16;
+
 // Returns whether all levels are 0.
 fn are_zero(levels: &[u8]) -> bool
+    ensures { result ≡ true → (k : ℕ) → slice_index levels.now k ≡ 0 }
+{
+    if levels.len() < AT_ONCE {
+        return are_group_zero(levels);
+    }
+    let mut at = 0;
+    while at + AT_ONCE <= levels.len() {
+        if !are_group_zero(&levels[at..at + AT_ONCE]) {
+            return false;
+        }
+        at += AT_ONCE;
+    }
+    are_group_zero(&levels[levels.len() - AT_ONCE..])
+}
+
+#[inline(always)] // so that the loop over a group knows its length
+fn are_group_zero(levels: &[u8]) -> bool
     ensures { result ≡ true → (k : ℕ) → slice_index levels.now k ≡ 0 }
 {
     let mut highest = 0;
@@ -300,6 +321,23 @@ fn are_zero(levels: &[u8]) -> bool
 
 // Returns whether no level is odd.
 fn are_even(levels: &[u8]) -> bool
+    ensures { result ≡ true → (k : ℕ) → is_odd (slice_index levels.now k) ≡ false }
+{
+    if levels.len() < AT_ONCE {
+        return are_group_even(levels);
+    }
+    let mut at = 0;
+    while at + AT_ONCE <= levels.len() {
+        if !are_group_even(&levels[at..at + AT_ONCE]) {
+            return false;
+        }
+        at += AT_ONCE;
+    }
+    are_group_even(&levels[levels.len() - AT_ONCE..])
+}
+
+#[inline(always)]
+fn are_group_even(levels: &[u8]) -> bool
     ensures { result ≡ true → (k : ℕ) → is_odd (slice_index levels.now k) ≡ false }
 {
     let mut odd = 0;

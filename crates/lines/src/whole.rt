@@ -2,13 +2,14 @@
 //! breaks, no spaces at the end of lines are shown, there are no tab stops, and no characters are printed.
 //! Such a paragraph is one line. Neither its break marks nor its columns are computed.
 ghost use Rattle.std.specs.Prelude.{◌≡◌, ◌<◌, ◌≤◌, Bool, true, false, length, IfOk, IfErr};
+ghost use Rattle.std.specs.List.{list_all};
 ghost use Rattle.breaks.specs.Bases.{resolved};
 ghost use Rattle.lines.specs.Buffers.{CanHold};
 ghost use Rattle.lines.specs.Engine.{counted};
 ghost use Rattle.lines.specs.Pages.{lines_bytes};
 ghost use Rattle.lines.specs.Paragraphs.{HasEnds, IsLookedUp, lines_at};
 ghost use Rattle.lines.specs.Tabs.{tab_width_in};
-ghost use Rattle.lines.specs.Whole.{ends_line, IsShownLen, IsWhole};
+ghost use Rattle.lines.specs.Whole.{ends_line, may_go_on, IsShownLen, IsWhole};
 ghost use Rattle.lines.specs.Writing.{PassedOn, StoppedIn};
 ghost use Rattle.lines.specs.declared.engine.TheConstants.{PARAGRAPH_LIMIT};
 
@@ -21,7 +22,7 @@ use crate::paragraph::{LogicalLine, Text};
 use crate::writing::{Form, write_line};
 use breaks::marks_are_as_many;
 use device::Sink;
-use ucd::LineClass;
+use ucd::{LineClass, Properties};
 
 /// Returns whether the paragraph has no mandatory break before its end.
 pub(crate) fn is_whole(text: &Text<'_>) -> bool
@@ -30,32 +31,56 @@ pub(crate) fn is_whole(text: &Text<'_>) -> bool
     ensures no { result ≡ false → ¬ (IsWhole text.now.rules.tables.now text.now.characters.now) }
 {
     let properties = text.properties;
-    let last = properties.len().saturating_sub(1);
-    let mut k = 0;
-    while k < last {
-        if ends_line(properties[k].line_class()) {
-            return false;
-        }
-        k += 1;
-    }
-    true
+    end_no_line(&properties[..properties.len().saturating_sub(1)])
 }
 
-// Returns whether a line must end after a character of a class, except between CR and LF.
+// The number of characters that are tested together. The last group overlaps the one before it if the number
+// of characters is no multiple of it, so that no characters are left to be tested one by one.
+const AT_ONCE: usize = 16;
+
+// Returns whether no line must end after any of the characters, except between CR and LF.
+fn end_no_line(properties: &[Properties]) -> bool
+    ensures { result ≡ list_all may_go_on properties.now }
+{
+    if properties.len() < AT_ONCE {
+        return end_none(properties);
+    }
+    let mut at = 0;
+    while at + AT_ONCE <= properties.len() {
+        if !end_none(&properties[at..at + AT_ONCE]) {
+            return false;
+        }
+        at += AT_ONCE;
+    }
+    end_none(&properties[properties.len() - AT_ONCE..])
+}
+
+// Does the work of `end_no_line`. The loop has no branches, so that the compiler tests several characters at
+// a time.
+#[inline(always)] // so that the loop over a group knows its length
+fn end_none(properties: &[Properties]) -> bool
+    ensures { result ≡ list_all may_go_on properties.now }
+{
+    let mut none = true;
+    for at in 0..properties.len() {
+        none &= !ends_line(properties[at].line_class());
+    }
+    none
+}
+
+// Returns whether a line must end after a character of a class, except between CR and LF. Compares and does
+// not match, so that the loop above has no branches.
 fn ends_line(class: LineClass) -> bool
     ensures { (is_mark : Bool) → result ≡ ends_line (resolved class is_mark) }
 {
-    match class {
-        LineClass::BK => true,
-        LineClass::CR => true,
-        LineClass::LF => true,
-        LineClass::NL => true,
-        _ => false,
-    }
+    let number = class as u8;
+    (number == LineClass::BK as u8)
+        | ((number == LineClass::CR as u8)
+            | ((number == LineClass::LF as u8) | (number == LineClass::NL as u8)))
 }
 
-// Returns how many characters of a one-line paragraph are shown: all but its tail.
-fn shown_len(text: &Text<'_>) -> usize
+/// Returns how many characters of a one-line paragraph are shown: all but its tail.
+pub(crate) fn shown_len(text: &Text<'_>) -> usize
     requires { IsLookedUp text.now }
     ensures { IsShownLen text.now.rules.tables.now text.now.characters.now result }
 {

@@ -1,5 +1,5 @@
 //! The buffers of an engine, and the levels and break marks of a paragraph.
-ghost use Rattle.std.specs.Prelude.{◌≡◌, ◌≤◌, length, map, IfOk, OnOk};
+ghost use Rattle.std.specs.Prelude.{◌≡◌, ◌≤◌, length, map, take, IfOk, OnOk};
 ghost use Rattle.ucd.specs.Properties.{properties_of};
 ghost use Rattle.bidi.specs.Levels.{levels_of};
 ghost use Rattle.breaks.specs.Marks.{marks_of};
@@ -58,7 +58,8 @@ impl Workspace {
     }
 }
 
-/// Finds the levels of paragraphs, and keeps the properties of the last paragraph's characters.
+/// Finds the levels of paragraphs, and keeps the properties of the last paragraph's characters at the front
+/// of a list.
 #[derive(Debug)]
 pub(crate) struct Analysis {
     pub(crate) properties: Vec<Properties>,
@@ -88,8 +89,9 @@ impl Analysis {
         ensures levels { OnOk result
             (levels.new.items ≡ levels_of rules.now.tables.now text.now rules.now.options.base) }
         ensures len { OnOk result (length levels.new.items ≡ length text.now) }
-        ensures properties { OnOk result
-            (self.new.properties.items ≡ map (properties_of rules.now.tables.now) text.now) }
+        ensures properties { OnOk result (take (length text.now) self.new.properties.items
+            ≡ map (properties_of rules.now.tables.now) text.now) }
+        ensures properties_len { OnOk result (length text.now ≤ length self.new.properties.items) }
         ensures counts { analysed.new ≡ counted analysed.old (length text.now) }
         ensures least { analysed.old ≤ analysed.new }
     {
@@ -97,8 +99,9 @@ impl Analysis {
         fill_properties(rules.tables, text, &mut self.properties)?;
         reserve(levels, text.len())?;
         let base = rules.options.base;
+        let properties = &self.properties[..text.len()];
         self.resolver
-            .resolve(rules.tables, text, &self.properties, base, levels)
+            .resolve(rules.tables, text, properties, base, levels)
     }
 }
 

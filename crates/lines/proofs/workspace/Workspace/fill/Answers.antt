@@ -1,4 +1,4 @@
-use Rattle.std.proofs.Common.{◌≡◌, ◌∙◌, List, ℕ, ◌≤◌, length, ap, subst, sym}
+use Rattle.std.proofs.Common.{◌≡◌, ◌∙◌, List, ℕ, ◌≤◌, length, take, ap, subst, sym}
 use Rattle.bidi.specs.Levels.{levels_of}
 use Rattle.breaks.specs.Marks.{marks_of}
 use Rattle.lines.specs.Layouts.{base_of, fill_of, Layout}
@@ -15,7 +15,7 @@ fill_lines-requires-clause-paragraph c =
     let text = sym c.text-text.ensures in
     record {
       text = record {
-        looked_up = c.as_slice.ensures.value ∙ c.in_ok-fill_properties.ensures;
+        looked_up = ap (take (length c.text-text.result.now)) c.deref.ensures.value ∙ c.in_ok-fill_properties.ensures.properties;
         ends = c.ends.ensures ∙ ap (λ (l : Layout). l.ends) is ∙ ap (ends_by rules.options) text;
         limit = subst (λ (text : List ℕ). length text ≤ PARAGRAPH_LIMIT) text c.requires.paragraph.within;
         base = c.base.ensures ∙ ap (λ (l : Layout). l.base) is ∙ ap (base_of (rules_in rules)) text;

@@ -1,0 +1,53 @@
+//! A fast path for short paragraphs that fit in one line. Neither their break marks nor the info for each of
+//! their characters is needed to find their line.
+ghost use Rattle.std.specs.Prelude.{◌≡◌, ◌<◌, ◌≤◌, true, false, length, IfSome};
+ghost use Rattle.lines.specs.OneLine.{IsOneLine};
+ghost use Rattle.lines.specs.Paragraphs.{IsLookedUp};
+
+use crate::column_cache::ColumnCache;
+use crate::fill::Shown;
+use crate::paragraph::Text;
+use crate::whole::{is_whole, shown_len};
+use breaks::{marks_are_as_many, paragraphs_end_at_must};
+
+/// Returns how much of a paragraph is shown, if a quick test shows that the paragraph is one line: it has no
+/// mandatory break before its end, and its shown part fits in the width.
+pub(crate) fn one_line(text: &Text<'_>, width: u16, cache: &mut ColumnCache) -> Option<Shown>
+    requires { IsLookedUp text.now }
+    ensures some { IfSome result (λ part. 0 < length text.now.characters.now) }
+    ensures line { IfSome result (λ part. IsOneLine text.now width part) }
+{
+    if !may_be_one_line(text, width) || !is_whole(text) {
+        return None;
+    }
+    marks_are_as_many(
+        text.rules.tables,
+        text.characters,
+        text.rules.options.whole_numbers,
+    );
+    paragraphs_end_at_must();
+    let len = shown_len(text);
+    let columns = cache.sum(&text.characters[..len]);
+    if columns > u32::from(width) {
+        return None;
+    }
+    Some(Shown {
+        len: len as u32,
+        columns,
+    })
+}
+
+// Returns whether it is worth trying `one_line`. A paragraph with more characters than columns rarely fits.
+// The columns of a shown part are a simple sum if there are no tab stops and no shown spaces.
+fn may_be_one_line(text: &Text<'_>, width: u16) -> bool
+    ensures some { result ≡ true → 0 < length text.now.characters.now }
+    ensures few { result ≡ true → length text.now.characters.now ≤ width }
+    ensures hidden { result ≡ true → text.now.rules.options.show_spaces ≡ false }
+    ensures tabs { result ≡ true → text.now.rules.options.tab_width ≡ 0 }
+{
+    let options = text.rules.options;
+    if options.show_spaces || options.tab_width > 0 || text.characters.is_empty() {
+        return false;
+    }
+    text.characters.len() <= width as usize
+}
