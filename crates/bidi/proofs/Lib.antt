@@ -34,3 +34,4 @@ mod WeakTableLemmas
 mod WorkedBrackets
 mod WorkedLevels
 mod WorkedRows
+pub mod BlockLemmas

@@ -1,16 +1,18 @@
 //! Finds paragraph boundaries in the bytes of UTF-8 text. In Unicode's data files, only a few characters end
 //! a paragraph, so the text between them is not decoded.
-ghost use Rattle.std.specs.Prelude.{◌≡◌, ℕ, ◌<◌, ◌≤◌, ◌+◌, true, false, None, length, slice_index};
+ghost use Rattle.std.specs.Prelude.{◌≡◌, ℕ, ◌<◌, ◌≤◌, ◌+◌, true, false, None, length, map, slice_index};
 ghost use Rattle.std.specs.Str.{IsCharBoundary};
 ghost use Rattle.ucd.specs.Tables.{class_of};
 ghost use Rattle.bidi.specs.Cuts.{cut, SplitsAt};
 ghost use Rattle.bidi.specs.TextCuts.{AreUsual, FindsEnd, FindsEndAfter, BeginsAfter, leads_at, may_lead};
+ghost use Rattle.std.specs.List.{range_with_len};
+ghost use Rattle.std.specs.Simd.Lanes.{mask_l};
 
 use crate::cuts::is_cut;
+use std::simd::prelude::*;
 use ucd::Tables;
 
-// The number of text positions that are tested together. With 16, the compiler unrolls the loop of
-// `first_lead`, and uses no vector instructions.
+// The number of text positions that are tested together.
 const AT_ONCE: usize = 32;
 
 // The number of bytes that the tests at these positions read.
@@ -117,37 +119,35 @@ fn next_lead(bytes: &[u8]) -> usize
 }
 
 // Returns the first index of a block at which a paragraph separator may begin, or `AT_ONCE` if there is none.
-// Reads the whole block, since the processor cannot predict where a loop that ends early would end.
-#[inline(always)] // so that the loops know their length
+#[inline(always)]
 fn first_lead(block: &[u8]) -> usize
     requires { length block.now ≡ BLOCK }
     ensures within { result ≤ AT_ONCE }
     ensures before { (k : ℕ) → k < result → leads_at block.now k ≡ false }
     ensures here { result < AT_ONCE → leads_at block.now result ≡ true }
 {
-    // In most blocks of a long paragraph there is none. This test is faster than the minimum.
-    if !has_lead(block) {
-        return AT_ONCE;
+    let leads = leads_in(block);
+    if leads == 0 {
+        AT_ONCE
+    } else {
+        leads.trailing_zeros() as usize
     }
-    let mut first = AT_ONCE as u8;
-    for k in 0..AT_ONCE {
-        let is_lead = may_lead(block[k], block[k + 1], block[k + 2]);
-        first = first.min(if is_lead { k as u8 } else { AT_ONCE as u8 });
-    }
-    first as usize
 }
 
-// Returns whether a paragraph separator may begin anywhere before the last two bytes. Reads all bytes, which
-// is faster than leaving the loop early.
+// Returns a bit for each of the first `AT_ONCE` positions of a block, which is set if a paragraph separator may
+// begin there.
 #[inline(always)]
-fn has_lead(bytes: &[u8]) -> bool
-    ensures { result ≡ false → (k : ℕ) → k + 2 < length bytes.now → leads_at bytes.now k ≡ false }
+fn leads_in(block: &[u8]) -> u64
+    requires { length block.now ≡ BLOCK }
+    ensures { result ≡ mask_l (map (leads_at block.now) (range_with_len 0 AT_ONCE)) }
 {
-    let mut any = false;
-    for k in 2..bytes.len() {
-        any |= may_lead(bytes[k - 2], bytes[k - 1], bytes[k]);
-    }
-    any
+    let first = u8x32::from_slice(block);
+    let second = u8x32::from_slice(&block[1..]);
+    let third = u8x32::from_slice(&block[2..]);
+    let begins_nel = first.simd_eq(u8x32::splat(0xc2)) & second.simd_eq(u8x32::splat(0x85));
+    let ends_ps = second.simd_eq(u8x32::splat(0x80)) & third.simd_eq(u8x32::splat(0xa9));
+    let begins_ps = first.simd_eq(u8x32::splat(0xe2)) & ends_ps;
+    (first.simd_lt(u8x32::splat(0x20)) | (begins_nel | begins_ps)).to_bitmask()
 }
 
 // Returns whether a paragraph separator may begin at an index.

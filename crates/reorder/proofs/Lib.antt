@@ -17,3 +17,4 @@ pub mod SortedLemmas
 pub mod StartLemmas
 pub mod WholeRunLemmas
 pub mod WorkedRuns
+pub mod LaneLemmas

@@ -557,16 +557,6 @@ AlongRun-group levels start level «end» (suc m) w within same =
     let before : AlongRun levels start level («end» + m) = AlongRun-group levels start level «end» m w (omega (arith, within)) (λ j below. same j (omega (arith, below))) in
     subst (AlongRun levels start level) more (AlongRun-next levels start level («end» + m) before (omega (arith, within)) (same m (omega arith)))
 
-pub same_in_group : (levels : List ℕ) (level at m j : ℕ) → at + m ≤ length levels → j < m → list_all (λ one. one == level) (take m (drop at levels)) ≡ true
-    → level ≡ get_or levels (at + j) 0
-same_in_group levels level at m j within below all =
-    let same : get_or (take m (drop at levels)) j 0 ≡ get_or levels (at + j) 0 = get_or-take m (drop at levels) j 0 below ∙ get_or-drop at levels j 0 in
-    elim (cases_Bool (get_or (take m (drop at levels)) j 0 == level)) [
-      | inl passed ↦ sym (eqb-true (get_or (take m (drop at levels)) j 0) level passed) ∙ same
-      | inr failed ↦ absurd (both_ways (list_all (λ one. one == level) (take m (drop at levels)))
-          (list_all_at (λ one. one == level) (take m (drop at levels)) j 0 (omega (arith, below, within, length-take-le m (drop at levels) (omega (arith, within, length-drop at levels)))) failed) all)
-    ]
-
 pub AlongRun-end : (levels : List ℕ) (start level «end» : ℕ) → AlongRun levels start level «end» → («end» < length levels → level ≡ get_or levels «end» 0 → ⊥)
     → «end» - start ≡ level_run_len levels start
 AlongRun-end levels start level «end» w other =

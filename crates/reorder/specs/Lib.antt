@@ -8,3 +8,4 @@ pub mod NoEnds
 pub mod InPlace
 pub mod Lowest
 pub mod Runs
+pub mod Lanes

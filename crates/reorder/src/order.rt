@@ -9,10 +9,12 @@ ghost use Rattle.ucd.specs.Within.{AreWithin};
 ghost use Rattle.ucd.specs.declared.bidi_class.BidiClass.{BidiClass};
 ghost use Rattle.reorder.specs.Groups.{is_bound, AreBound, IsAlone, IsGroup, StandsTogether};
 ghost use Rattle.reorder.specs.LevelRuns.{level_run_len, run_at, run_shown, turned};
+ghost use Rattle.reorder.specs.Lanes.{AreAll, first_set, others};
 ghost use Rattle.reorder.specs.Order.{has_base, highest, is_at_least, is_mark_at, is_odd, lowest_odd};
 ghost use Rattle.reorder.specs.Order.{ltov_of, order_of, places, reverse_runs, reverse_with_next};
 ghost use Rattle.reorder.specs.Order.{vtol_of, AreInverse};
 
+use std::simd::prelude::*;
 use ucd::{BidiClass, Classes};
 
 /// Orders a line, or a prefix of it, given the levels of its characters after L1. Writes the logical position
@@ -151,8 +153,8 @@ fn find_runs(levels: &[u8], items: &mut [u32]) -> (usize, u8, Option<u8>)
     (count, highest, lowest)
 }
 
-// The number of levels that are tested together.
-const GROUP: usize = 8;
+// The number of levels that are compared together.
+const LANES: usize = 16;
 
 /// Returns the length of the level run that starts at an index.
 pub fn level_run_len(levels: &[u8], start: usize) -> usize
@@ -162,8 +164,15 @@ pub fn level_run_len(levels: &[u8], start: usize) -> usize
 {
     let level = levels[start];
     let mut end = start + 1;
-    while end + GROUP <= levels.len() && are_all(&levels[end..end + GROUP], level) {
-        end += GROUP;
+    while end + LANES <= levels.len() {
+        let len = same_len(levels, end, level);
+        end += len;
+        if len < LANES {
+            return end - start;
+        }
+    }
+    if levels.len() >= LANES {
+        return end + last_same_len(levels, end, level) - start;
     }
     while end < levels.len() && levels[end] == level {
         end += 1;
@@ -171,17 +180,54 @@ pub fn level_run_len(levels: &[u8], start: usize) -> usize
     end - start
 }
 
-// Returns whether all levels are `level`. The loop has no branches, so that the compiler tests several levels
-// at a time.
+// Returns how many of the next `LANES` levels are `level` before the first one that is not.
 #[inline(always)]
-fn are_all(levels: &[u8], level: u8) -> bool
-    ensures { result ≡ list_all (λ one. one == level) levels.now }
+fn same_len(levels: &[u8], start: usize, level: u8) -> usize
+    requires { start + LANES ≤ length levels.now }
+    ensures most { result ≤ LANES }
+    ensures same { AreAll levels.now start (start + result) level }
+    ensures stops { result < LANES → ¬ (slice_index levels.now (start + result) ≡ level) }
 {
-    let mut all = true;
-    for one in levels {
-        all &= *one == level;
+    first_set(others(levels, start, level), LANES)
+}
+
+// Returns how many levels from `start` on are `level` before the first one that is not. Compares the last
+// `LANES` levels of the list, so that no levels are left to be compared one by one.
+#[inline(always)]
+fn last_same_len(levels: &[u8], start: usize, level: u8) -> usize
+    requires last { length levels.now ≤ start + LANES }
+    requires within { start ≤ length levels.now }
+    requires enough { LANES ≤ length levels.now }
+    ensures within { start + result ≤ length levels.now }
+    ensures same { AreAll levels.now start (start + result) level }
+    ensures stops { start + result < length levels.now
+        → ¬ (slice_index levels.now (start + result) ≡ level) }
+{
+    let first = levels.len() - LANES;
+    let others = others(levels, first, level) >> (start - first);
+    first_set(others, levels.len() - start)
+}
+
+// Returns a bit for each of `LANES` levels, which is set if the level is not `level`.
+#[inline(always)]
+fn others(levels: &[u8], start: usize, level: u8) -> u64
+    requires { start + LANES ≤ length levels.now }
+    ensures { result ≡ others levels.now start level }
+{
+    let lanes = u8x16::from_slice(&levels[start..]);
+    lanes.simd_ne(u8x16::splat(level)).to_bitmask()
+}
+
+// Returns the position of the lowest bit that is set, or `len` if there is none.
+#[inline(always)]
+fn first_set(bits: u64, len: usize) -> usize
+    ensures { result ≡ first_set bits len }
+{
+    if bits == 0 {
+        len
+    } else {
+        bits.trailing_zeros() as usize
     }
-    all
 }
 
 // Replaces the starts of runs at the front of a list with the logical positions of all their characters.
