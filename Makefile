@@ -57,7 +57,7 @@ all program bench-program conformance-program:
 
 lib-bidi lib-breaks lib-reorder: lib-ucd
 lib-lines: lib-device lib-bidi lib-breaks lib-reorder
-lib-session: lib-lines lib-store
+lib-session: lib-lines lib-store lib-stream
 lib-stream: lib-device
 lib-command_line lib-text_run: lib-lines
 lib-text_run: lib-stream

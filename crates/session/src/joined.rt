@@ -1,8 +1,7 @@
 //! Lays out the paragraphs of a text given in three parts: the text before an edit, the inserted text, and
 //! the text after the edit.
 ghost use Rattle.std.specs.Prelude.{◌≡◌, ◌+◌, ◌<◌, ◌≤◌, ◌++◌, true, false, not, List, [], ℕ, length};
-ghost use Rattle.std.specs.Prelude.{nat_le, vec_len, vec_capacity};
-ghost use Rattle.std.specs.Prelude.{IfOk, IfErr, IsErrOf};
+ghost use Rattle.std.specs.Prelude.{nat_le, IfOk, IfErr, IsErrOf};
 ghost use Rattle.std.specs.Str.{chars};
 ghost use Rattle.lines.specs.Engine.{rules_of, LaysOutAtMost, SameRules};
 ghost use Rattle.lines.specs.Layouts.{cut_by, layout_of, IsParagraph};
@@ -19,6 +18,7 @@ use crate::scan::Scan;
 use bidi::paragraphs_are_pieces;
 use lines::{Engine, PARAGRAPH_LIMIT};
 use std::alloc::{AllocError, Global};
+use stream::push_characters;
 
 // Returns an upper bound of the number of characters in the three parts: the inserted text counts in bytes.
 fn len_at_most(front: &[char], piece: &str, back: &[char]) -> usize
@@ -92,18 +92,6 @@ fn are_empty(front: &[char], piece: &str, back: &[char]) -> bool
     piece.is_empty()
 }
 
-/// Adds the characters of a text to a list that has capacity for them.
-pub fn with_text(list: Vec<char>, text: &str) -> Vec<char>
-    requires { vec_len list + length (chars text.now) ≤ vec_capacity list }
-    ensures { result.items ≡ list.items ++ chars text.now }
-{
-    let mut list = list;
-    for c in text.chars() {
-        list.push_reserved(c);
-    }
-    list
-}
-
 // Joins the three parts into one text. Allocates once.
 fn joined(
     alloc: Global,
@@ -115,9 +103,7 @@ fn joined(
 {
     let mut text = Vec::with_capacity(alloc, len_at_most(front, piece, back))?;
     text.extend_from_slice(front)?;
-    // The list is moved, which keeps its length in a register. Otherwise, the length would be stored for each
-    // character.
-    let mut text = with_text(text, piece);
+    push_characters(piece, &mut text)?;
     text.extend_from_slice(back)?;
     Ok(text)
 }

@@ -11,12 +11,13 @@ ghost use Rattle.session.specs.Kept.{layouts_of, TotalsFit};
 ghost use Rattle.session.specs.declared.edits.TheConstants.{TEXT_LIMIT};
 
 use crate::edits::TEXT_LIMIT;
-use crate::joined::{lay_out_one, with_text};
+use crate::joined::lay_out_one;
 use crate::kept::Kept;
 use bidi::paragraphs_are_pieces;
 use lines::Engine;
 use std::alloc::{AllocError, Global};
 use store::ParagraphStore;
+use stream::push_characters;
 
 // The number of layouts that are put into the store at a time.
 const BATCH: usize = 1_024;
@@ -38,8 +39,8 @@ fn decoded(list: Vec<char>, text: &str) -> Result<Vec<char>, AllocError>
 {
     let mut list = list;
     list.clear();
-    list.reserve(text.len())?;
-    Ok(with_text(list, text))
+    push_characters(text, &mut list)?;
+    Ok(list)
 }
 
 // Splits a text after its first paragraph.
