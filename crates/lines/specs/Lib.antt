@@ -20,6 +20,7 @@ pub mod KnownWidths
 pub mod Layouts
 pub mod OneLine
 pub mod Ordered
+pub mod Packing
 pub mod Pages
 pub mod Paragraphs
 pub mod Parts

@@ -13,6 +13,7 @@ ghost use Rattle.lines.specs.Short.{is_short};
 ghost use Rattle.lines.specs.Tabs.{is_tab};
 ghost use Rattle.lines.specs.Writing.{PassedOn, StoppedIn};
 
+use crate::packing::{LANES, lanes, pack_any, pack_short};
 use crate::print::Print;
 use crate::visual_line::{VisualLine, columns_at};
 use crate::widths::is_tab;
@@ -74,8 +75,8 @@ pub fn write_chars<W: Sink>(writer: &mut W, before: u64, chars: &[char]) -> Resu
     Ok(written)
 }
 
-// The number of characters that are encoded together if they are ASCII.
-const GROUP: usize = 8;
+// The number of characters in a group. All are encoded by the function that the highest of them needs.
+const GROUP: usize = 16;
 
 // Encodes characters as UTF-8 at the front of a buffer, and returns the number of bytes written.
 fn encode(piece: &[char], buffer: &mut [u8]) -> usize
@@ -105,7 +106,7 @@ fn encode_group(group: &[char], buffer: &mut [u8], at: usize) -> usize
     } else if highest < '\u{800}' {
         encode_short(group, buffer, at)
     } else {
-        encode_each(group, buffer, at)
+        encode_any(group, buffer, at)
     }
 }
 
@@ -187,35 +188,33 @@ fn encode_at(c: char, buffer: &mut [u8], at: usize) -> usize
 #[inline(always)]
 fn encode_short(piece: &[char], buffer: &mut [u8], at: usize) -> usize
     requires short { list_all is_short piece.now ≡ true }
-    requires room { at + 2 * length piece.now ≤ length buffer.old }
-    ensures within { result ≤ at + 2 * length piece.now }
+    requires room { at + 4 * length piece.now ≤ length buffer.old }
+    ensures within { result ≤ at + 4 * length piece.now }
     ensures bytes { take result buffer.new ≡ take at buffer.old ++ encode_utf8_all piece.now }
 {
     let mut len = at;
-    for c in piece {
-        len = put_short(*c, buffer, len);
+    let mut k = 0;
+    while k + LANES <= piece.len() {
+        len = pack_short(lanes(piece, k), buffer, len);
+        k += LANES;
     }
-    len
+    encode_each(&piece[k..], buffer, len)
 }
 
-// Encodes a character that has one or two bytes at an index of a buffer, and returns the index after them.
-// Always writes two bytes, which is faster than a branch. What is after the returned index does not matter.
+// Does the work of `encode_group` for all characters.
 #[inline(always)]
-fn put_short(c: char, buffer: &mut [u8], at: usize) -> usize
-    requires short { c < 0x800 }
-    requires room { at + 2 ≤ length buffer.old }
-    ensures within { result ≤ at + 2 }
-    ensures bytes { take result buffer.new ≡ take at buffer.old ++ encode_utf8 c }
+fn encode_any(piece: &[char], buffer: &mut [u8], at: usize) -> usize
+    requires { at + 4 * length piece.now ≤ length buffer.old }
+    ensures within { result ≤ at + 4 * length piece.now }
+    ensures bytes { take result buffer.new ≡ take at buffer.old ++ encode_utf8_all piece.now }
 {
-    let code = c as u32;
-    let (first, end) = if code < 0x80 {
-        (code, at + 1)
-    } else {
-        (0xc0 + code / 64, at + 2)
-    };
-    buffer[at] = first as u8;
-    buffer[at + 1] = (0x80 + code % 64) as u8;
-    end
+    let mut len = at;
+    let mut k = 0;
+    while k + LANES <= piece.len() {
+        len = pack_any(lanes(piece, k), buffer, len);
+        k += LANES;
+    }
+    encode_each(&piece[k..], buffer, len)
 }
 
 // Writes a byte at an index of a buffer, and returns the next index.

@@ -43,6 +43,7 @@ mod laws;
 mod layout;
 mod one_line;
 mod options;
+mod packing;
 mod paragraph;
 mod print;
 mod printing;

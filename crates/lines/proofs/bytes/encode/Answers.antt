@@ -8,9 +8,9 @@ loop-k-preserved c =
     let k = c.loop-k.k in
     record {
       read = c.loop-k-test.true;
-      within = omega (arith, c.loop-k.invariant.within, c.encode_group-len.ensures.within, length-take-le (k + 8 - k) (drop k c.args.piece.now) (omega (arith, c.loop-k-test.true, length-drop k c.args.piece.now)));
-      bytes_are = c.encode_group-len.ensures.bytes ∙ ap (λ bytes. bytes ++ encode_utf8_all (take (k + 8 - k) (drop k c.args.piece.now))) c.loop-k.invariant.bytes_are
-          ∙ sym (encoded-part c.args.piece.now k (k + 8) (omega arith));
+      within = omega (arith, c.loop-k.invariant.within, c.encode_group-len.ensures.within, length-take-le (k + 16 - k) (drop k c.args.piece.now) (omega (arith, c.loop-k-test.true, length-drop k c.args.piece.now)));
+      bytes_are = c.encode_group-len.ensures.bytes ∙ ap (λ bytes. bytes ++ encode_utf8_all (take (k + 16 - k) (drop k c.args.piece.now))) c.loop-k.invariant.bytes_are
+          ∙ sym (encoded-part c.args.piece.now k (k + 16) (omega arith));
     }
 
 pub returns-clause-bytes : goal.returns-clause-bytes

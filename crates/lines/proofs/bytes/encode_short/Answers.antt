@@ -1,15 +1,20 @@
-use Rattle.std.proofs.Common.{◌++◌, take, encode_utf8, encode_utf8_all, ap, sym, ◌∙◌, arith}
-use Rattle.std.proofs.lemmas.List.{append_assoc}
-use Rattle.lines.proofs.WriteLemmas.{encoded-more}
+use Rattle.std.proofs.Common.{take, ap, ◌∙◌, arith}
+use Rattle.std.specs.List.{list_all}
+use Rattle.lines.specs.Short.{is_short}
+use Rattle.lines.proofs.PackingLemmas.{all-part, four-more, rest-more}
 use Rattle.lines.proofs.bytes.encode_short.Goals as goal
 
-pub loop-c-preserved : goal.loop-c-preserved
-loop-c-preserved c =
-    let front = take c.args.at c.args.buffer.now in
-    let k = c.loop-c.c-index in
-    record {
-      within = omega (arith, c.loop-c.invariant.within, c.put_short-len.ensures.within);
-      bytes_are = c.put_short-len.ensures.bytes ∙ ap (λ bytes. bytes ++ encode_utf8 c.c-item.result) c.loop-c.invariant.bytes_are
-          ∙ append_assoc front (encode_utf8_all (take k c.args.piece.now)) (encode_utf8 c.c-item.result)
-          ∙ ap (λ bytes. front ++ bytes) (sym (encoded-more c.args.piece.now k c.c-item.result c.loop-c-test.true c.c-item.is));
-    }
+pub pack_short-len-requires-clause-short : goal.pack_short-len-requires-clause-short
+pack_short-len-requires-clause-short c =
+    ap (list_all is_short) c.lanes.ensures.codes ∙ all-part is_short c.args.piece.now c.loop-k.k 4 c.requires.short
+
+pub loop-k-preserved : goal.loop-k-preserved
+loop-k-preserved c = record {
+  read = c.loop-k-test.true;
+  within = omega (arith, c.loop-k.invariant.within, c.pack_short-len.ensures.within);
+  bytes_are = four-more c.args.piece.now c.loop-k.k (take c.args.at c.args.buffer.now) c.loop-k.invariant.bytes_are c.lanes.result c.lanes.ensures.codes
+      c.pack_short-len.ensures.bytes;
+}
+
+pub returns-clause-bytes : goal.returns-clause-bytes
+returns-clause-bytes c = rest-more c.args.piece.now c.loop-k.k (take c.args.at c.args.buffer.now) c.loop-k.invariant.bytes_are c.encode_each.ensures.bytes
