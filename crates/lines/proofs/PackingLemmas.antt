@@ -9,6 +9,7 @@ use Rattle.std.proofs.lemmas.Nat.{and_mask}
 use Rattle.std.proofs.lemmas.Str.{encode_ascii}
 use Rattle.lines.proofs.WriteLemmas.{encoded-part, encoded-rest, two_bytes, three_bytes, four_bytes}
 use Rattle.std.proofs.Math.Seq.{take-append-add}
+use Rattle.std.specs.Char.{is_ascii}
 use Rattle.std.specs.List.{list_all, range_with_len}
 use lib.Lanes.{Each1, all_below, digits_l, mask_l, number_l, put_chunk, sel_l, top, zip2}
 use Rattle.lines.specs.Packing.{bytes_of, is_code, kept, packed}
@@ -287,6 +288,10 @@ threes cs = plus (plus (plus (down cs 12) (up (and_low (down cs 6)) 8)) (up (and
 
 abbrev fours : List ℕ → List ℕ
 fours cs = plus (plus (plus (plus (down cs 18) (up (and_low (down cs 12)) 8)) (up (and_low (down cs 6)) 16)) (up (and_low cs) 24)) (replicate 4 0x808080f0)
+
+pub ascii-encoded : (cs : List ℕ) → length cs ≡ 4 → list_all is_ascii cs ≡ true → packed cs 0 0 ≡ encode_utf8_all cs
+ascii-encoded = spelled (λ cs. list_all is_ascii cs ≡ true → packed cs 0 0 ≡ encode_utf8_all cs) 4 (λ f ascii.
+    packed-encoded (λ c. c) (λ c. false) (λ c. false) is_ascii (λ c one. one-lane c (ltb-true c 128 one)) (listed f 4) ascii)
 
 abbrev short_packed : List ℕ → List ℕ
 short_packed cs = packed (select (from 128 cs) (twos cs) cs) (mask_of (from 128 cs)) 0

@@ -13,7 +13,7 @@ ghost use Rattle.lines.specs.Short.{is_short};
 ghost use Rattle.lines.specs.Tabs.{is_tab};
 ghost use Rattle.lines.specs.Writing.{PassedOn, StoppedIn};
 
-use crate::packing::{LANES, lanes, pack_any, pack_short};
+use crate::packing::{LANES, lanes, pack_any, pack_ascii, pack_short};
 use crate::print::Print;
 use crate::visual_line::{VisualLine, columns_at};
 use crate::widths::is_tab;
@@ -102,7 +102,7 @@ fn encode_group(group: &[char], buffer: &mut [u8], at: usize) -> usize
 {
     let highest = highest(group);
     if highest < '\u{80}' {
-        put_ascii(group, buffer, at)
+        encode_ascii(group, buffer, at)
     } else if highest < '\u{800}' {
         encode_short(group, buffer, at)
     } else {
@@ -138,6 +138,23 @@ fn highest(piece: &[char]) -> char
 }
 
 // Does the work of `encode_group` for ASCII characters.
+#[inline(always)]
+fn encode_ascii(piece: &[char], buffer: &mut [u8], at: usize) -> usize
+    requires ascii { list_all is_ascii piece.now ≡ true }
+    requires room { at + 4 * length piece.now ≤ length buffer.old }
+    ensures within { result ≤ at + 4 * length piece.now }
+    ensures bytes { take result buffer.new ≡ take at buffer.old ++ encode_utf8_all piece.now }
+{
+    let mut len = at;
+    let mut k = 0;
+    while k + LANES <= piece.len() {
+        len = pack_ascii(lanes(piece, k), buffer, len);
+        k += LANES;
+    }
+    put_ascii(&piece[k..], buffer, len)
+}
+
+// Encodes ASCII characters at an index of a buffer, one after another, and returns the index after them.
 #[inline(always)]
 fn put_ascii(piece: &[char], buffer: &mut [u8], at: usize) -> usize
     requires ascii { list_all is_ascii piece.now ≡ true }

@@ -1,6 +1,7 @@
 //! Encodes four characters at a time as UTF-8. In a vector, each character becomes a lane of four bytes that
 //! starts with the character's bytes. A shuffle then moves the bytes of the lanes together.
 ghost use Rattle.std.specs.Prelude.{◌≡◌, ◌+◌, ◌++◌, ◌<◌, ◌≤◌, length, true, take, drop, encode_utf8_all};
+ghost use Rattle.std.specs.Char.{is_ascii};
 ghost use Rattle.std.specs.List.{list_all};
 ghost use Rattle.lines.specs.Short.{is_short};
 ghost use Rattle.lines.specs.Packing.{is_code, packed};
@@ -301,8 +302,19 @@ pub fn lanes(group: &[char], from: usize) -> u32x4
     ])
 }
 
-/// Encodes characters that have one or two bytes at an index of a buffer, and returns the index after their
-/// bytes. Always writes 16 bytes. What is after the returned index does not matter.
+/// Encodes ASCII characters at an index of a buffer, and returns the index after their bytes. Always writes
+/// 16 bytes. What is after the returned index does not matter.
+#[inline(always)]
+pub fn pack_ascii(codes: u32x4, buffer: &mut [u8], at: usize) -> usize
+    requires ascii { list_all is_ascii codes ≡ true }
+    requires room { at + 16 ≤ length buffer.old }
+    ensures within { result ≤ at + 16 }
+    ensures bytes { take result buffer.new ≡ take at buffer.old ++ encode_utf8_all codes }
+{
+    pack(codes, 0, 0, buffer, at)
+}
+
+/// Does the same as `pack_ascii` for characters that have one or two bytes.
 #[inline(always)]
 pub fn pack_short(codes: u32x4, buffer: &mut [u8], at: usize) -> usize
     requires short { list_all is_short codes ≡ true }
@@ -316,7 +328,7 @@ pub fn pack_short(codes: u32x4, buffer: &mut [u8], at: usize) -> usize
     pack(words, long.to_bitmask() as usize, 0, buffer, at)
 }
 
-/// Does the same as `pack_short` for all characters.
+/// Does the same as `pack_ascii` for all characters.
 #[inline(always)]
 pub fn pack_any(codes: u32x4, buffer: &mut [u8], at: usize) -> usize
     requires bounded { list_all is_code codes ≡ true }
