@@ -2,6 +2,7 @@ mod AloneLemmas
 mod BaseLemmas
 mod BracketLemmas
 mod BracketTypeLemmas
+mod ClosersLemmas
 mod CutLemmas
 mod ExplicitLemmas
 mod FlatLemmas

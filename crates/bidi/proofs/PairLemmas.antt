@@ -17,7 +17,7 @@ use Rattle.bidi.specs.declared.brackets.Opener.{Opener}
 use Rattle.bidi.specs.Brackets.{Pair, canonical, closer_of, fits, greatest, is_closer, is_closing, is_full, is_live, is_opener, is_opening, is_other, is_pair_of, paired_with, pairs_before, pairs_of}
 use Rattle.ucd.specs.Classes.{class_at}
 use Rattle.ucd.specs.Least.{least}
-use Rattle.bidi.specs.Closers.{AreNested, closer_in, closed_by, closers_of, left_by, newest, pair_of, place_of}
+use Rattle.bidi.specs.Closers.{AreNested, closer_in, closers_of, left_by, newest, pair_of}
 use Rattle.bidi.proofs.LeastLemmas.{least_found, least_none, least_within}
 
 -- `greatest` finds the greatest number below n that passes the test
@@ -251,7 +251,7 @@ other_is_on ON e = refl
 other_is_on type e = absurd (false≢true e)
 
 -- the list of closers has the index of the closer of each opener, and the length of the list at other indices
-closers_of-at : (pairs : List Pair) (len i d : ℕ) → i < len → get_or (closers_of pairs len) i d ≡ unwrap_or (closer_of pairs i) len
+pub closers_of-at : (pairs : List Pair) (len i d : ℕ) → i < len → get_or (closers_of pairs len) i d ≡ unwrap_or (closer_of pairs i) len
 closers_of-at pairs len i d within = get_or-map-range_with_len (λ i. unwrap_or (closer_of pairs i) len) 0 len i i d within (omega arith)
 
 pub length-closers_of : (pairs : List Pair) (len : ℕ) → length (closers_of pairs len) ≡ len
@@ -268,6 +268,11 @@ closers_of-with pairs len i j within none =
       | inr ne ↦
           rw get_or-set_other (closers_of-at pairs len x 0 below ∙ sym (ap (λ o. unwrap_or o len) (closer_of-past pairs i j x (λ same. ne (sym same)))))
     ]))
+
+-- the list of closers, updated for the closing bracket at k if it matches the opener at an index of `places`
+abbrev pub closed_at : Option ℕ → List ℕ → List ℕ → ℕ → List ℕ
+closed_at (Some m) places closers k = set closers (get_or places m 0) k
+closed_at None places closers k = closers
 
 module _ (bracket_of : ℕ → Option Bracket) (characters : List ℕ) (types : List BidiClass) where
   abbrev pub before : ℕ → List Pair
@@ -418,33 +423,35 @@ module _ (bracket_of : ℕ → Option Bracket) (characters : List ℕ) (types : 
             rw (v.2, w.2) (now.apart a b v.0 w.0 lt v.1 w.1);
       }
 
-  -- The state of the pass after k characters. `openers` has the live openers, in order. `closers` has the
-  -- closers of the pairs found so far.
-  pub record Walks (k : ℕ) (openers : List Opener) (closers : List ℕ) : Type 0 where
-    pub held : map (λ (o : Opener). o.place) openers ≡ lives (live (before k)) k
-    pub fit : (m : ℕ) → m < length openers → (c : ℕ) → is_pair_of (bracket_of (get_or characters (place_of openers m) 0)) c ≡ (canonical (pair_of openers m) == canonical c)
+  -- The state of the pass after k characters. `openers` has the live openers, in order, and `places` has their
+  -- indices in the text. `closers` has the closers of the pairs found so far.
+  pub record Walks (k : ℕ) (places : List ℕ) (openers : List Opener) (closers : List ℕ) : Type 0 where
+    pub size : length places ≡ length openers
+    pub held : places ≡ lives (live (before k)) k
+    pub fit : (m : ℕ) → m < length openers → (c : ℕ) → is_pair_of (bracket_of (get_or characters (get_or places m 0) 0)) c ≡ (canonical (pair_of openers m) == canonical c)
     pub found : closers ≡ closers_of (before k) (length types)
     pub room : (j : ℕ) → j < k → is_full bracket_of characters types j ≡ false
 
-  length-held : (k : ℕ) (openers : List Opener) (closers : List ℕ) → Walks k openers closers → length (lives (live (before k)) k) ≡ length openers
-  length-held k openers closers now = sym (ap length now.held) ∙ length-map openers (λ (o : Opener). o.place)
+  length-held : (k : ℕ) (places : List ℕ) (openers : List Opener) (closers : List ℕ) → Walks k places openers closers → length (lives (live (before k)) k) ≡ length openers
+  length-held k places openers closers now = sym (ap length now.held) ∙ now.size
 
-  pub place-below : (k : ℕ) (openers : List Opener) (closers : List ℕ) → Walks k openers closers → (m : ℕ)
-      → m < length openers → (place_of openers m < k) × (live (before k) (place_of openers m) ≡ true)
-  place-below k openers closers now m h =
-      let lt : m < length (lives (live (before k)) k) = omega (arith, length-held k openers closers now) in
+  place-below : (k : ℕ) (places : List ℕ) (openers : List Opener) (closers : List ℕ) → Walks k places openers closers → (m : ℕ)
+      → m < length openers → (get_or places m 0 < k) × (live (before k) (get_or places m 0) ≡ true)
+  place-below k places openers closers now m h =
+      let lt : m < length (lives (live (before k)) k) = omega (arith, length-held k places openers closers now) in
       rw now.held (lives-item (live (before k)) k m lt)
 
-  pub Walks-start : Walks 0 [] (closers_of [] (length types))
+  pub Walks-start : Walks 0 [] [] (closers_of [] (length types))
   Walks-start = record {
+    size = refl;
     held = refl;
     fit = λ m h. absurd (omega arith);
     found = refl;
     room = λ j h. absurd (omega arith);
   }
 
-  full : (k : ℕ) (openers : List Opener) (closers : List ℕ) → Walks k openers closers → is_full bracket_of characters types k ≡ (opens k && nat_le 63 (length openers))
-  full k openers closers now = ap (λ n. opens k && nat_le 63 n) (length-lives (live (before k)) k ∙ length-held k openers closers now)
+  full : (k : ℕ) (places : List ℕ) (openers : List Opener) (closers : List ℕ) → Walks k places openers closers → is_full bracket_of characters types k ≡ (opens k && nat_le 63 (length openers))
+  full k places openers closers now = ap (λ n. opens k && nat_le 63 n) (length-lives (live (before k)) k ∙ length-held k places openers closers now)
 
   room-next : (k : ℕ) → ((j : ℕ) → j < k → is_full bracket_of characters types j ≡ false)
       → is_full bracket_of characters types k ≡ false → (j : ℕ) → j < suc k → is_full bracket_of characters types j
@@ -455,64 +462,66 @@ module _ (bracket_of : ℕ → Option Bracket) (characters : List ℕ) (types : 
         | inr ne ↦ room j (omega arith)
       ]
 
-  -- a character that adds no pair and is not an opening bracket leaves both lists unchanged
-  Walks-stay : (k : ℕ) (openers : List Opener) (closers : List ℕ) → before (suc k) ≡ before k → opens k ≡ false → Walks k openers closers → Walks (suc k) openers closers
-  Walks-stay k openers closers same other now =
+  -- a character that adds no pair and is not an opening bracket leaves the lists unchanged
+  Walks-stay : (k : ℕ) (places : List ℕ) (openers : List Opener) (closers : List ℕ) → before (suc k) ≡ before k → opens k ≡ false
+      → Walks k places openers closers → Walks (suc k) places openers closers
+  Walks-stay k places openers closers same other now =
       record {
+        size = now.size;
         held = now.held ∙ sym (ap (λ l. lives (live l) (suc k)) same ∙ lives-no (live (before k)) k (and_left (opens k) (not (covers (before k) k)) other));
         fit = now.fit;
         found = now.found ∙ ap (λ l. closers_of l (length types)) (sym same);
-        room = room-next k now.room (full k openers closers now ∙ and_left (opens k) (nat_le 63 (length openers)) other);
+        room = room-next k now.room (full k places openers closers now ∙ and_left (opens k) (nat_le 63 (length openers)) other);
       }
 
-  pub Walks-other : (k : ℕ) (openers : List Opener) (closers : List ℕ) → opens k ≡ false → closes k ≡ false → Walks k openers closers → Walks (suc k) openers closers
-  Walks-other k openers closers other none now = Walks-stay k openers closers (pairs-no k none) other now
+  pub Walks-other : (k : ℕ) (places : List ℕ) (openers : List Opener) (closers : List ℕ) → opens k ≡ false → closes k ≡ false
+      → Walks k places openers closers → Walks (suc k) places openers closers
+  Walks-other k places openers closers other none now = Walks-stay k places openers closers (pairs-no k none) other now
 
-  -- several characters that are not brackets leave both lists unchanged
-  pub Walks-skip : (n k j : ℕ) (openers : List Opener) (closers : List ℕ) → j ≡ n + k → ((m : ℕ) → k ≤ m → m < j → opens m ≡ false)
-      → ((m : ℕ) → k ≤ m → m < j → closes m ≡ false) → Walks k openers closers → Walks j openers closers
-  Walks-skip zero k j openers closers e other none now = let same : k ≡ j = omega arith in subst (λ x. Walks x openers closers) same now
-  Walks-skip (suc n) k j openers closers e other none now =
-      Walks-skip n (suc k) j openers closers (omega arith) (λ m above below. other m (omega arith) below) (λ m above below. none m (omega arith) below)
-      (Walks-other k openers closers (other k (omega arith) (omega arith)) (none k (omega arith) (omega arith)) now)
+  -- several characters that are not brackets leave the lists unchanged
+  pub Walks-skip : (n k j : ℕ) (places : List ℕ) (openers : List Opener) (closers : List ℕ) → j ≡ n + k → ((m : ℕ) → k ≤ m → m < j → opens m ≡ false)
+      → ((m : ℕ) → k ≤ m → m < j → closes m ≡ false) → Walks k places openers closers → Walks j places openers closers
+  Walks-skip zero k j places openers closers e other none now = let same : k ≡ j = omega arith in subst (λ x. Walks x places openers closers) same now
+  Walks-skip (suc n) k j places openers closers e other none now =
+      Walks-skip n (suc k) j places openers closers (omega arith) (λ m above below. other m (omega arith) below) (λ m above below. none m (omega arith) below)
+      (Walks-other k places openers closers (other k (omega arith) (omega arith)) (none k (omega arith) (omega arith)) now)
 
   -- the pass appends an opening bracket to the list of openers
-  pub Walks-open : (k : ℕ) (openers : List Opener) (closers : List ℕ) (bracket : Bracket) → opens k ≡ true → bracket_of (get_or characters k 0) ≡ Some bracket → length openers < 63
-      → Walks k openers closers → Walks (suc k) (openers ++ record { place = k; pair = bracket.pair } ∷ []) closers
-  Walks-open k openers closers bracket opening is room now =
-      let opener : Opener = record { place = k; pair = bracket.pair } in
+  pub Walks-open : (k : ℕ) (places : List ℕ) (openers : List Opener) (closers : List ℕ) (bracket : Bracket) (opener : Opener)
+      → opens k ≡ true → bracket_of (get_or characters k 0) ≡ Some bracket → bracket.pair ≡ opener.pair → length openers < 63
+      → Walks k places openers closers → Walks (suc k) (places ++ k ∷ []) (openers ++ opener ∷ []) closers
+  Walks-open k places openers closers bracket opener opening is number room now =
       let same = pairs-no k (opens_closes_none k opening) in
       let alive = and_from (opens k) (not (covers (before k) k)) opening (not_from_false (covers (before k) k) (covers_none k k (omega arith))) in
-      let places : map (λ (o : Opener). o.place) (openers ++ opener ∷ []) ≡ map (λ (o : Opener). o.place) openers ++ k ∷ [] = map-append (λ (o : Opener). o.place) openers (opener ∷ []) in
-      let pairs : map (λ (o : Opener). o.pair) (openers ++ opener ∷ []) ≡ map (λ (o : Opener). o.pair) openers ++ bracket.pair ∷ [] = map-append (λ (o : Opener). o.pair) openers (opener ∷ []) in
-      let size_a = length-map openers (λ (o : Opener). o.place) in
+      let pairs : map (λ (o : Opener). o.pair) (openers ++ opener ∷ []) ≡ map (λ (o : Opener). o.pair) openers ++ opener.pair ∷ [] = map-append (λ (o : Opener). o.pair) openers (opener ∷ []) in
+      let size_a = now.size in
       let size_b = length-map openers (λ (o : Opener). o.pair) in
       record {
-        held = places ∙ ap (λ l. l ++ k ∷ []) now.held ∙ sym (ap (λ l. lives (live l) (suc k)) same ∙ lives-yes (live (before k)) k alive);
+        size = omega (arith, length_push places k, length_push openers opener);
+        held = ap (λ l. l ++ k ∷ []) now.held ∙ sym (ap (λ l. lives (live l) (suc k)) same ∙ lives-yes (live (before k)) k alive);
         fit = λ m h c. elim (cases_eq m (length openers)) [
           | inl last ↦
-              let a : place_of (openers ++ opener ∷ []) m ≡ k = ap (λ l. get_or l m 0) places ∙ get_or_push (map (λ (o : Opener). o.place) openers) k 0 m (omega arith) in
-              let b : pair_of (openers ++ opener ∷ []) m ≡ bracket.pair = ap (λ l. get_or l m 0) pairs ∙ get_or_push (map (λ (o : Opener). o.pair) openers) bracket.pair 0 m (omega arith) in
-              ap (λ i. is_pair_of (bracket_of (get_or characters i 0)) c) a ∙ ap (λ o. is_pair_of o c) is ∙ ap (λ p. canonical p == canonical c) (sym b)
+              let a : get_or (places ++ k ∷ []) m 0 ≡ k = get_or_push places k 0 m (omega arith) in
+              let b : pair_of (openers ++ opener ∷ []) m ≡ opener.pair = ap (λ l. get_or l m 0) pairs ∙ get_or_push (map (λ (o : Opener). o.pair) openers) opener.pair 0 m (omega arith) in
+              ap (λ i. is_pair_of (bracket_of (get_or characters i 0)) c) a ∙ ap (λ o. is_pair_of o c) is ∙ ap (λ p. canonical p == canonical c) (number ∙ sym b)
           | inr ne ↦
               let lt : m < length openers = omega (arith, length_push openers opener) in
-              let a : place_of (openers ++ opener ∷ []) m ≡ place_of openers m = ap (λ l. get_or l m 0) places
-              ∙ get_or_append_left (map (λ (o : Opener). o.place) openers) (k ∷ []) 0 m (omega arith) in
+              let a : get_or (places ++ k ∷ []) m 0 ≡ get_or places m 0 = get_or_append_left places (k ∷ []) 0 m (omega arith) in
               let b : pair_of (openers ++ opener ∷ []) m ≡ pair_of openers m = ap (λ l. get_or l m 0) pairs
-              ∙ get_or_append_left (map (λ (o : Opener). o.pair) openers) (bracket.pair ∷ []) 0 m (omega arith) in
+              ∙ get_or_append_left (map (λ (o : Opener). o.pair) openers) (opener.pair ∷ []) 0 m (omega arith) in
               ap (λ i. is_pair_of (bracket_of (get_or characters i 0)) c) a ∙ now.fit m lt c ∙ ap (λ p. canonical p == canonical c) (sym b)
         ];
         found = now.found ∙ ap (λ l. closers_of l (length types)) (sym same);
-        room = room-next k now.room (full k openers closers now ∙ and_right (opens k) (nat_le 63 (length openers)) (lt-leb 63 (length openers) room));
+        room = room-next k now.room (full k places openers closers now ∙ and_right (opens k) (nat_le 63 (length openers)) (lt-leb 63 (length openers) room));
       }
 
   -- the last live opener that a closing bracket matches is the newest such opener on the list
-  match_held : (k : ℕ) (openers : List Opener) (closers : List ℕ) → Walks k openers closers
-      → match_for k ≡ item_of (map (λ (o : Opener). o.place) openers) (newest openers (get_or characters k 0))
-  match_held k openers closers now =
+  match_held : (k : ℕ) (places : List ℕ) (openers : List Opener) (closers : List ℕ) → Walks k places openers closers
+      → match_for k ≡ item_of places (newest openers (get_or characters k 0))
+  match_held k places openers closers now =
       let c = get_or characters k 0 in
       let test = λ (m : ℕ). canonical (pair_of openers m) == canonical c in
-      let size = length-held k openers closers now in
+      let size = length-held k places openers closers now in
       lives-greatest (live (before k)) (λ i. fits bracket_of characters types i k) test k
       (λ m h. ap (λ (l : List ℕ). is_pair_of (bracket_of (get_or characters (get_or l m 0) 0)) c) (sym now.held) ∙ now.fit m (omega arith) c)
       ∙ ap (λ n. item_of (lives (live (before k)) k) (greatest test n)) size
@@ -521,33 +530,33 @@ module _ (bracket_of : ℕ → Option Bracket) (characters : List ℕ) (types : 
   closes_opens_none : (k : ℕ) → closes k ≡ true → opens k ≡ false
   closes_opens_none k e = false_from_ne_true (opens k) (λ o. both_ways (closes k) (opens_closes_none k o) e)
 
-  Walks-close_by : (k : ℕ) (openers : List Opener) (closers : List ℕ) (found : Option ℕ) → newest openers (get_or characters k 0) ≡ found → k < length types → closes k ≡ true → Walks k openers closers
-      → Walks (suc k) (left_by found openers) (closed_by found openers closers k)
-  Walks-close_by k openers closers None e within closing now =
-      Walks-stay k openers closers (pairs-none k closing (match_held k openers closers now ∙ ap (item_of (map (λ (o : Opener). o.place) openers)) e)) (closes_opens_none k closing) now
-  Walks-close_by k openers closers (Some m) e within closing now =
-      let i = place_of openers m in
+  Walks-close_by : (k : ℕ) (places : List ℕ) (openers : List Opener) (closers : List ℕ) (found : Option ℕ) → newest openers (get_or characters k 0) ≡ found → k < length types → closes k ≡ true
+      → Walks k places openers closers → Walks (suc k) (left_by found places) (left_by found openers) (closed_at found places closers k)
+  Walks-close_by k places openers closers None e within closing now =
+      Walks-stay k places openers closers (pairs-none k closing (match_held k places openers closers now ∙ ap (item_of places) e)) (closes_opens_none k closing) now
+  Walks-close_by k places openers closers (Some m) e within closing now =
+      let i = get_or places m 0 in
       let h : m < length openers = (greatest_found (λ m. canonical (pair_of openers m) == canonical (get_or characters k 0)) (length openers) m e).0 in
-      let step : before (suc k) ≡ with_pair (before k) i k = pairs-some k i closing (match_held k openers closers now ∙ ap (item_of (map (λ (o : Opener). o.place) openers)) e) in
-      let at_i = place-below k openers closers now m h in
+      let step : before (suc k) ≡ with_pair (before k) i k = pairs-some k i closing (match_held k places openers closers now ∙ ap (item_of places) e) in
+      let at_i = place-below k places openers closers now m h in
       let below = at_i.0 in
       let parts = live_parts (before k) i at_i.1 in
       let other = closes_opens_none k closing in
-      let size = length-held k openers closers now in
+      let size = length-held k places openers closers now in
+      let same_size = now.size in
       let item : get_or (lives (live (before k)) k) m 0 ≡ i = ap (λ (l : List ℕ). get_or l m 0) (sym now.held) in
       let cut : lives (live (with_pair (before k) i k)) k ≡ take m (lives (live (before k)) k) =
       lives-cut (live (before k)) (live (with_pair (before k) i k)) k m (omega arith)
       (λ x lt. ap (λ b. opens x && not b) (covers-before (before k) i k x (omega arith)))
       (λ x from to. and_right (opens x) (not (covers (with_pair (before k) i k) x)) (not_from_true (covers (with_pair (before k) i k) x) (covers-inside (before k) i k x (omega arith) to))) in
       record {
+        size = omega (arith, length-take-le m places (omega arith), length-take-le m openers (omega arith));
         held =
-            sym (take-map (λ (o : Opener). o.place) m openers) ∙ ap (take m) now.held ∙ sym cut
+            ap (take m) now.held ∙ sym cut
             ∙ sym (ap (λ l. lives (live l) (suc k)) step ∙ lives-no (live (with_pair (before k) i k)) k (and_left (opens k) (not (covers (with_pair (before k) i k) k)) other));
         fit = λ x lt c.
             let short : x < m = omega (arith, length-take-le m openers (omega arith)) in
-            let a : place_of (take m openers) x
-            ≡ place_of openers x = ap (λ l. get_or l x 0) (sym (take-map (λ (o : Opener). o.place) m openers))
-            ∙ get_or-take m (map (λ (o : Opener). o.place) openers) x 0 short in
+            let a : get_or (take m places) x 0 ≡ get_or places x 0 = get_or-take m places x 0 short in
             let b : pair_of (take m openers) x
             ≡ pair_of openers x = ap (λ l. get_or l x 0) (sym (take-map (λ (o : Opener). o.pair) m openers))
             ∙ get_or-take m (map (λ (o : Opener). o.pair) openers) x 0 short in
@@ -555,27 +564,30 @@ module _ (bracket_of : ℕ → Option Bracket) (characters : List ℕ) (types : 
         found =
             ap (λ l. set l i k) now.found
             ∙ sym (ap (λ l. closers_of l (length types)) step ∙ closers_of-with (before k) (length types) i k (omega arith) (unpaired (before k) k i (ArePaired-before k) parts.1));
-        room = room-next k now.room (full k openers closers now ∙ and_left (opens k) (nat_le 63 (length openers)) other);
+        room = room-next k now.room (full k places openers closers now ∙ and_left (opens k) (nat_le 63 (length openers)) other);
       }
 
   -- at a closing bracket, the pass records the closer of the opener that it matches, and removes that opener
   -- and the newer ones
-  pub Walks-close : (k : ℕ) (openers : List Opener) (closers : List ℕ) → k < length types → closes k ≡ true → Walks k openers closers
-      → Walks (suc k) (left_by (newest openers (get_or characters k 0)) openers) (closed_by (newest openers (get_or characters k 0)) openers closers k)
-  Walks-close k openers closers within closing now = Walks-close_by k openers closers (newest openers (get_or characters k 0)) refl within closing now
+  pub Walks-close : (k : ℕ) (places : List ℕ) (openers : List Opener) (closers : List ℕ) (c : ℕ) → get_or characters k 0 ≡ c → k < length types → closes k ≡ true
+      → Walks k places openers closers
+      → Walks (suc k) (left_by (newest openers c) places) (left_by (newest openers c) openers) (closed_at (newest openers c) places closers k)
+  Walks-close k places openers closers c is within closing now =
+      Walks-close_by k places openers closers (newest openers c) (ap (newest openers) is) within closing now
 
   -- pairing stops at an opening bracket if 63 openers are on the list
-  pub all-full : (k : ℕ) (openers : List Opener) (closers : List ℕ) → k < length types → opens k ≡ true → length openers ≡ 63 → Walks k openers closers
+  pub all-full : (k : ℕ) (places : List ℕ) (openers : List Opener) (closers : List ℕ) → k < length types → opens k ≡ true → 63 ≤ length openers → Walks k places openers closers
       → pairs_of bracket_of characters types ≡ before k
-  all-full k openers closers within opening whole now =
+  all-full k places openers closers within opening whole now =
       ap (λ o. before (unwrap_or o (length types)))
       (least_found (is_full bracket_of characters types) 0 (length types) k (omega arith) (omega arith)
-      (full k openers closers now ∙ and_from (opens k) (nat_le 63 (length openers)) opening (le-leb 63 (length openers) (omega arith)))
+      (full k places openers closers now ∙ and_from (opens k) (nat_le 63 (length openers)) opening (le-leb 63 (length openers) whole))
       (λ j from to. now.room j to))
 
   -- if the pass reaches the end, it has found all pairs
-  pub all-end : (k : ℕ) (openers : List Opener) (closers : List ℕ) → k ≡ length types → Walks k openers closers → pairs_of bracket_of characters types ≡ before k
-  all-end k openers closers whole now =
+  pub all-end : (k : ℕ) (places : List ℕ) (openers : List Opener) (closers : List ℕ) → k ≡ length types → Walks k places openers closers
+      → pairs_of bracket_of characters types ≡ before k
+  all-end k places openers closers whole now =
       ap (λ o. before (unwrap_or o (length types)))
       (least_none (is_full bracket_of characters types) 0 (length types) (λ j from to. now.room j (omega arith)))
       ∙ ap before (sym whole)

@@ -4,6 +4,7 @@ use Rattle.std.specs.Prelude.{◌≡◌, ℕ, ◌<◌, ◌⊎◌, ◌==◌, nat_
 use Rattle.std.specs.List.{range_with_len}
 use Rattle.ucd.specs.declared.bidi_class.BidiClass.{BidiClass}
 use Rattle.ucd.specs.declared.bidi_class.BidiClass.TheVariants.{ON}
+use Rattle.bidi.specs.declared.brackets.BracketPair.{BracketPair}
 use Rattle.bidi.specs.declared.brackets.Opener.{Opener}
 use Rattle.bidi.specs.Brackets.{Pair, canonical, closer_of, greatest}
 use Rattle.ucd.specs.Classes.{class_at}
@@ -22,10 +23,28 @@ pub record AreNested (types : List BidiClass) (closers : List ℕ) : Type 0 wher
   pub apart : (a b : ℕ) → a < b → b < length closers → slice_index closers a < length closers → slice_index closers b < length closers
       → (slice_index closers a < b) ⊎ (slice_index closers b < slice_index closers a)
 
+-- the list of closers that the program's list of opening brackets gives, in which `len` is the closer of an
+-- unpaired bracket
+
+abbrev pub as_pair : BracketPair → Pair
+as_pair pair = record { opener = pair.opener; closer = pair.closer }
+
+abbrev pub closers_by : List BracketPair → ℕ → List ℕ
+closers_by pairs len = closers_of (map as_pair pairs) len
+
+abbrev pub opener_at : List BracketPair → ℕ → ℕ
+opener_at pairs i = slice_index (map (λ (p : BracketPair). p.opener) pairs) i
+
+-- the opening brackets are in text order, and all of them are before k
+pub record AreInOrder (pairs : List BracketPair) (k : ℕ) : Type 0 where
+  pub ascending : (a b : ℕ) → a < b → b < length pairs → opener_at pairs a < opener_at pairs b
+  pub below : (a : ℕ) → a < length pairs → opener_at pairs a < k
+
 -- the live opening brackets during the pass that finds the pairs, the newest last
 
-abbrev pub place_of : List Opener → ℕ → ℕ
-place_of openers m = slice_index (map (λ (o : Opener). o.place) openers) m
+-- the index in the list of opening brackets
+abbrev pub index_of : List Opener → ℕ → ℕ
+index_of openers m = slice_index (map (λ (o : Opener). o.index) openers) m
 
 abbrev pub pair_of : List Opener → ℕ → ℕ
 pair_of openers m = slice_index (map (λ (o : Opener). o.pair) openers) m
@@ -35,11 +54,12 @@ abbrev pub newest : List Opener → ℕ → Option ℕ
 newest openers c = greatest (λ m. canonical (pair_of openers m) == canonical c) (length openers)
 
 -- the openers that remain after a closing bracket that matches the opener at m, if it matches any
-abbrev pub left_by : Option ℕ → List Opener → List Opener
+abbrev pub left_by : {T : Type 0} → Option ℕ → List T → List T
 left_by (Some m) openers = take m openers
 left_by None openers = openers
 
--- the list of closers, updated for the closing bracket at `place`
-abbrev pub closed_by : Option ℕ → List Opener → List ℕ → ℕ → List ℕ
-closed_by (Some m) openers closers place = slice_set closers (place_of openers m) place
-closed_by None openers closers place = closers
+-- the list of opening brackets, updated for the closing bracket at `place`
+abbrev pub closed_by : Option ℕ → List Opener → List BracketPair → ℕ → List BracketPair
+closed_by (Some m) openers pairs place =
+    slice_set pairs (index_of openers m) (record { opener = opener_at pairs (index_of openers m); closer = place })
+closed_by None openers pairs place = pairs

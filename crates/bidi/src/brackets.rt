@@ -1,6 +1,6 @@
 //! Finds the bracket pairs of one isolating run sequence and their directions (UAX #9, BD14 to BD16 and N0),
 //! given the bracket types of its characters.
-ghost use Rattle.std.specs.Prelude.{◌≡◌, ℕ, ◌<◌, ◌≤◌, ◌&&◌, [], map, length, slice_index, List, OnOk, Option};
+ghost use Rattle.std.specs.Prelude.{◌≡◌, ℕ, ◌<◌, ◌≤◌, ◌&&◌, [], map, length, List, IfOk, OnOk, Option};
 ghost use Rattle.std.specs.Prelude.{Some, None};
 ghost use Rattle.std.specs.Prelude.{if◌then◌else◌, true, false, not};
 ghost use Rattle.ucd.specs.declared.bracket.Bracket.{Bracket};
@@ -9,8 +9,8 @@ ghost use Rattle.bidi.specs.declared.bracket_type.BracketType.TheVariants.{Other
 ghost use Rattle.bidi.specs.Brackets.{brackets, canonical, is_other, pairs_of, resolve_pairs};
 ghost use Rattle.bidi.specs.Brackets.{context, is_direction};
 ghost use Rattle.bidi.specs.Brackets.{is_toward, stands, set_with, set_pair};
-ghost use Rattle.bidi.specs.Closers.{closers_of, closer_in, AreNested, newest, place_of, left_by};
-ghost use Rattle.bidi.specs.Closers.{closed_by};
+ghost use Rattle.bidi.specs.Closers.{closers_by, closers_of, closer_in, AreInOrder, AreNested};
+ghost use Rattle.bidi.specs.Closers.{closed_by, index_of, left_by, newest};
 ghost use Rattle.ucd.specs.Classes.{is_mark};
 ghost use Rattle.bidi.specs.Weak.{is_left};
 ghost use Rattle.ucd.specs.Classes.{class_at};
@@ -18,18 +18,26 @@ ghost use Rattle.bidi.specs.Neutral.{agree, side};
 ghost use Rattle.bidi.specs.Resolving.{IsClear};
 
 use crate::bracket_type::{BracketType, next_bracket};
-use arrayvec::ArrayVec;
 use std::alloc::{AllocError, Global};
 use ucd::BidiClass;
 
 /// The maximum number of open brackets on the stack (BD16).
 const MAX_OPENERS: usize = 63;
 
-// An opening bracket on the stack: its index in the sequence, and the number of its bracket type.
-#[derive(Clone, Copy, Debug, Default, PartialEq, Eq)]
+// An opening bracket on the stack: its index in the list of opening brackets, and the number of its bracket
+// type.
+#[derive(Clone, Copy, Debug, PartialEq, Eq)]
 struct Opener {
-    place: usize,
+    index: usize,
     pair: u32,
+}
+
+// The indices of an opening bracket and of its closing bracket in the sequence. For an unpaired bracket,
+// `closer` is the length of the sequence.
+#[derive(Clone, Copy, Debug, PartialEq, Eq)]
+struct BracketPair {
+    opener: usize,
+    closer: usize,
 }
 
 // Returns the canonical equivalent of a bracket: U+3008 for U+2329, and U+3009 for U+232A.
@@ -69,46 +77,40 @@ fn matching(openers: &[Opener], closer: u32) -> Option<usize>
     None
 }
 
-// Pairs the closing bracket at `place` with the newest opening bracket that it matches, if there is one.
-// Removes this opening bracket and all newer ones from the stack.
-fn close(
-    openers: &mut ArrayVec<Opener, MAX_OPENERS>,
-    closers: &mut [usize],
-    closer: u32,
-    place: usize,
-)
-    requires { (m : ℕ) → m < length openers.old.items → place_of openers.old.items m < length closers.old }
+// Pairs the closing bracket at `place` with the newest opening bracket that it matches, if there is one, and
+// removes that one and all newer ones from the stack. Returns whether there is one.
+fn close(openers: &mut Vec<Opener>, pairs: &mut [BracketPair], closer: u32, place: usize) -> bool
+    requires { (m : ℕ) → m < length openers.old.items → index_of openers.old.items m < length pairs.old }
     ensures openers { openers.new.items ≡ left_by (newest openers.old.items closer) openers.old.items }
-    ensures closers { closers.new
-        ≡ closed_by (newest openers.old.items closer) openers.old.items closers.old place }
+    ensures pairs { pairs.new
+        ≡ closed_by (newest openers.old.items closer) openers.old.items pairs.old place }
+    ensures none { result ≡ false → newest openers.old.items closer ≡ None }
 {
-    if let Some(held) = matching(openers.as_slice(), closer) {
-        closers[openers.as_slice()[held].place] = place;
-        openers.truncate(held);
+    match matching(openers, closer) {
+        Some(held) => {
+            pairs[openers[held].index].closer = place;
+            openers.truncate(held);
+            true
+        }
+        None => false,
     }
 }
 
-// Replaces the contents of `closers` with `len` items that are all `len`.
-fn fill(closers: &mut Vec<usize>, len: usize) -> Result<(), AllocError>
-    ensures { OnOk result (closers.new.items ≡ closers_of [] len) }
-{
-    closers.clear();
-    closers.resize(len, len)
-}
-
-/// Reused lists for the bracket pairs of a sequence: its types before N0, and for each opening bracket of a
-/// pair, the index of the closing bracket.
+/// Reused lists for the bracket pairs of a sequence: its types before N0, the stack of opening brackets, and
+/// all opening brackets with their closing brackets.
 #[derive(Debug, Drop)]
 pub(crate) struct Pairs {
     before: Vec<BidiClass>,
-    closers: Vec<usize>,
+    openers: Vec<Opener>,
+    found: Vec<BracketPair>,
 }
 
 impl Pairs {
     pub fn new(alloc: Global) -> Pairs {
         Pairs {
             before: Vec::new(alloc),
-            closers: Vec::new(alloc),
+            openers: Vec::new(alloc),
+            found: Vec::new(alloc),
         }
     }
 
@@ -127,12 +129,12 @@ impl Pairs {
             → kinds.now ≡ bracket_types look text
             → types.new ≡ brackets look embedding sos text explicit.now types.old) }
     {
-        find_pairs(kinds, types, &mut self.closers)?;
-        if next_pair(&self.closers, 0) >= types.len() {
+        let has_pairs = find_pairs(kinds, types, &mut self.openers, &mut self.found)?;
+        if !has_pairs {
             return Ok(());
         }
         copy_types(types, &mut self.before)?;
-        resolve_brackets(types, &self.before, explicit, &self.closers, embedding, sos);
+        resolve_brackets(types, &self.before, explicit, &self.found, embedding, sos);
         Ok(())
     }
 }
@@ -145,36 +147,49 @@ pub(crate) fn copy_types(from: &[BidiClass], to: &mut Vec<BidiClass>) -> Result<
     to.extend_from_slice(from)
 }
 
-// For each opening bracket of a pair, sets its item in `closers` to the index of the closing bracket. Sets
-// all other items to the length.
+// Replaces the contents of `pairs` with the opening brackets in text order, up to one that finds the stack
+// full, and with their closing brackets. Returns whether any of them has a closing bracket.
 fn find_pairs(
     kinds: &[BracketType],
     types: &[BidiClass],
-    closers: &mut Vec<usize>,
-) -> Result<(), AllocError>
+    openers: &mut Vec<Opener>,
+    pairs: &mut Vec<BracketPair>,
+) -> Result<bool, AllocError>
     requires { length kinds.now ≡ length types.now }
     ensures pairs { OnOk result ((look : ℕ → Option Bracket) (text : List ℕ)
         → kinds.now ≡ bracket_types look text
-        → closers.new.items ≡ closers_of (pairs_of look text types.now) (length types.now)) }
-    ensures nested { OnOk result (AreNested types.now closers.new.items) }
+        → closers_by pairs.new.items (length types.now)
+        ≡ closers_of (pairs_of look text types.now) (length types.now)) }
+    ensures order { OnOk result (AreInOrder pairs.new.items (length types.now)) }
+    ensures nested { OnOk result (AreNested types.now (closers_by pairs.new.items (length types.now))) }
+    ensures none { IfOk result (λ has_pairs. has_pairs ≡ false
+        → closers_by pairs.new.items (length types.now) ≡ closers_of [] (length types.now)) }
 {
-    fill(closers, types.len())?;
-    let mut openers: ArrayVec<Opener, MAX_OPENERS> = ArrayVec::new();
+    openers.clear();
+    pairs.clear();
+    let mut has_pairs = false;
     let mut place = next_bracket(kinds, 0);
     while place < types.len() {
         match bracket_in(kinds[place], types[place]) {
             BracketType::Opening(pair) => {
-                if openers.is_full() {
-                    return Ok(());
+                if openers.len() >= MAX_OPENERS {
+                    return Ok(has_pairs);
                 }
-                openers.push(Opener { place, pair });
+                let index = pairs.len();
+                openers.push(Opener { index, pair })?;
+                pairs.push(BracketPair {
+                    opener: place,
+                    closer: types.len(),
+                })?;
             }
-            BracketType::Closing(closer) => close(&mut openers, closers, closer, place),
+            BracketType::Closing(closer) => {
+                has_pairs |= close(openers, pairs, closer, place);
+            }
             BracketType::Other => {}
         }
         place = next_bracket(kinds, place + 1);
     }
-    Ok(())
+    Ok(has_pairs)
 }
 
 // Returns the index of the first strong type in `from..limit` with a given direction: L if `left` is true, or
@@ -212,78 +227,32 @@ fn resolve_brackets(
     types: &mut [BidiClass],
     before: &[BidiClass],
     explicit: &[BidiClass],
-    closers: &[usize],
+    pairs: &[BracketPair],
     embedding: BidiClass,
     sos: BidiClass,
 )
     requires before { before.now ≡ types.old }
     requires explicit { length explicit.now ≡ length types.old }
-    requires closers { length closers.now ≡ length types.old }
-    requires nested { AreNested types.old closers.now }
+    requires order { AreInOrder pairs.now (length types.old) }
+    requires nested { AreNested types.old (closers_by pairs.now (length types.old)) }
     ensures { types.new
-        ≡ resolve_pairs embedding sos (map is_mark explicit.now) (closer_in closers.now) types.old }
+        ≡ resolve_pairs embedding sos (map is_mark explicit.now)
+        (closer_in (closers_by pairs.now (length types.old))) types.old }
 {
     let left = is_left(embedding);
     // For each direction, the index at which the search for a strong type continues. Before N0, there is no
     // such type between the pair's opening bracket and this index.
     let mut same = 0;
     let mut other = 0;
-    let mut place = next_pair(closers, 0);
-    while place < types.len() {
-        let closer = closers[place];
-        let has_same = stands_inside(types, before, left, place, closer, &mut same);
-        let has_other = stands_inside(types, before, !left, place, closer, &mut other);
-        let direction = pair_direction(types, place, left, sos, has_same, has_other);
-        set_pair(types, explicit, place, closer, direction);
-        place = next_pair(closers, place + 1);
+    for pair in pairs {
+        let BracketPair { opener, closer } = *pair;
+        if closer < types.len() {
+            let has_same = stands_inside(types, before, left, opener, closer, &mut same);
+            let has_other = stands_inside(types, before, !left, opener, closer, &mut other);
+            let direction = pair_direction(types, opener, left, sos, has_same, has_other);
+            set_pair(types, explicit, opener, closer, direction);
+        }
     }
-}
-
-// Returns the index of the first opening bracket of a pair at or after `from`, or the length if there is
-// none.
-fn next_pair(closers: &[usize], from: usize) -> usize
-    requires { from ≤ length closers.now }
-    ensures reached { from ≤ result }
-    ensures within { result ≤ length closers.now }
-    ensures passed { (m : ℕ) → from ≤ m → m < result → length closers.now ≤ slice_index closers.now m }
-    ensures stops { result < length closers.now
-        → slice_index closers.now result < length closers.now }
-{
-    let mut at = after_groups(closers, from);
-    while at < closers.len() && closers[at] >= closers.len() {
-        at += 1;
-    }
-    at
-}
-
-// The number of items that are tested together.
-const AT_ONCE: usize = 8;
-
-// Returns the index after groups of items at and after `from` in which no pair opens.
-fn after_groups(closers: &[usize], from: usize) -> usize
-    requires { from ≤ length closers.now }
-    ensures reached { from ≤ result }
-    ensures within { result ≤ length closers.now }
-    ensures passed { (m : ℕ) → from ≤ m → m < result → length closers.now ≤ slice_index closers.now m }
-{
-    let mut at = from;
-    while closers.len() - at >= AT_ONCE && are_at_least(&closers[at..at + AT_ONCE], closers.len()) {
-        at += AT_ONCE;
-    }
-    at
-}
-
-// Returns whether no item is below `least`. The loop has no branches, so that the compiler tests several
-// items at a time.
-#[inline(always)] // so that the loop over a group knows its length
-fn are_at_least(items: &[usize], least: usize) -> bool
-    ensures { result ≡ true → (m : ℕ) → m < length items.now → least ≤ slice_index items.now m }
-{
-    let mut all = true;
-    for item in items {
-        all &= *item >= least;
-    }
-    all
 }
 
 // Returns whether a strong type of a direction is inside a pair. Moves `next` to the first index inside the

@@ -1,36 +1,57 @@
-use Rattle.std.proofs.Common.{◌≡◌, ◌==◌, ℕ, ◌<◌, List, length, get_or, sym, ap, Some, rules, arith}
+use Rattle.std.proofs.Common.{◌≡◌, ◌==◌, ℕ, ◌<◌, List, length, get_or, set, sym, ap, ◌∙◌, Some, rules, arith}
 use Rattle.std.proofs.Math.ListN.{get_or-map}
+use Rattle.std.proofs.lemmas.List.{get_or_read}
+use Rattle.bidi.specs.declared.brackets.BracketPair.{BracketPair}
 use Rattle.bidi.specs.declared.brackets.Opener.{Opener}
 use Rattle.bidi.specs.Brackets.{canonical}
-use Rattle.bidi.specs.Closers.{newest, pair_of, place_of}
+use Rattle.bidi.specs.Closers.{closed_by, index_of, newest, opener_at, pair_of}
 use Rattle.bidi.proofs.PairLemmas.{greatest_found}
 use Rattle.bidi.proofs.brackets.close.Goals as goal
-use Rattle.bidi.proofs.brackets.close.Goals.{After-as_slice-in-Some}
+use Rattle.bidi.proofs.brackets.close.Goals.{After-index}
 
 -- the index of the opener found is below the number of openers
 newest_within : (openers : List Opener) (closer m : ℕ) → Some m ≡ newest openers closer → m < length openers
 newest_within openers closer m e = (greatest_found (λ i. canonical (pair_of openers i) == canonical closer) (length openers) m (sym e)).0
 
-read : (openers : List Opener) (m : ℕ) → (get_or openers m (record { place = 0; pair = 0 })).place ≡ place_of openers m
-read openers m = sym (get_or-map (λ (o : Opener). o.place) openers m (record { place = 0; pair = 0 }))
+read : (openers : List Opener) (m : ℕ) (opener : Opener) → m < length openers → opener ≡ get_or openers m opener → opener.index ≡ index_of openers m
+read openers m opener within is =
+    let none : Opener = record { index = 0; pair = 0 } in
+    ap (λ (o : Opener). o.index) (get_or_read openers m opener within is none) ∙ sym (get_or-map (λ (o : Opener). o.index) openers m none)
 
-known : (c : After-as_slice-in-Some) → (c.in-Some.held < length c.args.openers.now.items)
-    × ((get_or c.as_slice-in-Some.result.now c.in-Some.held (record { place = 0; pair = 0 })).place < length
-    c.args.closers.now)
+closed : (openers : List Opener) (pairs : List BracketPair) (m i closer place : ℕ) → Some m ≡ newest openers closer → i ≡ index_of openers m
+    → set pairs i (record { opener = (get_or pairs i (record { opener = 0; closer = 0 })).opener; closer = place })
+    ≡ closed_by (newest openers closer) openers pairs place
+closed openers pairs m i closer place found is =
+    ap (λ n. set pairs i (record { opener = n; closer = place })) (sym (get_or-map (λ (p : BracketPair). p.opener) pairs i (record { opener = 0; closer = 0 })))
+    ∙ ap (λ n. set pairs n (record { opener = opener_at pairs n; closer = place })) is
+    ∙ ap (λ found. closed_by found openers pairs place) found
+
+known : (c : After-index) → (c.in-Some.held < length c.args.openers.now.items) × (c.index.result.now.index ≡ index_of c.args.openers.now.items c.in-Some.held)
+    × (c.index.result.now.index < length c.args.pairs.now)
 known c =
-    let h : c.in-Some.held < length c.args.openers.now.items = newest_within c.args.openers.now.items c.args.closer c.in-Some.held (rw c.as_slice.ensures.value at c.in-Some.ensures) in
-    let e = read c.args.openers.now.items c.in-Some.held in
-    let below = c.requires c.in-Some.held h in
-    (h, rw (c.as_slice-in-Some.ensures.value, e) below)
+    let openers = c.args.openers.now.items in
+    let found : Some c.in-Some.held ≡ newest openers c.args.closer = rw c.deref.ensures.value at c.in-Some.ensures in
+    let within = newest_within openers c.args.closer c.in-Some.held found in
+    let is = read openers c.in-Some.held c.index.result.now within c.index.ensures in
+    (within, is, omega (arith, is, c.requires c.in-Some.held within))
 
-pub bounds-as_slice-held : goal.bounds-as_slice-held
-bounds-as_slice-held c = let h = (known c).0 in rw c.as_slice-in-Some.ensures.value h
+pub index-requires : goal.index-requires
+index-requires c =
+    let found : Some c.in-Some.held ≡ newest c.args.openers.now.items c.args.closer = rw c.deref.ensures.value at c.in-Some.ensures in
+    let within = newest_within c.args.openers.now.items c.args.closer c.in-Some.held found in
+    let size = ap length c.deref.ensures.value in
+    omega arith
 
-pub offset_bounds-as_slice-held : goal.offset_bounds-as_slice-held
-offset_bounds-as_slice-held c = let h = (known c).0 in let e = c.as_slice-in-Some.ensures.value in let f = ap length e in let g = c.as_slice-in-Some.ensures.fits in omega arith
+pub bounds-pairs-index : goal.bounds-pairs-index
+bounds-pairs-index c = (known c).2
 
-pub bounds-closers-as_slice : goal.bounds-closers-as_slice
-bounds-closers-as_slice c = (known c).1
+pub offset_bounds-pairs-index : goal.offset_bounds-pairs-index
+offset_bounds-pairs-index c = let h = (known c).2 in search rules
 
-pub offset_bounds-closers-as_slice : goal.offset_bounds-closers-as_slice
-offset_bounds-closers-as_slice c = let h = (known c).1 in search rules
+pub returns-in-Some-clause-pairs : goal.returns-in-Some-clause-pairs
+returns-in-Some-clause-pairs c =
+    let openers = c.args.openers.now.items in
+    let found : Some c.in-Some.held ≡ newest openers c.args.closer = rw c.deref.ensures.value at c.in-Some.ensures in
+    let within = newest_within openers c.args.closer c.in-Some.held found in
+    closed openers c.args.pairs.now c.in-Some.held c.index.result.now.index c.args.closer c.args.place found
+    (read openers c.in-Some.held c.index.result.now within c.index.ensures)
