@@ -1,2 +1,4 @@
 mod MoveLemmas
+mod ShortLemmas
+mod ShortTextLemmas
 pub mod Utf8Lemmas

@@ -1,3 +1,4 @@
 pub mod Pages
 pub mod Reading
+pub mod Short
 pub mod Utf8

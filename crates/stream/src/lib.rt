@@ -12,6 +12,7 @@
 
 mod page;
 mod reading;
+mod short;
 mod utf8;
 
 pub use page::Page;

@@ -3,14 +3,18 @@ ghost use Rattle.std.specs.Prelude.{◌≡◌, ◌+◌, ◌++◌, ◌<◌, ◌�
 ghost use Rattle.std.specs.Prelude.{length, slice_index, take, vec_len, vec_capacity};
 ghost use Rattle.std.specs.Char.{is_ascii};
 ghost use Rattle.std.specs.List.{list_all};
-ghost use Rattle.std.specs.Str.{chars};
+ghost use Rattle.std.specs.Simd.Lanes.{Each1};
+ghost use Rattle.std.specs.Str.{IsCharBoundary, chars};
+ghost use Rattle.stream.specs.declared.short.TheConstants.{LANES};
 ghost use Rattle.stream.specs.declared.utf8.TheConstants.{GROUP};
 ghost use Rattle.std.specs.Str.Lossy.{utf8_valid_len, utf8_error_len};
 ghost use Rattle.stream.specs.Utf8.{is_bad, char_len, IsCutOff, Moved};
 
+use crate::short::{LANES, is_ascii, is_short, marks, push_ascii, push_marked};
 use simdutf8::compat::from_utf8;
 use std::alloc::AllocError;
 use std::mem;
+use std::simd::prelude::*;
 
 /// Adds the characters of a text to a list. If the allocation fails, the list is unchanged.
 pub fn push_characters(text: &str, characters: &mut Vec<char>) -> Result<(), AllocError>
@@ -37,10 +41,56 @@ fn with_all(text: &str, characters: Vec<char>) -> Vec<char>
 {
     let mut list = characters;
     let mut rest = text;
+    while rest.len() >= LANES {
+        rest = push_lanes(rest, &mut list);
+    }
     while !rest.is_empty() {
         rest = push_some(rest, &mut list);
     }
     list
+}
+
+// Adds characters at the start of a text, and returns the rest of the text. If the first 16 bytes are in
+// characters of one or two bytes, these are decoded together. A branch for each change of the length would
+// often be mispredicted, as in Hebrew with spaces and digits.
+#[inline(always)]
+fn push_lanes<'a>(text: &'a str, characters: &mut Vec<char>) -> &'a str
+    requires long { LANES ≤ length text.now }
+    requires capacity_left { vec_len characters.old + length text.now ≤ vec_capacity characters.old }
+    ensures pushed { Moved characters.old.items text.now characters.new.items result.now }
+    ensures capacity_left { vec_len characters.new + length result.now ≤ vec_capacity characters.new }
+    ensures capacity { vec_capacity characters.new ≡ vec_capacity characters.old }
+    ensures less { length result.now < length text.now }
+{
+    let bytes = u8x16::from_slice(text.as_bytes());
+    if is_ascii(bytes) {
+        let (_, rest) = text.split_at(LANES);
+        // The text itself would be read again after each character, since the list might overlap it.
+        push_ascii(&bytes.to_array(), characters);
+        return rest;
+    }
+    if !is_short(bytes) {
+        return push_some(text, characters);
+    }
+    let len = short_len(text);
+    let (_, rest) = text.split_at(len);
+    push_marked(bytes, marks(bytes) % (1 << len), characters);
+    rest
+}
+
+// Returns how many of the first `LANES` bytes are whole characters, if these have one or two bytes each: all,
+// or all but the first byte of a character at the end.
+#[inline(always)]
+fn short_len(text: &str) -> usize
+    requires long { LANES ≤ length text.now }
+    ensures bounds { (0 < result) × (result ≤ LANES) }
+    ensures boundary { Each1 (λ byte. byte < 0xE0) (take LANES text.now) → IsCharBoundary text.now result }
+{
+    if text.as_bytes()[LANES - 1] < 0xc0 {
+        LANES
+    } else {
+        LANES - 1
+    }
 }
 
 // The number of characters that are added together if they are ASCII.
@@ -95,18 +145,6 @@ fn are_ascii(bytes: &[u8]) -> bool
         all &= *byte < 0x80;
     }
     all
-}
-
-// Adds ASCII characters to a list that has capacity for them.
-#[inline(always)]
-fn push_ascii(bytes: &[u8], characters: &mut Vec<char>)
-    requires { vec_len characters.old + length bytes.now ≤ vec_capacity characters.old }
-    ensures items { characters.new.items ≡ characters.old.items ++ bytes.now }
-    ensures capacity { vec_capacity characters.new ≡ vec_capacity characters.old }
-{
-    for byte in bytes {
-        characters.push_reserved(*byte as char);
-    }
 }
 
 // Adds the first character of a text, and the following characters as long as their first byte is in a range.

@@ -8,5 +8,5 @@ nothing n is = grind (arith, nat_tests)
 
 pub returns-clause-items : goal.returns-clause-items
 returns-clause-items c =
-    moved_all c.args.characters.items c.args.text.now c.loop-rest.list.items c.loop-rest.rest.now c.loop-rest.invariant.moved
-    (nothing (length c.loop-rest.rest.now) (sym c.is_empty.ensures ∙ c.loop-rest-test.false))
+    moved_all c.args.characters.items c.args.text.now c.loop-rest-2.list.items c.loop-rest-2.rest.now c.loop-rest-2.invariant.moved
+    (nothing (length c.loop-rest-2.rest.now) (sym c.is_empty.ensures ∙ c.loop-rest-2-test.false))

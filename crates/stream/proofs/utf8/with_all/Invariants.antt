@@ -14,3 +14,14 @@ invariant-loop-rest l = record {
 
 abbrev pub decreases-loop-rest : goal.decreases-loop-rest
 decreases-loop-rest l = length l.rest
+
+abbrev pub invariant-loop-rest-2 : goal.invariant-loop-rest-2
+invariant-loop-rest-2 l = record {
+  utf8 : shadow (Utf8 l.rest);
+  moved : Moved l.fn.characters.items l.text l.list.items l.rest;
+  capacity_left : vec_len l.list + length l.rest ≤ vec_capacity l.list;
+  capacity : vec_capacity l.list ≡ vec_capacity l.fn.characters;
+}
+
+abbrev pub decreases-loop-rest-2 : goal.decreases-loop-rest-2
+decreases-loop-rest-2 l = length l.rest

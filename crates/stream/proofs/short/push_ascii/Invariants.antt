@@ -1,5 +1,5 @@
 use Rattle.std.proofs.Common.{◌≡◌, ◌++◌, take, vec_capacity}
-use Rattle.stream.proofs.utf8.push_ascii.Given as goal
+use Rattle.stream.proofs.short.push_ascii.Given as goal
 
 abbrev pub invariant-loop-byte : goal.invariant-loop-byte
 invariant-loop-byte l = record {
