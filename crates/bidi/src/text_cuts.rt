@@ -134,8 +134,8 @@ fn first_lead(block: &[u8]) -> usize
     }
 }
 
-// Returns a bit for each of the first `AT_ONCE` positions of a block, which is set if a paragraph separator may
-// begin there.
+// Returns a bit for each of the first `AT_ONCE` positions of a block, which is set if a paragraph separator
+// may begin there.
 #[inline(always)]
 fn leads_in(block: &[u8]) -> u64
     requires { length block.now ≡ BLOCK }
