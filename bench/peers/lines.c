@@ -39,9 +39,9 @@ int main(int count, char **words) {
         check(status);
         if (fwrite(page, 1, length, stdout) != length) return 1;
     }
+    free(page);
     hordguli_session_close(&session);
     hordguli_tables_close(&tables);
-    free(page);
     free(text);
     return fflush(stdout) != 0;
 }
