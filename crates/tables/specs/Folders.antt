@@ -1,23 +1,27 @@
 -- The tables of a folder, by what it holds: its files by their index in `FILE_NAMES`, and maybe an image.
-use Rattle.std.specs.Prelude.{ℕ, ◌⊎◌, List, ⊤}
+use Rattle.std.specs.Prelude.{◌≡◌, ℕ, ◌<◌, ◌⊎◌, List, codes, ⊤}
+use Rattle.ucd.specs.FileNames.{file_name}
 use Rattle.ucd.specs.Imaged.{IsImageOf}
-use Rattle.ucd.specs.Images.{IsImageFault}
+use Rattle.ucd.specs.Images.{IsFirstFault, MayAllocate}
 use Rattle.ucd.specs.Tables.{AreTablesOf, IsFaultOf}
 use Rattle.ucd.specs.declared.tables.Tables.{Tables}
 use Rattle.ucd.specs.declared.tables.UcdFiles.{UcdFiles}
 use Rattle.tables.specs.declared.fault.FolderFault.{FolderFault}
 use Rattle.tables.specs.declared.fault.FolderFault.TheVariants.{Unread, Table, Image, Memory}
 
--- a file cannot be read, or an allocation failed
-abbrev pub IsUnread : FolderFault → Type 0
-IsUnread (Unread name) = ⊤
-IsUnread Memory = ⊤
-IsUnread other = ⊥
+abbrev pub image_name : List ℕ
+image_name = codes "tables.image"
+
+-- a file with this name cannot be read, or an allocation failed
+abbrev pub IsUnread : Type 0 → List ℕ → FolderFault → Type 0
+IsUnread lacks name (Unread told) = lacks × (told.now ≡ name)
+IsUnread lacks name Memory = ⊤
+IsUnread lacks name other = ⊥
 
 -- the first fault of the image, or an allocation failure
 abbrev pub IsUnusable : List ℕ → FolderFault → Type 0
-IsUnusable bytes (Image why) = IsImageFault bytes why
-IsUnusable bytes Memory = ⊤
+IsUnusable bytes (Image why) = IsFirstFault bytes why
+IsUnusable bytes Memory = MayAllocate bytes
 IsUnusable bytes other = ⊥
 
 -- the first fault of the files
@@ -25,7 +29,8 @@ abbrev pub IsFaultFor : UcdFiles → FolderFault → Type 0
 IsFaultFor files (Table fault) = IsFaultOf files fault
 IsFaultFor files other = ⊥
 
-module _ (has_file : ℕ → List ℕ → Type 0) where
+-- a folder that has files with certain bytes, and lacks other files
+module _ (has_file : ℕ → List ℕ → Type 0) (lacks_file : ℕ → Type 0) where
   -- the contents of the seven files
   pub record AreFiles (files : UcdFiles) : Type 0 where
     pub bidi_class : has_file 0 files.bidi_class.now
@@ -40,17 +45,30 @@ module _ (has_file : ℕ → List ℕ → Type 0) where
   abbrev pub AreFromFiles : Tables → Type 0
   AreFromFiles tables = (files : UcdFiles) × AreFiles files × AreTablesOf files tables
 
+  -- the first file that cannot be read, or an allocation failed
+  pub record IsFirstUnread (why : FolderFault) (index : ℕ) : Type 0 where
+    pub within : index < 7
+    pub first : (k : ℕ) → k < index → (bytes : List ℕ) × has_file k bytes
+    pub unread : IsUnread (lacks_file index) (file_name index) why
+
   -- a file cannot be read, or this is the first fault of the files
   abbrev pub IsFileFault : FolderFault → Type 0
-  IsFileFault why = IsUnread why ⊎ ((files : UcdFiles) × AreFiles files × IsFaultFor files why)
+  IsFileFault why = ((index : ℕ) × IsFirstUnread why index) ⊎ ((files : UcdFiles) × AreFiles files × IsFaultFor files why)
 
-  module _ (has_image : List ℕ → Type 0) (has_no_image : Type 0) where
+  -- a folder that has an image with certain bytes, or has none, or has one that cannot be read
+  module _ (has_image : List ℕ → Type 0) (has_no_image lacks_image : Type 0) where
     -- the tables are those of the image, or there is none and they are those of the files
     abbrev pub AreInstalled : Tables → Type 0
     AreInstalled tables = ((bytes : List ℕ) × has_image bytes × IsImageOf bytes tables) ⊎ (has_no_image × AreFromFiles tables)
 
-    -- Something cannot be read, or this is the first fault of the image, or there is none and this is the first
-    -- fault of the files.
+    -- the image cannot be read, or this is its first fault, or there is none and this is the fault of the files
     abbrev pub IsInstalledFault : FolderFault → Type 0
     IsInstalledFault why =
-        IsUnread why ⊎ (((bytes : List ℕ) × has_image bytes × IsUnusable bytes why) ⊎ (has_no_image × IsFileFault why))
+        IsUnread lacks_image image_name why ⊎ (((bytes : List ℕ) × has_image bytes × IsUnusable bytes why) ⊎ (has_no_image × IsFileFault why))
+
+-- what the file system holds: no definition says, so each file may have any bytes, and any file may be missing
+abbrev pub any_bytes : ℕ → List ℕ → Type 0
+any_bytes index bytes = ⊤
+
+abbrev pub any_file : ℕ → Type 0
+any_file index = ⊤

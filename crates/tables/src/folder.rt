@@ -1,38 +1,43 @@
 //! Folders of tables.
-ghost use Rattle.std.specs.Prelude.{ℕ, List, ◌<◌, IfOk, IfErr, MatchOption, ⊤};
-ghost use Rattle.tables.specs.Folders.{IsUnread};
+ghost use Rattle.std.specs.Prelude.{◌≡◌, ℕ, List, ◌<◌, IfOk, IfErr, MatchOption, ⊤};
+ghost use Rattle.ucd.specs.FileNames.{file_name};
+ghost use Rattle.tables.specs.Folders.{any_bytes, any_file, image_name, IsUnread};
 
 use crate::fault::FolderFault;
 use std::alloc::Global;
 use std::fs::File;
 use std::io;
 use std::io::{ErrorKind, Read};
-use ucd::FILE_NAMES;
+use ucd::file_name;
 
 /// The name of the compiled image in a folder of installed tables.
 pub const IMAGE_NAME: &str = "tables.image";
 
 /// A folder of tables. The contracts of its readers say from which of its contents the tables come.
 pub trait TableFolder {
-    // The file with this index in `FILE_NAMES` has these bytes.
+    // The file with this index in `FILE_NAMES` has these bytes, or cannot be read.
     ghost has_file: { Self → ℕ → List ℕ → Type 0 };
 
-    // The image has these bytes, or there is none.
+    ghost lacks_file: { Self → ℕ → Type 0 };
+
+    // The image has these bytes, or there is none, or it cannot be read.
     ghost has_image: { Self → List ℕ → Type 0 };
 
     ghost has_no_image: { Self → Type 0 };
 
-    /// Reads the file with this index in `FILE_NAMES`.
+    ghost lacks_image: { Self → Type 0 };
+
+    /// Reads the file with this index in `FILE_NAMES`. Fails if it cannot be read, or if memory runs out.
     fn file(&self, alloc: Global, index: usize) -> Result<Vec<u8>, FolderFault>
         requires { index < 7 }
         ensures ok { IfOk result (λ bytes. has_file self.now index bytes.items) }
-        ensures err { IfErr result IsUnread };
+        ensures err { IfErr result (IsUnread (lacks_file self.now index) (file_name index)) };
 
-    /// Reads the image, if there is one.
+    /// Reads the image, if there is one. Fails if it cannot be read, or if memory runs out.
     fn image(&self, alloc: Global) -> Result<Option<Vec<u8>>, FolderFault>
         ensures ok { IfOk result (λ image. MatchOption image (has_no_image self.now)
             (λ bytes. has_image self.now bytes.items)) }
-        ensures err { IfErr result IsUnread };
+        ensures err { IfErr result (IsUnread (lacks_image self.now) image_name) };
 }
 
 /// A folder of the file system.
@@ -58,16 +63,20 @@ impl<'a> DiskFolder<'a> {
     }
 }
 
-// No contract covers what the file system holds.
+// That these methods read the files that they name is trusted: no contract covers what the file system holds.
 impl TableFolder for DiskFolder<'_> {
-    ghost has_file = { λ _ _ _. ⊤ };
+    ghost has_file = { λ _ index bytes. any_bytes index bytes };
+
+    ghost lacks_file = { λ _ index. any_file index };
 
     ghost has_image = { λ _ _. ⊤ };
 
     ghost has_no_image = { λ _. ⊤ };
 
+    ghost lacks_image = { λ _. ⊤ };
+
     fn file(&self, alloc: Global, index: usize) -> Result<Vec<u8>, FolderFault> {
-        let name = FILE_NAMES[index];
+        let name = file_name(index);
         match self.read(alloc, name) {
             Ok(bytes) => Ok(bytes),
             Err(error) => Err(unread(error.kind(), name)),
@@ -91,7 +100,7 @@ fn capacity_for(file: &File) -> io::Result<usize> {
 }
 
 fn unread(kind: ErrorKind, name: &'static str) -> FolderFault
-    ensures { IsUnread result }
+    ensures { IsUnread ⊤ name.now result }
 {
     if kind == ErrorKind::OutOfMemory {
         FolderFault::Memory

@@ -1,11 +1,12 @@
 //! Reads the tables from a folder, for programs: from seven files, or from a compiled image.
 #![tactic(auto)]
 
-ghost use Rattle.std.specs.Prelude.{IfOk, IfErr};
+ghost use Rattle.std.specs.Prelude.{ℕ, List, IfOk, IfErr, ⊤};
 ghost use Rattle.ucd.specs.Imaged.{IsImageOf};
+ghost use Rattle.ucd.specs.Images.{IsImageFault};
 ghost use Rattle.ucd.specs.Tables.{AreTablesOf};
-ghost use Rattle.tables.specs.Folders.{AreFromFiles, AreInstalled, IsFileFault, IsInstalledFault};
-ghost use Rattle.tables.specs.Folders.{IsFaultFor, IsUnusable};
+ghost use Rattle.tables.specs.Folders.{any_bytes, any_file, AreFromFiles, AreInstalled, IsFaultFor};
+ghost use Rattle.tables.specs.Folders.{IsFileFault, IsInstalledFault, IsUnusable};
 
 mod fault;
 mod folder;
@@ -16,19 +17,25 @@ use std::alloc::Global;
 use ucd::{ImageFault, Tables, UcdFiles};
 
 /// Reads the tables from the seven files of a folder, as `from_files`.
-pub fn in_folder(rt: &HostRuntime, folder: &str) -> Result<Tables, FolderFault> {
+pub fn in_folder(rt: &HostRuntime, folder: &str) -> Result<Tables, FolderFault>
+    ensures ok { IfOk result (AreFromFiles any_bytes any_file) }
+    ensures err { IfErr result (IsFileFault any_bytes any_file) }
+{
     from_files(rt.alloc(), &DiskFolder::new(rt, folder))
 }
 
 /// Reads the tables of an installed folder, as `from_installed`.
-pub fn installed(rt: &HostRuntime, folder: &str) -> Result<Tables, FolderFault> {
+pub fn installed(rt: &HostRuntime, folder: &str) -> Result<Tables, FolderFault>
+    ensures ok { IfOk result (AreInstalled any_bytes any_file (λ _. ⊤) ⊤ ⊤) }
+    ensures err { IfErr result (IsInstalledFault any_bytes any_file (λ _. ⊤) ⊤ ⊤) }
+{
     from_installed(rt.alloc(), &DiskFolder::new(rt, folder))
 }
 
 /// Reads the tables from the seven files, and reads no image. Reads all files before it parses the first.
 pub fn from_files<F: TableFolder>(alloc: Global, folder: &F) -> Result<Tables, FolderFault>
-    ensures ok { IfOk result (AreFromFiles (F.has_file folder.now)) }
-    ensures err { IfErr result (IsFileFault (F.has_file folder.now)) }
+    ensures ok { IfOk result (AreFromFiles (F.has_file folder.now) (F.lacks_file folder.now)) }
+    ensures err { IfErr result (IsFileFault (F.has_file folder.now) (F.lacks_file folder.now)) }
 {
     let bidi_class = folder.file(alloc, 0)?;
     let bidi_brackets = folder.file(alloc, 1)?;
@@ -54,10 +61,10 @@ pub fn from_files<F: TableFolder>(alloc: Global, folder: &F) -> Result<Tables, F
 /// Reads the tables from the image, or from the seven files if there is no image. If the image cannot be read
 /// or used, nothing is read in its place.
 pub fn from_installed<F: TableFolder>(alloc: Global, folder: &F) -> Result<Tables, FolderFault>
-    ensures ok { IfOk result (AreInstalled (F.has_file folder.now) (F.has_image folder.now)
-        (F.has_no_image folder.now)) }
-    ensures err { IfErr result (IsInstalledFault (F.has_file folder.now) (F.has_image folder.now)
-        (F.has_no_image folder.now)) }
+    ensures ok { IfOk result (AreInstalled (F.has_file folder.now) (F.lacks_file folder.now)
+        (F.has_image folder.now) (F.has_no_image folder.now) (F.lacks_image folder.now)) }
+    ensures err { IfErr result (IsInstalledFault (F.has_file folder.now) (F.lacks_file folder.now)
+        (F.has_image folder.now) (F.has_no_image folder.now) (F.lacks_image folder.now)) }
 {
     match folder.image(alloc)? {
         Some(bytes) => of_image(alloc, &bytes),
@@ -72,8 +79,16 @@ pub fn of_image(alloc: Global, bytes: &[u8]) -> Result<Tables, FolderFault>
 {
     match Tables::from_image(alloc, bytes) {
         Ok(tables) => Ok(tables),
-        Err(ImageFault::Memory) => Err(FolderFault::Memory),
-        Err(fault) => Err(FolderFault::Image(fault)),
+        Err(fault) => Err(image_fault(fault)),
+    }
+}
+
+fn image_fault(fault: ImageFault) -> FolderFault
+    ensures { (bytes : List ℕ) → IsImageFault bytes fault → IsUnusable bytes result }
+{
+    match fault {
+        ImageFault::Memory => FolderFault::Memory,
+        _ => FolderFault::Image(fault),
     }
 }
 

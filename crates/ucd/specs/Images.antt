@@ -167,6 +167,13 @@ IsFirstFault bytes =
     Fails (AreBracketFlags bytes) fault.Flags (
     Fails (AreMirrorFlags bytes) fault.Flags (λ _. ⊥)))))))))))))
 
+-- what is checked before any memory is allocated
+pub record MayAllocate (bytes : List ℕ) : Type 0 where
+  pub framed : IsFramed bytes
+  pub pages : ArePagesKnown bytes
+  pub entries : AreEntries bytes
+
 -- the first fault of the image, or an allocation failure
 abbrev pub IsImageFault : List ℕ → ImageFault → Type 0
-IsImageFault bytes why = (why ≡ fault.Memory) ⊎ IsFirstFault bytes why
+IsImageFault bytes fault.Memory = MayAllocate bytes
+IsImageFault bytes why = IsFirstFault bytes why

@@ -9,6 +9,7 @@ pub mod Contents
 pub mod DistinctPages
 pub mod Emoji
 pub mod Entries
+pub mod FileNames
 pub mod Files
 pub mod Grammar
 pub mod Imaged

@@ -1,5 +1,6 @@
 //! Errors in table files.
-ghost use Rattle.std.specs.Prelude.{◌≡◌};
+ghost use Rattle.std.specs.Prelude.{◌≡◌, ◌<◌};
+ghost use Rattle.ucd.specs.FileNames.{file_name};
 
 use crate::file::FileFault;
 use std::fmt;
@@ -15,6 +16,14 @@ pub const FILE_NAMES: [&str; 7] = [
     "EastAsianWidth.txt",
     "emoji-data.txt",
 ];
+
+/// Returns the name of the file with this index in `FILE_NAMES`.
+pub fn file_name(index: usize) -> &'static str
+    requires { index < 7 }
+    ensures { result.now ≡ file_name index }
+{
+    FILE_NAMES[index]
+}
 
 /// What is wrong with a line. If several causes apply, the first in this order is reported: `NotAscii`,
 /// `FieldCount`, `CodePoint`, `Reversed`, `Value`, `NamedBefore`.

@@ -2,7 +2,7 @@
 ghost use Rattle.std.specs.Prelude.{◌≡◌, ◌+◌, ◌*◌, ◌^◌, ◌<◌, ◌≤◌, true, false};
 ghost use Rattle.std.specs.Prelude.{length, take, codes, IfErr, OnOk};
 ghost use Rattle.ucd.specs.Images.{page_count, bracket_count, mirror_count, brackets_at, mirrors_at};
-ghost use Rattle.ucd.specs.Images.{checksum_at, IsFramed, IsFirstFault};
+ghost use Rattle.ucd.specs.Images.{checksum_at, IsFramed, IsImageFault};
 
 use crate::image_bytes::{checksum, u32_at, u64_at};
 use crate::image_fault::ImageFault;
@@ -88,7 +88,7 @@ fn has_magic(bytes: &[u8]) -> bool
 /// Checks the header, the length and the checksum, in this order.
 pub fn check_frame(bytes: &[u8]) -> Result<(), ImageFault>
     ensures ok { OnOk result (IsFramed bytes.now) }
-    ensures err { IfErr result (IsFirstFault bytes.now) }
+    ensures err { IfErr result (IsImageFault bytes.now) }
 {
     if bytes.len() < HEADER {
         return Err(ImageFault::Truncated);

@@ -52,7 +52,7 @@ mod width;
 pub use bidi_class::BidiClass;
 pub use bracket::Bracket;
 pub use classes::{Classes, KnownClasses, ListedClasses, TextClasses};
-pub use fault::{Cause, FILE_NAMES, TableFault};
+pub use fault::{Cause, FILE_NAMES, TableFault, file_name};
 pub use image_fault::ImageFault;
 pub use line_class::LineClass;
 pub use properties::{LINE_INDEX_COUNT, Properties};

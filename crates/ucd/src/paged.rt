@@ -68,7 +68,8 @@ impl PagedTables {
         })
     }
 
-    /// Decodes an image. Its parts are checked in the order of `ImageFault`.
+    /// Decodes an image. Its parts are checked in the order of `ImageFault`, and no memory is allocated before the
+    /// frame, the page numbers and the entries have passed.
     pub fn from_image(alloc: Global, bytes: &[u8]) -> Result<PagedTables, ImageFault>
         ensures ok { IfOk result (IsImageOf bytes.now) }
         ensures err { IfErr result (IsImageFault bytes.now) }
