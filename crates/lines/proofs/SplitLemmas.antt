@@ -3,7 +3,7 @@
 use Rattle.std.proofs.Common.{◌≡◌, ℕ, zero, suc, ◌+◌, ◌-◌, ◌<◌, ◌≤◌, Bool, true, false, not, ◌&&◌, ◌||◌, List, [], ◌∷◌, ◌++◌, append-nil, append_assoc, drop-cons, length, length-drop, map, take, drop, get_or, unwrap_or, Option, Some, None, ◌⊎◌, inl, inr, refl, sym, ap, ap₂, ◌∙◌, arith}
 use Rattle.std.proofs.Math.ListN.{drop_of_length-le}
 use Rattle.std.proofs.Math.Seq.{take-length, take-suc}
-use Rattle.std.proofs.lemmas.Bool.{and_parts, cases_eq}
+use Rattle.std.proofs.lemmas.Bool.{and_parts, both_ways, cases_eq, cases_lt}
 use Rattle.std.proofs.lemmas.List.{get_or-drop, length-take-le, take-append-drop}
 use Rattle.std.specs.List.{slice_range}
 use Rattle.ucd_table.specs.Rows.{value_in}
@@ -295,6 +295,27 @@ module _ (text : List ℕ) (from to k : ℕ) (opens : IsSplitPoint text from) (c
       let first : k - from ≡ 0 = omega (arith, one, start, past) in
       let end = only_end (cluster_ends (slice_range text from to)) (length_window ∙ one) closes_window in
       window_end ∙ ap (λ n. from + cluster_end (cluster_ends (slice_range text from to)) n) first ∙ omega (arith, end, first, start)
+
+-- the split points nearest to character k, if one is before it or after it
+pub splits_before : (text : List ℕ) (start k : ℕ) → k < length text → start ≤ k → ((i : ℕ) → start < i → i ≤ k → is_split_point text i ≡ false)
+    → IsSplitPoint text k → start ≡ k
+splits_before text start k inside most nearest (inl first) = omega (arith, first)
+splits_before text start k inside most nearest (inr (inl last)) = absurd (omega (arith, last))
+splits_before text start k inside most nearest (inr (inr splits)) =
+    elim (cases_lt start k) [
+      | inl before ↦ absurd (both_ways (is_split_point text k) (nearest k before (omega arith)) splits)
+      | inr here ↦ omega (arith, here)
+    ]
+
+pub splits_after : (text : List ℕ) («end» k : ℕ) → «end» ≤ length text → k < «end» → ((i : ℕ) → k < i → i < «end» → is_split_point text i ≡ false)
+    → IsSplitPoint text (k + 1) → «end» ≡ k + 1
+splits_after text «end» k most past nearest (inl first) = absurd (omega (arith, first))
+splits_after text «end» k most past nearest (inr (inl last)) = omega (arith, last)
+splits_after text «end» k most past nearest (inr (inr splits)) =
+    elim (cases_lt (k + 1) «end») [
+      | inl before ↦ absurd (both_ways (is_split_point text (k + 1)) (nearest (k + 1) (omega arith) before) splits)
+      | inr here ↦ omega (arith, here)
+    ]
 
 -- Rows worked by hand. A split is possible between letters, between emoji, after an emoji with a modifier, and between a space and
 -- a letter of a conjunct; it is not possible next to a joiner, between CR and LF, in a flag, in a conjunct or in a syllable.

@@ -49,8 +49,7 @@ abbrev pub ends_of : List ℕ → List Bool
 ends_of cluster = replicate (length (chars cluster) - 1) false ++ true ∷ []
 
 -- Some characters that no rule joins to one another, namely Latin, Greek, Cyrillic, Armenian and kana without combining marks,
--- Hebrew and Arabic letters, ideographs, punctuation and some controls. No contract of an exported function uses the definitions
--- below.
+-- Hebrew and Arabic letters, ideographs, punctuation and some controls.
 abbrev pub lies_in : ℕ → ℕ → ℕ → Bool
 lies_in first last c = nat_le first c && nat_le c last
 
@@ -107,3 +106,7 @@ is_split_point text k = can_split (slice_index_or text (k - 1) 0) (slice_index_o
 
 abbrev pub IsSplitPoint : List ℕ → ℕ → Type 0
 IsSplitPoint text k = (k ≡ 0) ⊎ ((k ≡ length text) ⊎ (is_split_point text k ≡ true))
+
+-- whether the nearest split points around character k have no other character between them
+abbrev pub IsBetweenSplits : List ℕ → ℕ → Type 0
+IsBetweenSplits text k = IsSplitPoint text k × IsSplitPoint text (k + 1)

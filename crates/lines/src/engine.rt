@@ -36,6 +36,9 @@ use ucd::Tables;
 /// The maximum number of characters in a paragraph.
 pub const PARAGRAPH_LIMIT: usize = 1_048_576;
 
+// The limit that the documents name. Contracts name the constant.
+const _: () = prove!(PARAGRAPH_LIMIT == 1_048_576);
+
 /// Lays out paragraphs using its tables and options, and counts the work. The engine never lends its tables
 /// to a caller, so all work done with them is counted.
 #[derive(Debug)]

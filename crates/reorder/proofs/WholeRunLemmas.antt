@@ -1,6 +1,6 @@
 -- The level runs of a line are maximal, and their characters, one run after the other, are in visual order.
 use Rattle.std.proofs.Common.{◌≡◌, ◌≢◌, ℕ, zero, suc, ◌+◌, ◌-◌, ◌<◌, ◌≤◌, ◌==◌, nat_le, nat_lt, Bool, true, false, ◌&&◌, List, [], ◌∷◌, ◌++◌, length, get_or, map, reverse}
-use Rattle.std.proofs.Common.{refl, sym, ap, ◌∙◌, inl, inr, arith, cond}
+use Rattle.std.proofs.Common.{refl, sym, ap, ◌∙◌, inl, inr, arith, cond, length-append, zero-add}
 use Rattle.std.specs.List.{filter, flat_map, range_with_len, sum_by, All}
 use Rattle.std.proofs.lemmas.Bool.{and_from, and_left, and_right, cases_Bool, cases_eq, cases_lt, cond-true, cond-false, eq-eqb, le-leb, le-ltb, lt-leb, lt-ltb, ne_eqb, not_from_false, not_from_true}
 use Rattle.std.proofs.lemmas.List.{append-nil, reverse-append}
@@ -9,10 +9,10 @@ use Rattle.std.proofs.lemmas.List.Sorted.{All-permutation, sum_by-IsPermutation}
 use Rattle.std.proofs.lemmas.List.Sums.{sum_by-append, sum_by-cons}
 use Rattle.reorder.specs.LevelRuns.{level_run_len, run_at, run_shown, turned}
 use Rattle.reorder.specs.Order.{is_odd, order_of, places}
-use Rattle.reorder.specs.Runs.{begins_run, has_place, places_in, run_from, run_starts, runs_of, AreRuns, IsMaximal}
+use Rattle.reorder.specs.Runs.{begins_run, has_place, places_in, run_count, run_from, run_starts, runs_of, AreRuns, IsMaximal}
 use Rattle.reorder.specs.declared.runs.Run.{Run}
 use Rattle.reorder.proofs.OrderLemmas.{order_of_permutes}
-use Rattle.reorder.proofs.RunLemmas.{range_append, runs_in_order, turned_permutes}
+use Rattle.reorder.proofs.RunLemmas.{length-turned, range_append, runs_in_order, turned_permutes}
 use Rattle.reorder.proofs.SortedLemmas.{EachOf, EachOf-from_All, EachOf-map}
 use Rattle.reorder.proofs.StartLemmas.{are_starts, begins_apart, run_level, run_stops, run_within, OneLevel}
 
@@ -239,6 +239,9 @@ module _ (levels : List ℕ) where
   starts_are : run_starts levels ≡ starts
   starts_are = ap (filter begins) (sym shown_in_order) ∙ starts_in starts starts_begin
 
+  counted_in_text : length (filter begins (places levels)) ≡ run_count levels
+  counted_in_text = sym (length-turned levels (filter begins (places levels))) ∙ ap length (sym starts_are)
+
   runs_in_line : flat_map places_in (map (run_from levels) (run_starts levels)) ≡ order_of levels
   runs_in_line =
       flat_map-map places_in (run_from levels) (run_starts levels)
@@ -270,3 +273,36 @@ module _ (levels : List ℕ) where
         in_order = runs_in_line;
         sums = run_sums runs runs_in_line;
       }
+
+-- ---- the scan that counts the runs
+
+-- the runs before the index `start`, where a run begins or the line ends, are counted
+pub record RunsCounted (levels : List ℕ) (count start : ℕ) : Type 0 where
+  pub counted : length (filter (begins_run levels) (range_with_len 0 start)) ≡ count
+  pub begins : start < length levels → begins_run levels start ≡ true
+
+pub RunsCounted-start : (levels : List ℕ) → RunsCounted levels 0 0
+RunsCounted-start levels = record { counted = refl; begins = λ some. refl }
+
+pub RunsCounted-next : (levels : List ℕ) (count start len : ℕ) → RunsCounted levels count start → start < length levels
+    → len ≡ level_run_len levels start → RunsCounted levels (count + 1) (start + len)
+RunsCounted-next levels count start len w below len_is =
+    let before : List ℕ = range_with_len 0 start in
+    let split : range_with_len 0 (start + len) ≡ before ++ run_at levels start =
+    sym (range_append 0 start len)
+    ∙ ap (λ (s : ℕ). before ++ range_with_len s len) (zero-add start)
+    ∙ ap (λ (n : ℕ). before ++ range_with_len start n) len_is in
+    record {
+      counted = ap (λ (xs : List ℕ). length (filter (begins_run levels) xs)) split
+          ∙ ap length (filter-append (begins_run levels) before (run_at levels start))
+          ∙ ap (λ (xs : List ℕ). length (filter (begins_run levels) before ++ xs)) (one_begins levels start (w.begins below))
+          ∙ length-append (filter (begins_run levels) before) (start ∷ [])
+          ∙ ap (λ (n : ℕ). n + 1) w.counted;
+      begins = next_begins levels start (start + len) (ap (λ (n : ℕ). start + n) (sym len_is));
+    }
+
+pub RunsCounted-end : (levels : List ℕ) (count start : ℕ) → RunsCounted levels count start → start ≡ length levels → count ≡ run_count levels
+RunsCounted-end levels count start w at_end =
+    sym w.counted
+    ∙ ap (λ (n : ℕ). length (filter (begins_run levels) (range_with_len 0 n))) at_end
+    ∙ counted_in_text levels

@@ -32,6 +32,9 @@ module _ (levels : List ℕ) where
   abbrev pub run_starts : List ℕ
   run_starts = filter begins_run (order_of levels)
 
+  abbrev pub run_count : ℕ
+  run_count = length run_starts
+
   -- the runs, in the visual order of their first characters
   unfoldable pub runs_of : List Run
   runs_of = map run_from run_starts

@@ -2,7 +2,7 @@
 ghost use Rattle.std.specs.Prelude.{◌≡◌, ◌<◌, ◌≤◌, ◌==◌, ◌++◌, min, if◌then◌else◌};
 ghost use Rattle.std.specs.Prelude.{ℕ, Bool, true, false, List, [], length, map, take, drop, slice_index};
 ghost use Rattle.std.specs.Prelude.{unwrap_or, IfSome, None};
-ghost use Rattle.std.specs.Prelude.{◌+◌, reverse};
+ghost use Rattle.std.specs.Prelude.{◌+◌, ◌*◌, reverse};
 ghost use Rattle.std.specs.List.{flat_map, list_all, position_or_len, prefix_len, range_with_len};
 ghost use Rattle.std.specs.List.Sorted.{IsPermutation};
 ghost use Rattle.ucd.specs.Within.{AreWithin};
@@ -13,6 +13,7 @@ ghost use Rattle.reorder.specs.Lanes.{AreAll, first_set, others};
 ghost use Rattle.reorder.specs.Order.{has_base, highest, is_at_least, is_mark_at, is_odd, lowest_odd};
 ghost use Rattle.reorder.specs.Order.{ltov_of, order_of, places, reverse_runs, reverse_with_next};
 ghost use Rattle.reorder.specs.Order.{vtol_of, AreInverse};
+ghost use Rattle.reorder.specs.Runs.{run_count};
 
 use std::simd::prelude::*;
 use ucd::{BidiClass, Classes};
@@ -105,15 +106,17 @@ fn order_places(levels: &[u8], vtol: &mut [u32])
 }
 
 /// Writes the start of each level run of a line, in visual order, to the front of a list, and returns the
-/// number of runs. L2 then moves runs instead of single characters. If most runs have one character, writes
-/// the logical positions of all characters in visual order instead, and returns `None`.
+/// number of runs. L2 then moves runs instead of single characters. If there are more runs than half the
+/// characters, writes the logical positions of all characters in visual order instead, and returns `None`.
 pub fn order_runs(levels: &[u8], items: &mut [u32]) -> Option<usize>
     requires len { length items.old ≡ length levels.now }
     requires limit { length levels.now ≤ u32.MAX }
     ensures runs { IfSome result (λ count.
         flat_map (run_shown levels.now) (take count items.new) ≡ order_of levels.now) }
     ensures within { IfSome result (λ count. AreWithin (length levels.now) (take count items.new)) }
-    ensures few { IfSome result (λ count. count ≤ length items.new) }
+    ensures count { IfSome result (λ count. count ≡ run_count levels.now) }
+    ensures few { IfSome result (λ count. 2 * count ≤ length items.new) }
+    ensures many { result ≡ None → length items.new < 2 * run_count levels.now }
     ensures places { result ≡ None → items.new ≡ order_of levels.now }
 {
     let (count, highest, lowest) = find_runs(levels, items);
@@ -134,6 +137,7 @@ fn find_runs(levels: &[u8], items: &mut [u32]) -> (usize, u8, Option<u8>)
     ensures runs { flat_map (run_at levels.now) (take result.0 items.new) ≡ places levels.now }
     ensures within { AreWithin (length levels.now) (take result.0 items.new) }
     ensures few { result.0 ≤ length items.new }
+    ensures count { result.0 ≡ run_count levels.now }
     ensures highest { result.1 ≡ highest levels.now }
     ensures lowest { result.2 ≡ lowest_odd levels.now }
     ensures ordered { IfSome result.2 (λ lowest. (0 < lowest) × (lowest ≤ result.1)) }

@@ -4,6 +4,9 @@ use thiserror::Error;
 /// The maximum number of characters in a text.
 pub const TEXT_LIMIT: usize = 16_777_216;
 
+// The limit that the documents name. Contracts name the constant.
+const _: () = prove!(TEXT_LIMIT == 16_777_216);
+
 /// An edit of a text, or a change of its width. Positions count characters (Unicode scalar values).
 #[derive(Clone, Copy, Debug)]
 pub enum Edit<'a> {

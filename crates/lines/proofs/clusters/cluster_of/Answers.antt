@@ -1,7 +1,12 @@
-use Rattle.std.proofs.Common.{◌+◌, ◌-◌, Bool, List, sym, ap, ◌∙◌, arith}
+use Rattle.std.proofs.Common.{◌+◌, ◌-◌, Bool, List, Result, Ok, Err, sym, ap, ◌∙◌, arith}
+use Rattle.std.specs.Result.{OnErr}
 use Rattle.lines.specs.Clusters.{cluster_begin, cluster_end}
-use Rattle.lines.proofs.SplitLemmas.{only_begin, only_past, window_begin, window_end}
+use Rattle.lines.proofs.SplitLemmas.{only_begin, only_past, splits_after, splits_before, window_begin, window_end}
 use Rattle.lines.proofs.clusters.cluster_of.Goals as goal
+
+on_err : {A E P : Type 0} (r : Result A E) → P → OnErr r P
+on_err (Ok x) p = tt
+on_err (Err e) p = p
 
 -- the window is character k alone
 pub returns-then-end-start-eq1-clause-start : goal.returns-then-end-start-eq1-clause-start
@@ -31,3 +36,12 @@ returns-clause-end c =
     let closes = c.window_end-end.ensures in
     ap (λ n. from + n) (c.cluster_end-past.ensures.value ∙ ap (λ (ends : List Bool). cluster_end ends (c.args.k - from)) (c.deref-2.ensures.value ∙ c.in_ok-ends.ensures.ends))
     ∙ sym (window_end c.args.text.now from c.window_end-end.result c.args.k opens.split closes.split opens.most closes.past closes.most)
+
+-- a window between two split points next to character k is character k alone
+pub returns-in_err-ends-clause-memory : goal.returns-in_err-ends-clause-memory
+returns-in_err-ends-clause-memory c =
+    let opens = c.window_start-start.ensures in
+    let closes = c.window_end-end.ensures in
+    on_err c.from_residual.result (λ (before, past).
+    c.if-end-start-eq1.false (omega (arith, splits_before c.args.text.now _ c.args.k c.requires opens.most opens.nearest before,
+    splits_after c.args.text.now _ c.args.k closes.most closes.past closes.nearest past)))
