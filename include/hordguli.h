@@ -58,8 +58,9 @@
  *     if (status == HORDGULI_NO_ROOM && (buffer = malloc(length)) != NULL)
  *         status = hordguli_text(&session, pos, count, length, buffer, &length);
  *
- * `hordguli_spans`, `hordguli_runs`, `hordguli_row_runs` and `hordguli_text_utf32` do the same with arrays, and count
- * elements. `hordguli_line` and `hordguli_paragraph` store the required number of elements in `*info`.
+ * `hordguli_spans`, `hordguli_runs`, `hordguli_row_runs`, `hordguli_line_clusters` and `hordguli_text_utf32` do the same
+ * with arrays, and count elements. `hordguli_line` and `hordguli_paragraph` store the required number of elements in
+ * `*info`.
  *
  * THREADS, SIGNALS AND FORK
  *
@@ -145,16 +146,20 @@ const char *hordguli_unicode_version(void);
 
 /* ---- Session options ----
  *
- * Options are one base direction and any of the other options, combined by bitwise OR (`|`). */
+ * Options are one base direction and any of the other options, combined by bitwise OR (`|`). Two different directions
+ * are refused with UNKNOWN_OPTION. Options without a direction are HORDGULI_WEAK_LTR.
+ *
+ * Bits 0 and 1 are the direction. Bit 24 says that bit 0 is given as 0, and bit 25 says so of bit 1. Both may be left
+ * out, so the numbers 0 to 3 are directions too. Bits 16 to 23 are reserved. */
 
 /* The direction of a paragraph's first strong character, or LTR if there is none. */
-#define HORDGULI_WEAK_LTR UINT32_C(0)
+#define HORDGULI_WEAK_LTR UINT32_C(0x3000000)
 /* The direction of a paragraph's first strong character, or RTL if there is none. */
-#define HORDGULI_WEAK_RTL UINT32_C(1)
+#define HORDGULI_WEAK_RTL UINT32_C(0x2000001)
 /* All paragraphs are left-to-right. */
-#define HORDGULI_LTR UINT32_C(2)
+#define HORDGULI_LTR UINT32_C(0x1000002)
 /* All paragraphs are right-to-left. */
-#define HORDGULI_RTL UINT32_C(3)
+#define HORDGULI_RTL UINT32_C(0x0000003)
 /* Ends lines at mandatory breaks only. */
 #define HORDGULI_NOBREAK UINT32_C(4)
 /* Puts nonspacing marks at odd levels after their base in visual order (UAX #9, L3). Use it if the terminal draws a
@@ -282,7 +287,8 @@ typedef struct hordguli_table_fault {
 hordguli_status hordguli_tables_open_builtin(hordguli_tables *tables);
 
 /* Opens tables from a compiled image, such as the file `tables.image` that is installed with the table files. `fault`
- * may be NULL, and is set only on TABLE_FAULT. If memory runs out before the fault is found, NO_MEMORY is returned.
+ * may be NULL, and is set only on TABLE_FAULT. The causes up to HORDGULI_CAUSE_ENTRY are ruled out before any memory is
+ * allocated. If memory runs out before a later cause is found, NO_MEMORY is returned.
  * Errors: NULL, OVERLAP, ALREADY_OPEN, TABLE_FAULT, NO_MEMORY.
  * Cost: O(`length`), plus a pass over the code points of the pages that have separators, brackets or mirrors. */
 hordguli_status hordguli_tables_open_image(hordguli_tables *tables, const void *image, size_t length,
@@ -407,7 +413,8 @@ typedef struct hordguli_caret {
 
 /* Stores in `*caret` where to draw the caret for `pos`:
  *   - Before a shown character: at its left edge if its level is even, else at its right edge. At an odd level, with
- *     HORDGULI_REORDER_CLUSTERS, that is inside its cluster; `hordguli_edge_caret` stores the end of the cluster.
+ *     HORDGULI_REORDER_CLUSTERS or HORDGULI_REORDER_NSM, that can be inside its cluster; `hordguli_edge_caret` stores the
+ *     end of the cluster.
  *   - Before a character that is not shown, and at the end of the text: at the end of the line. That is right of all
  *     columns in an LTR paragraph, and column 0 in an RTL one.
  *   - At the start of a paragraph that does not exist yet (see `hordguli_place_of`): at column 0. `level` is then the
@@ -455,8 +462,9 @@ typedef struct hordguli_cluster {
  * cluster ends whatever comes before and after. At worst, as among flags, these are the whole paragraph. */
 hordguli_status hordguli_cluster_at(hordguli_session *session, size_t pos, hordguli_cluster *cluster);
 
-/* The characters from `start` up to but not including `end`. `kind` is 1 if any of them is a letter or a digit,
- * else 0, as for spaces and punctuation. `zero` is 0. */
+/* The characters from `start` up to but not including `end`. `kind` is 1 if any of them is alphabetic or numeric, such as
+ * a letter, a digit, a vowel sign (U+05B8) or a fraction (U+00BD). Else it is 0, as for spaces and punctuation. `zero`
+ * is 0. */
 typedef struct hordguli_word {
     size_t start;
     size_t end;
@@ -593,7 +601,9 @@ hordguli_status hordguli_edge_caret(hordguli_session *session, hordguli_edge edg
  *     status = hordguli_step(&session, caret, HORDGULI_RIGHT, &caret, &moved);
  *     if (!status && !moved && line + 1 < lines) status = hordguli_edge_at(&session, line + 1, 0, &caret);
  *
- * Each step changes the column. Repeated, steps meet every boundary of the line once.
+ * Each step changes the column. Repeated, steps meet every boundary of the line once. With HORDGULI_REORDER_NSM and
+ * without HORDGULI_REORDER_CLUSTERS, this holds if the marks of the paragraph have no columns. Of the nonspacing marks of
+ * Unicode 15.0, only U+2D7F and U+1171E have columns.
  *
  * Errors: NULL, OVERLAP, UNKNOWN_OPTION, CLOSED, OUT_OF_RANGE, NO_MEMORY.
  * Cost: as `hordguli_edge_caret`. */
@@ -749,7 +759,7 @@ hordguli_status hordguli_layout(hordguli_tables *tables, uint32_t options, uint3
 /* ---- Levels and breaks without a session ----
  *
  * These functions take one paragraph of `count` characters, and do not split it at separators. `direction` is a base
- * direction without other options. NO_ROOM means that `capacity` is less than `count`.
+ * direction without other options, or 0. NO_ROOM means that `capacity` is less than `count`.
  *
  * To lay out text with these functions, a caller has to:
  *   - split the text into paragraphs (UAX #9, P1);

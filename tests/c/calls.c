@@ -177,7 +177,7 @@ static void opened(void) {
     IS(hordguli_session_open(&session, &no_tables, 0, 80, text, length), CLOSED);
     IS(hordguli_session_open(&session, &tables, 0, 0, text, length), WIDTH_OUT_OF_RANGE);
     IS(hordguli_session_open(&session, &tables, 0, 65536, text, length), WIDTH_OUT_OF_RANGE);
-    for (uint32_t bit = 7; bit < 32; bit += bit == 7 ? 9 : 1)
+    for (uint32_t bit = 7; bit < 32; bit += bit == 7 ? 9 : bit == 23 ? 3 : 1)
         IS(hordguli_session_open(&session, &tables, UINT32_C(1) << bit, 80, text, length), UNKNOWN_OPTION);
     IS(hordguli_session_open(&session, &tables, 0, 80, "a\xFF", 2), NOT_UTF8);
     IS(hordguli_session_open(&session, &tables, 0, 80, "\xED\xA0\x80", 3), NOT_UTF8);
@@ -1127,7 +1127,7 @@ static void laid_out_without_session(void) {
     IS(hordguli_layout(&tables, 0, 80, SHOWN, bytes, 2, 200, bytes, &written), OVERLAP);
     IS(hordguli_layout(&tables, 0, 80, SHOWN, "ab", 2, SIZE_MAX, bytes, &written), OVERLAP);
     IS(hordguli_layout(&tables, 0, 65536, SHOWN, "ab", 2, 200, bytes, &written), WIDTH_OUT_OF_RANGE);
-    for (uint32_t bit = 7; bit < 32; bit += bit == 7 ? 9 : 1)
+    for (uint32_t bit = 7; bit < 32; bit += bit == 7 ? 9 : bit == 23 ? 3 : 1)
         IS(hordguli_layout(&tables, UINT32_C(1) << bit, 80, SHOWN, "ab", 2, 200, bytes, &written), UNKNOWN_OPTION);
     for (uint32_t bit = 7; bit < 32; bit++)
         IS(hordguli_layout(&tables, 0, 80, UINT32_C(1) << bit, "ab", 2, 200, bytes, &written), UNKNOWN_OPTION);
@@ -1257,6 +1257,43 @@ static void paragraphs(void) {
 }
 
 /* ---- Without a session ---- */
+
+/* Each direction alone is accepted, also as a number from 0 to 3. Two different ones are refused, and so are reserved bits. */
+static void directions_are_one_or_refused(void) {
+    static const uint32_t directions[] = {HORDGULI_WEAK_LTR, HORDGULI_WEAK_RTL, HORDGULI_LTR, HORDGULI_RTL};
+    static const uint32_t letters[] = {'a', 0x5D0}, number = '1', wanted[][3] = {{0, 1, 0}, {0, 1, 1}, {0, 0, 0}, {1, 1, 1}};
+    hordguli_session other = HORDGULI_SESSION_INIT;
+    uint32_t base, vtol[1];
+    uint8_t numbers[1] = {0};
+    char buffer[8];
+    size_t written;
+    for (uint32_t i = 0; i < 4; i++) {
+        for (uint32_t form = 0; form < 2; form++) {
+            uint32_t direction = form == 0 ? directions[i] : i;
+            for (uint32_t k = 0; k < 3; k++) {
+                OK(hordguli_base(&tables, direction, k < 2 ? letters + k : &number, 1, &base));
+                HOLDS(base == wanted[i][k]);
+            }
+            OK(hordguli_levels(&tables, direction, letters, 1, 1, numbers));
+            OK(hordguli_layout(&tables, direction | HORDGULI_SHOW_SPACES, 80, SHOWN, "a", 1, sizeof buffer, buffer, &written));
+            OK(hordguli_session_open(&other, &tables, direction | HORDGULI_TAB_WIDTH(255), 80, "a", 1));
+            hordguli_session_close(&other);
+        }
+        for (uint32_t j = 0; j < 4; j++) {
+            uint32_t two = directions[i] | directions[j];
+            if (i == j) continue;
+            IS(hordguli_session_open(&other, &tables, two, 80, "a", 1), UNKNOWN_OPTION);
+            IS(hordguli_layout(&tables, two | HORDGULI_NOBREAK, 80, SHOWN, "a", 1, sizeof buffer, buffer, &written), UNKNOWN_OPTION);
+            IS(hordguli_base(&tables, two, letters, 1, &base), UNKNOWN_OPTION);
+            IS(hordguli_levels(&tables, two, letters, 1, 1, numbers), UNKNOWN_OPTION);
+        }
+        for (uint32_t bit = 16; bit < 24; bit++)
+            IS(hordguli_base(&tables, directions[i] | UINT32_C(1) << bit, letters, 1, &base), UNKNOWN_OPTION);
+        if (directions[i] < 4) continue;
+        IS(hordguli_marks(&tables, directions[i] & ~UINT32_C(3), letters, 1, 1, numbers), UNKNOWN_OPTION);
+        IS(hordguli_row(&tables, directions[i] & ~UINT32_C(3), 0, 1, letters, numbers, 1, NULL, NULL, NULL, vtol), UNKNOWN_OPTION);
+    }
+}
 
 static void without_session(void) {
     static const uint32_t characters[] = {'(', 0x5D0, ')', ' ', '1', '2', '\n'}, number[] = {'a', '1', ',', '2'};
@@ -1526,6 +1563,7 @@ int main(int count, char **words) {
     text_of_ranges();
     characters_of_ranges();
     paragraphs();
+    directions_are_one_or_refused();
     without_session();
     properties();
     rows();

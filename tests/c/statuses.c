@@ -653,6 +653,7 @@ WAY(tables_in_files, a->tables = (hordguli_tables *)(uintptr_t)(a->files + which
 
 /* values */
 WAY(unknown_option, a->flags |= UINT32_C(1) << which)
+WAY(two_directions, a->flags |= UINT32_C(0x1000001) << which)
 WAY(unknown_direction, a->direction |= UINT32_C(1) << which)
 WAY(after_nothing, a->at = 0; a->flags = HORDGULI_AFTER)
 WAY(width_0, a->width = 0)
@@ -777,7 +778,9 @@ static const way of_set_width[] = {
     {"OVERLAP", TEXT | TABLES_IS, text_in_tables, 0, sizeof(hordguli_tables) - 1},      \
     {"WIDTH_OUT_OF_RANGE (above 65,535)", WIDTH, width_above, 0, 2},                    \
     {"UNKNOWN_OPTION", FLAGS, unknown_option, 7, 7},                                    \
-    {"UNKNOWN_OPTION", FLAGS, unknown_option, 16, 31},                                  \
+    {"UNKNOWN_OPTION", FLAGS, unknown_option, 16, 23},                                  \
+    {"UNKNOWN_OPTION", FLAGS, unknown_option, 26, 31},                                  \
+    {"UNKNOWN_OPTION", FLAGS, two_directions, 0, 1},                                    \
     {"NOT_UTF8", TEXT, not_utf8, 0, 5},                                                 \
     {"WIDTH_OUT_OF_RANGE (0)", WIDTH, width_0, 0, 0},                                   \
     {"TEXT_TOO_LONG", TEXT, many_newlines, 0, 0},                                       \
@@ -945,8 +948,12 @@ static const way of_row_options[] = {
     END,
 };
 
-static const way of_direction[] = {{"UNKNOWN_OPTION", FLAGS, unknown_option, 2, 31},
-    END};
+static const way of_direction[] = {
+    {"UNKNOWN_OPTION", FLAGS, unknown_option, 2, 23},
+    {"UNKNOWN_OPTION", FLAGS, unknown_option, 26, 31},
+    {"UNKNOWN_OPTION", FLAGS, two_directions, 0, 1},
+    END,
+};
 
 static const way of_marks[] = {
     {"UNKNOWN_OPTION", FLAGS, unknown_option, 0, 3},

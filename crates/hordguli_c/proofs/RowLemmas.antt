@@ -9,10 +9,10 @@ use Rattle.reorder.specs.Mirroring.{visual_chars}
 use Rattle.lines.specs.Reordering.{ends_by, ltov_by, vtol_by}
 use Rattle.reorder.specs.Spaces.{line_levels}
 use Rattle.lines.specs.ShownParts.{shown}
-use Rattle.lines.specs.Visual.{Line, line_between}
+use Rattle.lines.specs.Visual.{line_between}
 use Rattle.lines.specs.declared.char_info.CharInfo.{CharInfo}
 use Rattle.lines.specs.declared.options.Options.{Options}
-use Rattle.hordguli_c.specs.Rows.{row_levels, row_of, Row}
+use Rattle.hordguli_c.specs.Rows.{row_in_line, row_levels, row_of, Row}
 
 length-line_levels : (base : ℕ) (classes : List BidiClass) (levels : List ℕ) → length levels ≡ length classes
     → length (line_levels base classes levels) ≡ length classes
@@ -21,16 +21,13 @@ length-line_levels base [] (level ∷ levels) same = refl
 length-line_levels base (class ∷ classes) [] same = absurd (omega (arith, same))
 length-line_levels base (class ∷ classes) (level ∷ levels) same = ap suc (length-line_levels base classes levels (omega (arith, same)))
 
-abbrev row_in_line : Line → Row
-row_in_line line = record { levels = line.levels; ltov = line.ltov; vtol = line.vtol; chars = line.chars }
-
-pub row_is_line : (tables : Tables) (options : Options) (margin : Option ℕ) (base : ℕ) (text levels : List ℕ) (infos : List CharInfo) (s e : ℕ)
+pub is_line : (tables : Tables) (options : Options) (margin : Option ℕ) (base : ℕ) (text levels : List ℕ) (infos : List CharInfo) (s e : ℕ)
     → slice_range (ends_by options text) s e ≡ ends_by options (slice_range text s e)
     → length (shown margin (slice_range infos s e)) ≡ length (slice_range text s e) → length (slice_range levels s e) ≡ length (slice_range text s e)
     → row_in_line (line_between tables options margin base text levels infos s e)
     ≡ row_of tables options base (slice_range text s e) (slice_range levels s e)
 unfolding row_levels
-row_is_line tables options margin base text levels infos s e own_clusters all same =
+is_line tables options margin base text levels infos s e own_clusters all same =
     let row = slice_range text s e in
     let n = length (shown margin (slice_range infos s e)) in
     let classes = map (class_of tables) row in

@@ -1,8 +1,8 @@
 -- The edges of positions, and steps from edge to edge.
-use Rattle.std.specs.Prelude.{◌≡◌, ℕ, ◌<◌, nat_le, ◌==◌, ◌&&◌, not, Bool, true, false, List, length, option_and_then, option_map, Option, Some, None, if◌then◌else◌}
+use Rattle.std.specs.Prelude.{◌≡◌, ℕ, ◌<◌, ◌==◌, Bool, true, false, List, length, option_and_then, option_map, Option, Some, None, if◌then◌else◌}
 use Rattle.lines.specs.Engine.{rules_of}
 use Rattle.session.specs.Clusters.{line_clusters}
-use Rattle.session.specs.Edges.{edge_at, edge_caret_at, line_edges, step_at}
+use Rattle.session.specs.Edges.{edge_at, edge_caret_at, is_edge_in, line_edges, step_at, HasCharacter}
 use Rattle.session.specs.Kept.{lines_in}
 use Rattle.session.specs.Sessions.{SessionState, text_at}
 use Rattle.session.specs.declared.edges.Direction.{Direction}
@@ -36,18 +36,10 @@ side_number After = 1
 abbrev pub edge_out : Edge → EdgeOut
 edge_out edge = record { pos = edge.pos; side = side_number edge.side; zero = 0 }
 
--- whether a text has an edge: before any position up to the end, or after any of these but 0
-abbrev pub is_edge_at : ℕ → Side → Bool
-is_edge_at pos Before = true
-is_edge_at pos After = not (pos == 0)
-
-abbrev pub is_edge_in : ℕ → Edge → Bool
-is_edge_in chars edge = nat_le edge.pos chars && is_edge_at edge.pos edge.side
-
 -- the caret at an edge is stored
 abbrev pub GivesEdgeCaret : Edge → Status → SessionState → CaretOut → CaretOut → Type 0
 GivesEdgeCaret edge status state old new =
-    OrNoMemory (0 < length (text_at state)) status (new ≡ old)
+    OrNoMemory (HasCharacter (length (text_at state)) edge) status (new ≡ old)
     (Gives (option_map caret_out (edge_caret_at (rules_of state.engine) state.kept edge)) status old new)
 
 -- The edge after a step is stored, and 1 as the number of steps. At the end of a line, 0 is stored as this number.
@@ -55,14 +47,15 @@ abbrev pub Steps : Option Edge → Status → EdgeOut × ℕ → EdgeOut × ℕ 
 Steps None status old new = (status ≡ is.Ok) × (new ≡ (old.0, 0))
 Steps (Some next) status old new = (status ≡ is.Ok) × (new ≡ (edge_out next, 1))
 
-abbrev pub StepsIf : Bool → Option Edge → Status → EdgeOut × ℕ → EdgeOut × ℕ → Type 0
-StepsIf true next status old new = Steps next status old new
-StepsIf false next status old new = (status ≡ is.OutOfRange) × (new ≡ old)
+-- a step from an edge that the text has or has not; it may allocate if the text is not empty
+abbrev pub StepsIf : Bool → ℕ → Option Edge → Status → EdgeOut × ℕ → EdgeOut × ℕ → Type 0
+StepsIf true chars next status old new = OrNoMemory (0 < chars) status (new ≡ old) (Steps next status old new)
+StepsIf false chars next status old new = (status ≡ is.OutOfRange) × (new ≡ old)
 
 abbrev pub GivesStep : Edge × Direction → Status → SessionState → EdgeOut × ℕ → EdgeOut × ℕ → Type 0
 GivesStep asked status state old new =
-    OrNoMemory (0 < length (text_at state)) status (new ≡ old)
-    (StepsIf (is_edge_in (length (text_at state)) asked.0) (step_at (rules_of state.engine) state.kept asked.0 asked.1) status old new)
+    let chars = length (text_at state) in
+    (StepsIf (is_edge_in chars asked.0) chars (step_at (rules_of state.engine) state.kept asked.0 asked.1) status old new)
 
 -- an edge and a direction, or `None` if a number is unknown
 abbrev pub step_of : ℕ → ℕ → ℕ → Option (Edge × Direction)
@@ -71,7 +64,7 @@ step_of pos side direction = option_and_then (λ edge. option_map (λ towards. (
 -- the edge at a column is stored
 abbrev pub GivesEdge : ℕ → ℕ → Status → SessionState → EdgeOut → EdgeOut → Type 0
 GivesEdge n column status state old new =
-    OrNoMemory (0 < length (text_at state)) status (new ≡ old)
+    OrNoMemory (n < length (lines_in state.kept)) status (new ≡ old)
     (Gives (option_map edge_out (edge_at (rules_of state.engine) state.kept n column)) status old new)
 
 -- the two edges of a line are stored

@@ -7,6 +7,7 @@ use Rattle.ucd.specs.Within.{AreWithin}
 use Rattle.ucd.specs.declared.tables.Tables.{Tables}
 use Rattle.reorder.specs.Mirroring.{visual_chars}
 use Rattle.lines.specs.Reordering.{ends_by, ltov_by, vtol_by}
+use Rattle.lines.specs.Visual.{Line}
 use Rattle.lines.specs.declared.options.Options.{Options}
 use Rattle.reorder.specs.Spaces.{line_levels}
 use Rattle.hordguli_c.specs.Arrays.{has_room, put_if, PutsItems}
@@ -33,6 +34,9 @@ pub record Row : Type 0 where
   pub ltov : List ℕ
   pub vtol : List ℕ
   pub chars : List ℕ
+
+abbrev pub row_in_line : Line → Row
+row_in_line line = record { levels = line.levels; ltov = line.ltov; vtol = line.vtol; chars = line.chars }
 
 -- L1, as if the row were a line, so that also the white space at its end is reset
 unfoldable pub row_levels : Tables → ℕ → List ℕ → List ℕ → List ℕ

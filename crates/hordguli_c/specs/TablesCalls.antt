@@ -64,11 +64,10 @@ TellsImageFault image.Memory status old new = (status ≡ is.NoMemory) × (new �
 TellsImageFault why status old new =
     (status ≡ is.TableFault) × (new ≡ record { file = 7; line = 0; cause = image_cause_number why })
 
--- the handle has the tables of the image, or an allocation failed, or the image has a fault
+-- the handle has the tables of the image, or the image has a fault, or an allocation failed
 abbrev pub Decodes : List ℕ → Status → Option Tables → TableFaultOut → TableFaultOut → Type 0
 Decodes bytes status (Some tables) old new = (status ≡ is.Ok) × IsImageOf bytes tables × (new ≡ old)
-Decodes bytes status None old new =
-    ((status ≡ is.NoMemory) × (new ≡ old)) ⊎ ((why : ImageFault) × IsImageFault bytes why × TellsImageFault why status old new)
+Decodes bytes status None old new = (why : ImageFault) × IsImageFault bytes why × TellsImageFault why status old new
 
 -- an image is decoded into a closed handle; an open handle is unchanged
 abbrev pub OpensImage : List ℕ → Status → Option Tables → Option Tables → TableFaultOut → TableFaultOut → Type 0

@@ -2,7 +2,8 @@
 ghost use Rattle.std.specs.Prelude.{◌≡◌, ◌≤◌, length};
 ghost use Rattle.hordguli_c.specs.Arrays.{put, PutsItems};
 ghost use Rattle.hordguli_c.specs.Calls.{Asks, AsksBy};
-ghost use Rattle.hordguli_c.specs.Edges.{edge_of, edge_out, is_edge_in, side_of, step_direction, step_of};
+ghost use Rattle.session.specs.Edges.{is_edge_in};
+ghost use Rattle.hordguli_c.specs.Edges.{edge_of, edge_out, side_of, step_direction, step_of};
 ghost use Rattle.hordguli_c.specs.Edges.{GivesEdge, GivesEdgeCaret, GivesLineClusters, GivesLineEdges};
 ghost use Rattle.hordguli_c.specs.Edges.{GivesStep};
 ghost use Rattle.hordguli_c.specs.Places.{caret_out};

@@ -23,3 +23,5 @@ mod tables_calls;
 mod tables_handle;
 mod tables_object;
 mod text_calls;
+
+pub use row_calls::row_is_line;

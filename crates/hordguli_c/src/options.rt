@@ -4,6 +4,7 @@ ghost use Rattle.hordguli_c.specs.Options.{
   base_of,
   direction_of,
   has_bit,
+  names_direction,
   options_of,
   page_form_of,
   print_of,
@@ -15,7 +16,18 @@ use bidi::Base;
 use lines::{Options, Print};
 
 // The options and print flags of include/hordguli.h. The two lowest bits of the options are the base
-// direction.
+// direction. Bit 24 says that the lowest bit is given as 0, and bit 25 says so of the next one.
+const LOW_BIT: u32 = 1;
+
+const HIGH_BIT: u32 = 2;
+
+const LOW_BIT_IS_0: u32 = 1 << 24;
+
+const HIGH_BIT_IS_0: u32 = 1 << 25;
+
+// The lowest bit that no option has.
+const UNKNOWN: u32 = 1 << 26;
+
 const NOBREAK: u32 = 4;
 
 const REORDER_NSM: u32 = 8;
@@ -29,8 +41,10 @@ const SHOW_SPACES: u32 = 64;
 // Both options of a row.
 const REORDERS: u32 = 40;
 
-// Bits 8 to 15 are the tab width.
-const TAB_WIDTH: u32 = 256;
+// Bits 8 to 15 are the tab width. Bits 16 to 23 are reserved, so that no wider tab width has a meaning.
+const TAB_WIDTH: u32 = 1 << 8;
+
+const RESERVED: u32 = 1 << 16;
 
 const ALL_OPTIONS: u32 = 127;
 
@@ -72,11 +86,24 @@ fn base_of(bits: u32) -> Base
     }
 }
 
-/// Returns the base direction, or `None` if any other bit is set.
+// Returns whether the bits name one base direction, and no bit is unknown.
+fn names_direction(bits: u32) -> bool
+    ensures { result ≡ names_direction bits }
+{
+    !(has_bit(bits, LOW_BIT) && has_bit(bits, LOW_BIT_IS_0))
+        && !(has_bit(bits, HIGH_BIT) && has_bit(bits, HIGH_BIT_IS_0))
+        && bits < UNKNOWN
+}
+
+/// Returns the base direction, or `None` if any other bit is set or the bits name two directions.
 pub fn direction_of(bits: u32) -> Option<Base>
     ensures { result ≡ direction_of bits }
 {
-    if bits < 4 { Some(base_of(bits)) } else { None }
+    if bits % LOW_BIT_IS_0 < NOBREAK && names_direction(bits) {
+        Some(base_of(bits))
+    } else {
+        None
+    }
 }
 
 /// Returns whether breaks inside numbers are disabled, or `None` if any other bit is set.
@@ -103,12 +130,11 @@ pub fn row_options_of(bits: u32) -> Option<Options>
     }
 }
 
-/// Returns the options of a session, or `None` if a bit is unknown.
+/// Returns the options of a session, or `None` if a bit is unknown or the bits name two directions.
 pub fn options_of(bits: u32) -> Option<Options>
     ensures { result ≡ options_of bits }
 {
-    let tab_width = bits / TAB_WIDTH;
-    if bits % TAB_WIDTH <= ALL_OPTIONS && tab_width < TAB_WIDTH {
+    if bits % TAB_WIDTH <= ALL_OPTIONS && bits / RESERVED % 256 == 0 && names_direction(bits) {
         Some(Options {
             base: base_of(bits),
             nobreak: has_bit(bits, NOBREAK),
@@ -116,7 +142,7 @@ pub fn options_of(bits: u32) -> Option<Options>
             whole_numbers: has_bit(bits, WHOLE_NUMBERS),
             reorder_clusters: has_bit(bits, REORDER_CLUSTERS),
             show_spaces: has_bit(bits, SHOW_SPACES),
-            tab_width: tab_width as u8,
+            tab_width: (bits / TAB_WIDTH % 256) as u8,
         })
     } else {
         None

@@ -1,13 +1,21 @@
 //! Functions on a row that the caller broke: L1 to L4, from the levels of its paragraph.
-ghost use Rattle.std.specs.Prelude.{◌≡◌, ◌<◌, ◌≤◌, length, true, All};
+ghost use Rattle.std.specs.Prelude.{◌≡◌, ◌<◌, ◌≤◌, ℕ, List, Option, length, true, All};
 ghost use Rattle.std.specs.Prelude.{IfErr, IfOk, IsFalse, IsTrue, OnErr, OnOk};
 ghost use Rattle.std.specs.Char.{IsScalar};
+ghost use Rattle.std.specs.List.{slice_range};
 ghost use Rattle.ucd.specs.Within.{AreWithin};
+ghost use Rattle.ucd.specs.declared.tables.Tables.{Tables};
+ghost use Rattle.lines.specs.Reordering.{ends_by};
+ghost use Rattle.lines.specs.ShownParts.{shown};
+ghost use Rattle.lines.specs.Visual.{line_between};
+ghost use Rattle.lines.specs.declared.char_info.CharInfo.{CharInfo};
+ghost use Rattle.lines.specs.declared.options.Options.{Options};
 ghost use Rattle.reorder.specs.Mirroring.{mirrored, visual_chars};
 ghost use Rattle.hordguli_c.specs.Arrays.{has_room, put_if};
 ghost use Rattle.hordguli_c.specs.Calls.{Asks, AsksBy};
 ghost use Rattle.hordguli_c.specs.Options.{has_bit, row_options_of};
-ghost use Rattle.hordguli_c.specs.Rows.{row_fits, row_in, row_levels, row_ltov, row_put, row_vtol};
+ghost use Rattle.hordguli_c.specs.Rows.{row_fits, row_in, row_in_line, row_levels, row_ltov, row_of};
+ghost use Rattle.hordguli_c.specs.Rows.{row_put, row_vtol};
 ghost use Rattle.hordguli_c.specs.Rows.{IsLaid, IsRow, IsSized, PutsRow, PutsRowRuns, RowNot};
 ghost use Rattle.hordguli_c.specs.Statuses.{Returns};
 
@@ -20,6 +28,18 @@ use lines::{Options, cluster_ends};
 use reorder::{ClusterClasses, reset_levels, visual_order};
 use std::alloc::{AllocError, Global};
 use ucd::{Tables, TextClasses};
+
+/// States, as a theorem, that a line of a paragraph is the row of its characters, if all of them are shown and
+/// the clusters of the line are those of its characters alone or do not matter. Costs nothing at run time.
+pub fn row_is_line()
+    ensures { (tables : Tables) (options : Options) (margin : Option ℕ) (base : ℕ) (text levels : List ℕ)
+        (infos : List CharInfo) (start stop : ℕ)
+        → slice_range (ends_by options text) start stop ≡ ends_by options (slice_range text start stop)
+        → length (shown margin (slice_range infos start stop)) ≡ length (slice_range text start stop)
+        → length (slice_range levels start stop) ≡ length (slice_range text start stop)
+        → row_in_line (line_between tables options margin base text levels infos start stop)
+        ≡ row_of tables options base (slice_range text start stop) (slice_range levels start stop) }
+{}
 
 // The highest level that a character can have (UAX #9, BD2, I1 and I2).
 const MOST_LEVEL: u8 = 126;

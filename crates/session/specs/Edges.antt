@@ -1,5 +1,5 @@
 -- The two edges of a position, and steps from edge to edge on a line.
-use Rattle.std.specs.Prelude.{ℕ, zero, suc, ◌+◌, ◌-◌, nat_le, nat_lt, ◌==◌, Bool, ◌&&◌, max, List, length, slice_get, slice_index, Option, Some, None, option_and_then, option_map, unwrap_or, if◌then◌else◌}
+use Rattle.std.specs.Prelude.{ℕ, zero, suc, ◌+◌, ◌-◌, ◌<◌, ◌≤◌, nat_le, nat_lt, ◌==◌, Bool, true, not, ◌&&◌, max, List, length, slice_get, slice_index, Option, Some, None, option_and_then, option_map, unwrap_or, if◌then◌else◌}
 use Rattle.lines.specs.Columns.{columns_left, covering}
 use Rattle.lines.specs.Layouts.{Layout, Rules}
 use Rattle.lines.specs.Separators.{separator_len}
@@ -26,6 +26,22 @@ before pos = record { pos = pos; side = Before }
 
 abbrev pub after : ℕ → Edge
 after pos = record { pos = pos; side = After }
+
+-- whether a text of `chars` characters has an edge: before any position up to the end, or after any of these but 0
+abbrev pub is_edge_at : ℕ → Side → Bool
+is_edge_at pos Before = true
+is_edge_at pos After = not (pos == 0)
+
+abbrev pub is_edge_in : ℕ → Edge → Bool
+is_edge_in chars edge = nat_le edge.pos chars && is_edge_at edge.pos edge.side
+
+-- whether an edge is one of a character's two
+abbrev pub IsBeside : ℕ → ℕ → Side → Type 0
+IsBeside chars pos Before = pos < chars
+IsBeside chars pos After = (0 < pos) × (pos ≤ chars)
+
+abbrev pub HasCharacter : ℕ → Edge → Type 0
+HasCharacter chars edge = IsBeside chars edge.pos edge.side
 
 -- the edges at the left and the right end of a unit, on a line that starts at `start`
 abbrev pub left_edge : ℕ → CaretUnit → Edge

@@ -1,10 +1,10 @@
 //! The two edges of a position, and steps from edge to edge on a line.
-ghost use Rattle.std.specs.Prelude.{◌≡◌, ◌^◌, ◌+◌, ◌<◌, ◌≤◌, length, IfOk, IfSome, OnErr};
+ghost use Rattle.std.specs.Prelude.{◌≡◌, ◌^◌, ◌+◌, ◌<◌, ◌≤◌, length, true, IfOk, IfSome, OnErr};
 ghost use Rattle.lines.specs.Engine.{rules_of};
 ghost use Rattle.session.specs.Edges.{after, before, caret_beside, caret_of, column_on, edge_at};
 ghost use Rattle.session.specs.Edges.{edge_caret_at};
 ghost use Rattle.session.specs.Edges.{edge_on, end_of, is_next, last_edge, left_edge, line_at, line_edges};
-ghost use Rattle.session.specs.Edges.{right_edge, step_at, unit_at};
+ghost use Rattle.session.specs.Edges.{is_edge_in, right_edge, step_at, unit_at, HasCharacter};
 ghost use Rattle.session.specs.Kept.{lines_in};
 ghost use Rattle.session.specs.Places.{place_in};
 ghost use Rattle.session.specs.Sessions.{text_at};
@@ -198,7 +198,9 @@ impl<S: ParagraphStore<Kept>> Session<S> {
     pub fn edge_caret(&self, edge: Edge) -> Result<Option<Caret>, AllocError>
         ensures ok { IfOk result (λ caret. caret
             ≡ edge_caret_at (rules_of self.now.engine) self.now.kept edge) }
-        ensures memory { OnErr result (0 < length (text_at self.now)) }
+        ensures some { IfOk result (λ caret. IfSome caret (λ _.
+            is_edge_in (length (text_at self.now)) edge ≡ true)) }
+        ensures memory { OnErr result (HasCharacter (length (text_at self.now)) edge) }
     {
         match edge.side {
             Side::Before => {
@@ -226,7 +228,8 @@ impl<S: ParagraphStore<Kept>> Session<S> {
     pub fn step(&self, edge: Edge, direction: Direction) -> Result<Option<Edge>, AllocError>
         ensures ok { IfOk result (λ next. next
             ≡ step_at (rules_of self.now.engine) self.now.kept edge direction) }
-        ensures memory { OnErr result (0 < length (text_at self.now)) }
+        ensures memory { OnErr result ((is_edge_in (length (text_at self.now)) edge ≡ true)
+            × (0 < length (text_at self.now))) }
     {
         let Some(caret) = self.edge_caret(edge)? else {
             return Ok(None);
@@ -259,8 +262,7 @@ impl<S: ParagraphStore<Kept>> Session<S> {
         column: usize,
     ) -> Result<Edge, AllocError>
         requires { start < 2 ^ 33 }
-        ensures ok { IfOk result (λ edge. edge ≡ edge_on self.now.kept line.now start column) }
-        ensures memory { OnErr result (0 < length (text_at self.now)) }
+        ensures { IfOk result (λ edge. edge ≡ edge_on self.now.kept line.now start column) }
     {
         if let Some(unit) = self.unit_at(line, start, column)? {
             return Ok(left_edge(start, unit));
@@ -322,7 +324,7 @@ impl<S: ParagraphStore<Kept>> Session<S> {
     pub fn edge_at(&self, n: usize, column: usize) -> Result<Option<Edge>, AllocError>
         ensures ok { IfOk result (λ edge. edge
             ≡ edge_at (rules_of self.now.engine) self.now.kept n column) }
-        ensures memory { OnErr result (0 < length (text_at self.now)) }
+        ensures memory { OnErr result (n < length (lines_in self.now.kept)) }
     {
         if self.is_next(n) {
             return Ok(Some(before(self.char_count())));

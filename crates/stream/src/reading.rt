@@ -10,6 +10,9 @@ use std::io::ErrorKind;
 /// The size of a chunk in bytes: the maximum number of bytes requested from a source at a time.
 pub const CHUNK: usize = 65_536;
 
+// The limit that the documents name. Contracts name the constant.
+const _: () = prove!(CHUNK == 65_536);
+
 /// Allocates a buffer of `len` zeros.
 pub fn zeroed(alloc: Global, len: usize) -> Result<Vec<u8>, AllocError>
     ensures len { IfOk result (λ buffer. vec_len buffer ≡ len) }

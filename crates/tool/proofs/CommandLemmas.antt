@@ -61,7 +61,7 @@ module _ (rules : Rules) (print : Print) (command : Command) (old new : Held) wh
     stops (Err fault) stopped = stops_at fault stopped
 
   -- if an allocation failed, the command is not refused and may allocate, and nothing was changed
-  pub wants : (edit : Result Damage EditFault) → Edited rules command old new edit → lacks_memory edit ≡ true → (command_refusal rules old command ≡ None) × TakesMemory old command × (new ≡ old)
+  pub wants : (edit : Result Damage EditFault) → Edited rules command old new edit → lacks_memory edit ≡ true → (command_refusal rules old command ≡ None) × TakesMemory rules old command × (new ≡ old)
   wants (Ok damage) replaced short = absurd (true≢false (sym short))
   wants (Err e.NoMemory) replaced short = replaced
   wants (Err e.OutOfRange) replaced short = absurd (true≢false (sym short))

@@ -175,11 +175,3 @@ is_before After = false
 pub side-before : (is_after : Bool) → (if is_after then After else Before) ≡ Before → is_after ≡ false
 side-before true is = absurd (both_ways false refl (ap is_before is))
 side-before false is = refl
-
--- a line exists only in a text that is not empty
-pub some-text : (rules : Rules) (width n : ℕ) (kept : List Layout) → kept ≡ layouts_of rules width (text_of kept) → n < length (lines_in kept) → 0 < length (text_of kept)
-some-text rules width n kept laid within = go (text_of kept) laid
-  where
-    go : (text : List ℕ) → kept ≡ layouts_of rules width text → 0 < length text
-    go [] is = let none : length (lines_in kept) ≡ 0 = ap (λ (k : List Layout). length (lines_in k)) is in absurd (omega (arith, none, within))
-    go (c ∷ text) is = omega arith

@@ -1,5 +1,5 @@
 -- The reply to a query about a text at a width.
-use Rattle.std.specs.Prelude.{not, ◌≡◌, ℕ, ◌+◌, ◌-◌, ◌<◌, nat_lt, ◌&&◌, Bool, false, List, [], ◌∷◌, ◌++◌, length, codes, slice_get, slice_index, Option, Some, None, option_map, if◌then◌else◌}
+use Rattle.std.specs.Prelude.{not, ◌≡◌, ℕ, ◌+◌, ◌-◌, ◌<◌, nat_lt, ◌&&◌, Bool, false, true, List, [], ◌∷◌, ◌++◌, length, codes, slice_get, slice_index, Option, Some, None, option_map, if◌then◌else◌}
 use Rattle.std.specs.Fmt.{decimal}
 use Rattle.std.specs.List.{flat_map, slice_range}
 use Rattle.device.specs.Device.{Device}
@@ -16,7 +16,7 @@ use Rattle.lines.specs.declared.print.Print.{Print}
 use Rattle.lines.specs.declared.spans.Span.{Span}
 use Rattle.session.specs.Carets.{caret_at}
 use Rattle.session.specs.Clusters.{cluster_at, line_clusters}
-use Rattle.session.specs.Edges.{edge_at, edge_caret_at, line_edges, step_at}
+use Rattle.session.specs.Edges.{edge_at, edge_caret_at, is_edge_in, line_edges, step_at, HasCharacter}
 use Rattle.session.specs.Hits.{hit_at}
 use Rattle.session.specs.Kept.{lines_in, text_of}
 use Rattle.session.specs.Offsets.{offset_of, position_of}
@@ -244,19 +244,20 @@ query_text rules print width kept (ask.Spans n start end) = spans_text print wid
 query_text rules print width kept (ask.Runs n) = runs_text kept n
 query_text rules print width kept (ask.Clusters n) = clusters_text kept n
 
--- whether a query may allocate: `cluster` and `word` for a character that exists, `edge`, `step`, `at` and `clusters` in a text
--- that is not empty
-abbrev pub AsksMemory : List ℕ → Query → Type 0
-AsksMemory text (ask.Cluster pos) = pos < length text
-AsksMemory text (ask.Word pos) = pos < length text
-AsksMemory text (ask.Edge pos is_after) = 0 < length text
-AsksMemory text (ask.Step pos is_after is_right) = 0 < length text
-AsksMemory text (ask.At n column) = 0 < length text
-AsksMemory text (ask.Clusters n) = 0 < length text
-AsksMemory text query = ⊥
+-- whether a query may allocate: `cluster` and `word` for a character that exists, `edge` for an edge of a character, `step` from an
+-- edge in a text that is not empty, `at` and `clusters` for a line that exists
+abbrev pub AsksMemory : List Layout → Query → Type 0
+AsksMemory kept (ask.Cluster pos) = pos < length (text_of kept)
+AsksMemory kept (ask.Word pos) = pos < length (text_of kept)
+AsksMemory kept (ask.Edge pos is_after) = HasCharacter (length (text_of kept)) (edge_of pos is_after)
+AsksMemory kept (ask.Step pos is_after is_right) =
+    (is_edge_in (length (text_of kept)) (edge_of pos is_after) ≡ true) × (0 < length (text_of kept))
+AsksMemory kept (ask.At n column) = n < length (lines_in kept)
+AsksMemory kept (ask.Clusters n) = n < length (lines_in kept)
+AsksMemory kept query = ⊥
 
 -- a reply was not written completely: a write failed, or an allocation failed and nothing was written
-abbrev pub AnswersNot : List ℕ → List ℕ → Query → ℕ → Device → Device → RunFault → Type 0
-AnswersNot answer text query written old new (f.Write n) = StoppedIn answer written old new n
-AnswersNot answer text query written old new f.Memory = AsksMemory text query × (new ≡ old)
-AnswersNot answer text query written old new fault = ⊥
+abbrev pub AnswersNot : List ℕ → List Layout → Query → ℕ → Device → Device → RunFault → Type 0
+AnswersNot answer kept query written old new (f.Write n) = StoppedIn answer written old new n
+AnswersNot answer kept query written old new f.Memory = AsksMemory kept query × (new ≡ old)
+AnswersNot answer kept query written old new fault = ⊥

@@ -17,7 +17,7 @@ use Rattle.tool.specs.Queries.{AsksMemory}
 use Rattle.tool.specs.Scripts.{is_line_end, command_of_line}
 use Rattle.script_commands.specs.Commands.{LacksInserted, Command, Insert, Delete, SetWidth, Show, Ask}
 use Rattle.tool.specs.ScriptEnds.{IsScriptRun}
-use Rattle.tool.specs.ScriptRun.{after_line, after_lines, answer_line, answer_to, after_command, answers, damage_text, is_good, executed, executed_text, command_refusal, refusal_text, with_ends}
+use Rattle.tool.specs.ScriptRun.{after_line, after_lines, answer_line, answer_to, after_command, answers, damage_text, is_good, executed, executed_text, command_refusal, layouts_at, refusal_text, with_ends}
 use Rattle.tool.specs.Work.{LineWorks, LinesWork}
 use Rattle.text_run.specs.declared.faults.RunFault.{RunFault}
 use Rattle.stream.specs.declared.reading.TheConstants.{CHUNK}
@@ -28,12 +28,12 @@ use Rattle.tool.specs.declared.script.ScriptOptions.{ScriptOptions}
 
 -- Whether a command may allocate. An edit may allocate if the text or the inserted text is not empty. A query
 -- may allocate if `AsksMemory` holds.
-abbrev pub TakesMemory : Held → Command → Type 0
-TakesMemory held (Insert pos inserted) = 0 < length held.text + length inserted
-TakesMemory held (Delete pos count) = 0 < length held.text
-TakesMemory held (SetWidth width) = 0 < length held.text
-TakesMemory held Show = ⊥
-TakesMemory held (Ask query) = AsksMemory held.text query
+abbrev pub TakesMemory : Rules → Held → Command → Type 0
+TakesMemory rules held (Insert pos inserted) = 0 < length held.text + length inserted
+TakesMemory rules held (Delete pos count) = 0 < length held.text
+TakesMemory rules held (SetWidth width) = 0 < length held.text
+TakesMemory rules held Show = ⊥
+TakesMemory rules held (Ask query) = AsksMemory (layouts_at rules held) query
 
 -- The result of an edit. After `Ok`, the edit was executed with the returned damage. After `NoMemory`, the
 -- edit is not refused and may allocate, and nothing was changed. After any other fault, the edit was refused,
@@ -42,7 +42,7 @@ abbrev pub Edited : Rules → Command → Held → Held → Result Damage EditFa
 Edited rules command old new (Ok damage) =
     (command_refusal rules old command ≡ None) × (new ≡ executed old command)
     × ((print : Print) → executed_text rules print old command ≡ damage_text damage.first_line damage.old_lines damage.new_lines)
-Edited rules command old new (Err NoMemory) = (command_refusal rules old command ≡ None) × TakesMemory old command × (new ≡ old)
+Edited rules command old new (Err NoMemory) = (command_refusal rules old command ≡ None) × TakesMemory rules old command × (new ≡ old)
 Edited rules command old new (Err reason) = (command_refusal rules old command ≡ Some reason) × (new ≡ old)
 
 abbrev pub lacks_memory : Result Damage EditFault → Bool
@@ -70,7 +70,7 @@ abbrev pub ExecutesNot : Rules → Print → Command → ℕ → Held → Held �
 ExecutesNot rules print command written held_old held_new old new (f.Write n) =
     (held_new ≡ after_command rules held_old command) × StoppedIn (answer_to rules print held_old command) written old new n
 ExecutesNot rules print command written held_old held_new old new f.Memory =
-    (command_refusal rules held_old command ≡ None) × TakesMemory held_old command × (held_new ≡ held_old) × (new ≡ old)
+    (command_refusal rules held_old command ≡ None) × TakesMemory rules held_old command × (held_new ≡ held_old) × (new ≡ old)
 ExecutesNot rules print command written held_old held_new old new fault = ⊥
 
 -- a line was executed
@@ -88,7 +88,7 @@ abbrev pub WantsMemory : Rules → Bool → List ℕ → Reading → Held → Ty
 WantsMemory rules queries line reading held =
     (length reading.text.items < length (chars line))
     ⊎ (LacksInserted (chars line) (chars (string_bytes reading.inserted))
-    ⊎ ((command : Command) × (command_of_line queries line ≡ Some command) × (command_refusal rules held command ≡ None) × TakesMemory held command))
+    ⊎ ((command : Command) × (command_of_line queries line ≡ Some command) × (command_refusal rules held command ≡ None) × TakesMemory rules held command))
 
 -- a line failed: it is not valid, a write failed within its reply, or an allocation failed
 abbrev pub FailsAt : Rules → ScriptOptions → List ℕ → Reading → ℕ → ℕ → Held → Held → Device → Device → RunFault → Type 0

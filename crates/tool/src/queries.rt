@@ -4,7 +4,7 @@ ghost use Rattle.std.specs.Prelude.{slice_index, ◌∷◌, [], option_map, true
 ghost use Rattle.lines.specs.Engine.{rules_of};
 ghost use Rattle.reorder.specs.Order.{is_odd};
 ghost use Rattle.lines.specs.Writing.{PassedOn};
-ghost use Rattle.session.specs.Edges.{edge_caret_at};
+ghost use Rattle.session.specs.Edges.{edge_caret_at, is_edge_in, HasCharacter};
 ghost use Rattle.session.specs.Kept.{lines_in, text_of};
 ghost use Rattle.tool.specs.Queries.{at_text, caret_text, cluster_text, clusters_text, edge_caret_text};
 ghost use Rattle.tool.specs.Queries.{ends_text, hit_text, lines_text, part_text, query_text, runs_text};
@@ -200,7 +200,8 @@ fn edge_caret<S: ParagraphStore<Kept>>(
     ensures ok { IfOk result (λ caret. caret
         ≡ edge_caret_at (rules_of session.now.engine) session.now.kept (edge_of pos is_after)) }
     ensures fits { IfOk result (λ caret. IfSome caret (λ caret. caret.column < 2 ^ 64 - 2 ^ 32)) }
-    ensures memory { OnErr result (0 < length (text_of session.now.kept)) }
+    ensures memory { OnErr result (HasCharacter (length (text_of session.now.kept))
+        (edge_of pos is_after)) }
 {
     // By these theorems, the columns of a line are those of its characters.
     lines_are_ordered();
@@ -238,7 +239,8 @@ fn edge_caret_answer<S: ParagraphStore<Kept>>(
 ) -> Result<Answer, AllocError>
     ensures ok { IfOk result (λ answer. answer.items ≡ edge_caret_text print.now session.now.width
         session.now.kept (rules_of session.now.engine) (edge_of pos is_after)) }
-    ensures memory { OnErr result (0 < length (text_of session.now.kept)) }
+    ensures memory { OnErr result (HasCharacter (length (text_of session.now.kept))
+        (edge_of pos is_after)) }
 {
     if !is_after && pos >= session.char_count() {
         return Ok(caret_answer(session, print, pos));
@@ -256,7 +258,8 @@ fn step_answer<S: ParagraphStore<Kept>>(
 ) -> Result<Answer, AllocError>
     ensures ok { IfOk result (λ answer. answer.items
         ≡ step_text session.now.kept (rules_of session.now.engine) edge direction) }
-    ensures memory { OnErr result (0 < length (text_of session.now.kept)) }
+    ensures memory { OnErr result ((is_edge_in (length (text_of session.now.kept)) edge ≡ true)
+        × (0 < length (text_of session.now.kept))) }
 {
     if session.edge_caret(edge)?.is_none() {
         return Ok(out_of_range());
@@ -287,7 +290,7 @@ fn at_answer<S: ParagraphStore<Kept>>(
 ) -> Result<Answer, AllocError>
     ensures ok { IfOk result (λ answer. answer.items
         ≡ at_text print.now session.now.width session.now.kept (rules_of session.now.engine) n column) }
-    ensures memory { OnErr result (0 < length (text_of session.now.kept)) }
+    ensures memory { OnErr result (n < length (lines_in session.now.kept)) }
 {
     match session.edge_at(n, column.saturating_sub(left_on(session, print, n)))? {
         Some(edge) => Ok(told_edge(edge)),
@@ -428,12 +431,10 @@ fn write_line_clusters<W: Sink, S: ParagraphStore<Kept>>(
     requires { written ≤ (W.state writer.old).passed }
     ensures ok { IfOk result (PassedOn (clusters_text session.now.kept n) written
         (W.state writer.old) (W.state writer.new)) }
-    ensures err { IfErr result (AnswersNot (clusters_text session.now.kept n) (text_of session.now.kept)
+    ensures err { IfErr result (AnswersNot (clusters_text session.now.kept n) session.now.kept
         (Query.Clusters n) written (W.state writer.old) (W.state writer.new)) }
     ensures counted { IfOk result (λ n. n ≤ (W.state writer.new).passed) }
 {
-    // The contract of `width` shows that the session is laid out.
-    let _width = session.width();
     match session.line_clusters(n) {
         Ok(Some(ends)) => write_ends(writer, written, &ends),
         Ok(None) => write_bytes(writer, written, &out_of_range()),
@@ -455,7 +456,7 @@ pub fn write_query<W: Sink, S: ParagraphStore<Kept>>(
         session.now.width session.now.kept query.now) written
         (W.state writer.old) (W.state writer.new)) }
     ensures err { IfErr result (AnswersNot (query_text (rules_of session.now.engine) print.now
-        session.now.width session.now.kept query.now) (text_of session.now.kept) query.now written
+        session.now.width session.now.kept query.now) session.now.kept query.now written
         (W.state writer.old) (W.state writer.new)) }
     ensures counted { IfOk result (λ n. n ≤ (W.state writer.new).passed) }
 {
