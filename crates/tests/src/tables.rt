@@ -284,6 +284,52 @@ fn surrogates_are_ignored_and_so_is_a_last_carriage_return(rt: HostRuntime) -> R
     Ok(())
 }
 
+// Files in which letters, the last character and a paired bracket have class B, unlike in Unicode's files.
+const FILES_OF_SEPARATORS: UcdFiles<'_> = UcdFiles {
+    bidi_class: b"000A;B\n0028;B\n0041;B\n05D0;B\n2028;B\n10FFFF;B",
+    ..FILES
+};
+
+static SEPARATORS: [(char, Bidi); 8] = [
+    ('\n', Bidi::B),
+    ('(', Bidi::B),
+    ('A', Bidi::B),
+    ('\u{5D0}', Bidi::B),
+    ('\u{2028}', Bidi::B),
+    ('\u{10FFFF}', Bidi::B),
+    ('B', Bidi::L),
+    ('\u{2029}', Bidi::L),
+];
+
+// Whether a copy of the tables gives the characters of all rows the same properties.
+fn copy_is_alike(tables: &Tables, copy: &Tables) -> bool {
+    let mut all_right = tables.has_usual_separators() == copy.has_usual_separators();
+    for row in &ROWS {
+        all_right &= looked_up(tables, row.0) == looked_up(copy, row.0);
+    }
+    all_right
+}
+
+#[test]
+fn tables_with_unusual_separators_are_copied(rt: HostRuntime) -> Result<(), Fail> {
+    let tables = read(rt.alloc(), &FILES_OF_SEPARATORS)?;
+    assert!(rt; !tables.has_usual_separators());
+    let copy = tables.copy(rt.alloc())?;
+    assert!(rt; copy_is_alike(&tables, &copy));
+    drop(tables);
+    assert!(rt; are_classes(&copy, &SEPARATORS));
+    Ok(())
+}
+
+#[test]
+fn tables_with_usual_separators_are_copied(rt: HostRuntime) -> Result<(), Fail> {
+    let tables = read(rt.alloc(), &FILES)?;
+    assert!(rt; tables.has_usual_separators());
+    let copy = tables.copy(rt.alloc())?;
+    assert!(rt; copy_is_alike(&tables, &copy));
+    Ok(())
+}
+
 // A file, its lines, the faulty line and the cause.
 static FAULTS: [(usize, &[u8], usize, Cause); 14] = [
     (1, b"0041;\xC3\x89", 1, Cause::NotAscii),
