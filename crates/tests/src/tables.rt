@@ -1,5 +1,5 @@
-//! Tests lookups in the seven files, and the faults of malformed ones. The tests also pass if any one
-//! allocation fails.
+//! Tests lookups in the seven files and in copies of tables, and the faults of malformed files. The tests also
+//! pass if any one allocation fails.
 use crate::files::{FILES, read};
 use std::alloc::{AllocError, Global};
 use std::process::Abort;
@@ -406,31 +406,5 @@ fn only_extended_pictographic_is_refused_when_repeated(rt: HostRuntime) -> Resul
         cause: Cause::NamedBefore,
     };
     assert!(rt; fault_of(rt.alloc(), &only(7, lines)) == Some(fault));
-    Ok(())
-}
-
-// Whether a fault is displayed as this text.
-fn shows_as(alloc: Global, fault: TableFault, want: &str) -> Result<bool, AllocError> {
-    let text = match fault.to_string(alloc) {
-        Err(_) => fault.to_string(alloc)?,
-        Ok(text) => text,
-    };
-    Ok(text.as_str() == want)
-}
-
-#[test]
-fn faults_are_shown_with_file_line_and_cause(rt: HostRuntime) -> Result<(), Fail> {
-    let fault = TableFault {
-        file: 7,
-        line: 12,
-        cause: Cause::Value,
-    };
-    assert!(rt; shows_as(rt.alloc(), fault, "emoji-data.txt:12: cause 5")?);
-    let memory = TableFault {
-        file: 0,
-        line: 0,
-        cause: Cause::Memory,
-    };
-    assert!(rt; shows_as(rt.alloc(), memory, "out of memory")?);
     Ok(())
 }
