@@ -1,7 +1,8 @@
 /* The functions of the proved crate hordguli_fribidi, on which fribidi.c is built.
  *
- * An array is a pointer and a length. The pointer is never NULL and is aligned for its type, even if the length is 0. An
- * array that is written does not overlap another one. */
+ * The parameters have the names of the crate's, as tests/c/exports checks. An array is a pointer and a length. The
+ * pointer is never NULL and is aligned for its type, even if the length is 0. An array that is written does not overlap
+ * another one. */
 #ifndef HORDGULI_FRIBIDI_CORE_H
 #define HORDGULI_FRIBIDI_CORE_H
 
@@ -9,25 +10,28 @@
 #include <stdint.h>
 
 /* Lookups of single characters, in the tables of tools/generate_fribidi_tables. */
-uint32_t hordguli_fribidi_core_type(uint32_t character, const uint8_t index[static 4352], const uint32_t pages[static 65536]);
+uint32_t hordguli_fribidi_core_type(uint32_t c, const uint8_t index[static 4352], const uint32_t pages[static 65536]);
 void hordguli_fribidi_core_types(const uint8_t index[static 4352], const uint32_t pages[static 65536],
-                                 const uint32_t *characters, size_t length, uint32_t *types, size_t room);
-uint32_t hordguli_fribidi_core_number(uint32_t character, const uint8_t index[static 4352],
-                                      const uint16_t pages[static 4096], const uint32_t numbers[static 512]);
-uint32_t hordguli_fribidi_core_mirror(uint32_t character, uint32_t *mirrored, const uint8_t index[static 4352],
+                                 const uint32_t *characters, size_t characters_length, uint32_t *types,
+                                 size_t types_length);
+uint32_t hordguli_fribidi_core_number(uint32_t c, const uint8_t index[static 4352], const uint16_t pages[static 4096],
+                                      const uint32_t numbers[static 512]);
+uint32_t hordguli_fribidi_core_mirror(uint32_t c, uint32_t *mirrored, const uint8_t index[static 4352],
                                       const uint16_t pages[static 4096], const uint32_t numbers[static 512]);
 void hordguli_fribidi_core_brackets(const uint8_t index[static 4352], const uint16_t pages[static 4096],
-                                    const uint32_t numbers[static 512], const uint32_t *characters, size_t length,
-                                    const uint32_t *types, size_t types_length, uint32_t *brackets, size_t room);
+                                    const uint32_t numbers[static 512], const uint32_t *characters,
+                                    size_t characters_length, const uint32_t *types, size_t types_length,
+                                    uint32_t *brackets, size_t brackets_length);
 
 /* Returns the index of a type among those that have names, or 26 if it has no name. */
-uint32_t hordguli_fribidi_core_name(uint32_t type);
+uint32_t hordguli_fribidi_core_name(uint32_t number);
 
 /* Paragraphs and lines. If an allocation fails or lengths differ, they return 0 and change nothing. Lines allocate nothing. */
-uint32_t hordguli_fribidi_core_direction(const uint32_t *types, size_t length);
-uint32_t hordguli_fribidi_core_levels(const uint32_t *types, size_t length, const uint32_t *brackets,
-                                      size_t brackets_length, uint32_t *direction, uint8_t *levels, size_t room);
-uint32_t hordguli_fribidi_core_reorder(uint32_t flags, const uint32_t *types, size_t length, size_t off,
+uint32_t hordguli_fribidi_core_direction(const uint32_t *types, size_t types_length);
+uint32_t hordguli_fribidi_core_levels(const uint32_t *types, size_t types_length, const uint32_t *brackets,
+                                      size_t brackets_length, uint32_t *direction, uint8_t *levels,
+                                      size_t levels_length);
+uint32_t hordguli_fribidi_core_reorder(uint32_t flags, const uint32_t *types, size_t types_length, size_t off,
                                        uint32_t direction, uint8_t *levels, size_t levels_length, uint32_t *string,
                                        size_t string_length, uint32_t *map, size_t map_length);
 

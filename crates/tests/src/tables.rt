@@ -1,5 +1,5 @@
-//! Tests lookups in the seven files, and the faults of malformed ones. The tests also pass if any one
-//! allocation fails.
+//! Tests lookups in the seven files and in copies of tables, and the faults of malformed files. The tests also
+//! pass if any one allocation fails.
 use crate::files::{FILES, read};
 use std::alloc::{AllocError, Global};
 use std::process::Abort;
@@ -284,6 +284,52 @@ fn surrogates_are_ignored_and_so_is_a_last_carriage_return(rt: HostRuntime) -> R
     Ok(())
 }
 
+// Files in which letters, the last character and a paired bracket have class B, unlike in Unicode's files.
+const FILES_OF_SEPARATORS: UcdFiles<'_> = UcdFiles {
+    bidi_class: b"000A;B\n0028;B\n0041;B\n05D0;B\n2028;B\n10FFFF;B",
+    ..FILES
+};
+
+static SEPARATORS: [(char, Bidi); 8] = [
+    ('\n', Bidi::B),
+    ('(', Bidi::B),
+    ('A', Bidi::B),
+    ('\u{5D0}', Bidi::B),
+    ('\u{2028}', Bidi::B),
+    ('\u{10FFFF}', Bidi::B),
+    ('B', Bidi::L),
+    ('\u{2029}', Bidi::L),
+];
+
+// Whether a copy of the tables gives the characters of all rows the same properties.
+fn copy_is_alike(tables: &Tables, copy: &Tables) -> bool {
+    let mut all_right = tables.has_usual_separators() == copy.has_usual_separators();
+    for row in &ROWS {
+        all_right &= looked_up(tables, row.0) == looked_up(copy, row.0);
+    }
+    all_right
+}
+
+#[test]
+fn tables_with_unusual_separators_are_copied(rt: HostRuntime) -> Result<(), Fail> {
+    let tables = read(rt.alloc(), &FILES_OF_SEPARATORS)?;
+    assert!(rt; !tables.has_usual_separators());
+    let copy = tables.copy(rt.alloc())?;
+    assert!(rt; copy_is_alike(&tables, &copy));
+    drop(tables);
+    assert!(rt; are_classes(&copy, &SEPARATORS));
+    Ok(())
+}
+
+#[test]
+fn tables_with_usual_separators_are_copied(rt: HostRuntime) -> Result<(), Fail> {
+    let tables = read(rt.alloc(), &FILES)?;
+    assert!(rt; tables.has_usual_separators());
+    let copy = tables.copy(rt.alloc())?;
+    assert!(rt; copy_is_alike(&tables, &copy));
+    Ok(())
+}
+
 // A file, its lines, the faulty line and the cause.
 static FAULTS: [(usize, &[u8], usize, Cause); 14] = [
     (1, b"0041;\xC3\x89", 1, Cause::NotAscii),
@@ -360,31 +406,5 @@ fn only_extended_pictographic_is_refused_when_repeated(rt: HostRuntime) -> Resul
         cause: Cause::NamedBefore,
     };
     assert!(rt; fault_of(rt.alloc(), &only(7, lines)) == Some(fault));
-    Ok(())
-}
-
-// Whether a fault is displayed as this text.
-fn shows_as(alloc: Global, fault: TableFault, want: &str) -> Result<bool, AllocError> {
-    let text = match fault.to_string(alloc) {
-        Err(_) => fault.to_string(alloc)?,
-        Ok(text) => text,
-    };
-    Ok(text.as_str() == want)
-}
-
-#[test]
-fn faults_are_shown_with_file_line_and_cause(rt: HostRuntime) -> Result<(), Fail> {
-    let fault = TableFault {
-        file: 7,
-        line: 12,
-        cause: Cause::Value,
-    };
-    assert!(rt; shows_as(rt.alloc(), fault, "emoji-data.txt:12: cause 5")?);
-    let memory = TableFault {
-        file: 0,
-        line: 0,
-        cause: Cause::Memory,
-    };
-    assert!(rt; shows_as(rt.alloc(), memory, "out of memory")?);
     Ok(())
 }

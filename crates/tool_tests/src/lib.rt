@@ -1,5 +1,7 @@
-//! Tests of the public calls of `tool`, by their paths and with their types.
+//! Tests of the public calls of `tool`, by their paths and with their types, and of the messages of all errors.
 #![tactic(auto)]
 
+#[cfg(test)]
+mod messages;
 #[cfg(test)]
 mod surface;

@@ -1,8 +1,8 @@
 //! Tests of edits and sessions that are refused.
 use super::{Check, Pair, check_in_tree, make, make_each, renew, session, without_engine};
 use crate::files::{FILES, engine};
-use lines::{Engine, Options, PrintFault, WriteFault};
-use session::{Edit, EditFault, Kept, RangeFault, Session};
+use lines::{Engine, Options};
+use session::{Edit, EditFault, Kept, Session};
 use std::alloc::{AllocError, Global};
 use std::process::Abort;
 use std::test::Fail;
@@ -130,51 +130,5 @@ fn insert_that_makes_a_paragraph_too_long_is_refused(rt: HostRuntime) -> Result<
     let result = becomes_full(rt.alloc(), &mut edited);
     drop(edited);
     assert!(rt; result?);
-    Ok(())
-}
-
-static MESSAGES: [(EditFault, &str); 5] = [
-    (EditFault::OutOfRange, "out of range"),
-    (EditFault::WidthOutOfRange, "width out of range"),
-    (EditFault::TextTooLong, "text too long"),
-    (EditFault::ParagraphTooLong, "paragraph too long"),
-    (EditFault::NoMemory, "out of memory"),
-];
-
-fn edit_shows_as(alloc: Global, fault: EditFault, want: &str) -> Result<bool, AllocError> {
-    Ok(fault.to_string(alloc)?.as_str() == want)
-}
-
-// Whether each fault is displayed as its text.
-fn edits_show_as(alloc: Global, rows: &[(EditFault, &str)]) -> Result<bool, AllocError> {
-    let mut all_right = true;
-    for (fault, want) in rows {
-        all_right &= edit_shows_as(alloc, *fault, want)?;
-    }
-    Ok(all_right)
-}
-
-#[test]
-fn edit_faults_are_shown_as_their_messages(rt: HostRuntime) -> Result<(), Fail> {
-    assert!(rt; edits_show_as(rt.alloc(), &MESSAGES)?);
-    Ok(())
-}
-
-fn range_shows_as(alloc: Global, fault: RangeFault, want: &str) -> Result<bool, AllocError> {
-    Ok(fault.to_string(alloc)?.as_str() == want)
-}
-
-fn print_shows_as(alloc: Global, fault: PrintFault, want: &str) -> Result<bool, AllocError> {
-    Ok(fault.to_string(alloc)?.as_str() == want)
-}
-
-#[test]
-fn range_and_print_faults_are_shown_as_their_messages(rt: HostRuntime) -> Result<(), Fail> {
-    let write = WriteFault { written: 3 };
-    let after = "cannot write after 3 bytes";
-    assert!(rt; range_shows_as(rt.alloc(), RangeFault::OutOfRange, "out of range")?);
-    assert!(rt; range_shows_as(rt.alloc(), RangeFault::Write(write), after)?);
-    assert!(rt; print_shows_as(rt.alloc(), PrintFault::Memory, "out of memory")?);
-    assert!(rt; print_shows_as(rt.alloc(), PrintFault::Write(write), after)?);
     Ok(())
 }
