@@ -1,19 +1,17 @@
 -- The edges of a position, and the unit that covers a column.
-use Rattle.std.proofs.Common.{◌≡◌, ℕ, zero, suc, ◌+◌, ◌-◌, ◌<◌, ◌≤◌, ◌==◌, ◌&&◌, not, false, true, nat_le, List, length, get_or, Some, None, option_and_then, option_map, if◌then◌else◌, ap, refl, sym, ◌∙◌, arith}
-use Rattle.std.proofs.lemmas.Bool.{and_from, le-leb, ne_eqb, not_from_false}
+use Rattle.std.proofs.Common.{◌≡◌, ℕ, zero, suc, ◌+◌, ◌-◌, ◌≤◌, false, nat_le, List, length, get_or, Some, None, option_and_then, option_map, if◌then◌else◌, ap, refl, sym, ◌∙◌, arith}
 use Rattle.std.proofs.lemmas.Bool.Decides.{nat_tests}
 use Rattle.lines.specs.Columns.{covering}
 use Rattle.lines.specs.Layouts.{Layout, Rules}
 use Rattle.lines.specs.Visual.{Visual}
 use Rattle.session.specs.Clusters.{cluster_at}
-use Rattle.session.specs.Edges.{caret_of, edge_caret_at, edge_caret_by, is_edge_at, is_edge_in, unit_at, unit_in, HasCharacter, IsBeside}
+use Rattle.session.specs.Edges.{caret_of, edge_caret_at, edge_caret_by, unit_at, unit_in}
 use Rattle.session.specs.Kept.{text_of}
 use Rattle.session.specs.Places.{place_in}
 use Rattle.session.specs.Units.{unit_of}
 use Rattle.session.specs.declared.clusters.Cluster.{Cluster}
 use Rattle.session.specs.declared.edges.Edge.{Edge}
-use Rattle.session.specs.declared.edges.Side.{Side}
-use Rattle.session.specs.declared.edges.Side.TheVariants.{After, Before}
+use Rattle.session.specs.declared.edges.Side.TheVariants.{After}
 use Rattle.session.specs.declared.units.CaretUnit.{CaretUnit}
 
 -- the caret after a character is on the line of that character
@@ -38,15 +36,3 @@ pub unit_found : (kept : List Layout) (line : Visual) (start column place k : �
 unit_found kept line start column place k cluster unit covers is clusters whole =
     ap Some whole ∙ ap (option_map (λ cluster. unit_of line start cluster k)) clusters ∙ ap (unit_in kept line start) is
     ∙ ap (option_and_then (λ place. unit_in kept line start (get_or line.vtol place 0))) covers
-
--- an edge of a character is an edge of the text, which is not empty
-beside_in : (chars pos : ℕ) (side : Side) → IsBeside chars pos side → (nat_le pos chars && is_edge_at pos side ≡ true) × (0 < chars)
-beside_in chars pos Before beside = (and_from (nat_le pos chars) true (le-leb pos chars (omega (arith, beside))) refl, omega (arith, beside))
-beside_in chars pos After beside =
-    (
-      and_from (nat_le pos chars) (not (pos == 0)) (le-leb pos chars beside.1) (not_from_false (pos == 0) (ne_eqb pos 0 (λ none. omega (arith, none, beside.0)))),
-      omega (arith, beside.0, beside.1),
-    )
-
-pub has_character : (chars : ℕ) (edge : Edge) → HasCharacter chars edge → (is_edge_in chars edge ≡ true) × (0 < chars)
-has_character chars edge has = beside_in chars edge.pos edge.side has
