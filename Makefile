@@ -12,7 +12,7 @@
 #   make image      Compiles the table files to ucd/tables.image, with a program that it proves and builds. make c runs it too.
 #   make install    Installs what make, make c, make fribidi and make ucd have built (PREFIX=/usr/local, LIBDIR, DESTDIR,
 #                   COMMAND=fribidi, ZSHDIR).
-#   make uninstall  Removes what make install has installed, with the same PREFIX and DESTDIR.
+#   make uninstall  Removes what make install has installed, with the same PREFIX, LIBDIR, DESTDIR and ZSHDIR.
 #
 # For contributors
 #

@@ -1,6 +1,7 @@
 #!/bin/sh
 # Installs this folder: install.sh PREFIX. Removes what it has installed: install.sh --uninstall PREFIX.
 # Checks the files against SHA256SUMS before installing them. PREFIX/share/hordguli/installed lists the installed files and new folders.
+# Nothing outside PREFIX is installed or removed, so no folder in it may be a symbolic link that leads outside.
 set -eu
 LC_ALL=C
 export LC_ALL
@@ -18,44 +19,34 @@ if [ $# != 1 ]; then usage; fi
 case $1 in
     '' | -*) usage ;;
     /*) prefix=$1 ;;
-    *) prefix=$PWD/$1 ;;
+    *) prefix=${PWD%/}/$1 ;;
 esac
-list=$prefix/share/hordguli/installed
+while [ "$prefix" != "${prefix%/}" ]; do prefix=${prefix%/}; done
+
+program=install.sh root='' libdir=$prefix zshdir=$prefix
+CDPATH='' cd -- "$(dirname "$0")"
+# shellcheck source=packaging/installed_list.sh
+. ./installed_list.sh
+entries=$(mktemp)
+trap 'rm -f "$entries"' EXIT
 
 if [ $task = uninstall ]; then
-    [ -f "$list" ] || { echo "install.sh: there is no $list: nothing is installed there"; exit 1; }
-    # (files are removed before their folder, which stays if it has other files)
-    sort -r "$list" | while IFS= read -r path; do
-        case $path in
-            */) rmdir "$path" 2> /dev/null || true ;;
-            *) rm -f "$path" ;;
-        esac
-    done
-    echo "install.sh: what was installed in $prefix is removed"
+    remove_listed
     exit
 fi
 
-made=$(mktemp)
-trap 'rm -f "$made"' EXIT
-make_folder() { # FOLDER: makes the folder and its parents, and records those that are new
-    if [ -d "$1" ]; then return; fi
-    make_folder "$(dirname "$1")"
-    mkdir "$1"
-    echo "$1/" >> "$made"
-}
+files() { find bin include lib share ! -type d | sort; }
 
-cd "$(dirname "$0")"
 sha256sum --quiet --check SHA256SUMS
-find bin include lib share ! -type d | sort | while IFS= read -r file; do
-    folder=$(dirname "$prefix/$file")
+read_list
+files | while IFS= read -r file; do check_folder "$prefix/${file%/*}"; done
+files | while IFS= read -r file; do
+    folder=$prefix/${file%/*}
     make_folder "$folder"
     # (a file may be in use, so it is replaced and not overwritten)
     cp -P "$file" "$folder/.new.$$"
     mv -f "$folder/.new.$$" "$prefix/$file"
-    echo "$prefix/$file" >> "$made"
+    record "$prefix/$file"
 done
-echo "$list" >> "$made"
-if [ -f "$list" ]; then cat "$list" >> "$made"; fi
-sort -u "$made" > "$list.new"
-mv -f "$list.new" "$list"
-echo "install.sh: the files are in $prefix"
+write_list
+printf 'install.sh: the files are in %s\n' "${prefix:-/}"
