@@ -120,19 +120,24 @@ def text_of(buffer: bytes) -> str:
     return buffer.decode("utf-32-le")
 
 
+def make_call(call: Call, *arguments: Any) -> None:
+    """Makes a call, and raises the exception for its status. With `Handle.call`, the first argument is the function."""
+    check(call(*arguments), *arguments)
+
+
 # Each of the following makes a call and returns what it stores through its last parameters.
 
 
 def get_size(call: Call, *arguments: Any) -> int:
     result = c_size_t()
-    check(call(*arguments, byref(result)), *arguments)
+    make_call(call, *arguments, byref(result))
     return result.value
 
 
 def get_record(kind: type[Record], call: Call, *arguments: Any) -> Record:
     layout = FORMATS[kind]
     buffer = bytearray(layout.size)
-    check(call(*arguments, address(buffer)), *arguments)
+    make_call(call, *arguments, address(buffer))
     return kind(*layout.unpack(buffer))
 
 

@@ -15,13 +15,13 @@ from ._calls import (
     get_record,
     get_records,
     get_size,
+    make_call,
     numbers,
     refuse_copy,
     size,
     text_of,
     uint32,
 )
-from ._errors import check
 from ._library import RawEdge, library
 from ._records import (
     Caret,
@@ -82,8 +82,7 @@ class Session:
         arguments = flags(Options, options, "options"), uint32(width, "width"), data, len(data)
         shared = (tables or default_tables())._handle
         with shared.lock:
-            opening = library.hordguli_session_open, shared.pointer, *arguments
-            check(self._handle.open(*opening), *opening)
+            make_call(self._handle.open, library.hordguli_session_open, shared.pointer, *arguments)
 
     __reduce__ = refuse_copy
 
@@ -331,7 +330,7 @@ class Session:
         """
         moved, found = c_uint32(), RawEdge()
         arguments = _raw(edge), uint32(direction, "direction"), byref(found), byref(moved)
-        check(self._call(library.hordguli_step, *arguments))
+        make_call(self._call, library.hordguli_step, *arguments)
         return _edge(found) if moved.value else None
 
     def edge_at(self, line: SupportsIndex, column: SupportsIndex) -> Edge:
@@ -340,13 +339,13 @@ class Session:
         Columns 0 and `sys.maxsize` are the two ends of the line on the screen.
         """
         found = RawEdge()
-        check(self._call(library.hordguli_edge_at, size(line), size(column), byref(found)))
+        make_call(self._call, library.hordguli_edge_at, size(line), size(column), byref(found))
         return _edge(found)
 
     def line_edges(self, line: SupportsIndex) -> tuple[Edge, Edge]:
         """Returns the first and the last edge of a line in logical order, for the keys Home and End."""
         first, last = RawEdge(), RawEdge()
-        check(self._call(library.hordguli_line_edges, size(line), byref(first), byref(last)))
+        make_call(self._call, library.hordguli_line_edges, size(line), byref(first), byref(last))
         return _edge(first), _edge(last)
 
     def line_clusters(self, line: SupportsIndex) -> list[int]:

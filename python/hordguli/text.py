@@ -6,7 +6,7 @@ from collections.abc import Iterable
 from ctypes import byref, c_size_t, c_uint32
 from typing import Optional, SupportsIndex, Union, overload
 
-from ._calls import Call, address, flags, get_array, get_records, get_size, numbers, text_of, uint32, utf32
+from ._calls import Call, address, flags, get_array, get_records, get_size, make_call, numbers, text_of, uint32, utf32
 from ._errors import check
 from ._library import library, quick_base, quick_levels, quick_row
 from ._records import BIDI_CLASSES, BRACKETS, FORMATS, LINE_CLASSES, Character, Options, Print, RawCharacter, Row, Run
@@ -260,9 +260,8 @@ def valid_utf8(data: bytes) -> int:
 
 def _base(tables: Tables, direction: Options, characters: bytes) -> int:
     result = c_uint32()
-    chosen = flags(Options, direction, "direction")
-    arguments = library.hordguli_base, chosen, characters, len(characters) // 4, byref(result)
-    check(tables._handle.call(*arguments), *arguments)
+    arguments = flags(Options, direction, "direction"), characters, len(characters) // 4, byref(result)
+    make_call(tables._handle.call, library.hordguli_base, *arguments)
     return result.value
 
 
@@ -270,8 +269,7 @@ def _per_character(function: Call, tables: Tables, options: Options, characters:
     """Returns the levels or the break marks."""
     count = len(characters) // 4
     result = bytearray(count)
-    arguments = function, options, characters, count, count, address(result)
-    check(tables._handle.call(*arguments), *arguments)
+    make_call(tables._handle.call, function, options, characters, count, count, address(result))
     return result
 
 
@@ -281,9 +279,8 @@ def _put_row(
     """Stores a row in the arrays, of which the last ones may be left out."""
     count = len(characters) // 4
     pointers = [*map(address, arrays), None, None, None][:4]
-    chosen = flags(Options, options, "options")
-    arguments = chosen, base, count, characters, levels, count, *pointers
-    check(tables._handle.call(library.hordguli_row, *arguments), library.hordguli_row, *arguments)
+    arguments = flags(Options, options, "options"), base, count, characters, levels, count, *pointers
+    make_call(tables._handle.call, library.hordguli_row, *arguments)
 
 
 def _checked(text: str, levels: Iterable[int], base_level: int) -> tuple[bytes, bytes]:
@@ -299,5 +296,5 @@ def _checked(text: str, levels: Iterable[int], base_level: int) -> tuple[bytes, 
 def _properties(tables: Tables, characters: bytes) -> bytearray:
     count = len(characters) // 4
     result = bytearray(count * FORMATS[RawCharacter].size)
-    check(tables._handle.call(library.hordguli_properties, count, characters, address(result)))
+    make_call(tables._handle.call, library.hordguli_properties, count, characters, address(result))
     return result
