@@ -70,7 +70,7 @@ def test_slices_are_those_of_a_list():
         lines, numbers = list(text), [None, *range(-6, 7), 1 << 70]
         for start, stop, step in itertools.product(numbers, numbers, [None, 1, 2, 7, -1, -3]):
             assert text[start:stop:step] == lines[start:stop:step]
-        assert len(lines) == 4 and isinstance(text[1:2], list) and empty[:] == []
+        assert len(lines) == 5 and isinstance(text[1:2], list) and empty[:] == []
 
 
 def test_an_empty_line_has_empty_tuples():
