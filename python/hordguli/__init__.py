@@ -8,9 +8,14 @@
 - `levels`, `base_level`, `breaks`, `row`, `row_runs` and `properties` are for programs that lay out lines themselves.
 - `Session` keeps a text and its lines under edits, and has what an editor needs: carets, hits, selections.
 
-Positions are indexes into a `str`. Positions, lines and columns are counted from 0. Exceptions: `IndexError` for a position, line
-or paragraph that is past the end; `ValueError` for a width, for options, for a lone surrogate (`UnicodeEncodeError`), for a text
-of more than 16,777,216 characters or a paragraph of more than 1,048,576; `MemoryError`; `ClosedError`; `TableError`.
+Positions are indexes into a `str`. Positions, lines and columns are counted from 0. Exceptions:
+
+- `IndexError` for a position, line or paragraph that is past the end
+- `ValueError` for a width, for options, and for a lone surrogate (`UnicodeEncodeError`)
+- `ValueError` from `Session`, `wrap` and `explain` for a text of more than 16,777,216 characters, or a paragraph of more than
+  1,048,576; the other functions have no such limits
+- `TypeError` for a `Print` in place of `Options`, and for copying or pickling sessions and tables
+- `MemoryError`, `ClosedError`, `TableError`
 
 Threads may share sessions and tables: a lock keeps each of them in one call at a time. A call without `tables` uses
 `default_tables()`, so programs that lay out long texts in several threads should open `Tables` for each. After a fork, the child

@@ -7,12 +7,13 @@ import threading
 import weakref
 from ctypes import byref, c_size_t
 from struct import calcsize
-from typing import Any, Callable, Optional, SupportsIndex, TypeVar
+from typing import Any, Callable, NoReturn, Optional, SupportsIndex, TypeVar
 
 from ._errors import check
 from ._library import NO_ROOM, OK, SIZE_MAX, RawHandle
-from ._records import FORMATS
+from ._records import FORMATS, Break, Direction, Options, Print, Side
 
+Flags = TypeVar("Flags", Options, Print)
 Record = TypeVar("Record", bound=tuple[Any, ...])
 Call = Callable[..., int]  # a function of the C library, or `Handle.call`
 
@@ -84,6 +85,21 @@ def uint32(number: SupportsIndex, name: str) -> int:
     return value
 
 
+def flags(kind: type[Flags], given: Flags, name: str) -> Flags:
+    """Returns options or print flags. A plain number will do, but not a member of another enumeration of this package.
+
+    Raises `TypeError` for such a member, and `ValueError` for a number that does not fit a `uint32_t`.
+    """
+    if isinstance(given, (Options, Print, Break, Side, Direction)) and not isinstance(given, kind):
+        raise TypeError(f"{name} must be {kind.__name__}, not {type(given).__name__}")
+    return kind(uint32(given, name))
+
+
+def refuse_copy(handled: object) -> NoReturn:
+    """For `__reduce__`, which `copy` and `pickle` call: a copy would share the handle."""
+    raise TypeError(f"cannot copy or pickle '{type(handled).__name__}' object")
+
+
 def address(buffer: bytearray) -> Optional[Any]:
     """Returns a pointer to a buffer, for the C library to write to, or `None` if the buffer is empty."""
     return byref(ctypes.c_char.from_buffer(buffer)) if buffer else None
@@ -104,19 +120,24 @@ def text_of(buffer: bytes) -> str:
     return buffer.decode("utf-32-le")
 
 
+def make_call(call: Call, *arguments: Any) -> None:
+    """Makes a call, and raises the exception for its status. With `Handle.call`, the first argument is the function."""
+    check(call(*arguments), *arguments)
+
+
 # Each of the following makes a call and returns what it stores through its last parameters.
 
 
 def get_size(call: Call, *arguments: Any) -> int:
     result = c_size_t()
-    check(call(*arguments, byref(result)))
+    make_call(call, *arguments, byref(result))
     return result.value
 
 
 def get_record(kind: type[Record], call: Call, *arguments: Any) -> Record:
     layout = FORMATS[kind]
     buffer = bytearray(layout.size)
-    check(call(*arguments, address(buffer)))
+    make_call(call, *arguments, address(buffer))
     return kind(*layout.unpack(buffer))
 
 
@@ -127,7 +148,7 @@ def get_array(item_size: int, call: Call, *arguments: Any, capacity: int = 16) -
         buffer = bytearray(capacity * item_size)
         status = call(*arguments, capacity, address(buffer), byref(length))
         if status != NO_ROOM:
-            check(status)
+            check(status, *arguments)
             return buffer[: length.value * item_size]
         capacity = length.value
 
@@ -149,7 +170,7 @@ def get_info(kind: type[Record], length: str, codes: str, call: Call, *arguments
         arrays = [bytearray(capacity * calcsize(code)) for code in codes]
         status = call(*arguments, address(buffer), capacity, *map(address, arrays))
         if status != NO_ROOM:
-            check(status)
+            check(status, *arguments)
         record = kind(*layout.unpack(buffer))
         needed: int = getattr(record, length)
         if needed == capacity:

@@ -29,7 +29,7 @@ _COLUMNS = {
 
 
 def explain(
-    text: str, width: int = 80, options: int = Options.WEAK_LTR, *, tables: Optional[Tables] = None
+    text: str, width: int = 80, options: Options = Options.WEAK_LTR, *, tables: Optional[Tables] = None
 ) -> dict[str, Any]:
     """Returns what decides the layout of a text, as dicts and lists of strings and numbers, for JSON.
 
@@ -93,12 +93,12 @@ def _plain(line: Line) -> dict[str, Any]:
     return {**line._asdict(), "runs": [run._asdict() for run in line.runs]}
 
 
-def _decider(text: str, paragraph: Paragraph, options: int, tables: Tables) -> Optional[int]:
+def _decider(text: str, paragraph: Paragraph, options: Options, tables: Tables) -> Optional[int]:
     """Returns the position of the character that decided the base level: the last one of the shortest prefix with a direction.
 
     A prefix has a direction if it has the same base level with both weak directions. Then all longer ones have it too.
     """
-    if options & Options.LTR:  # (or RTL: no character decides)
+    if options & Options.LTR & Options.RTL:  # (the bit that both have: no character decides)
         return None
 
     def has_direction(length: int) -> bool:
@@ -130,7 +130,7 @@ def table(explained: dict[str, Any]) -> str:
     return "\n".join(shown)
 
 
-def page(text: str, width: int = 80, options: int = Options.WEAK_LTR, *, tables: Optional[Tables] = None) -> str:
+def page(text: str, width: int = 80, options: Options = Options.WEAK_LTR, *, tables: Optional[Tables] = None) -> str:
     """Returns an HTML page that shows what `explain` returns, for each width from 1 to 120. It needs no other file."""
     explained = explain(text, width, options, tables=tables)
     with Session(text, width, options, tables=tables) as session:

@@ -8,7 +8,7 @@ NAME = "libhordguli.so.1"
 SIZE_MAX = c_size_t(-1).value
 
 # The statuses that this package handles by name.
-OK, OUT_OF_RANGE, NO_MEMORY, TABLE_FAULT, CLOSED, NO_ROOM, UNREAD_FILE = 0, 1, 5, 6, 9, 12, 15
+OK, OUT_OF_RANGE, NO_MEMORY, TABLE_FAULT, CLOSED, UNKNOWN_OPTION, NO_ROOM, UNREAD_FILE = 0, 1, 5, 6, 9, 11, 12, 15
 
 
 class RawHandle(ctypes.Structure):

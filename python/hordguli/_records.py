@@ -5,11 +5,16 @@ from struct import Struct
 from typing import Any, NamedTuple
 
 
+_TAB_WIDTH = 0xFF00  # (bits of `Options`)
+
+
 class Options(enum.IntFlag):
     """Options of a layout: one base direction and any of the others, combined by `|`.
 
     `WEAK_LTR`, `WEAK_RTL`: a paragraph has the direction of its first strong character, else the one named.
     `LTR`, `RTL`: all paragraphs have this direction.
+    Without a direction, it is `WEAK_LTR`. Two different directions raise `ValueError` in each call that they are passed to.
+    Directions share bits, so find out by `Options.LTR in options`, not by `&`, which one options have.
     `NOBREAK`: lines end at mandatory breaks only.
     `REORDER_NSM`: in right-to-left text, nonspacing marks come after their base in visual order (UAX #9, L3).
     `WHOLE_NUMBERS`: lines do not end inside a number such as `$1,234.56`.
@@ -18,9 +23,10 @@ class Options(enum.IntFlag):
     `tab_width(n)`: there is a tab stop every n columns, from 1 to 255.
     """
 
-    WEAK_LTR = 0
-    WEAK_RTL = 1
-    LTR = 2
+    # (bits 0 and 1; bits 24 and 25 say which of the two is given as 0)
+    WEAK_LTR = 0x3000000
+    WEAK_RTL = 0x2000001
+    LTR = 0x1000002
     RTL = 3
     NOBREAK = 4
     REORDER_NSM = 8
@@ -34,6 +40,13 @@ class Options(enum.IntFlag):
         if not 1 <= n <= 255:
             raise ValueError(f"tab width out of range: {n}")
         return cls(n << 8)
+
+    def __repr__(self) -> str:
+        """`IntFlag` does not name a member of several bits that is combined with others."""
+        names = [name for name, one in Options.__members__.items() if one in self]
+        if self & _TAB_WIDTH:
+            names.append(f"tab_width({(self & _TAB_WIDTH) >> 8})")
+        return f"<{'.'.join(['Options'] + names[:1])}{''.join(f'|{name}' for name in names[1:])}: {int(self):#x}>"
 
 
 class Print(enum.IntFlag):

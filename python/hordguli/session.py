@@ -5,10 +5,23 @@ from collections.abc import Iterator
 from ctypes import byref, c_uint32
 from struct import calcsize
 from types import TracebackType
-from typing import Optional, SupportsIndex
+from typing import Optional, SupportsIndex, Union, overload
 
-from ._calls import Handle, get_array, get_info, get_record, get_records, get_size, numbers, size, text_of, uint32
-from ._errors import check
+from ._calls import (
+    Handle,
+    flags,
+    get_array,
+    get_info,
+    get_record,
+    get_records,
+    get_size,
+    make_call,
+    numbers,
+    refuse_copy,
+    size,
+    text_of,
+    uint32,
+)
 from ._library import RawEdge, library
 from ._records import (
     Caret,
@@ -38,8 +51,8 @@ from .tables import Tables, default_tables
 class Session:
     """A text and its layout in lines, which is kept up to date when the text is edited or the width changes.
 
-    `text[0]` is the first line, and `len(text)` the number of lines. Positions, lines, paragraphs and columns are counted from
-    0. Positions are indexes into the text as a `str`. A column is a terminal cell.
+    `text[0]` is the first line, `text[1:3]` a list of two lines, and `len(text)` the number of lines. Positions, lines,
+    paragraphs and columns are counted from 0. Positions are indexes into the text as a `str`. A column is a terminal cell.
 
     `width` is in columns, from 1 to 65,535. `options` are `Options`. Without `tables`, `default_tables()` are used.
 
@@ -59,17 +72,19 @@ class Session:
         self,
         text: str = "",
         width: SupportsIndex = 80,
-        options: SupportsIndex = Options.WEAK_LTR,
+        options: Options = Options.WEAK_LTR,
         *,
         tables: Optional[Tables] = None,
     ) -> None:
         self._handle = Handle(library.hordguli_session_close)
         self._call = self._handle.call
         data = text.encode()
-        arguments = uint32(options, "options"), uint32(width, "width"), data, len(data)
+        arguments = flags(Options, options, "options"), uint32(width, "width"), data, len(data)
         shared = (tables or default_tables())._handle
         with shared.lock:
-            check(self._handle.open(library.hordguli_session_open, shared.pointer, *arguments))
+            make_call(self._handle.open, library.hordguli_session_open, shared.pointer, *arguments)
+
+    __reduce__ = refuse_copy
 
     def close(self) -> None:
         """Frees the session. Safe to call again. Other calls then raise `ClosedError`."""
@@ -145,22 +160,23 @@ class Session:
     def text(self, pos: SupportsIndex = 0, count: Optional[SupportsIndex] = None) -> str:
         """Returns `count` characters from `pos` on, or all that follow, in logical order."""
         with self._handle.lock:
-            first, number = self._range(pos, count, self.counts.characters)
+            first, number = self._range("character", pos, count, self.counts.characters)
             return text_of(get_array(4, self._call, library.hordguli_text_utf32, first, number, capacity=number))
 
     def utf8(self, pos: SupportsIndex = 0, count: Optional[SupportsIndex] = None) -> bytes:
         """Returns the same characters as `text`, in UTF-8."""
         with self._handle.lock:
-            first, number = self._range(pos, count, self.counts.characters)
+            first, number = self._range("character", pos, count, self.counts.characters)
             return bytes(get_array(1, self._call, library.hordguli_text, first, number, capacity=4 * number))
 
     def utf8_length(self, pos: SupportsIndex = 0, count: Optional[SupportsIndex] = None) -> int:
         """Returns how many bytes of UTF-8 the same characters need."""
         with self._handle.lock:
-            return get_size(self._call, library.hordguli_utf8_length, *self._range(pos, count, self.counts.characters))
+            chosen = self._range("character", pos, count, self.counts.characters)
+            return get_size(self._call, library.hordguli_utf8_length, *chosen)
 
     def lines(
-        self, first: SupportsIndex = 0, count: Optional[SupportsIndex] = None, show: SupportsIndex = Print.DEFAULT
+        self, first: SupportsIndex = 0, count: Optional[SupportsIndex] = None, show: Print = Print.DEFAULT
     ) -> list[str]:
         """Returns `count` lines from line `first` on, or all that follow, as strings.
 
@@ -172,27 +188,42 @@ class Session:
         ['0 1 3 2', '0 0 1 1']
         """
         with self._handle.lock:
-            start, number = self._range(first, count, len(self))
-            flags = uint32(show, "show")
-            shown = get_array(1, self._call, library.hordguli_lines_utf8, start, number, flags, capacity=4096)
+            start, number = self._range("line", first, count, len(self))
+            items = flags(Print, show, "show")
+            shown = get_array(1, self._call, library.hordguli_lines_utf8, start, number, items, capacity=4096)
         return shown.decode().split("\n")[:-1]
 
     @staticmethod
-    def _range(first: SupportsIndex, count: Optional[SupportsIndex], length: int) -> tuple[int, int]:
+    def _range(noun: str, first: SupportsIndex, count: Optional[SupportsIndex], length: int) -> tuple[int, int]:
         """Returns the start and the number of items of a range, which by default ends at the end."""
         start = size(first)
-        number = length - start if count is None else size(count)
-        if not 0 <= number <= length - start:
-            raise IndexError(f"{number} from {start} on is out of range")
+        number = max(0, length - start) if count is None else size(count)
+        if start + number > length:
+            raise IndexError(f"{noun} {start} is out of range" if count is None else f"{number} {noun}s from {start} on are out of range")
         return start, number
 
-    def __getitem__(self, line: SupportsIndex) -> Line:
-        """Returns a line. As in a list, -1 is the last line."""
+    @overload
+    def __getitem__(self, line: SupportsIndex) -> Line: ...
+
+    @overload
+    def __getitem__(self, line: slice) -> list[Line]: ...
+
+    def __getitem__(self, line: Union[SupportsIndex, slice]) -> Union[Line, list[Line]]:
+        """Returns a line, or a list of lines for a slice. As in a list, -1 is the last line."""
         with self._handle.lock:
+            if isinstance(line, slice):
+                return [self._line(number) for number in range(*line.indices(len(self)))]
             number = operator.index(line)
-            number = size(number + len(self) if number < 0 else number)
-            info, arrays = get_info(LineInfo, "shown", "IBIIN", self._call, library.hordguli_line, number)
-            runs = self.runs(number)
+            if number < 0:
+                number += len(self)
+                if number < 0:
+                    raise IndexError(f"line {line} is out of range")
+            return self._line(number)
+
+    def _line(self, number: int) -> Line:
+        """Returns a line. The caller holds the lock."""
+        info, arrays = get_info(LineInfo, "shown", "IBIIN", self._call, library.hordguli_line, size(number))
+        runs = self.runs(number)
         characters, levels, ltov, vtol, columns = arrays
         return Line(
             text_of(characters),
@@ -299,7 +330,7 @@ class Session:
         """
         moved, found = c_uint32(), RawEdge()
         arguments = _raw(edge), uint32(direction, "direction"), byref(found), byref(moved)
-        check(self._call(library.hordguli_step, *arguments))
+        make_call(self._call, library.hordguli_step, *arguments)
         return _edge(found) if moved.value else None
 
     def edge_at(self, line: SupportsIndex, column: SupportsIndex) -> Edge:
@@ -308,13 +339,13 @@ class Session:
         Columns 0 and `sys.maxsize` are the two ends of the line on the screen.
         """
         found = RawEdge()
-        check(self._call(library.hordguli_edge_at, size(line), size(column), byref(found)))
+        make_call(self._call, library.hordguli_edge_at, size(line), size(column), byref(found))
         return _edge(found)
 
     def line_edges(self, line: SupportsIndex) -> tuple[Edge, Edge]:
         """Returns the first and the last edge of a line in logical order, for the keys Home and End."""
         first, last = RawEdge(), RawEdge()
-        check(self._call(library.hordguli_line_edges, size(line), byref(first), byref(last)))
+        make_call(self._call, library.hordguli_line_edges, size(line), byref(first), byref(last))
         return _edge(first), _edge(last)
 
     def line_clusters(self, line: SupportsIndex) -> list[int]:

@@ -6,7 +6,7 @@ from ctypes import byref, c_uint32
 from types import TracebackType
 from typing import Optional, Union
 
-from ._calls import Handle, address
+from ._calls import Handle, address, refuse_copy
 from ._errors import Cause, TableError, check
 from ._library import TABLE_FAULT, UNREAD_FILE, RawBytes, library
 from ._records import FORMATS, TableFault
@@ -56,15 +56,16 @@ class Tables:
     def __init__(self, files: Union[str, "os.PathLike[str]", bytes, Sequence[bytes], None] = None) -> None:
         self._handle = Handle(library.hordguli_tables_close)
         fault = bytearray(FORMATS[TableFault].size)
+        folder: Optional[str] = None
         if files is None:
             status = self._handle.open(library.hordguli_tables_open_builtin)
         elif isinstance(files, bytes):
             status = self._handle.open(library.hordguli_tables_open_image, files, len(files), address(fault))
         elif isinstance(files, (str, os.PathLike)):
-            folder = os.fsencode(files)
-            if b"\0" in folder:
-                raise ValueError("a path has a null character")
-            status = self._handle.open(library.hordguli_tables_open_folder, folder, address(fault))
+            folder = os.fsdecode(files)
+            if "\0" in folder:
+                raise ValueError(f"a path has a null character: {folder!r}")
+            status = self._handle.open(library.hordguli_tables_open_folder, os.fsencode(folder), address(fault))
         else:
             if len(files) != len(TABLE_FILES):
                 raise ValueError(f"{len(files)} files are given, and {len(TABLE_FILES)} are needed")
@@ -72,9 +73,11 @@ class Tables:
             status = self._handle.open(library.hordguli_tables_read, contents, address(fault))
         if status in (TABLE_FAULT, UNREAD_FILE):
             file, line, cause = FORMATS[TableFault].unpack(fault)
-            raise TableError((*TABLE_FILES, "image")[file], line, Cause(cause))
+            raise TableError((*TABLE_FILES, "image")[file], line, Cause(cause), folder)
         check(status)
         self._buffers = Buffers(_USUAL_CAPACITY)
+
+    __reduce__ = refuse_copy
 
     def close(self) -> None:
         """Frees the tables, once no session uses them. Safe to call again. Other calls then raise `ClosedError`."""

@@ -6,7 +6,7 @@ from collections.abc import Iterable
 from ctypes import byref, c_size_t, c_uint32
 from typing import Optional, SupportsIndex, Union, overload
 
-from ._calls import Call, address, get_array, get_records, get_size, numbers, text_of, uint32, utf32
+from ._calls import Call, address, flags, get_array, get_records, get_size, make_call, numbers, text_of, uint32, utf32
 from ._errors import check
 from ._library import library, quick_base, quick_levels, quick_row
 from ._records import BIDI_CLASSES, BRACKETS, FORMATS, LINE_CLASSES, Character, Options, Print, RawCharacter, Row, Run
@@ -23,13 +23,23 @@ _HIGHEST_LEVEL = 126
 
 @overload
 def display(
-    text: str, encoding: str = "utf-8", *, base_dir: Optional[str] = None, tables: Optional[Tables] = None
+    text: str,
+    encoding: str = "utf-8",
+    *,
+    base_dir: Optional[str] = None,
+    direction: Optional[Options] = None,
+    tables: Optional[Tables] = None,
 ) -> str: ...
 
 
 @overload
 def display(
-    text: bytes, encoding: str = "utf-8", *, base_dir: Optional[str] = None, tables: Optional[Tables] = None
+    text: bytes,
+    encoding: str = "utf-8",
+    *,
+    base_dir: Optional[str] = None,
+    direction: Optional[Options] = None,
+    tables: Optional[Tables] = None,
 ) -> bytes: ...
 
 
@@ -38,6 +48,7 @@ def display(
     encoding: str = "utf-8",
     *,
     base_dir: Optional[str] = None,
+    direction: Optional[Options] = None,
     tables: Optional[Tables] = None,
 ) -> Union[str, bytes]:
     """Returns a text in visual order, for a program that draws each character to the right of the one before it.
@@ -45,9 +56,11 @@ def display(
     Takes the place of `bidi.algorithm.get_display` of python-bidi. Each paragraph is one row, and its separator stays at its
     end. No character is added or removed. `bytes` are decoded, and the result is encoded.
 
-    `base_dir` is `"L"` or `"R"`. By default, each paragraph has the direction of its first strong character, else `"L"`.
+    `direction` is a base direction of `Options`, by default `Options.WEAK_LTR`. `base_dir` is the parameter of python-bidi: `"L"` is
+    `Options.LTR`, and `"R"` is `Options.RTL`.
 
-    Raises `ValueError` for another `base_dir`, for a lone surrogate, and for `bytes` that cannot be decoded.
+    Raises `TypeError` if both are given. Raises `ValueError` for another `base_dir`, for other options, for a lone surrogate, and
+    for `bytes` that cannot be decoded.
 
     What differs from python-bidi 0.4.2 (Debian 12):
 
@@ -66,15 +79,20 @@ def display(
     True
     """
     if not isinstance(text, str):
-        return display(text.decode(encoding), base_dir=base_dir, tables=tables).encode(encoding)
+        shown = display(text.decode(encoding), base_dir=base_dir, direction=direction, tables=tables)
+        return shown.encode(encoding)
     if base_dir not in _BASE_DIRECTIONS:
         raise ValueError(f"base_dir is {base_dir!r} and not 'L', 'R' or None")
-    direction, tables = _BASE_DIRECTIONS[base_dir], tables or default_tables()
+    chosen, tables = _BASE_DIRECTIONS[base_dir], tables or default_tables()
+    if direction is not None:
+        if base_dir is not None:
+            raise TypeError("base_dir and direction are both given")
+        chosen = flags(Options, direction, "direction")
     if text.isprintable():  # (separators are not)
-        return _visual(tables, direction, text)
+        return _visual(tables, chosen, text)
     # (of the pieces, every second one is a separator)
     pieces = _SEPARATORS.split(text)
-    return "".join(piece if at % 2 else _visual(tables, direction, piece) for at, piece in enumerate(pieces))
+    return "".join(piece if at % 2 else _visual(tables, chosen, piece) for at, piece in enumerate(pieces))
 
 
 def _visual(tables: Tables, direction: int, text: str) -> str:
@@ -94,15 +112,15 @@ def _visual(tables: Tables, direction: int, text: str) -> str:
             or quick_row(pointer, 0, base, count, characters, levels, count, buffers.visual, None, None, None)
         )
         if status:
-            check(status)
+            check(status, quick_base, direction)
         return utf_32_le_decode(buffers.view[: 4 * length])[0]
 
 
 def wrap(
     text: str,
     width: SupportsIndex = 70,
-    options: SupportsIndex = Options.WEAK_LTR,
-    show: SupportsIndex = Print.DEFAULT,
+    options: Options = Options.WEAK_LTR,
+    show: Print = Print.DEFAULT,
     *,
     tables: Optional[Tables] = None,
 ) -> list[str]:
@@ -116,15 +134,18 @@ def wrap(
     ['The quick', 'brown fox']
     """
     data = text.encode()
-    arguments = uint32(options, "options"), uint32(width, "width"), uint32(show, "show"), data, len(data)
+    chosen, items = flags(Options, options, "options"), flags(Print, show, "show")
+    arguments = chosen, uint32(width, "width"), items, data, len(data)
     call = (tables or default_tables())._handle.call
     return get_array(1, call, library.hordguli_layout, *arguments, capacity=4096).decode().split("\n")[:-1]
 
 
 def base_level(
-    text: str, direction: SupportsIndex = Options.WEAK_LTR, *, tables: Optional[Tables] = None
+    text: str, direction: Options = Options.WEAK_LTR, *, tables: Optional[Tables] = None
 ) -> int:
     """Returns the base level of a paragraph: 0 (left-to-right) or 1 (right-to-left).
+
+    `direction` is a base direction of `Options`.
 
     >>> hordguli.base_level("1. \\u05d0"), hordguli.base_level("1."), hordguli.base_level("1.", hordguli.Options.WEAK_RTL)
     (1, 0, 1)
@@ -133,39 +154,44 @@ def base_level(
 
 
 def levels(
-    text: str, direction: SupportsIndex = Options.WEAK_LTR, *, tables: Optional[Tables] = None
+    text: str, direction: Options = Options.WEAK_LTR, *, tables: Optional[Tables] = None
 ) -> list[int]:
     """Returns the level of each character of a paragraph, before L1 (UAX #9). The text is not split at separators.
+
+    `direction` is a base direction of `Options`.
 
     >>> hordguli.levels("ab \\u05d0\\u05d1 12")
     [0, 0, 0, 1, 1, 1, 2, 2]
     """
-    return list(_per_character(library.hordguli_levels, tables or default_tables(), direction, utf32(text)))
+    chosen = flags(Options, direction, "direction")
+    return list(_per_character(library.hordguli_levels, tables or default_tables(), chosen, utf32(text)))
 
 
-def breaks(text: str, options: SupportsIndex = 0, *, tables: Optional[Tables] = None) -> list[int]:
+def breaks(text: str, options: Options = Options(0), *, tables: Optional[Tables] = None) -> list[int]:
     """Returns the break mark after each character of a paragraph (UAX #14), a number of `Break`. The text is not split.
 
-    `options` is 0 or `Options.WHOLE_NUMBERS`.
+    `options` is `Options(0)` or `Options.WHOLE_NUMBERS`.
 
     >>> hordguli.breaks("a b\\n")
     [0, 1, 0, 2]
     """
-    return list(_per_character(library.hordguli_marks, tables or default_tables(), options, utf32(text)))
+    chosen = flags(Options, options, "options")
+    return list(_per_character(library.hordguli_marks, tables or default_tables(), chosen, utf32(text)))
 
 
 def row(
     text: str,
     levels: Iterable[int],
     base_level: int = 0,
-    options: SupportsIndex = 0,
+    options: Options = Options(0),
     *,
     tables: Optional[Tables] = None,
 ) -> Row:
     """Puts a row, whose start and end the caller has chosen, into visual order.
 
     `base_level` is that of its paragraph, and `levels` are the levels of the row's characters in the whole paragraph.
-    `options` is 0 or any of `Options.REORDER_NSM` and `Options.REORDER_CLUSTERS`. White space at the end of the row gets the base level (L1).
+    `options` is `Options(0)`, or any of `Options.REORDER_NSM` and `Options.REORDER_CLUSTERS`. White space at the end of the row gets
+    the base level (L1).
 
     Raises `ValueError` if there is not one level per character, or a level is out of range.
 
@@ -232,29 +258,29 @@ def valid_utf8(data: bytes) -> int:
     return get_size(library.hordguli_valid_utf8, data, len(data))
 
 
-def _base(tables: Tables, direction: SupportsIndex, characters: bytes) -> int:
+def _base(tables: Tables, direction: Options, characters: bytes) -> int:
     result = c_uint32()
-    arguments = uint32(direction, "direction"), characters, len(characters) // 4, byref(result)
-    check(tables._handle.call(library.hordguli_base, *arguments))
+    arguments = flags(Options, direction, "direction"), characters, len(characters) // 4, byref(result)
+    make_call(tables._handle.call, library.hordguli_base, *arguments)
     return result.value
 
 
-def _per_character(function: Call, tables: Tables, options: SupportsIndex, characters: bytes) -> bytearray:
+def _per_character(function: Call, tables: Tables, options: Options, characters: bytes) -> bytearray:
     """Returns the levels or the break marks."""
     count = len(characters) // 4
     result = bytearray(count)
-    check(tables._handle.call(function, uint32(options, "options"), characters, count, count, address(result)))
+    make_call(tables._handle.call, function, options, characters, count, count, address(result))
     return result
 
 
 def _put_row(
-    tables: Tables, options: SupportsIndex, base: int, characters: bytes, levels: bytes, *arrays: bytearray
+    tables: Tables, options: Options, base: int, characters: bytes, levels: bytes, *arrays: bytearray
 ) -> None:
     """Stores a row in the arrays, of which the last ones may be left out."""
     count = len(characters) // 4
     pointers = [*map(address, arrays), None, None, None][:4]
-    arguments = uint32(options, "options"), base, count, characters, levels, count, *pointers
-    check(tables._handle.call(library.hordguli_row, *arguments))
+    arguments = flags(Options, options, "options"), base, count, characters, levels, count, *pointers
+    make_call(tables._handle.call, library.hordguli_row, *arguments)
 
 
 def _checked(text: str, levels: Iterable[int], base_level: int) -> tuple[bytes, bytes]:
@@ -270,5 +296,5 @@ def _checked(text: str, levels: Iterable[int], base_level: int) -> tuple[bytes, 
 def _properties(tables: Tables, characters: bytes) -> bytearray:
     count = len(characters) // 4
     result = bytearray(count * FORMATS[RawCharacter].size)
-    check(tables._handle.call(library.hordguli_properties, count, characters, address(result)))
+    make_call(tables._handle.call, library.hordguli_properties, count, characters, address(result))
     return result

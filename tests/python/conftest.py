@@ -4,7 +4,10 @@ import pathlib
 
 import hordguli
 import pytest
+from hordguli import Options
 from hypothesis import settings
+
+DIRECTIONS = Options.WEAK_LTR, Options.WEAK_RTL, Options.LTR, Options.RTL
 
 # The same examples in each run.
 settings.register_profile("fixed", derandomize=True, database=None, deadline=None)

@@ -1,12 +1,15 @@
 """Exceptions. After each, the session is unchanged, and other threads can use it."""
 
+import copy
+import itertools
+import os
 import pickle
 import threading
 
 import hordguli
 import pytest
-from conftest import state_of
-from hordguli import Cause, Edge, Options, Side
+from conftest import DIRECTIONS, state_of
+from hordguli import Break, Cause, Direction, Edge, Options, Print, Side
 
 HEBREW = "\u05d0\u05d1\u05d2"
 LONE = "a\ud800"
@@ -32,6 +35,8 @@ FAILING_CALLS = {
     "a negative width": (ValueError, lambda text: text.set_width(-1)),
     "a width that is no number": (TypeError, lambda text: text.set_width("80")),
     "a line past the end": (IndexError, lambda text: text[2]),
+    "a slice with step 0": (ValueError, lambda text: text[::0]),
+    "a slice of strings": (TypeError, lambda text: text["a":]),
     "lines past the end": (IndexError, lambda text: text.lines(1, 2)),
     "lines from past the end": (IndexError, lambda text: text.lines(3)),
     "unknown print flags": (ValueError, lambda text: text.lines(show=1 << 9)),
@@ -95,6 +100,9 @@ OPENING = {
     "display of a lone surrogate": (UnicodeEncodeError, lambda: hordguli.display(LONE)),
     "display of an unknown direction": (ValueError, lambda: hordguli.display("a", base_dir="X")),
     "display of bytes in another encoding": (UnicodeDecodeError, lambda: hordguli.display(b"\xff")),
+    "display of two directions": (TypeError, lambda: hordguli.display("a", base_dir="R", direction=Options.RTL)),
+    "display with another option": (ValueError, lambda: hordguli.display("a", direction=Options.NOBREAK)),
+    "display of an unknown direction in options": (ValueError, lambda: hordguli.display("a", direction=-1)),
     "display with a positional upper_is_rtl": (TypeError, lambda: hordguli.display("a", "utf-8", False)),
     "levels of a lone surrogate": (UnicodeEncodeError, lambda: hordguli.levels(LONE)),
     "levels with another option": (ValueError, lambda: hordguli.levels("a", Options.NOBREAK)),
@@ -120,6 +128,141 @@ def test_a_failing_function_leaves_the_tables_usable(name):
     assert from_another_thread(lambda: hordguli.levels(HEBREW)) == [1, 1, 1]
 
 
+# What each call says about a text of 8 characters and 2 lines.
+MESSAGES = {
+    "position 9 is out of range": lambda text: text.insert(9, "x"),
+    "9 characters from 1 on are out of range": lambda text: text.delete(1, 9),
+    "7 characters from 2 on are out of range": lambda text: text.replace(2, 7, ""),
+    "character 10 is out of range": lambda text: text.text(10),
+    "5 characters from 4 on are out of range": lambda text: text.utf8(4, 5),
+    "6 characters from 3 on are out of range": lambda text: text.utf8_length(3, 6),
+    "line 3 is out of range": lambda text: text.lines(3),
+    "2 lines from 1 on are out of range": lambda text: text.lines(1, 2),
+    "line 2 is out of range": lambda text: text[2],
+    "line -3 is out of range": lambda text: text[-3],
+    "line 4 is out of range": lambda text: text.line_start(4),
+    "line 5 is out of range": lambda text: text.hit(5, 0),
+    "line 6 is out of range": lambda text: text.spans(6, 0, 1),
+    "line 7 is out of range": lambda text: text.runs(7),
+    "line 8 is out of range": lambda text: text.edge_at(8, 0),
+    "line 9 is out of range": lambda text: text.line_edges(9),
+    "line 10 is out of range": lambda text: text.line_clusters(10),
+    "paragraph 2 is out of range": lambda text: text.paragraph(2),
+    "position 10 is out of range": lambda text: text.place(10),
+    "position 11 is out of range": lambda text: text.caret(11),
+    "position 8 is out of range": lambda text: text.cluster(8),
+    "position 12 is out of range": lambda text: text.word(12),
+    "position 13 is out of range": lambda text: text.byte_offset(13),
+    "position 14 is out of range": lambda text: text.utf16_offset(14),
+    "byte 99 is out of range": lambda text: text.position_of_byte(99),
+    "UTF-16 code unit 98 is out of range": lambda text: text.position_of_utf16(98),
+    "the edge after position 0 is out of range": lambda text: text.edge_caret(Edge(0, Side.AFTER)),
+    "the edge before position 9 is out of range": lambda text: text.step(Edge(9), Direction.LEFT),
+    "-1 is out of range": lambda text: text.delete(0, -1),
+}
+
+
+@pytest.mark.parametrize("message", MESSAGES)
+def test_an_index_error_names_the_values(message):
+    with hordguli.Session(f"ab {HEBREW}\nc", width=20) as text, pytest.raises(IndexError) as caught:
+        MESSAGES[message](text)
+    assert str(caught.value) == message
+
+
+# ---- Options ----
+
+TAKING_A_DIRECTION = {
+    "Session": lambda options: hordguli.Session(f"1. {HEBREW}\n.", 80, options).lines(),
+    "wrap": lambda options: hordguli.wrap(f"1. {HEBREW}\n.", 80, options),
+    "levels": lambda options: hordguli.levels("1.", options),
+    "base_level": lambda options: hordguli.base_level("1.", options),
+    "display": lambda options: hordguli.display("1.\n", direction=options),
+    "explain": lambda options: hordguli.explain("1.", 80, options),
+}
+TAKING_OPTIONS = {
+    **TAKING_A_DIRECTION,
+    "breaks": lambda options: hordguli.breaks("1.", options),
+    "row": lambda options: hordguli.row("1.", [0, 0], 0, options),
+}
+TAKING_PRINT_FLAGS = {
+    "wrap": lambda show: hordguli.wrap("1.", show=show),
+    "lines": lambda show: hordguli.Session("1.").lines(show=show),
+}
+
+
+@pytest.mark.parametrize("one, other", itertools.combinations(DIRECTIONS, 2))
+@pytest.mark.parametrize("name", TAKING_A_DIRECTION)
+def test_different_directions_are_refused(name, one, other):
+    with pytest.raises(ValueError) as caught:
+        TAKING_A_DIRECTION[name](one | other)
+    assert str(caught.value) == f"different directions: {one | other!r}"
+
+
+@pytest.mark.parametrize("name", TAKING_A_DIRECTION)
+def test_a_plain_number_is_a_direction(name):
+    call = TAKING_A_DIRECTION[name]
+    assert [call(number) for number in range(4)] == [call(one) for one in DIRECTIONS]
+    assert call(Options(0)) == call(Options.WEAK_LTR) and call(Options.LTR | Options.LTR) == call(Options.LTR)
+
+
+@pytest.mark.parametrize("name", ["breaks", "row"])
+def test_what_has_no_direction_refuses_each(name):
+    assert TAKING_OPTIONS[name](0) == TAKING_OPTIONS[name](Options(0))
+    for one in DIRECTIONS:
+        with pytest.raises(ValueError) as caught:
+            TAKING_OPTIONS[name](one)
+        assert str(caught.value) == f"not accepted: {one!r}"
+
+
+@pytest.mark.parametrize("bit", [7, 16, 23, 26, 31])
+@pytest.mark.parametrize("name", TAKING_OPTIONS)
+def test_unknown_bits_are_named(name, bit):
+    with pytest.raises(ValueError) as caught:
+        TAKING_OPTIONS[name](1 << bit)
+    assert f"not accepted: <Options: {1 << bit:#x}>" in str(caught.value)
+
+
+@pytest.mark.parametrize("wrong", [Print.LEVELS, Break.MAY, Side.AFTER, Direction.RIGHT])
+@pytest.mark.parametrize("name", TAKING_OPTIONS)
+def test_only_options_are_options(name, wrong):
+    with pytest.raises(TypeError) as caught:
+        TAKING_OPTIONS[name](wrong)
+    assert str(caught.value).endswith(f"must be Options, not {type(wrong).__name__}")
+
+
+@pytest.mark.parametrize("name", TAKING_PRINT_FLAGS)
+def test_only_print_flags_are_print_flags(name):
+    with pytest.raises(TypeError) as caught:
+        TAKING_PRINT_FLAGS[name](Options.NOBREAK)
+    assert str(caught.value) == "show must be Print, not Options"
+    assert TAKING_PRINT_FLAGS[name](int(Print.DEFAULT)) == ["1."]
+
+
+# ---- Copies ----
+
+
+@pytest.mark.parametrize("call", [copy.copy, copy.deepcopy, pickle.dumps])
+@pytest.mark.parametrize("kind", [hordguli.Session, hordguli.Tables])
+def test_copies_are_refused(kind, call):
+    with kind() as original:
+        with pytest.raises(TypeError) as caught:
+            call(original)
+        assert str(caught.value) == f"cannot copy or pickle '{kind.__name__}' object"
+        assert not original.closed
+
+
+# ---- Limits ----
+
+
+def test_functions_on_a_paragraph_have_no_limit():
+    text = "x" * (MOST_IN_A_PARAGRAPH + 1)
+    assert hordguli.display(text) == text and hordguli.base_level(text) == 0
+    zeros = [0] * len(text)
+    assert hordguli.levels(text) == zeros and set(hordguli.breaks(text)[:-1]) == {Break.NEVER}
+    assert hordguli.row(text, zeros).text == text and hordguli.row_runs(text, zeros) == [(0, len(text), 0)]
+    assert len(hordguli.properties(text)) == len(text)
+
+
 def test_the_longest_paragraph_and_text_are_accepted():
     with hordguli.Session("x" * MOST_IN_A_PARAGRAPH, 65535) as text:
         assert text.counts.characters == MOST_IN_A_PARAGRAPH
@@ -129,7 +272,20 @@ def test_a_missing_table_file_is_named(tmp_path):
     with pytest.raises(hordguli.TableError) as caught:
         hordguli.Tables(tmp_path)
     assert (caught.value.file, caught.value.line, caught.value.cause) == ("DerivedBidiClass.txt", 0, Cause.UNREAD_FILE)
-    assert str(caught.value) == "cannot read DerivedBidiClass.txt"
+    assert caught.value.folder == os.fspath(tmp_path)
+    assert str(caught.value) == f"cannot read {tmp_path}/DerivedBidiClass.txt"
+    assert str(pickle.loads(pickle.dumps(caught.value))) == str(caught.value)
+
+
+@pytest.mark.parametrize("given", [os.fspath, lambda path: path])
+def test_a_malformed_line_in_a_folder_is_named(tmp_path, files, given):
+    for name, content in zip(hordguli.TABLE_FILES, files):
+        (tmp_path / name).write_bytes(content)
+    (tmp_path / "BidiMirroring.txt").write_bytes(b"\n0028; 29\n")
+    with pytest.raises(hordguli.TableError) as caught:
+        hordguli.Tables(given(tmp_path))
+    assert (caught.value.file, caught.value.line, caught.value.cause) == ("BidiMirroring.txt", 2, Cause.VALUE)
+    assert str(caught.value) == f"{tmp_path}/BidiMirroring.txt:2: value"
 
 
 def test_a_malformed_line_is_named(files):
@@ -138,7 +294,7 @@ def test_a_malformed_line_is_named(files):
         hordguli.Tables(files)
     line = files[3].count(b"\n")
     assert (caught.value.file, caught.value.line, caught.value.cause) == ("LineBreak.txt", line, Cause.VALUE)
-    assert str(caught.value) == f"LineBreak.txt:{line}: value"
+    assert str(caught.value) == f"LineBreak.txt:{line}: value" and caught.value.folder is None
     assert str(pickle.loads(pickle.dumps(caught.value))) == str(caught.value)
 
 
@@ -157,7 +313,7 @@ def test_a_closed_session_raises():
     text.close()
     text.close()
     assert text.closed
-    for call in (len, list, lambda text: text.insert(0, ""), lambda text: text.lines(), lambda text: text.width, lambda text: text[0]):
+    for call in (len, list, lambda text: text.insert(0, ""), lambda text: text.lines(), lambda text: text.width, lambda text: text[0], lambda text: text[:1]):
         with pytest.raises(hordguli.ClosedError):
             call(text)
     with pytest.raises(ValueError):

@@ -1,5 +1,7 @@
 """Sessions, by examples."""
 
+import itertools
+
 import hordguli
 import pytest
 from hordguli import Caret, Direction, Edge, Options, Print, Session, Side
@@ -61,6 +63,14 @@ def test_lines_are_a_sequence():
             text[3]
         with pytest.raises(IndexError):
             text[-4]
+
+
+def test_slices_are_those_of_a_list():
+    with Session(f"a\n{HEBREW}\nc d\n", width=2) as text, Session("") as empty:
+        lines, numbers = list(text), [None, *range(-6, 7), 1 << 70]
+        for start, stop, step in itertools.product(numbers, numbers, [None, 1, 2, 7, -1, -3]):
+            assert text[start:stop:step] == lines[start:stop:step]
+        assert len(lines) == 5 and isinstance(text[1:2], list) and empty[:] == []
 
 
 def test_an_empty_line_has_empty_tuples():

@@ -1,9 +1,13 @@
 """The declarations of the package, beside include/hordguli.h and c/symbols; its documentation."""
 
+import copy
 import ctypes
 import doctest
+import functools
 import inspect
+import operator
 import os
+import pickle
 import re
 import struct
 import subprocess
@@ -11,7 +15,8 @@ import sys
 
 import hordguli
 import pytest
-from hordguli import _library, _records
+from conftest import DIRECTIONS
+from hordguli import Options, _library, _records
 
 TOP = os.path.dirname(os.path.dirname(os.path.dirname(os.path.abspath(__file__))))
 NOT_OFFERED = []  # functions of the C library that the package deliberately leaves out
@@ -29,8 +34,8 @@ DECLARED = {*_library.PARAMETERS, *_library.OTHERS}
 
 def constants(prefix):
     """Returns the constants of the header whose names have a prefix, without it."""
-    found = re.findall(rf"(?m)^#define HORDGULI_{prefix}(\w+) (?:UINT32_C\()?(\d+)\)?", HEADER)
-    return {name: int(value) for name, value in found}
+    found = re.findall(rf"(?m)^#define HORDGULI_{prefix}(\w+) (?:UINT32_C\()?(0x[0-9A-Fa-f]+|\d+)\)?", HEADER)
+    return {name: int(value, 0) for name, value in found}
 
 
 def test_each_function_of_the_library_is_declared():
@@ -82,14 +87,36 @@ def test_constants_are_those_of_the_header():
     assert {name: both[name] for name in ("BEFORE", "AFTER")} == {one.name: one.value for one in hordguli.Side}
     assert {name: both[name] for name in ("LEFT", "RIGHT")} == {one.name: one.value for one in hordguli.Direction}
     assert [both[f"BRACKET_{name.upper() or 'NONE'}"] for name in _records.BRACKETS] == [0, 1, 2]
-    statuses = "OK OUT_OF_RANGE NO_MEMORY TABLE_FAULT CLOSED NO_ROOM UNREAD_FILE".split()
+    statuses = "OK OUT_OF_RANGE NO_MEMORY TABLE_FAULT CLOSED UNKNOWN_OPTION NO_ROOM UNREAD_FILE".split()
     assert [both[name] for name in statuses] == [getattr(_library, name) for name in statuses]
 
 
 def test_options_are_those_of_the_header():
     section = HEADER[HEADER.index("#define HORDGULI_WEAK_LTR") : HEADER.index("#define HORDGULI_PRINT_VISUAL")]
-    found = re.findall(r"#define HORDGULI_(\w+) UINT32_C\((\d+)\)", section)
-    assert {name: int(value) for name, value in found} == {name: int(value) for name, value in hordguli.Options.__members__.items()}
+    names = re.findall(r"#define HORDGULI_(\w+) UINT32_C", section)
+    values = constants("")
+    assert {name: values[name] for name in names} == {name: int(value) for name, value in Options.__members__.items()}
+
+
+def test_each_direction_contains_itself_alone():
+    assert all((one in other) == (one is other) for one in DIRECTIONS for other in DIRECTIONS)
+    assert all(one in one | Options.NOBREAK and one & ~one == Options(0) for one in DIRECTIONS)
+    assert (Options.LTR | Options.NOBREAK) & ~Options.LTR | Options.RTL == Options.RTL | Options.NOBREAK
+
+
+def test_options_show_their_names():
+    assert [one.name for one in DIRECTIONS] == ["WEAK_LTR", "WEAK_RTL", "LTR", "RTL"]
+    assert repr(Options.LTR) == "<Options.LTR: 0x1000002>"
+    assert repr(Options.NOBREAK | Options.WEAK_LTR | Options.tab_width(4)) == "<Options.WEAK_LTR|NOBREAK|tab_width(4): 0x3000404>"
+    assert repr(Options.LTR | Options.RTL) == "<Options.LTR|RTL: 0x1000003>"
+    assert (repr(Options(0)), repr(Options(1 << 16))) == ("<Options: 0x0>", "<Options: 0x10000>")
+
+
+def test_options_are_copied_and_pickled():
+    every = functools.reduce(operator.or_, Options.__members__.values())
+    for one in (*Options, *DIRECTIONS, every, Options(0), Options(2), Options.LTR | Options.tab_width(8)):
+        copies = copy.copy(one), copy.deepcopy(one), pickle.loads(pickle.dumps(one))
+        assert all(made == one and type(made) is Options for made in copies)
 
 
 def test_version_is_that_of_the_repository():
@@ -124,5 +151,6 @@ def test_examples_of_the_readme():
 
 def test_types_are_checked():
     words = ["/usr/bin/mypy", "--strict", "--python-version", "3.9", "--cache-dir", os.devnull]
-    ran = subprocess.run([*words, os.path.dirname(hordguli.__file__)], stdout=subprocess.PIPE)
+    checked = os.path.dirname(hordguli.__file__), f"{TOP}/tests/python/typed.py"
+    ran = subprocess.run([*words, *checked], stdout=subprocess.PIPE)
     assert ran.returncode == 0, ran.stdout.decode()

@@ -45,6 +45,15 @@ def test_display_takes_a_base_direction(base_dir, shown):
     assert hordguli.display(f"{HEBREW}.", base_dir=base_dir) == shown
 
 
+def test_display_takes_a_direction_of_options():
+    text = f"1.\n{HEBREW}.\nab."
+    assert hordguli.display(text, direction=Options.LTR) == hordguli.display(text, base_dir="L") == f"1.\n{HEBREW[::-1]}.\nab."
+    assert hordguli.display(text, direction=Options.RTL) == hordguli.display(text, base_dir="R") == f".1\n.{HEBREW[::-1]}\n.ab"
+    assert hordguli.display(text, direction=Options.WEAK_LTR) == hordguli.display(text) == f"1.\n.{HEBREW[::-1]}\nab."
+    assert hordguli.display(text.encode(), direction=Options.WEAK_RTL).decode() == f".1\n.{HEBREW[::-1]}\nab."
+    assert hordguli.display("1.", direction=1) == ".1" and hordguli.display("1.", direction=0) == "1."
+
+
 def test_display_of_bytes_returns_bytes():
     assert hordguli.display(f"a{HEBREW}".encode()) == f"a{HEBREW[::-1]}".encode()
     assert hordguli.display(HEBREW.encode("cp1255"), "cp1255") == HEBREW[::-1].encode("cp1255")

@@ -1,0 +1,27 @@
+"""Calls that mypy checks. It refuses those with `type: ignore`, or else reports that the comment is unused."""
+
+import hordguli
+from hordguli import Options, Print
+
+DIRECTION = Options.RTL
+BOTH = Options.RTL | Options.NOBREAK | Options.tab_width(8)
+SHOWN = Print.LEVELS | Print.VTOL
+
+text = hordguli.Session("a", 80, BOTH)
+line: hordguli.Line = text[0]
+lines: list[hordguli.Line] = text[1:-1:2]
+strings: list[str] = text.lines(show=SHOWN)
+row: hordguli.Row = hordguli.row("a", hordguli.levels("a", DIRECTION), hordguli.base_level("a", DIRECTION), Options.REORDER_NSM)
+shown: str = hordguli.display("a", direction=DIRECTION)
+encoded: bytes = hordguli.display(b"a", base_dir="R")
+
+hordguli.Session("a", 80, SHOWN)  # type: ignore[arg-type]
+hordguli.wrap("a", 80, SHOWN)  # type: ignore[arg-type]
+hordguli.wrap("a", 80, BOTH, BOTH)  # type: ignore[arg-type]
+text.lines(show=BOTH)  # type: ignore[arg-type]
+hordguli.levels("a", SHOWN)  # type: ignore[arg-type]
+hordguli.base_level("a", SHOWN)  # type: ignore[arg-type]
+hordguli.breaks("a", SHOWN)  # type: ignore[arg-type]
+hordguli.row("a", [0], 0, SHOWN)  # type: ignore[arg-type]
+hordguli.display("a", direction=SHOWN)  # type: ignore[call-overload]
+hordguli.explain("a", 80, SHOWN)  # type: ignore[arg-type]
