@@ -149,7 +149,7 @@ class Cluster(NamedTuple):
 
 
 class Word(NamedTuple):
-    """The characters from `start` up to but not including `end`. `kind` is 1 if one of them is a letter or digit, else 0."""
+    """The characters from `start` up to but not including `end`. `kind` is 1 if one of them is alphabetic or numeric, else 0."""
 
     start: int
     end: int

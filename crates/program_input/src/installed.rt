@@ -16,8 +16,7 @@ pub fn installed_folder(rt: &HostRuntime) -> Result<Option<PathBuf>, AllocError>
     match env::current_exe(rt) {
         Ok(program) => folder_beside(rt, program.as_path()),
         Err(error) if error.kind() == ErrorKind::OutOfMemory => Err(AllocError),
-        Err(error) if error.kind() == ErrorKind::NotFound => folder_without_proc(rt),
-        Err(_) => Ok(None),
+        Err(_) => folder_without_proc(rt),
     }
 }
 

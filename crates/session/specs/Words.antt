@@ -11,7 +11,7 @@ use Rattle.session.specs.Places.{count_to, paragraph_starts}
 use Rattle.session.specs.Touched.{start_of}
 use Rattle.session.specs.declared.words.Word.{Word}
 
--- whether a text has a letter or a digit
+-- whether a text has an alphabetic or numeric character
 abbrev pub has_letter : List ℕ → Bool
 has_letter text = list_any (λ c. is_alphabetic c || is_numeric c) text
 

@@ -34,8 +34,8 @@ pub fn texts_are_laid_out_in_parts()
 /// every boundary in their direction. From a boundary, a step and a step back return to the same column. The
 /// edge at a column is at the last boundary up to that column. This holds at any width, by any rules with
 /// `reorder_clusters`, and by any rules under which marks stay in place or take no columns. Without
-/// `reordernsm`, marks stay in place; in Unicode's tables, all marks but U+2D7F and U+1171E take no columns.
-/// Costs nothing at run time.
+/// `reordernsm`, marks stay in place. By reading the tables of Unicode 15.0, and not by proof, all nonspacing
+/// marks but U+2D7F and U+1171E take no columns. Costs nothing at run time.
 pub fn steps_lead_to_boundaries()
     ensures { (rules : Rules) (width : ℕ) (text : List ℕ)
         → (rules.options.reorder_clusters ≡ true) ⊎ MarksStay rules text

@@ -16,11 +16,11 @@ pub struct Word {
     pub start: usize,
     /// The position after its last character.
     pub end: usize,
-    /// Whether it has a letter or a digit. Other segments are spaces and punctuation.
+    /// Whether it has an alphabetic or numeric character. Other segments are spaces and punctuation.
     pub has_letter: bool,
 }
 
-// Returns whether a text has a letter or a digit.
+// Returns whether a text has an alphabetic or numeric character.
 fn has_letter(text: &[char]) -> bool
     ensures { result ≡ has_letter text.now }
 {
