@@ -199,6 +199,7 @@ bench: bench-program c fribidi ucd parallel
 	bench/script
 	bench/c
 	bench/strings
+	bench/memory
 	bench/python
 	bench/many
 	bench/callers
