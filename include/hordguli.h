@@ -147,7 +147,8 @@ const char *hordguli_unicode_version(void);
 /* ---- Session options ----
  *
  * Options are one base direction and any of the other options, combined by bitwise OR (`|`). Two different directions
- * are refused with UNKNOWN_OPTION. Options without a direction are HORDGULI_WEAK_LTR.
+ * are refused with UNKNOWN_OPTION. Options without a direction are HORDGULI_WEAK_LTR. `hordguli_row` and `hordguli_marks`
+ * accept no direction.
  *
  * Bits 0 and 1 are the direction. Bit 24 says that bit 0 is given as 0, and bit 25 says so of bit 1. Both may be left
  * out, so the numbers 0 to 3 are directions too. Bits 16 to 23 are reserved. */
@@ -180,8 +181,9 @@ const char *hordguli_unicode_version(void);
 #define HORDGULI_SHOW_SPACES UINT32_C(64)
 /* Sets a tab stop every `n` columns, from 1 to 255. Columns are counted along each line in logical order. A tab (U+0009 of
  * bidi class S) moves to the next stop, so it has 1 to `n` columns, and is written as spaces. In an RTL paragraph, stops are
- * counted from the right edge. A tab is not in the tail, and one that does not fit is wider than its line. */
-#define HORDGULI_TAB_WIDTH(n) ((uint32_t)(n) << 8)
+ * counted from the right edge. A tab is not in the tail, and one that does not fit is wider than its line. A greater `n` is
+ * refused with UNKNOWN_OPTION. `n` is evaluated twice. */
+#define HORDGULI_TAB_WIDTH(n) ((uint32_t)(n) > 255 ? UINT32_C(1) << 16 : (uint32_t)(n) << 8)
 
 /* ---- Print flags ----
  *
@@ -356,7 +358,8 @@ hordguli_status hordguli_replace(hordguli_session *session, size_t pos, size_t c
 
 /* Sets the width, in columns, and rewraps the paragraphs. The damage covers all lines, even if the width is the same.
  * Errors: NULL, OVERLAP, WIDTH_OUT_OF_RANGE, CLOSED, NO_MEMORY.
- * Cost: O(n), plus wrapping each paragraph, except those that are one line and fit the new width. */
+ * Cost: O(n), plus wrapping each paragraph, except those that are one line, fit the new width and, with
+ * HORDGULI_SHOW_SPACES, hide no space that fits. */
 hordguli_status hordguli_set_width(hordguli_session *session, uint32_t width, hordguli_damage *damage);
 
 typedef struct hordguli_counts {
@@ -595,14 +598,14 @@ typedef struct hordguli_edge {
 hordguli_status hordguli_edge_caret(hordguli_session *session, hordguli_edge edge, hordguli_caret *caret);
 
 /* Moves a caret to the nearest boundary to the left or right on its line. Stores the edge there in `*next`, and 1 in
- * `*moved`. The stored edge is one of the character that was passed. At the end of the line, stores 0 in `*moved`, and
+ * `*moved`. The stored edge is one of the caret unit that was passed. At the end of the line, stores 0 in `*moved`, and
  * leaves `*next` unchanged; `hordguli_edge_at` then gives the end of the next line. For the key Right:
  *
  *     status = hordguli_step(&session, caret, HORDGULI_RIGHT, &caret, &moved);
  *     if (!status && !moved && line + 1 < lines) status = hordguli_edge_at(&session, line + 1, 0, &caret);
  *
- * Each step changes the column. Repeated, steps meet every boundary of the line once. With HORDGULI_REORDER_NSM and
- * without HORDGULI_REORDER_CLUSTERS, this holds if the marks of the paragraph have no columns. Of the nonspacing marks of
+ * Each step changes the column. Repeated, steps meet every boundary in their direction. With HORDGULI_REORDER_NSM and
+ * without HORDGULI_REORDER_CLUSTERS, this holds if the marks of the text have no columns. Of the nonspacing marks of
  * Unicode 15.0, only U+2D7F and U+1171E have columns.
  *
  * Errors: NULL, OVERLAP, UNKNOWN_OPTION, CLOSED, OUT_OF_RANGE, NO_MEMORY.

@@ -226,7 +226,9 @@ static void texts_are_right(long count) {
 /* Bits 8 to 15 are the tab width, in the options of sessions and layouts only. */
 static void options_are_right(void) {
     hordguli_session session = HORDGULI_SESSION_INIT;
-    static const uint32_t unknown[] = {128, 128 | HORDGULI_TAB_WIDTH(4), HORDGULI_TAB_WIDTH(256), HORDGULI_TAB_WIDTH(255) + 65536};
+    static const uint32_t unknown[] = {128, 128 | HORDGULI_TAB_WIDTH(4), HORDGULI_TAB_WIDTH(256), HORDGULI_TAB_WIDTH(65535),
+                                       HORDGULI_TAB_WIDTH(65536), HORDGULI_TAB_WIDTH(65540), HORDGULI_TAB_WIDTH(196616), HORDGULI_TAB_WIDTH(-1),
+                                       HORDGULI_TAB_WIDTH(255) + 65536};
     static const uint32_t a = 'a';
     uint32_t base, vtol[1];
     uint8_t levels[1], a_mark[1];

@@ -14,15 +14,15 @@ abbrev pub base_of : ℕ → Base
 base_of bits =
     if bits % 4 == 0 then WeakLtr else if bits % 4 == 1 then WeakRtl else if bits % 4 == 2 then Ltr else Rtl
 
--- Whether the bits name one base direction. Bit 24 says that the lowest bit is given as 0, and bit 25 says so of the next one. So
--- the bits of two directions contradict each other, and no higher bit may be set.
+-- Whether no bit of the direction is given both as 1 and as 0, and no bit above 25 is set. Bit 24 says that the lowest bit is given
+-- as 0, and bit 25 says so of the next one. So the bits of two directions together are refused.
 abbrev pub names_direction : ℕ → Bool
 names_direction bits =
     not (has_bit bits 1 && has_bit bits 16777216)
     && (not (has_bit bits 2 && has_bit bits 33554432)
     && nat_lt bits 67108864)
 
--- the base direction, or `None` if another bit is set
+-- the base direction, or `None` if another bit is set or the bits are those of two directions
 abbrev pub direction_of : ℕ → Option Base
 direction_of bits = if nat_lt (bits % 16777216) 4 && names_direction bits then Some (base_of bits) else None
 
@@ -30,7 +30,8 @@ direction_of bits = if nat_lt (bits % 16777216) 4 && names_direction bits then S
 abbrev pub tailoring_of : ℕ → Option Bool
 tailoring_of bits = if bits == 0 then Some false else if bits == 16 then Some true else None
 
--- the options of a session, with the tab width in bits 8 to 15, or `None` if an unknown bit or one of bits 16 to 23 is set
+-- the options of a session, with the tab width in bits 8 to 15, or `None` if an unknown bit or one of bits 16 to 23 is set, or the
+-- bits are those of two directions
 abbrev pub options_of : ℕ → Option Options
 options_of bits =
     if nat_lt (bits % 256) 128 && (bits / 65536 % 256 == 0 && names_direction bits) then Some (record {

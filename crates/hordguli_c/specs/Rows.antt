@@ -35,6 +35,7 @@ pub record Row : Type 0 where
   pub vtol : List ℕ
   pub chars : List ℕ
 
+-- the levels, the maps and the characters of a session's line
 abbrev pub row_in_line : Line → Row
 row_in_line line = record { levels = line.levels; ltov = line.ltov; vtol = line.vtol; chars = line.chars }
 

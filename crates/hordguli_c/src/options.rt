@@ -41,7 +41,8 @@ const SHOW_SPACES: u32 = 64;
 // Both options of a row.
 const REORDERS: u32 = 40;
 
-// Bits 8 to 15 are the tab width. Bits 16 to 23 are reserved, so that no wider tab width has a meaning.
+// Bits 8 to 15 are the tab width. Bits 16 to 23 are reserved: the header sets the lowest of them for a wider
+// tab stop.
 const TAB_WIDTH: u32 = 1 << 8;
 
 const RESERVED: u32 = 1 << 16;

@@ -108,5 +108,5 @@ abbrev pub IsSplitPoint : List ℕ → ℕ → Type 0
 IsSplitPoint text k = (k ≡ 0) ⊎ ((k ≡ length text) ⊎ (is_split_point text k ≡ true))
 
 -- whether the nearest split points around character k have no other character between them
-abbrev pub IsBetweenSplits : List ℕ → ℕ → Type 0
-IsBetweenSplits text k = IsSplitPoint text k × IsSplitPoint text (k + 1)
+abbrev pub IsAloneBetweenSplits : List ℕ → ℕ → Type 0
+IsAloneBetweenSplits text k = IsSplitPoint text k × IsSplitPoint text (k + 1)

@@ -17,7 +17,7 @@ pub record IsOrdered (line : Visual) : Type 0 where
   pub inverse : AreInverse (length line.levels) line.vtol line.ltov
   pub within : length line.levels ≤ line.len
 
--- whether the marks of a text stay where L2 puts them, or take no columns (as all in Unicode's tables but U+2D7F and U+1171E)
+-- whether the characters of class NSM stay where L2 puts them, or take no columns
 abbrev pub MarksStay : Rules → List ℕ → Type 0
 MarksStay rules text = (rules.options.reordernsm ≡ false) ⊎ All (λ c. is_mark (class_of rules.tables c) ≡ true → columns_of c ≡ 0) text
 

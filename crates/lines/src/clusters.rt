@@ -7,7 +7,7 @@ ghost use Rattle.std.specs.List.{flat_map, list_all};
 ghost use Rattle.lines.specs.Bare.{with_ends};
 ghost use Rattle.lines.specs.Clusters.{cluster_begin, cluster_end, cluster_ends, ends_in, ends_of};
 ghost use Rattle.lines.specs.Clusters.{can_split, is_alone, is_split_point, may_end, may_start, no_conjunct};
-ghost use Rattle.lines.specs.Clusters.{IsBetweenSplits, IsSplitPoint};
+ghost use Rattle.lines.specs.Clusters.{IsAloneBetweenSplits, IsSplitPoint};
 ghost use Rattle.lines.specs.Words.{word_ends};
 
 use crate::char_info::CharInfo;
@@ -110,7 +110,7 @@ pub fn cluster_of(alloc: Global, text: &[char], k: usize) -> Result<(usize, usiz
     ensures end { IfOk result (λ found. found.1 ≡ cluster_end (cluster_ends text.now) k) }
     ensures around { IfOk result (λ found. (found.0 ≤ k) × (k < found.1)) }
     ensures within { IfOk result (λ found. found.1 ≤ length text.now) }
-    ensures memory { OnErr result (¬ (IsBetweenSplits text.now k)) }
+    ensures memory { OnErr result (¬ (IsAloneBetweenSplits text.now k)) }
 {
     let start = window_start(text, k);
     let end = window_end(text, k);

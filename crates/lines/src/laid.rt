@@ -262,7 +262,7 @@ impl Laid {
     ghost use Rattle.lines.specs.Beginnings.{BeginInOrder};
     ghost use Rattle.std.specs.Prelude.{◌+◌};
     ghost use Rattle.lines.specs.Clusters.{cluster_begin, cluster_end, cluster_ends, ends_in};
-    ghost use Rattle.lines.specs.Clusters.{IsBetweenSplits};
+    ghost use Rattle.lines.specs.Clusters.{IsAloneBetweenSplits};
     ghost use Rattle.lines.specs.Layouts.{Rules, lines_of};
     ghost use Rattle.lines.specs.Words.{word_ends};
 
@@ -305,7 +305,7 @@ impl Laid {
         ensures end { IfOk result (λ found. found.1 ≡ cluster_end (cluster_ends self.now.text) k) }
         ensures around { IfOk result (λ found. (found.0 ≤ k) × (k < found.1)) }
         ensures within { IfOk result (λ found. found.1 ≤ length self.now.text) }
-        ensures memory { OnErr result (¬ (IsBetweenSplits self.now.text k)) }
+        ensures memory { OnErr result (¬ (IsAloneBetweenSplits self.now.text k)) }
     {
         crate::clusters::cluster_of(alloc, &self.text, k)
     }

@@ -27,11 +27,11 @@ before pos = record { pos = pos; side = Before }
 abbrev pub after : ℕ → Edge
 after pos = record { pos = pos; side = After }
 
--- whether a text of `chars` characters has an edge: before any position up to the end, or after any of these but 0
 abbrev pub is_edge_at : ℕ → Side → Bool
 is_edge_at pos Before = true
 is_edge_at pos After = not (pos == 0)
 
+-- whether a text of `chars` characters has an edge: before any position up to the end, or after any of these but 0
 abbrev pub is_edge_in : ℕ → Edge → Bool
 is_edge_in chars edge = nat_le edge.pos chars && is_edge_at edge.pos edge.side
 

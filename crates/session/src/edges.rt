@@ -194,7 +194,8 @@ impl<S: ParagraphStore<Kept>> Session<S> {
     /// character that is not shown, at the end of the line in the base direction. The level is that of the
     /// character whose edge it is. At the end of the text, the edge `Before` is that of `caret`.
     ///
-    /// Costs the length of the line and of the character's cluster (see `cluster`).
+    /// Fails if memory runs out, but only at an edge of a character. Costs the length of the line and of the
+    /// character's cluster (see `cluster`).
     pub fn edge_caret(&self, edge: Edge) -> Result<Option<Caret>, AllocError>
         ensures ok { IfOk result (λ caret. caret
             ≡ edge_caret_at (rules_of self.now.engine) self.now.kept edge) }
@@ -224,7 +225,7 @@ impl<S: ParagraphStore<Kept>> Session<S> {
     /// A step leads over one caret unit: a grapheme cluster, or the part of one that is in one level run if
     /// the cluster has several. The returned edge is one of this unit.
     ///
-    /// Costs as `edge_caret`.
+    /// Fails if memory runs out, but only from an edge of a text that is not empty. Costs as `edge_caret`.
     pub fn step(&self, edge: Edge, direction: Direction) -> Result<Option<Edge>, AllocError>
         ensures ok { IfOk result (λ next. next
             ≡ step_at (rules_of self.now.engine) self.now.kept edge direction) }
@@ -320,7 +321,7 @@ impl<S: ParagraphStore<Kept>> Session<S> {
     /// the right of the text its right end. So columns 0 and `usize::MAX` are the ends of the line on the
     /// screen. Returns `None` past the line of the end of the text.
     ///
-    /// Costs as `edge_caret`.
+    /// Fails if memory runs out, but only on a line that exists. Costs as `edge_caret`.
     pub fn edge_at(&self, n: usize, column: usize) -> Result<Option<Edge>, AllocError>
         ensures ok { IfOk result (λ edge. edge
             ≡ edge_at (rules_of self.now.engine) self.now.kept n column) }

@@ -262,7 +262,8 @@ impl<S: ParagraphStore<Kept>> Session<S> {
     ///
     /// Reads the characters back to the nearest place where a cluster ends regardless of other characters,
     /// such as before most letters and emoji, and on to the next such place. At worst, as in a paragraph of
-    /// flags, reads the paragraph. Allocates a copy of these characters if there is more than one.
+    /// flags, reads the paragraph. Allocates a copy of these characters if there is more than one. Fails if
+    /// memory runs out, but only at a character.
     pub fn cluster(&self, pos: usize) -> Result<Option<Cluster>, AllocError>
         ensures ok { IfOk result (λ cluster. cluster ≡ cluster_at self.now.kept pos) }
         ensures memory { OnErr result (pos < length (text_at self.now)) }
@@ -523,8 +524,9 @@ impl<S: ParagraphStore<Kept>> Session<S> {
         )
     }
 
-    /// Sets the width, in columns, and rewraps every paragraph. A paragraph whose only line fits is left as
-    /// it is. Every other paragraph is filled and written once.
+    /// Sets the width, in columns, and rewraps every paragraph. A paragraph is left as it is if it has one
+    /// line, which fits and, with `show_spaces`, hides no space that fits. Every other paragraph is filled and
+    /// written once.
     pub fn set_width(&mut self, width: u16) -> Result<Damage, EditFault>
         ensures ok { IfOk result (SetsWidth width self.old self.new) }
         ensures err { IfErr result (SetsWidthNot width self.old self.new) }

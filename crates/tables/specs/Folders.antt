@@ -14,9 +14,9 @@ image_name = codes "tables.image"
 
 -- a file with this name cannot be read, or an allocation failed
 abbrev pub IsUnread : Type 0 → List ℕ → FolderFault → Type 0
-IsUnread lacks name (Unread told) = lacks × (told.now ≡ name)
-IsUnread lacks name Memory = ⊤
-IsUnread lacks name other = ⊥
+IsUnread fails name (Unread unread) = fails × (unread.now ≡ name)
+IsUnread fails name Memory = ⊤
+IsUnread fails name other = ⊥
 
 -- the first fault of the image, or an allocation failure
 abbrev pub IsUnusable : List ℕ → FolderFault → Type 0
@@ -29,8 +29,8 @@ abbrev pub IsFaultFor : UcdFiles → FolderFault → Type 0
 IsFaultFor files (Table fault) = IsFaultOf files fault
 IsFaultFor files other = ⊥
 
--- a folder that has files with certain bytes, and lacks other files
-module _ (has_file : ℕ → List ℕ → Type 0) (lacks_file : ℕ → Type 0) where
+-- a folder that has files with certain bytes, and other files that cannot be read
+module _ (has_file : ℕ → List ℕ → Type 0) (cannot_read : ℕ → Type 0) where
   -- the contents of the seven files
   pub record AreFiles (files : UcdFiles) : Type 0 where
     pub bidi_class : has_file 0 files.bidi_class.now
@@ -49,14 +49,14 @@ module _ (has_file : ℕ → List ℕ → Type 0) (lacks_file : ℕ → Type 0) 
   pub record IsFirstUnread (why : FolderFault) (index : ℕ) : Type 0 where
     pub within : index < 7
     pub first : (k : ℕ) → k < index → (bytes : List ℕ) × has_file k bytes
-    pub unread : IsUnread (lacks_file index) (file_name index) why
+    pub unread : IsUnread (cannot_read index) (file_name index) why
 
   -- a file cannot be read, or this is the first fault of the files
   abbrev pub IsFileFault : FolderFault → Type 0
   IsFileFault why = ((index : ℕ) × IsFirstUnread why index) ⊎ ((files : UcdFiles) × AreFiles files × IsFaultFor files why)
 
   -- a folder that has an image with certain bytes, or has none, or has one that cannot be read
-  module _ (has_image : List ℕ → Type 0) (has_no_image lacks_image : Type 0) where
+  module _ (has_image : List ℕ → Type 0) (has_no_image cannot_read_image : Type 0) where
     -- the tables are those of the image, or there is none and they are those of the files
     abbrev pub AreInstalled : Tables → Type 0
     AreInstalled tables = ((bytes : List ℕ) × has_image bytes × IsImageOf bytes tables) ⊎ (has_no_image × AreFromFiles tables)
@@ -64,11 +64,14 @@ module _ (has_file : ℕ → List ℕ → Type 0) (lacks_file : ℕ → Type 0) 
     -- the image cannot be read, or this is its first fault, or there is none and this is the fault of the files
     abbrev pub IsInstalledFault : FolderFault → Type 0
     IsInstalledFault why =
-        IsUnread lacks_image image_name why ⊎ (((bytes : List ℕ) × has_image bytes × IsUnusable bytes why) ⊎ (has_no_image × IsFileFault why))
+        IsUnread cannot_read_image image_name why ⊎ (((bytes : List ℕ) × has_image bytes × IsUnusable bytes why) ⊎ (has_no_image × IsFileFault why))
 
--- what the file system holds: no definition says, so each file may have any bytes, and any file may be missing
+-- What the file system holds: no definition says, so each file and the image may have any bytes, and reading may fail.
 abbrev pub any_bytes : ℕ → List ℕ → Type 0
 any_bytes index bytes = ⊤
 
-abbrev pub any_file : ℕ → Type 0
-any_file index = ⊤
+abbrev pub may_fail : ℕ → Type 0
+may_fail index = ⊤
+
+abbrev pub any_image : List ℕ → Type 0
+any_image bytes = ⊤

@@ -1,7 +1,7 @@
 //! Folders of tables.
 ghost use Rattle.std.specs.Prelude.{◌≡◌, ℕ, List, ◌<◌, IfOk, IfErr, MatchOption, ⊤};
 ghost use Rattle.ucd.specs.FileNames.{file_name};
-ghost use Rattle.tables.specs.Folders.{any_bytes, any_file, image_name, IsUnread};
+ghost use Rattle.tables.specs.Folders.{any_bytes, any_image, image_name, may_fail, IsUnread};
 
 use crate::fault::FolderFault;
 use std::alloc::Global;
@@ -18,26 +18,26 @@ pub trait TableFolder {
     // The file with this index in `FILE_NAMES` has these bytes, or cannot be read.
     ghost has_file: { Self → ℕ → List ℕ → Type 0 };
 
-    ghost lacks_file: { Self → ℕ → Type 0 };
+    ghost cannot_read: { Self → ℕ → Type 0 };
 
     // The image has these bytes, or there is none, or it cannot be read.
     ghost has_image: { Self → List ℕ → Type 0 };
 
     ghost has_no_image: { Self → Type 0 };
 
-    ghost lacks_image: { Self → Type 0 };
+    ghost cannot_read_image: { Self → Type 0 };
 
     /// Reads the file with this index in `FILE_NAMES`. Fails if it cannot be read, or if memory runs out.
     fn file(&self, alloc: Global, index: usize) -> Result<Vec<u8>, FolderFault>
         requires { index < 7 }
         ensures ok { IfOk result (λ bytes. has_file self.now index bytes.items) }
-        ensures err { IfErr result (IsUnread (lacks_file self.now index) (file_name index)) };
+        ensures err { IfErr result (IsUnread (cannot_read self.now index) (file_name index)) };
 
     /// Reads the image, if there is one. Fails if it cannot be read, or if memory runs out.
     fn image(&self, alloc: Global) -> Result<Option<Vec<u8>>, FolderFault>
         ensures ok { IfOk result (λ image. MatchOption image (has_no_image self.now)
             (λ bytes. has_image self.now bytes.items)) }
-        ensures err { IfErr result (IsUnread (lacks_image self.now) image_name) };
+        ensures err { IfErr result (IsUnread (cannot_read_image self.now) image_name) };
 }
 
 /// A folder of the file system.
@@ -67,13 +67,13 @@ impl<'a> DiskFolder<'a> {
 impl TableFolder for DiskFolder<'_> {
     ghost has_file = { λ _ index bytes. any_bytes index bytes };
 
-    ghost lacks_file = { λ _ index. any_file index };
+    ghost cannot_read = { λ _ index. may_fail index };
 
-    ghost has_image = { λ _ _. ⊤ };
+    ghost has_image = { λ _ bytes. any_image bytes };
 
     ghost has_no_image = { λ _. ⊤ };
 
-    ghost lacks_image = { λ _. ⊤ };
+    ghost cannot_read_image = { λ _. ⊤ };
 
     fn file(&self, alloc: Global, index: usize) -> Result<Vec<u8>, FolderFault> {
         let name = file_name(index);

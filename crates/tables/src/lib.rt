@@ -5,8 +5,8 @@ ghost use Rattle.std.specs.Prelude.{ℕ, List, IfOk, IfErr, ⊤};
 ghost use Rattle.ucd.specs.Imaged.{IsImageOf};
 ghost use Rattle.ucd.specs.Images.{IsImageFault};
 ghost use Rattle.ucd.specs.Tables.{AreTablesOf};
-ghost use Rattle.tables.specs.Folders.{any_bytes, any_file, AreFromFiles, AreInstalled, IsFaultFor};
-ghost use Rattle.tables.specs.Folders.{IsFileFault, IsInstalledFault, IsUnusable};
+ghost use Rattle.tables.specs.Folders.{any_bytes, any_image, may_fail, AreFromFiles, AreInstalled};
+ghost use Rattle.tables.specs.Folders.{IsFaultFor, IsFileFault, IsInstalledFault, IsUnusable};
 
 mod fault;
 mod folder;
@@ -18,24 +18,24 @@ use ucd::{ImageFault, Tables, UcdFiles};
 
 /// Reads the tables from the seven files of a folder, as `from_files`.
 pub fn in_folder(rt: &HostRuntime, folder: &str) -> Result<Tables, FolderFault>
-    ensures ok { IfOk result (AreFromFiles any_bytes any_file) }
-    ensures err { IfErr result (IsFileFault any_bytes any_file) }
+    ensures ok { IfOk result (AreFromFiles any_bytes may_fail) }
+    ensures err { IfErr result (IsFileFault any_bytes may_fail) }
 {
     from_files(rt.alloc(), &DiskFolder::new(rt, folder))
 }
 
 /// Reads the tables of an installed folder, as `from_installed`.
 pub fn installed(rt: &HostRuntime, folder: &str) -> Result<Tables, FolderFault>
-    ensures ok { IfOk result (AreInstalled any_bytes any_file (λ _. ⊤) ⊤ ⊤) }
-    ensures err { IfErr result (IsInstalledFault any_bytes any_file (λ _. ⊤) ⊤ ⊤) }
+    ensures ok { IfOk result (AreInstalled any_bytes may_fail any_image ⊤ ⊤) }
+    ensures err { IfErr result (IsInstalledFault any_bytes may_fail any_image ⊤ ⊤) }
 {
     from_installed(rt.alloc(), &DiskFolder::new(rt, folder))
 }
 
 /// Reads the tables from the seven files, and reads no image. Reads all files before it parses the first.
 pub fn from_files<F: TableFolder>(alloc: Global, folder: &F) -> Result<Tables, FolderFault>
-    ensures ok { IfOk result (AreFromFiles (F.has_file folder.now) (F.lacks_file folder.now)) }
-    ensures err { IfErr result (IsFileFault (F.has_file folder.now) (F.lacks_file folder.now)) }
+    ensures ok { IfOk result (AreFromFiles (F.has_file folder.now) (F.cannot_read folder.now)) }
+    ensures err { IfErr result (IsFileFault (F.has_file folder.now) (F.cannot_read folder.now)) }
 {
     let bidi_class = folder.file(alloc, 0)?;
     let bidi_brackets = folder.file(alloc, 1)?;
@@ -61,10 +61,10 @@ pub fn from_files<F: TableFolder>(alloc: Global, folder: &F) -> Result<Tables, F
 /// Reads the tables from the image, or from the seven files if there is no image. If the image cannot be read
 /// or used, nothing is read in its place.
 pub fn from_installed<F: TableFolder>(alloc: Global, folder: &F) -> Result<Tables, FolderFault>
-    ensures ok { IfOk result (AreInstalled (F.has_file folder.now) (F.lacks_file folder.now)
-        (F.has_image folder.now) (F.has_no_image folder.now) (F.lacks_image folder.now)) }
-    ensures err { IfErr result (IsInstalledFault (F.has_file folder.now) (F.lacks_file folder.now)
-        (F.has_image folder.now) (F.has_no_image folder.now) (F.lacks_image folder.now)) }
+    ensures ok { IfOk result (AreInstalled (F.has_file folder.now) (F.cannot_read folder.now)
+        (F.has_image folder.now) (F.has_no_image folder.now) (F.cannot_read_image folder.now)) }
+    ensures err { IfErr result (IsInstalledFault (F.has_file folder.now) (F.cannot_read folder.now)
+        (F.has_image folder.now) (F.has_no_image folder.now) (F.cannot_read_image folder.now)) }
 {
     match folder.image(alloc)? {
         Some(bytes) => of_image(alloc, &bytes),

@@ -43,5 +43,8 @@ returns-in_err-ends-clause-memory c =
     let opens = c.window_start-start.ensures in
     let closes = c.window_end-end.ensures in
     on_err c.from_residual.result (λ (before, past).
-    c.if-end-start-eq1.false (omega (arith, splits_before c.args.text.now _ c.args.k c.requires opens.most opens.nearest before,
-    splits_after c.args.text.now _ c.args.k closes.most closes.past closes.nearest past)))
+    c.if-end-start-eq1.false (omega (
+      arith,
+      splits_before c.args.text.now _ c.args.k c.requires opens.most opens.nearest before,
+      splits_after c.args.text.now _ c.args.k closes.most closes.past closes.nearest past,
+    )))
