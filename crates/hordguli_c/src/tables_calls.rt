@@ -1,5 +1,7 @@
 //! Functions that open and close a handle of tables.
-ghost use Rattle.std.specs.Prelude.{◌≡◌, IfOk, None};
+ghost use Rattle.std.specs.Prelude.{◌≡◌, IfErr, IfOk, None};
+ghost use Rattle.ucd.specs.Imaged.{IsImageOf};
+ghost use Rattle.ucd.specs.Images.{IsImageFault};
 ghost use Rattle.ucd.specs.declared.tables.UcdFiles.{UcdFiles};
 ghost use Rattle.hordguli_c.specs.Statuses.{Returns};
 ghost use Rattle.hordguli_c.specs.TablesCalls.{cause_number, fault_out, ReadsTables, TellsFault};
@@ -139,6 +141,18 @@ pub extern "C" fn hordguli_core_tables_read(
     }
 }
 
+// Decodes an image, and makes the object of its handle.
+fn decoded(alloc: Global, image: &[u8]) -> Result<Box<TablesObject>, ImageFault>
+    ensures ok { IfOk result (λ object. IsImageOf image.now object.value) }
+    ensures err { IfErr result (IsImageFault image.now) }
+{
+    let tables = Tables::from_image(alloc, image)?;
+    match boxed(alloc, tables) {
+        Ok(object) => Ok(object),
+        Err(_) => Err(ImageFault::Memory),
+    }
+}
+
 /// Opens tables from a compiled image.
 #[unsafe(no_mangle)]
 pub extern "C" fn hordguli_core_tables_open_image(
@@ -154,14 +168,11 @@ pub extern "C" fn hordguli_core_tables_open_image(
         tables.swap(alloc, Some(object));
         return number_of(Status::AlreadyOpen);
     }
-    match Tables::from_image(alloc, image) {
-        Ok(decoded) => match boxed(alloc, decoded) {
-            Ok(object) => {
-                tables.swap(alloc, Some(object));
-                number_of(Status::Ok)
-            }
-            Err(_) => number_of(Status::NoMemory),
-        },
+    match decoded(alloc, image) {
+        Ok(object) => {
+            tables.swap(alloc, Some(object));
+            number_of(Status::Ok)
+        }
         Err(refused) => number_of(tell_image_fault(refused, fault)),
     }
 }
