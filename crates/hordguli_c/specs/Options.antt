@@ -30,8 +30,8 @@ direction_of bits = if nat_lt (bits % 16777216) 4 && names_direction bits then S
 abbrev pub tailoring_of : ℕ → Option Bool
 tailoring_of bits = if bits == 0 then Some false else if bits == 16 then Some true else None
 
--- the options of a session, with the tab width in bits 8 to 15, or `None` if an unknown bit or one of bits 16 to 23 is set, or the
--- bits are those of two directions
+-- The options of a session, with the tab width in bits 8 to 15. `None` if an unknown bit or one of bits 16 to 23 is set, or the bits
+-- are those of two directions.
 abbrev pub options_of : ℕ → Option Options
 options_of bits =
     if nat_lt (bits % 256) 128 && (bits / 65536 % 256 == 0 && names_direction bits) then Some (record {

@@ -10,8 +10,8 @@ const FOLDER: &str = "../share/hordguli/ucd";
 // The folders of usual prefixes, for a program that cannot tell where it is.
 const USUAL_FOLDERS: [&str; 2] = ["/usr/local/share/hordguli/ucd", "/usr/share/hordguli/ucd"];
 
-/// Returns the folder of the installed table files, if there is one. If `/proc` is not mounted, the program is
-/// looked up by the name that it was started with, then the folder in `/usr/local` and `/usr`.
+/// Returns the folder of the installed table files, if there is one. If `/proc` is not mounted, looks for the
+/// program by the name that it was started with, then for the folder in `/usr/local` and `/usr`.
 pub fn installed_folder(rt: &HostRuntime) -> Result<Option<PathBuf>, AllocError> {
     match env::current_exe(rt) {
         Ok(program) => folder_beside(rt, program.as_path()),

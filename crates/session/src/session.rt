@@ -525,8 +525,8 @@ impl<S: ParagraphStore<Kept>> Session<S> {
     }
 
     /// Sets the width, in columns, and rewraps every paragraph. A paragraph is left as it is if it has one
-    /// line, which fits and, with `show_spaces`, hides no space that fits. Every other paragraph is filled and
-    /// written once.
+    /// line, which fits and, with `show_spaces`, hides no space that fits. Each other paragraph is filled
+    /// and written once.
     pub fn set_width(&mut self, width: u16) -> Result<Damage, EditFault>
         ensures ok { IfOk result (SetsWidth width self.old self.new) }
         ensures err { IfErr result (SetsWidthNot width self.old self.new) }

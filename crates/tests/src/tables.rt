@@ -1,5 +1,5 @@
-//! Tests lookups in the seven files and in copies of tables, and the faults of malformed files. The tests also
-//! pass if any one allocation fails.
+//! Tests lookups in the seven files and in copies of tables, and the faults of malformed files. The tests
+//! also pass if any one allocation fails.
 use crate::files::{FILES, read};
 use std::alloc::{AllocError, Global};
 use std::process::Abort;

@@ -244,8 +244,8 @@ query_text rules print width kept (ask.Spans n start end) = spans_text print wid
 query_text rules print width kept (ask.Runs n) = runs_text kept n
 query_text rules print width kept (ask.Clusters n) = clusters_text kept n
 
--- whether a query may allocate: `cluster` and `word` for a character that exists, `edge` for an edge of a character, `step` from an
--- edge in a text that is not empty, `at` and `clusters` for a line that exists
+-- Whether a query may allocate. `cluster` and `word` may for a character that exists, and `edge` for an edge of a character. `step`
+-- may from an edge in a text that is not empty, `at` and `clusters` for a line that exists.
 abbrev pub AsksMemory : List Layout → Query → Type 0
 AsksMemory kept (ask.Cluster pos) = pos < length (text_of kept)
 AsksMemory kept (ask.Word pos) = pos < length (text_of kept)

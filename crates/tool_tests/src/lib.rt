@@ -1,4 +1,4 @@
-//! Tests of the public calls of `tool`, by their paths and with their types, and of the messages of all errors.
+//! Tests of the public calls of `tool`, by their paths and with their types, and of all error messages.
 #![tactic(auto)]
 
 #[cfg(test)]

@@ -1,5 +1,5 @@
-//! Tests the text that each error type displays for each variant, and the text of `--help`. No contract covers
-//! these texts.
+//! Tests the text that each error type displays for each variant, and the text of `--help`. No contract
+//! covers these texts.
 use lines::{PrintFault, WriteFault};
 use session::{EditFault, RangeFault};
 use std::alloc::Global;

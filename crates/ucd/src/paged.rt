@@ -68,7 +68,7 @@ impl PagedTables {
         })
     }
 
-    /// Decodes an image. Its parts are checked in the order of `ImageFault`, and no memory is allocated before the
+    /// Decodes an image. Its parts are checked in the order of `ImageFault`. Allocates nothing before the
     /// frame, the page numbers and the entries have passed.
     pub fn from_image(alloc: Global, bytes: &[u8]) -> Result<PagedTables, ImageFault>
         ensures ok { IfOk result (IsImageOf bytes.now) }
