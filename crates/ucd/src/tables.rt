@@ -69,8 +69,8 @@ impl Tables {
     }
 
     /// Decodes a compiled image of tables, as `to_image` makes them. Fails with the first fault of the image
-    /// (docs/reference.md), or if memory runs out. Allocates nothing before the faults up to `Entry` are ruled
-    /// out. Linear in the length of the image.
+    /// (docs/reference.md), or if memory runs out. Allocates nothing before the faults up to `Entry` are
+    /// ruled out. Linear in the length of the image.
     pub fn from_image(alloc: Global, bytes: &[u8]) -> Result<Tables, ImageFault>
         ensures ok { IfOk result (IsImageOf bytes.now) }
         ensures err { IfErr result (IsImageFault bytes.now) }
