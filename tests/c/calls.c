@@ -1073,8 +1073,10 @@ typedef struct page_row {
     const char *lines;
 } page_row;
 
+enum { SHOWN = HORDGULI_PRINT_VISUAL | HORDGULI_PRINT_MIRRORED };
+
 static void laid_out_without_session(void) {
-    enum { SHOWN = HORDGULI_PRINT_VISUAL | HORDGULI_PRINT_MIRRORED, BASE = HORDGULI_PRINT_BASEDIR };
+    enum { BASE = HORDGULI_PRINT_BASEDIR };
     enum { MAPS = SHOWN | HORDGULI_PRINT_LTOV | HORDGULI_PRINT_VTOL, LEVELS = HORDGULI_PRINT_LEVELS };
     static const page_row rows[] = {
         {"", 0, 80, 127, ""},
