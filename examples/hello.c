@@ -7,7 +7,7 @@ int main(void) {
     hordguli_session session = HORDGULI_SESSION_INIT;
     hordguli_damage damage = {0};
     const char *text = "hello, שלום\n", *more = "(مرحبا) ";
-    char lines[1000];
+    char lines[1000] = "";
     size_t length = 0;
     hordguli_status status = hordguli_tables_open_builtin(&tables);
     if (!status) status = hordguli_session_open(&session, &tables, 0, 80, text, strlen(text));

@@ -70,11 +70,11 @@ static size_t by_ubidi(size_t k) {
 }
 
 static size_t by_fribidi(size_t k) {
-    static FriBidiChar logical[BYTES], visual[BYTES];
+    static FriBidiChar logical[BYTES], shown[BYTES];
     FriBidiParType base = FRIBIDI_PAR_ON;
     FriBidiStrIndex length = fribidi_charset_to_unicode(FRIBIDI_CHAR_SET_UTF8, strings[k], (FriBidiStrIndex)lengths[k], logical);
-    if (!fribidi_log2vis(logical, length, &base, visual, NULL, NULL, NULL)) fail("fribidi");
-    return (size_t)fribidi_unicode_to_charset(FRIBIDI_CHAR_SET_UTF8, visual, length, page);
+    if (!fribidi_log2vis(logical, length, &base, shown, NULL, NULL, NULL)) fail("fribidi");
+    return (size_t)fribidi_unicode_to_charset(FRIBIDI_CHAR_SET_UTF8, shown, length, page);
 }
 
 static size_t (*const peers[PEERS])(size_t) = {by_layout, by_session, by_icu, by_ubidi, by_fribidi};

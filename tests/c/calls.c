@@ -143,7 +143,8 @@ static void opened_by_images(const char *folder) {
 
     snprintf(path, sizeof path, "%s/tables.image", folder);
     from = fopen(path, "rb");
-    if (!HOLDS(from != NULL)) return;
+    HOLDS(from != NULL);
+    if (from == NULL) return;
     length = fread(image, 1, sizeof image, from);
     fclose(from);
     OK(hordguli_tables_open_image(&other, image, length, &fault));
@@ -571,10 +572,10 @@ typedef struct stop {
 /* Each step from the first stop leads to the next one. From the last one, there is no step in this direction. */
 static void steps_are(int at, uint32_t direction, const stop *stops) {
     hordguli_edge from = edge(stops[0].pos, stops[0].side == 'A' ? AFTER : BEFORE);
-    hordguli_caret caret = {7, 7, 7, 7}, last;
+    hordguli_caret caret = {7, 7, 7, 7};
     uint32_t moved;
     for (size_t k = 0; stops[k].side != 0; k++) {
-        last = caret;
+        hordguli_caret last = caret;
         if (k > 0) {
             holds(hordguli_step(&shown, from, direction, &from, &moved) == HORDGULI_OK && moved == 1, __FILE__, at, "a step");
             is_edge(at, &from, stops[k].pos, stops[k].side == 'A' ? AFTER : BEFORE);

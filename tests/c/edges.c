@@ -418,12 +418,12 @@ static void carets_and_steps_are_right(hordguli_session *session) {
 static void steps_meet_each_boundary(hordguli_session *session, size_t line, uint32_t direction) {
     size_t columns = line < line_count ? lines[line].columns : 0, met = 0, boundaries = 0;
     hordguli_edge edge;
-    hordguli_caret caret, last = {0, 0, 0, 0};
+    hordguli_caret last = {0, 0, 0, 0};
     uint32_t moved = 1;
     for (size_t column = 0; column <= columns; column++) boundaries += (size_t)is_boundary(line, column);
     OK(hordguli_edge_at(session, line, direction == HORDGULI_RIGHT ? 0 : SIZE_MAX, &edge));
     for (; moved == 1 && met <= boundaries; met++) {
-        caret = caret_of(session, edge);
+        hordguli_caret caret = caret_of(session, edge);
         HOLDS(caret.line == line && is_boundary(line, caret.column));
         HOLDS(met > 0 || caret.column == (direction == HORDGULI_RIGHT ? 0 : columns));
         HOLDS(met == 0 || (direction == HORDGULI_RIGHT ? caret.column > last.column : caret.column < last.column));
@@ -696,7 +696,7 @@ static void answers_are_equal(hordguli_session *kept, hordguli_session *anew, si
 
 /* Makes a random edit, in the session and in `text`. Half of the edits have no damage. */
 static void edit(hordguli_session *session, uint32_t *width) {
-    hordguli_damage damage, *out = below(2) == 0 ? NULL : &damage;
+    hordguli_damage damage = {0}, *out = below(2) == 0 ? NULL : &damage;
     uint32_t piece[10];
     size_t pos = below(length + 1), removed = 0, added = 0, size;
     char piece_bytes[sizeof piece];

@@ -60,7 +60,7 @@ static void same_lines(hordguli_session *kept, hordguli_session *anew, const hor
 /* Lines whose characters are all shown are rows of their paragraphs. */
 static void lines_are_rows(hordguli_session *session, hordguli_tables *tables, const hordguli_counts *counts,
                            uint32_t options) {
-    static uint32_t text[BYTES], characters[2][BYTES], ltov[2][BYTES], vtol[2][BYTES];
+    static uint32_t shown[BYTES], characters[2][BYTES], ltov[2][BYTES], vtol[2][BYTES];
     static uint8_t all_levels[BYTES], levels[2][BYTES];
     static hordguli_run runs[2][MOST * 4];
     size_t start = 0, line = 0;
@@ -75,13 +75,13 @@ static void lines_are_rows(hordguli_session *session, hordguli_tables *tables, c
             OK(hordguli_runs(session, line, MOST * 4, runs[0], &run_counts[0]));
             count = info.shown;
             at = info.start - start;
-            OK(hordguli_text_utf32(session, info.start, count, BYTES, text, &count));
+            OK(hordguli_text_utf32(session, info.start, count, BYTES, shown, &count));
             if (info.length != count) continue;
             OK(hordguli_cluster_at(session, info.start, &cluster));
             if (cluster.start != info.start) continue; /* the row alone may have other clusters */
-            OK(hordguli_row(tables, options & (HORDGULI_REORDER_NSM | HORDGULI_REORDER_CLUSTERS), of.base, count, text,
+            OK(hordguli_row(tables, options & (HORDGULI_REORDER_NSM | HORDGULI_REORDER_CLUSTERS), of.base, count, shown,
                             all_levels + at, BYTES, characters[1], levels[1], ltov[1], vtol[1]));
-            OK(hordguli_row_runs(tables, of.base, count, text, all_levels + at, MOST * 4, runs[1], &run_counts[1]));
+            OK(hordguli_row_runs(tables, of.base, count, shown, all_levels + at, MOST * 4, runs[1], &run_counts[1]));
             HOLDS(memcmp(characters[0], characters[1], count * sizeof **characters) == 0);
             HOLDS(memcmp(levels[0], levels[1], count) == 0);
             HOLDS(memcmp(ltov[0], ltov[1], count * sizeof **ltov) == 0);

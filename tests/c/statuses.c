@@ -229,12 +229,12 @@ static void files_have_their_indexes(void) {
             hordguli_tables none = HORDGULI_TABLES_INIT;
             hordguli_table_fault fault = {77, 77, 77};
             hordguli_status status;
-            uint8_t marks[6] = {77, 77, 77, 77, 77, 77};
             if (k >= 4) lines[3] = "0041;AL\n0028;OP\n4E00;ID\n1F000;XX\n1F3FB;EM\n0E31;SA\n";
             lines[j] = own_lines[k];
             status = read_files(&none, lines, &fault);
             HOLDS(status == (k >= 4 || j == k ? 0 : 6) && fault.file == (k >= 4 || j == k ? 77 : j));
             if (k >= 4) {
+                uint8_t marks[6] = {77, 77, 77, 77, 77, 77};
                 OK(hordguli_marks(&none, 0, characters, 6, 6, marks));
                 HOLDS(marks[0] == (k == 4 && j == 4 ? 0 : 1)); /* LB1 and LB9: 0E31 is a mark */
                 HOLDS(marks[2] == (k == 5 && j == 5 ? 1 : 0)); /* LB30: the parenthesis is wide */
@@ -290,7 +290,7 @@ void *__real_realloc(void *block, size_t size);
 void *__wrap_malloc(size_t size);
 void *__wrap_realloc(void *block, size_t size);
 
-static long allocations, last, refused = -1;
+static long allocations, refused = -1;
 static int refuses_all;
 
 static int is_allocation_refused(void) { return allocations++ == refused || refuses_all; }
@@ -318,7 +318,7 @@ static void counts_and_work_have_each_value_in_their_field(void) {
     reopen(&session, mixed, 8);
     allocations = 0;
     OK(hordguli_set_width(&session, 6, &damage));
-    last = allocations - 1;
+    long last = allocations - 1;
     reopen(&session, mixed, 8);
     allocations = 0;
     refused = last;

@@ -51,8 +51,8 @@ static inline size_t encoded(const uint32_t *from, size_t count, char *into) {
     for (size_t k = 0; k < count; k++) {
         uint32_t c = from[k];
         int more = c < 0x80 ? 0 : c < 0x800 ? 1 : c < 0x10000 ? 2 : 3;
-        static const unsigned char first[] = {0, 0xC0, 0xE0, 0xF0};
-        into[at++] = (char)(first[more] | c >> 6 * more);
+        static const unsigned char lead[] = {0, 0xC0, 0xE0, 0xF0};
+        into[at++] = (char)(lead[more] | c >> 6 * more);
         while (more-- > 0) into[at++] = (char)(0x80 | (c >> 6 * more & 63));
     }
     return at;

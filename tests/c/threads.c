@@ -58,7 +58,7 @@ static hordguli_status lay_out_alone(hordguli_session *session, const work *at) 
     hordguli_tables tables = HORDGULI_TABLES_INIT;
     hordguli_counts counts;
     static _Thread_local char text[BYTES], page[BYTES];
-    size_t length, written = 0;
+    size_t length = 0, written = 0;
     int same = 1;
     hordguli_status status = hordguli_session_counts(session, &counts);
     if (status == HORDGULI_OK) status = hordguli_text(session, 0, counts.characters, BYTES, text, &length);

@@ -67,10 +67,10 @@ static __attribute__((noinline)) void mark_stack(void) {
 }
 
 static size_t used_stack(void) {
-    volatile uint64_t *at = (volatile uint64_t *)bottom;
-    while ((uintptr_t)at < top && *at == UNUSED)
-        at++;
-    return top - (uintptr_t)at;
+    volatile uint64_t *place = (volatile uint64_t *)bottom;
+    while ((uintptr_t)place < top && *place == UNUSED)
+        place++;
+    return top - (uintptr_t)place;
 }
 
 __attribute__((constructor)) static void begin(void) {

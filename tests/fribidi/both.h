@@ -37,7 +37,7 @@ static void *found(void *handle, const char *name) {
 /* Loads the functions of the library at a path. */
 static calls calls_of(const char *path) {
     void *handle = dlopen(path, RTLD_NOW | RTLD_LOCAL);
-    calls all;
+    calls all = {0};
     if (handle == NULL) {
         fprintf(stderr, "%s\n", dlerror());
         exit(2);

@@ -27,7 +27,11 @@ void *__wrap_malloc(size_t);
 void *__wrap_realloc(void *, size_t);
 void __wrap_free(void *);
 
-static int refused(void) { return left == 0 || (left > 0 && left-- == 0); }
+static int refused(void) {
+    if (left <= 0) return left == 0;
+    left--;
+    return 0;
+}
 
 void *__wrap_malloc(size_t size) {
     void *at = refused() ? NULL : __real_malloc(size);

@@ -113,12 +113,12 @@ static int pdi_between_runs_top(const input *one) { return changes(one, BARE, 1)
 /* L1: isolate initiators and PDIs at a line's end get the paragraph level too. FriBidi's fribidi_reorder_line resets neither these nor the
  * spaces before them. */
 static int isolate_at_end(const input *one) {
-    int level = (int)one->resolved & 1, seen = 0;
+    int level = (int)one->resolved & 1, has_isolate = 0;
     for (int k = one->off + one->part - 1; k >= one->off; k--) {
         FriBidiCharType type = one->types[k];
         if (!is_isolate(type) && !is_removed(type) && type != FRIBIDI_TYPE_WS) return 0;
-        seen |= is_isolate(type);
-        if (seen && one->levels[k] != level) return 1;
+        has_isolate |= is_isolate(type);
+        if (has_isolate && one->levels[k] != level) return 1;
     }
     return 0;
 }

@@ -283,6 +283,7 @@ static void resolve_runs(const input *one, const plain *p, int base, int ways, i
             }
             put(&runs[count], one, p, k);
         }
+        /* cppcheck-suppress negativeIndex ; the run has at least `first` */
         int end = runs[count].at[runs[count].count - 1], after = ways & AS_ONE || is_initiator(one->types[end]) ? -1 : beside(one, end, 1);
         end_run(&runs[count], last, before, after < 0 ? base : p->level[after], ways);
         count++;
@@ -297,10 +298,10 @@ static void resolve_runs(const input *one, const plain *p, int base, int ways, i
 /* Finds the levels after L1. Returns the greatest level before L1. */
 static int plain_levels(const input *one, int ways, int *levels) {
     static plain p;
-    int base = one->base == FRIBIDI_PAR_RTL, first, greatest, resets = 1;
+    int base = one->base == FRIBIDI_PAR_RTL, greatest, resets = 1;
     find_matches(one, &p);
     if (one->base != FRIBIDI_PAR_LTR && one->base != FRIBIDI_PAR_RTL) {
-        first = first_direction(one, 1) == FRIBIDI_PAR_LTR ? 0 : first_direction(one, 1) == 0 ? -1 : 1;
+        int first = first_direction(one, 1) == FRIBIDI_PAR_LTR ? 0 : first_direction(one, 1) == 0 ? -1 : 1;
         base = first >= 0 ? first : one->base == FRIBIDI_PAR_WRTL;
     }
     find_explicit(one, base, ways, &p);
