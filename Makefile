@@ -39,7 +39,7 @@ JOBS := $(shell nproc)
 TABLES = DerivedBidiClass BidiBrackets BidiMirroring LineBreak DerivedGeneralCategory EastAsianWidth emoji-data
 OPTIONS = --width 44 --basedir
 
-.PHONY: all program quick ucd image demo check tmux parallel test attack bench-program conformance-program conformance bench c fribidi fribidi-compare \
+.PHONY: all program quick ucd image demo check tmux parallel linters test attack bench-program conformance-program conformance bench c fribidi fribidi-compare \
 	callers install uninstall python deb dist test-packages test-reproducible test-threads test-draw test-python test-hosts release
 
 DIST = dist
@@ -108,7 +108,7 @@ else
 	@$(try) --data sample.txt=$(CURDIR)/examples/texts/sample.txt --cases $(CURDIR)/examples/texts -- --ucd ucd
 endif
 
-check: ucd tmux parallel
+check: ucd tmux parallel linters
 	tools/check
 
 # tests/examples/run drives the editors under tmux.
@@ -118,6 +118,11 @@ tmux:
 # examples/many needs GNU parallel.
 parallel:
 	@command -v parallel > /dev/null || { apt-get update -q && apt-get install -qy parallel; }
+
+# tools/lint runs these.
+linters:
+	@for tool in shellcheck flake8 cppcheck sim_text; do command -v $$tool > /dev/null || missing=yes; done; \
+	[ -z "$$missing" ] || { apt-get update -q && apt-get install -qy shellcheck flake8 cppcheck similarity-tester; }
 
 test:
 	@tools/ci
