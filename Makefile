@@ -56,11 +56,10 @@ all program bench-program conformance-program:
 	for name in $(filter fribidi bench conformance,$(programs)); do cp crates/$$name/out/$$name bin/$$name; done
 
 lib-bidi lib-breaks lib-reorder: lib-ucd
-lib-lines: lib-device lib-bidi lib-breaks lib-reorder
-lib-session: lib-lines lib-store lib-stream
+lib-lines: lib-device lib-bidi lib-breaks lib-reorder lib-stream
+lib-session: lib-lines lib-store
 lib-stream: lib-device
 lib-command_line lib-text_run: lib-lines
-lib-text_run: lib-stream
 lib-program_input: lib-command_line lib-text_run
 lib-tool: lib-session lib-command_line lib-script_commands lib-text_run
 lib-oom_calls lib-hordguli_c: lib-session

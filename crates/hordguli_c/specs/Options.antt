@@ -3,7 +3,7 @@ use Rattle.std.specs.Prelude.{not, ℕ, ◌/◌, ◌%◌, ◌==◌, ◌&&◌, �
 use Rattle.bidi.specs.declared.base.Base.{Base}
 use Rattle.bidi.specs.declared.base.Base.TheVariants.{Rtl, Ltr, WeakRtl, WeakLtr}
 use Rattle.lines.specs.declared.options.Options.{Options}
-use Rattle.lines.specs.declared.print.Print.{Print}
+use Rattle.lines.specs.declared.printing.print.Print.{Print}
 use Rattle.hordguli_c.specs.declared.options.PageForm.{PageForm}
 
 abbrev pub has_bit : ℕ → ℕ → Bool

@@ -1,7 +1,7 @@
 -- Text that is stored as bytes or as characters.
 use Rattle.std.specs.Prelude.{◌≡◌, ℕ, ◌+◌, ◌<◌, ◌≤◌, List, length}
 use Rattle.std.specs.List.{slice_range}
-use Rattle.lines.specs.declared.print.Print.{Print}
+use Rattle.lines.specs.declared.printing.print.Print.{Print}
 use Rattle.session.specs.Kept.{lines_in}
 use Rattle.session.specs.Printing.{lines_page}
 use Rattle.session.specs.declared.printing.RangeFault.{RangeFault}

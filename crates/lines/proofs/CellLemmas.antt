@@ -9,8 +9,8 @@ use Rattle.lines.specs.Bytes.{cells, expanded, ordered_chars}
 use Rattle.lines.specs.Columns.{width_at}
 use Rattle.lines.specs.Tabs.{is_tab}
 use Rattle.lines.specs.Visual.{Visual}
-use Rattle.lines.specs.declared.print.Print.{Print}
-use Rattle.lines.proofs.WriteLemmas.{encoded-append}
+use Rattle.lines.specs.declared.printing.print.Print.{Print}
+use Rattle.stream.proofs.EncodingLemmas.{encoded-append}
 
 spaces_encoded : (n : ℕ) → encode_utf8_all (replicate n 32) ≡ replicate n 32
 unfolding encode_utf8

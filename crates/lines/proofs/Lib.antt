@@ -21,7 +21,6 @@ pub mod LayoutLemmas
 mod LengthLemmas
 mod OneLineLemmas
 mod OrderedLemmas
-mod PackingLemmas
 pub mod PageLemmas
 pub mod RunColumnLemmas
 mod SegmentLemmas

@@ -10,7 +10,7 @@ use Rattle.lines.specs.Bytes.{line_bytes}
 use Rattle.lines.specs.Layouts.{Layout, visuals}
 use Rattle.lines.specs.Pages.{layout_bytes, lines_bytes}
 use Rattle.lines.specs.Visual.{Line, Visual, visual_of}
-use Rattle.lines.specs.declared.print.Print.{Print}
+use Rattle.lines.specs.declared.printing.print.Print.{Print}
 
 -- if the lines of a list are numbered from 0, item k is the pair of k and line k
 line_with : (lines : List Line) (k : ℕ) (line : Line) → k < length lines → slice_get lines k ≡ Some line → get_or (enumerate_from 0 lines) k (0, line) ≡ (k, line)

@@ -20,9 +20,9 @@ use Rattle.lines.specs.Tabs.{tab_width_in}
 use Rattle.lines.specs.Visual.{Line, Visual, lines_from, visual_of}
 use Rattle.lines.specs.declared.options.Options.{Options}
 use Rattle.lines.specs.declared.char_info.CharInfo.{CharInfo}
-use Rattle.lines.specs.declared.print.Print.{Print}
-use Rattle.lines.specs.declared.print.PrintFault.{PrintFault}
-use Rattle.lines.specs.declared.print.PrintFault.TheVariants.{Memory}
+use Rattle.lines.specs.declared.printing.print.Print.{Print}
+use Rattle.lines.specs.declared.printing.print.PrintFault.{PrintFault}
+use Rattle.lines.specs.declared.printing.print.PrintFault.TheVariants.{Memory}
 use Rattle.std.specs.Prelude.{IsErrOf, OnOk, Result, Ok, Err}
 use Rattle.lines.proofs.ClusterLemmas.{length-cluster_ends}
 

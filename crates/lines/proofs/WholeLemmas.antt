@@ -31,7 +31,7 @@ use Rattle.lines.specs.Visual.{Line, Visual, line_between, lines_from, visual_of
 use Rattle.lines.specs.Whole.{ends_line, may_go_on, IsShownLen, IsWhole}
 use Rattle.lines.specs.declared.options.Options.{Options}
 use Rattle.lines.specs.declared.char_info.CharInfo.{CharInfo}
-use Rattle.lines.specs.declared.print.Print.{Print}
+use Rattle.lines.specs.declared.printing.print.Print.{Print}
 use Rattle.lines.proofs.ClusterLemmas.{length-cluster_ends}
 use Rattle.lines.proofs.FillingLemmas.{stop_at, stop_none}
 use Rattle.lines.proofs.SkippedLemmas.{length-infos}

@@ -4,7 +4,7 @@ use Rattle.std.specs.Char.{encode_utf8}
 use Rattle.std.specs.Fmt.{digits}
 use Rattle.lines.specs.Bytes.{line_bytes}
 use Rattle.lines.specs.Visual.{Visual}
-use Rattle.lines.specs.declared.print.Print.{Print}
+use Rattle.lines.specs.declared.printing.print.Print.{Print}
 
 -- a line with U+05D0, a space and two digits
 abbrev hebrew : Visual

@@ -4,7 +4,7 @@ use Rattle.breaks.specs.declared.mark.Mark.TheVariants.{Never, May, Must}
 use Rattle.lines.specs.Engine.{counted}
 use Rattle.lines.specs.Filling.{before_tail, columns, line_starts_of}
 use Rattle.lines.specs.ShownParts.{shown, shown_len}
-use Rattle.lines.specs.declared.bytes.TheConstants.{CHARACTERS_AT_ONCE, ROW_BYTES_AT_ONCE}
+use Rattle.lines.specs.declared.printing.bytes.TheConstants.{CHARACTERS_AT_ONCE, ROW_BYTES_AT_ONCE}
 use Rattle.lines.specs.declared.engine.TheConstants.{PARAGRAPH_LIMIT}
 use Rattle.lines.specs.declared.char_info.CharInfo.{CharInfo}
 use Rattle.lines.specs.declared.char_info.Trailing.TheVariants.{No, Space, Separator, Tab}

@@ -25,7 +25,7 @@ use Rattle.lines.specs.Visual.{Line, Visual, end_of, lines_from, visual_of}
 use Rattle.lines.specs.declared.options.Options.{Options}
 use Rattle.lines.specs.declared.char_info.CharInfo.{CharInfo}
 use Rattle.lines.specs.declared.fill.Shown.{Shown}
-use Rattle.lines.specs.declared.print.Print.{Print}
+use Rattle.lines.specs.declared.printing.print.Print.{Print}
 use Rattle.lines.proofs.PageLemmas.{piece_at, pieces}
 use Rattle.lines.proofs.ShowLemmas.{length_range}
 

@@ -10,7 +10,7 @@ use Rattle.lines.specs.Tabs.{tab_width_in}
 use Rattle.lines.specs.Visual.{Visual}
 use Rattle.lines.specs.declared.options.Options.{Options}
 use Rattle.lines.specs.declared.fill.Shown.{Shown}
-use Rattle.lines.specs.declared.print.Print.{Print}
+use Rattle.lines.specs.declared.printing.print.Print.{Print}
 
 -- one line of a paragraph, and whether a grapheme cluster ends after each of its characters
 module _ (tables : Tables) (options : Options) (base : ℕ) (is_first : Bool) (line : List ℕ) (ends : List Bool) where

@@ -6,7 +6,7 @@ use Rattle.reorder.specs.Order.{is_odd}
 use Rattle.lines.specs.Columns.{width_at}
 use Rattle.lines.specs.Tabs.{is_tab}
 use Rattle.lines.specs.Visual.{Visual}
-use Rattle.lines.specs.declared.print.Print.{Print}
+use Rattle.lines.specs.declared.printing.print.Print.{Print}
 
 -- the line that names the base direction, which is RTL if the base level is odd and LTR otherwise
 abbrev pub direction_line : ℕ → List ℕ

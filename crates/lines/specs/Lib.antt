@@ -20,14 +20,12 @@ pub mod KnownWidths
 pub mod Layouts
 pub mod OneLine
 pub mod Ordered
-pub mod Packing
 pub mod Pages
 pub mod Paragraphs
 pub mod Parts
 pub mod Printing
 pub mod Selections
 pub mod Separators
-pub mod Short
 pub mod Showing
 pub mod ShownParts
 pub mod Spans

@@ -4,7 +4,7 @@ use Rattle.std.specs.List.{enumerate_from, flat_map}
 use Rattle.lines.specs.Bytes.{line_bytes}
 use Rattle.lines.specs.Layouts.{Layout, Rules, layout_of}
 use Rattle.lines.specs.Visual.{Line, visual_of}
-use Rattle.lines.specs.declared.print.Print.{Print}
+use Rattle.lines.specs.declared.printing.print.Print.{Print}
 
 -- the printed bytes of a paragraph's lines, in order
 abbrev pub lines_bytes : ℕ → Print → ℕ → ℕ → List ℕ → List Line → List ℕ

@@ -1,9 +1,9 @@
 -- Whether lines of a paragraph are printed, and how printing can fail.
 use Rattle.std.specs.Prelude.{◌≡◌, ℕ, Bool, ◌&&◌, not, List}
 use Rattle.device.specs.Device.{Device, StoppedAt}
-use Rattle.lines.specs.declared.print.Print.{Print}
-use Rattle.lines.specs.declared.print.PrintFault.{PrintFault}
-use Rattle.lines.specs.declared.print.PrintFault.TheVariants.{Memory, Write}
+use Rattle.lines.specs.declared.printing.print.Print.{Print}
+use Rattle.lines.specs.declared.printing.print.PrintFault.{PrintFault}
+use Rattle.lines.specs.declared.printing.print.PrintFault.TheVariants.{Memory, Write}
 
 -- whether nothing but the base direction is printed
 abbrev pub skips_lines : Print → Bool

@@ -12,7 +12,7 @@ use std::alloc::{AllocError, Global};
 /// each logical position, and then the logical position of each visual position. If the buffers hold the
 /// lines of a paragraph, each map has one item per character, and a line's items start at the index of its
 /// first character. If the buffers are used for one line at a time, its items are at the front.
-#[derive(Debug, Drop)]
+#[derive(Drop)]
 pub(crate) struct VisualBuffers {
     pub(crate) levels: Vec<u8>,
     pub(crate) maps: Vec<u32>,
@@ -45,7 +45,7 @@ impl VisualBuffers {
 }
 
 /// Where each line of a paragraph starts, how much of it is shown, and the visual lines.
-#[derive(Debug, Drop)]
+#[derive(Drop)]
 pub(crate) struct LineBuffers {
     pub(crate) extents: Extents,
     pub(crate) visual: VisualBuffers,
@@ -62,7 +62,7 @@ impl LineBuffers {
 }
 
 /// The layout of a paragraph, without its text and its base level.
-#[derive(Debug, Drop)]
+#[derive(Drop)]
 pub(crate) struct LayoutBuffers {
     pub(crate) levels: Vec<u8>,
     pub(crate) marks: Vec<Mark>,

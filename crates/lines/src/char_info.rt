@@ -1,7 +1,6 @@
 //! What filling needs to know about each character of a paragraph.
-ghost use Rattle.std.specs.Prelude.{◌≡◌, ◌+◌, ◌^◌, ◌<◌, ◌≤◌, ℕ, false, Bool, length, map};
+ghost use Rattle.std.specs.Prelude.{◌≡◌, ◌<◌, ◌≤◌, ℕ, false, Bool, length, map};
 ghost use Rattle.std.specs.Prelude.{slice_index, take, OnOk};
-ghost use Rattle.std.specs.List.{list_all};
 ghost use Rattle.ucd.specs.Properties.{properties_of};
 ghost use Rattle.ucd.specs.declared.tables.Tables.{Tables};
 ghost use Rattle.breaks.specs.Bases.{resolved};
@@ -10,20 +9,17 @@ ghost use Rattle.lines.specs.Bare.{with_ends};
 ghost use Rattle.lines.specs.BareInfos.{bare_infos};
 ghost use Rattle.lines.specs.Clusters.{cluster_ends};
 ghost use Rattle.lines.specs.CharInfos.{columns_of, info, infos_of, trailing_by};
-ghost use Rattle.lines.specs.Clusters.{lies_in};
-ghost use Rattle.lines.specs.KnownWidths.{is_common, is_narrow, is_printable, is_wide};
 ghost use Rattle.lines.specs.Filling.{is_must};
 ghost use Rattle.lines.specs.Paragraphs.{IsLookedUp};
-ghost use Rattle.lines.specs.Tabs.{is_tab, to_stop};
+ghost use Rattle.lines.specs.Tabs.{is_tab};
 
 use crate::column_cache::ColumnCache;
 use crate::paragraph::Text;
 use crate::reserve::grow;
-use crate::widths::is_tab;
+use crate::widths::{are_common, are_printable, is_tab, next_stop};
 use breaks::{Mark, marks_are_as_many};
 use std::alloc::{AllocError, Global};
 use ucd::{LineClass, Properties, Tables};
-use unicode_width::UnicodeWidthChar;
 
 /// What a character is in a tail, which is what follows the text of a line.
 #[derive(Clone, Copy, Debug, PartialEq, Eq)]
@@ -63,8 +59,15 @@ impl CharInfo {
     ghost use Rattle.std.specs.Prelude.{ℕ, ◌+◌, ◌^◌, ◌<◌, ◌≤◌, ◌&&◌, nat_le};
     ghost use Rattle.lines.specs.CharInfos.{advance, is_space};
 
-    /// Returns the info for a character, with `ends_cluster` set to `false`.
-    pub(crate) fn of(properties: Properties, c: char, mark: Mark, tab_width: u8) -> CharInfo
+    /// Returns the info for a character of these columns, with `ends_cluster` set to `false`.
+    pub(crate) fn of(
+        columns: u8,
+        properties: Properties,
+        c: char,
+        mark: Mark,
+        tab_width: u8,
+    ) -> CharInfo
+        requires { columns ≡ columns_of c }
         ensures { (t : Tables) → properties ≡ properties_of t c → result ≡ info t tab_width c mark false }
     {
         if is_tab(tab_width, c) {
@@ -75,7 +78,7 @@ impl CharInfo {
                 ends_cluster: false,
             };
         }
-        CharInfo::of_other(columns(c), properties, mark)
+        CharInfo::of_other(columns, properties, mark)
     }
 
     // Returns the info for a character that moves to no tab stop, with `ends_cluster` set to `false`.
@@ -110,73 +113,6 @@ impl CharInfo {
     {
         self.trailing.is_space() && self.advance(before as usize) <= margin as usize
     }
-}
-
-// Returns the next tab stop, or the column itself if there are no tab stops.
-#[inline(never)] // so that the loops over characters have all registers
-fn next_stop(column: usize, tab_width: usize) -> usize
-    requires columns { column < 2 ^ 40 }
-    requires width { tab_width ≤ 255 }
-    ensures stop { result ≡ column + to_stop tab_width column }
-    ensures most { result ≤ column + 255 }
-{
-    if tab_width == 0 {
-        column
-    } else {
-        column + (tab_width - column % tab_width)
-    }
-}
-
-/// Returns the width of a character in columns, or 0 if the crate `unicode_width` has no width for it.
-#[inline(always)] // so that a lookup makes one call less
-pub(crate) fn columns(c: char) -> u8
-    ensures value { result ≡ columns_of c }
-    ensures few { result ≤ 3 }
-{
-    // Most characters are ASCII, which needs one test.
-    let code = c as u32;
-    if code >= 0x20 && code < 0x7f {
-        return 1;
-    }
-    if is_narrow(c) {
-        return 1;
-    }
-    if is_wide(c) {
-        return 2;
-    }
-    match c.width() {
-        Some(width) => width as u8,
-        None => 0,
-    }
-}
-
-// Returns whether a quick test shows that a character has one column. (U+05DC, Hebrew lamed, has a rule of
-// its own in `unicode_width`.)
-fn is_narrow(c: char) -> bool
-    ensures { result ≡ is_narrow c }
-{
-    matches!(
-        c,
-        '\u{AE}'..='\u{2FF}'
-            | '\u{370}'..='\u{482}'
-            | '\u{5D0}'..='\u{5DB}'
-            | '\u{5DD}'..='\u{5EA}'
-            | '\u{620}'..='\u{64A}'
-    )
-}
-
-// Returns whether a quick test shows that a character has two columns.
-fn is_wide(c: char) -> bool
-    ensures { result ≡ is_wide c }
-{
-    matches!(
-        c,
-        '\u{3001}'..='\u{3029}'
-            | '\u{3041}'..='\u{3096}'
-            | '\u{309B}'..='\u{30FF}'
-            | '\u{4E00}'..='\u{9FFF}'
-            | '\u{AC00}'..='\u{D7A3}'
-    )
 }
 
 /// Returns what characters of a class are in a tail.
@@ -270,7 +206,7 @@ impl Sum {
 }
 
 /// The infos for the characters of a paragraph, reused for the next one, and a cache of columns.
-#[derive(Debug, Drop)]
+#[derive(Drop)]
 pub(crate) struct InfoBuffers {
     pub(crate) infos: Vec<CharInfo>,
     pub(crate) cache: ColumnCache,
@@ -354,7 +290,8 @@ fn put_infos(
     }
     let mut k = 0;
     while k < text.len() {
-        infos[k] = CharInfo::of(properties[k], text[k], marks[k], tab_width);
+        let columns = cache.columns(text[k]);
+        infos[k] = CharInfo::of(columns, properties[k], text[k], marks[k], tab_width);
         k += 1;
     }
 }
@@ -463,38 +400,4 @@ fn put_narrow(
         infos[k] = CharInfo::of_other(1, properties[k], marks[k]);
         k += 1;
     }
-}
-
-// The loops of these two functions have no branches, so that the compiler tests several characters at a time.
-
-#[inline(always)]
-fn are_printable(text: &[char]) -> bool
-    ensures { result ≡ list_all is_printable text.now }
-{
-    let mut all = true;
-    for c in text {
-        all &= is_within(*c, ' ', '~');
-    }
-    all
-}
-
-// Returns whether all characters are printable ASCII, or characters for which `is_narrow` is true, or U+05DC.
-#[inline(always)]
-fn are_common(text: &[char]) -> bool
-    ensures { result ≡ list_all is_common text.now }
-{
-    let mut all = true;
-    for c in text {
-        all &= is_within(*c, ' ', '~')
-            | (is_within(*c, '\u{AE}', '\u{2FF}')
-                | (is_within(*c, '\u{370}', '\u{482}')
-                    | (is_within(*c, '\u{5D0}', '\u{5EA}') | is_within(*c, '\u{620}', '\u{64A}'))));
-    }
-    all
-}
-
-fn is_within(c: char, first: char, last: char) -> bool
-    ensures { result ≡ lies_in first last c }
-{
-    (first <= c) & (c <= last)
 }

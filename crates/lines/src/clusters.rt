@@ -19,7 +19,7 @@ use unicode_segmentation::UnicodeSegmentation;
 
 /// The memory in which grapheme clusters are found. If it is large enough for a paragraph, finding them
 /// allocates nothing.
-#[derive(Debug, Drop)]
+#[derive(Drop)]
 pub(crate) struct ClusterBuffers {
     utf8: String,
     ends: Vec<bool>,

@@ -3,8 +3,8 @@ ghost use Rattle.std.specs.Prelude.{◌≡◌, ◌≤◌, ℕ, OnOk};
 ghost use Rattle.lines.specs.CharInfos.{columns_of};
 ghost use Rattle.lines.specs.ColumnCache.{is_right};
 
-use crate::char_info::columns;
 use crate::reserve::reserve;
+use crate::widths::columns;
 use std::alloc::{AllocError, Global};
 use std::marker::Model;
 
@@ -13,7 +13,6 @@ const ENTRIES: usize = 1_024;
 
 /// The columns of some characters. An entry is the number of a character, times 4, plus its columns. A new
 /// entry is 0, which says that U+0000 has no columns.
-#[derive(Debug)]
 pub(crate) struct ColumnCache {
     entries: Vec<u32>,
 }

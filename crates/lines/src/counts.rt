@@ -56,7 +56,7 @@ impl Count {
 
 /// Proof that a number of characters was counted as filled into lines. It is not `Copy`, so filling the same
 /// characters twice requires two proofs.
-#[derive(Debug, Drop)]
+#[derive(Drop)]
 pub(crate) struct Counted {
     len: usize,
 }
@@ -70,7 +70,6 @@ impl Model for Counted {
 }
 
 /// How many characters were analysed, how many were filled into lines, and how many had their lines written.
-#[derive(Debug)]
 pub(crate) struct Counts {
     pub(crate) analysed: Count,
     pub(crate) filled: Count,

@@ -13,7 +13,6 @@ ghost use Rattle.lines.specs.Printing.{FailedAs, skips_lines};
 ghost use Rattle.lines.specs.Separators.{separator_len};
 
 use crate::buffers::LayoutBuffers;
-use crate::bytes::{WriteFault, write_base};
 use crate::counting::char_count;
 use crate::counts::Counts;
 use crate::extents::Extents;
@@ -21,15 +20,18 @@ use crate::fill::Fill;
 use crate::laid::Laid;
 use crate::options::Options;
 use crate::paragraph::LentRules;
-use crate::print::{Print, PrintFault};
+use crate::printing::bytes::{WriteFault, write_base};
+use crate::printing::print::{Print, PrintFault};
+use crate::printing::writing::Form;
 use crate::reflow::ReflowScratch;
 use crate::separators::ends_line;
 use crate::workspace::Workspace;
-use crate::writing::Form;
 use bidi::{base_level, base_level_in_text, first_cut, first_cut_in_text, is_cut};
 use breaks::{Mark, marks_are_as_many, paragraphs_end_at_must};
 use device::Sink;
 use std::alloc::{AllocError, Global};
+use std::fmt;
+use std::fmt::{Debug, Formatter};
 use std::marker::Model;
 use ucd::Tables;
 
@@ -41,7 +43,6 @@ const _: () = prove!(PARAGRAPH_LIMIT == 1_048_576);
 
 /// Lays out paragraphs using its tables and options, and counts the work. The engine never lends its tables
 /// to a caller, so all work done with them is counted.
-#[derive(Debug)]
 pub struct Engine {
     tables: Tables,
     options: Options,
@@ -50,8 +51,14 @@ pub struct Engine {
     work: Option<Workspace>,
 }
 
+impl Debug for Engine {
+    fn fmt<W: fmt::Write>(&self, f: &mut Formatter<'_, W>) -> fmt::Result {
+        f.debug_struct("Engine").finish_non_exhaustive()
+    }
+}
+
 // The layout of a paragraph, without its text.
-#[derive(Debug, Drop)]
+#[derive(Drop)]
 struct Parts {
     base: u8,
     tab_width: u8,

@@ -1,5 +1,5 @@
 //! Where each line of a paragraph starts at a width, and how much of it is shown.
-ghost use Rattle.std.specs.Prelude.{◌≡◌, ◌<◌, ◌≤◌, [], ◌∷◌, length, OnOk, slice_index_or};
+ghost use Rattle.std.specs.Prelude.{◌≡◌, ◌<◌, ◌≤◌, [], ◌∷◌, length, OnOk, slice_index, slice_index_or};
 ghost use Rattle.lines.specs.Bare.{with_ends};
 ghost use Rattle.lines.specs.Clusters.{cluster_ends};
 ghost use Rattle.lines.specs.Extents.{shown_from};
@@ -7,6 +7,7 @@ ghost use Rattle.lines.specs.Filling.{line_starts_of};
 ghost use Rattle.lines.specs.Kept.{AreStarts};
 ghost use Rattle.lines.specs.Showing.{nothing_shown};
 ghost use Rattle.lines.specs.ShownParts.{margin_of};
+ghost use Rattle.lines.specs.Visual.{end_of};
 ghost use Rattle.lines.specs.declared.engine.TheConstants.{PARAGRAPH_LIMIT};
 
 use crate::char_info::CharInfo;
@@ -16,7 +17,7 @@ use crate::fill::Shown;
 use crate::filling::line_starts;
 use crate::options::Options;
 use crate::reserve::reserve;
-use crate::showing::fill_shown;
+use crate::shown_parts::fill_shown;
 use std::alloc::{AllocError, Global};
 use std::marker::Model;
 
@@ -97,5 +98,18 @@ impl Extents {
         let (items, nobreak) = (&mut self.items, options.nobreak);
         line_starts(clusters, text, infos, width, nobreak, items, filled)?;
         fill_shown(infos, options.margin(width), &mut self.items)
+    }
+}
+
+/// Returns the end of a line: the start of the next one, or the end of the paragraph.
+pub(crate) fn end_of(starts: &[u32], k: usize, len: usize) -> usize
+    requires { k < length starts.now }
+    ensures end { result ≡ end_of len starts.now k }
+    ensures within { AreStarts len starts.now → (slice_index starts.now k < result) × (result ≤ len) }
+{
+    if k + 1 < starts.len() {
+        starts[k + 1] as usize
+    } else {
+        len
     }
 }

@@ -14,12 +14,12 @@ ghost use Rattle.lines.specs.declared.char_info.CharInfo.{CharInfo};
 ghost use Rattle.lines.specs.declared.engine.TheConstants.{PARAGRAPH_LIMIT};
 
 use crate::buffers::{LineBuffers, VisualBuffers};
-use crate::bytes::WriteFault;
 use crate::counts::Count;
-use crate::extents::Extents;
+use crate::extents::{Extents, end_of};
 use crate::paragraph::Text;
-use crate::print::Print;
-use crate::showing::{end_of, show_all};
+use crate::printing::bytes::WriteFault;
+use crate::printing::print::Print;
+use crate::showing::show_all;
 use crate::visual_line::VisualLine;
 use device::Sink;
 use std::marker::Model;

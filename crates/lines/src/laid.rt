@@ -3,16 +3,16 @@ ghost use Rattle.std.specs.Prelude.{◌≡◌, ◌<◌, ◌≤◌, ℕ, false, l
 ghost use Rattle.std.specs.Prelude.{IfErr, IfOk, OnErr, OnOk};
 ghost use Rattle.device.specs.Device.{StoppedAt, Wrote};
 
-use crate::bytes::WriteFault;
 use crate::char_info::CharInfo;
 use crate::counts::Count;
 use crate::extents::Extents;
 use crate::fill::{Fill, LaidText};
 use crate::options::Options;
 use crate::paragraph::{LentRules, Text};
-use crate::print::Print;
-use crate::properties::look_up;
+use crate::printing::bytes::WriteFault;
+use crate::printing::print::Print;
 use crate::visual_line::VisualLine;
+use crate::widths::columns;
 use breaks::{Mark, paragraphs_end_at_must};
 use device::Sink;
 use std::marker::Model;
@@ -150,7 +150,13 @@ impl Laid {
             return false;
         }
         let c = self.text[shown];
-        let info = CharInfo::of(tables.properties(c), c, Mark::Never, self.tab_width);
+        let info = CharInfo::of(
+            columns(c),
+            tables.properties(c),
+            c,
+            Mark::Never,
+            self.tab_width,
+        );
         info.is_space_within(line.columns, width)
     }
 
@@ -237,7 +243,7 @@ impl Laid {
     {
         let text = self.text.as_slice();
         let properties = &mut properties[..text.len()];
-        look_up(tables, text, properties);
+        tables.look_up(text, properties);
         let text = Text {
             rules: LentRules { tables, options },
             characters: text,

@@ -11,7 +11,7 @@ ghost use Rattle.lines.specs.Ordered.{ClustersAdjoin, IsOrdered, MarksStay, Runs
 ghost use Rattle.lines.specs.Pages.{layout_bytes};
 ghost use Rattle.lines.specs.TabStops.{TabsEndAtStops};
 ghost use Rattle.lines.specs.Visual.{Visual};
-ghost use Rattle.lines.specs.declared.print.Print.{Print};
+ghost use Rattle.lines.specs.declared.printing.print.Print.{Print};
 
 use breaks::paragraphs_end_at_must;
 

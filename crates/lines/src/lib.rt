@@ -28,7 +28,6 @@
 #![tactic(auto)]
 
 mod buffers;
-mod bytes;
 mod char_info;
 mod clusters;
 mod column_cache;
@@ -43,23 +42,20 @@ mod laws;
 mod layout;
 mod one_line;
 mod options;
-mod packing;
 mod paragraph;
-mod print;
 mod printing;
 mod properties;
 mod reflow;
 mod reserve;
 mod separators;
 mod showing;
+mod shown_parts;
 mod spans;
 mod visual_line;
 mod whole;
 mod widths;
 mod workspace;
-mod writing;
 
-pub use bytes::{WriteFault, write_chars};
 pub use clusters::{cluster_begin, cluster_end, cluster_ends};
 pub use counting::char_count;
 pub use engine::{Engine, PARAGRAPH_LIMIT};
@@ -71,7 +67,8 @@ pub use laws::{
     paragraphs_print_their_lines, runs_adjoin, runs_have_all_columns, tabs_end_at_stops,
 };
 pub use options::Options;
-pub use print::{Print, PrintFault};
+pub use printing::bytes::{WriteFault, write_chars};
+pub use printing::print::{Print, PrintFault};
 pub use reflow::ReflowScratch;
 pub use reorder::{Run, Runs};
 pub use spans::{Span, Spans};

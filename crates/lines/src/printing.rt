@@ -9,16 +9,20 @@ ghost use Rattle.lines.specs.BufferedExtents.{AreExtentsOf};
 ghost use Rattle.lines.specs.Whole.{IsWhole};
 ghost use Rattle.lines.specs.declared.engine.TheConstants.{PARAGRAPH_LIMIT};
 
+pub(crate) mod bytes;
+pub(crate) mod print;
+pub(crate) mod writing;
+
 use crate::buffers::LineBuffers;
 use crate::char_info::InfoBuffers;
 use crate::clusters::ClusterBuffers;
 use crate::counts::{Count, Counted, Counts};
 use crate::one_line::one_line;
 use crate::paragraph::{LentRules, Text};
-use crate::print::PrintFault;
+use crate::printing::print::PrintFault;
+use crate::printing::writing::{Form, write_each};
 use crate::whole::{is_whole, write_whole};
 use crate::workspace::{Workspace, fill_ends, fill_marks};
-use crate::writing::{Form, write_each};
 use breaks::Mark;
 use device::Sink;
 use std::alloc::{AllocError, Global};

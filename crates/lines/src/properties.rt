@@ -18,21 +18,6 @@ pub(crate) fn fill_properties(
     ensures len { OnOk result (length text.now ≤ length properties.new.items) }
 {
     grow(properties, text.len(), tables.properties('\0'))?;
-    look_up_front(tables, text, properties);
+    tables.look_up(text, &mut properties[..text.len()]);
     Ok(())
-}
-
-fn look_up_front(tables: &Tables, text: &[char], properties: &mut [Properties])
-    requires { length text.now ≤ length properties.old }
-    ensures { take (length text.now) properties.new ≡ map (properties_of tables.now) text.now }
-{
-    look_up(tables, text, &mut properties[..text.len()]);
-}
-
-/// Overwrites `properties` with the properties of each character of `text`.
-pub(crate) fn look_up(tables: &Tables, text: &[char], properties: &mut [Properties])
-    requires { length properties.old ≡ length text.now }
-    ensures { properties.new ≡ map (properties_of tables.now) text.now }
-{
-    tables.look_up(text, properties);
 }

@@ -1,16 +1,14 @@
 //! The visual lines of a paragraph: the levels of each line after L1, and its shown part in visual order (L2,
 //! L3), mirrored (L4).
-ghost use Rattle.std.specs.Prelude.{◌≡◌, ◌*◌, ◌<◌, ◌≤◌, ℕ, List, Option, Some, true, false, OnErr, OnOk};
-ghost use Rattle.std.specs.Prelude.{◌++◌, drop, length, map, take, slice_index};
+ghost use Rattle.std.specs.Prelude.{◌≡◌, ◌*◌, ◌≤◌, ℕ, List, Option, true, false, OnErr, OnOk};
+ghost use Rattle.std.specs.Prelude.{drop, length, map, take, slice_index};
 ghost use Rattle.std.specs.List.{list_any, range_with_len, slice_range};
 ghost use Rattle.ucd.specs.Properties.{properties_of};
 ghost use Rattle.ucd.specs.Classes.{class_in};
 ghost use Rattle.reorder.specs.Spaces.{line_levels};
 ghost use Rattle.ucd.specs.Within.{AreWithin};
-ghost use Rattle.lines.specs.CharInfos.{moves};
 ghost use Rattle.lines.specs.Engine.{counted, RisesBy};
-ghost use Rattle.lines.specs.Extents.{in_pairs, shown_between, shown_from};
-ghost use Rattle.lines.specs.Filling.{before_tail, columns, text_len};
+ghost use Rattle.lines.specs.Extents.{shown_from};
 ghost use Rattle.lines.specs.Kept.{AreStarts};
 ghost use Rattle.lines.specs.Layouts;
 ghost use Rattle.lines.specs.Buffers.{held_lines, AreSound};
@@ -19,15 +17,12 @@ ghost use Rattle.reorder.specs.Order.{is_odd};
 ghost use Rattle.lines.specs.Paragraphs.{HasEnds, IsLookedUp};
 ghost use Rattle.lines.specs.Reordering.{ltov_by, reorders, vtol_by};
 ghost use Rattle.lines.specs.Showing.{lines_shown, AreShown, IsShown};
-ghost use Rattle.lines.specs.ShownParts.{shown};
-ghost use Rattle.lines.specs.Visual.{end_of};
 ghost use Rattle.lines.specs.declared.char_info.CharInfo.{CharInfo};
 ghost use Rattle.lines.specs.declared.engine.TheConstants.{PARAGRAPH_LIMIT};
 
 use crate::buffers::LineBuffers;
-use crate::char_info::{CharInfo, GROUP, Sum};
 use crate::counts::Count;
-use crate::extents::Extents;
+use crate::extents::{Extents, end_of};
 use crate::fill::Shown;
 use crate::options::Options;
 use crate::paragraph::{Paragraph, Text};
@@ -107,43 +102,6 @@ fn make_characters(list: &mut Vec<char>, len: usize) -> Result<(), AllocError>
 {
     reserve(list, len)?;
     list.resize(len, '\0')
-}
-
-/// Appends to the starts of the lines the length and the columns of each line's shown part: all but the tail,
-/// and the spaces of the tail that end within the margin.
-pub(crate) fn fill_shown(
-    infos: &[CharInfo],
-    margin: Option<u16>,
-    items: &mut Vec<u32>,
-) -> Result<(), AllocError>
-    requires len { length infos.now ≤ PARAGRAPH_LIMIT }
-    requires starts { AreStarts (length infos.now) items.old.items }
-    ensures { OnOk result (items.new.items ≡ items.old.items
-        ++ in_pairs (shown_from margin (length infos.now) infos.now items.old.items)) }
-{
-    let count = items.len();
-    reserve(items, count.saturating_mul(3))?;
-    let mut k = 0;
-    while k < count {
-        let shown = shown_at(infos, margin, &items[..count], k);
-        items.push(shown.len)?;
-        items.push(shown.columns)?;
-        k += 1;
-    }
-    Ok(())
-}
-
-// Returns how much of line `k` is shown, given where each line starts.
-fn shown_at(infos: &[CharInfo], margin: Option<u16>, starts: &[u32], k: usize) -> Shown
-    requires len { length infos.now ≤ PARAGRAPH_LIMIT }
-    requires starts { AreStarts (length infos.now) starts.now }
-    requires k { k < length starts.now }
-    ensures { result ≡ shown_between margin infos.now (slice_index starts.now k)
-        (end_of (length infos.now) starts.now k) }
-{
-    let start = starts[k] as usize;
-    let end = end_of(starts, k, infos.len());
-    shown_of(&infos[start..end], margin)
 }
 
 /// Overwrites the levels before L1 with those after L1, and writes the position maps and characters of each
@@ -227,19 +185,6 @@ fn show_each(
             &mut chars[start..end],
         );
         k += 1;
-    }
-}
-
-/// Returns the end of a line: the start of the next one, or the end of the paragraph.
-pub(crate) fn end_of(starts: &[u32], k: usize, len: usize) -> usize
-    requires { k < length starts.now }
-    ensures end { result ≡ end_of len starts.now k }
-    ensures within { AreStarts len starts.now → (slice_index starts.now k < result) × (result ≤ len) }
-{
-    if k + 1 < starts.len() {
-        starts[k + 1] as usize
-    } else {
-        len
     }
 }
 
@@ -492,93 +437,4 @@ pub(crate) fn show_chars(line: &Text<'_>, levels: &[u8], places: &mut [u32], cha
         }
         None => visual_chars(line.rules.tables, part, properties, levels, places, chars),
     }
-}
-
-// Returns how much of a line is shown, with the spaces of its tail up to the margin.
-fn shown_of(line: &[CharInfo], margin: Option<u16>) -> Shown
-    requires { length line.now ≤ PARAGRAPH_LIMIT }
-    ensures len { result.len ≡ length (shown margin line.now) }
-    ensures columns { result.columns ≡ columns (shown margin line.now) }
-    ensures within { result.len ≤ length line.now }
-{
-    let len = text_len(line);
-    let text = Shown {
-        len: len as u32,
-        columns: columns(&line[..len]),
-    };
-    match margin {
-        Some(margin) => with_spaces(line, text, margin),
-        None => text,
-    }
-}
-
-// Adds to the characters before the tail the spaces that follow them, as many as end within the margin.
-fn with_spaces(line: &[CharInfo], text: Shown, margin: u16) -> Shown
-    requires limit { length line.now ≤ PARAGRAPH_LIMIT }
-    requires len { text.len ≡ text_len line.now }
-    requires columns { text.columns ≡ columns (before_tail line.now) }
-    requires few { text.columns ≤ 255 * text.len }
-    ensures len { result.len ≡ length (shown (Some margin) line.now) }
-    ensures columns { result.columns ≡ columns (shown (Some margin) line.now) }
-    ensures within { result.len ≤ length line.now }
-{
-    let mut len = text.len as usize;
-    let mut columns = text.columns;
-    while len < line.len() && line[len].is_space_within(columns, margin) {
-        columns = line[len].advance(columns as usize) as u32;
-        len += 1;
-    }
-    Shown {
-        len: len as u32,
-        columns,
-    }
-}
-
-// Returns the number of characters before the tail.
-fn text_len(line: &[CharInfo]) -> usize
-    ensures len { result ≡ text_len line.now }
-    ensures within { result ≤ length line.now }
-{
-    let mut len = line.len();
-    while len > 0 && line[len - 1].trailing.may_trail() {
-        len -= 1;
-    }
-    len
-}
-
-// Returns the width of the first characters of a line in columns.
-fn columns(piece: &[CharInfo]) -> u32
-    requires { length piece.now ≤ PARAGRAPH_LIMIT }
-    ensures sum { result ≡ columns piece.now }
-    ensures most { result ≤ 255 * length piece.now }
-{
-    let mut columns = 0;
-    let mut k = 0;
-    while k + GROUP <= piece.len() {
-        let sum = Sum::of(&piece[k..k + GROUP]);
-        if sum.has_tab {
-            break;
-        }
-        columns += sum.columns;
-        k += GROUP;
-    }
-    columns_after(piece, k, columns)
-}
-
-// Does the work of `columns`, given the columns of the first `len` characters.
-fn columns_after(piece: &[CharInfo], len: usize, before: u32) -> u32
-    requires limit { length piece.now ≤ PARAGRAPH_LIMIT }
-    requires within { len ≤ length piece.now }
-    requires sum { before ≡ columns (take len piece.now) }
-    requires most { before ≤ 255 * len }
-    ensures sum { result ≡ columns piece.now }
-    ensures most { result ≤ 255 * length piece.now }
-{
-    let mut columns = before;
-    let mut k = len;
-    while k < piece.len() {
-        columns = piece[k].advance(columns as usize) as u32;
-        k += 1;
-    }
-    columns
 }

@@ -10,12 +10,12 @@ ghost use Rattle.lines.specs.Columns.{covering, padding_of, run_columns, widths}
 ghost use Rattle.lines.specs.Spans.{is_covered, spans_of, AreMaximal};
 ghost use Rattle.lines.specs.Widths.{widths_of};
 ghost use Rattle.lines.specs.Writing.{PassedOn, StoppedIn};
-ghost use Rattle.lines.specs.declared.print.Print.{Print};
+ghost use Rattle.lines.specs.declared.printing.print.Print.{Print};
 
-use crate::bytes::{
+use crate::printing::bytes::{
     WriteFault, write_direction, write_levels, write_ltov, write_shown, write_vtol,
 };
-use crate::print::Print;
+use crate::printing::print::Print;
 use crate::spans::{Selection, Spans};
 use crate::widths::width_at;
 use device::Sink;

@@ -14,12 +14,12 @@ ghost use Rattle.lines.specs.Writing.{PassedOn, StoppedIn};
 ghost use Rattle.lines.specs.declared.engine.TheConstants.{PARAGRAPH_LIMIT};
 
 use crate::buffers::VisualBuffers;
-use crate::bytes::WriteFault;
 use crate::char_info::trailing_of;
 use crate::counts::{Count, Counted};
 use crate::fill::Shown;
 use crate::paragraph::{LogicalLine, Text};
-use crate::writing::{Form, write_line};
+use crate::printing::bytes::WriteFault;
+use crate::printing::writing::{Form, write_line};
 use breaks::marks_are_as_many;
 use device::Sink;
 use ucd::{LineClass, Properties};

@@ -1,10 +1,65 @@
-//! The columns of each character of a line.
-ghost use Rattle.std.specs.Prelude.{◌≡◌, ◌*◌, ◌%◌, ◌<◌, ◌≤◌, ℕ, length, slice_index, sum, take};
+//! The columns of characters and of the tabs of a line, and tests for characters that have one column.
+ghost use Rattle.std.specs.Prelude.{◌≡◌, ◌+◌, ◌*◌, ◌%◌, ◌^◌, ◌<◌, ◌≤◌, ℕ, length, slice_index, sum, take};
+ghost use Rattle.std.specs.List.{list_all};
 ghost use Rattle.lines.specs.CharInfos.{columns_of};
-ghost use Rattle.lines.specs.Tabs.{is_tab};
+ghost use Rattle.lines.specs.Clusters.{lies_in};
+ghost use Rattle.lines.specs.KnownWidths.{is_common, is_narrow, is_printable, is_wide};
+ghost use Rattle.lines.specs.Tabs.{is_tab, to_stop};
 ghost use Rattle.lines.specs.Widths.{widths_of};
 
-use crate::char_info::columns;
+use unicode_width::UnicodeWidthChar;
+
+/// Returns the width of a character in columns, or 0 if the crate `unicode_width` has no width for it.
+#[inline(always)] // so that a lookup makes one call less
+pub(crate) fn columns(c: char) -> u8
+    ensures value { result ≡ columns_of c }
+    ensures few { result ≤ 3 }
+{
+    // Most characters are ASCII, which needs one test.
+    let code = c as u32;
+    if code >= 0x20 && code < 0x7f {
+        return 1;
+    }
+    if is_narrow(c) {
+        return 1;
+    }
+    if is_wide(c) {
+        return 2;
+    }
+    match c.width() {
+        Some(width) => width as u8,
+        None => 0,
+    }
+}
+
+// Returns whether a quick test shows that a character has one column. (U+05DC, Hebrew lamed, has a rule of
+// its own in `unicode_width`.)
+fn is_narrow(c: char) -> bool
+    ensures { result ≡ is_narrow c }
+{
+    matches!(
+        c,
+        '\u{AE}'..='\u{2FF}'
+            | '\u{370}'..='\u{482}'
+            | '\u{5D0}'..='\u{5DB}'
+            | '\u{5DD}'..='\u{5EA}'
+            | '\u{620}'..='\u{64A}'
+    )
+}
+
+// Returns whether a quick test shows that a character has two columns.
+fn is_wide(c: char) -> bool
+    ensures { result ≡ is_wide c }
+{
+    matches!(
+        c,
+        '\u{3001}'..='\u{3029}'
+            | '\u{3041}'..='\u{3096}'
+            | '\u{309B}'..='\u{30FF}'
+            | '\u{4E00}'..='\u{9FFF}'
+            | '\u{AC00}'..='\u{D7A3}'
+    )
+}
 
 /// Returns the columns of the character at index `k` of a line. For a tab, reads the characters back to the
 /// tab before it.
@@ -42,4 +97,55 @@ fn since_stop(text: &[char], k: usize) -> usize
         sum += columns(text[start]) as usize;
     }
     sum
+}
+
+/// Returns the next tab stop, or the column itself if there are no tab stops.
+#[inline(never)] // so that the loops over characters have all registers
+pub(crate) fn next_stop(column: usize, tab_width: usize) -> usize
+    requires columns { column < 2 ^ 40 }
+    requires width { tab_width ≤ 255 }
+    ensures stop { result ≡ column + to_stop tab_width column }
+    ensures most { result ≤ column + 255 }
+{
+    if tab_width == 0 {
+        column
+    } else {
+        column + (tab_width - column % tab_width)
+    }
+}
+
+// The loops of these two functions have no branches, so that the compiler tests several characters at a time.
+
+/// Returns whether all characters are printable ASCII.
+#[inline(always)]
+pub(crate) fn are_printable(text: &[char]) -> bool
+    ensures { result ≡ list_all is_printable text.now }
+{
+    let mut all = true;
+    for c in text {
+        all &= is_within(*c, ' ', '~');
+    }
+    all
+}
+
+/// Returns whether all characters are printable ASCII, or Latin, Greek, Cyrillic, Hebrew or Arabic letters, or
+/// between these in Unicode. All of them have one column.
+#[inline(always)]
+pub(crate) fn are_common(text: &[char]) -> bool
+    ensures { result ≡ list_all is_common text.now }
+{
+    let mut all = true;
+    for c in text {
+        all &= is_within(*c, ' ', '~')
+            | (is_within(*c, '\u{AE}', '\u{2FF}')
+                | (is_within(*c, '\u{370}', '\u{482}')
+                    | (is_within(*c, '\u{5D0}', '\u{5EA}') | is_within(*c, '\u{620}', '\u{64A}'))));
+    }
+    all
+}
+
+fn is_within(c: char, first: char, last: char) -> bool
+    ensures { result ≡ lies_in first last c }
+{
+    (first <= c) & (c <= last)
 }

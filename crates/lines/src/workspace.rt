@@ -23,7 +23,6 @@ use ucd::Properties;
 
 /// The buffers of an engine. If they are large enough for a paragraph, laying it out allocates only the parts
 /// that are kept.
-#[derive(Debug)]
 pub(crate) struct Workspace {
     pub(crate) analysis: Analysis,
     pub(crate) infos: InfoBuffers,
@@ -60,7 +59,6 @@ impl Workspace {
 
 /// Finds the levels of paragraphs, and keeps the properties of the last paragraph's characters at the front
 /// of a list.
-#[derive(Debug)]
 pub(crate) struct Analysis {
     pub(crate) properties: Vec<Properties>,
     resolver: Resolver,

@@ -9,7 +9,7 @@ use Rattle.bidi.specs.Cuts.{paragraphs}
 use Rattle.bidi.specs.Pieces.{ArePieces, ParagraphsArePieces}
 use Rattle.lines.specs.Layouts.{Rules, cut_by, layout_of}
 use Rattle.lines.specs.Pages.{page, paragraph_bytes}
-use Rattle.lines.specs.declared.print.Print.{Print}
+use Rattle.lines.specs.declared.printing.print.Print.{Print}
 use Rattle.session.specs.Kept.{layouts_of, IsCutAt}
 use Rattle.session.proofs.SpliceLemmas.{ArePieces-append}
 

@@ -16,12 +16,12 @@ use Rattle.lines.specs.Engine.{rules_of}
 use Rattle.lines.specs.Layouts.{Layout, layout_of, visuals}
 use Rattle.lines.specs.Visual.{Visual}
 use Rattle.lines.specs.Pages.{layout_bytes}
-use Rattle.lines.specs.declared.print.Print.{Print}
+use Rattle.lines.specs.declared.printing.print.Print.{Print}
 use Rattle.session.specs.Kept.{lines_in}
 use Rattle.session.specs.Printing.{lines_page, PrintsNot}
 use Rattle.session.specs.declared.printing.RangeFault.{RangeFault}
 use Rattle.session.specs.declared.printing.RangeFault.TheVariants.{Write}
-use Rattle.lines.specs.declared.bytes.WriteFault.{WriteFault}
+use Rattle.lines.specs.declared.printing.bytes.WriteFault.{WriteFault}
 use Rattle.session.specs.Sessions.{SessionState, IsWholeLayout, cuts_at, page_at, text_at}
 
 module _ (width : ℕ) (print : Print) where

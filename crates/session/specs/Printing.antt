@@ -2,7 +2,7 @@
 use Rattle.std.specs.Prelude.{ℕ, ◌+◌, ◌<◌, ◌≤◌, List, length}
 use Rattle.std.specs.List.{flat_map, slice_range}
 use Rattle.lines.specs.Bytes.{line_bytes}
-use Rattle.lines.specs.declared.print.Print.{Print}
+use Rattle.lines.specs.declared.printing.print.Print.{Print}
 use Rattle.session.specs.Kept.{lines_in}
 use Rattle.session.specs.Sessions.{SessionState}
 use Rattle.session.specs.declared.printing.RangeFault.{RangeFault}

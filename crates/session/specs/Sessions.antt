@@ -5,7 +5,7 @@ use Rattle.lines.specs.Engine.{rules_of, SameRules, LaysOutAtMost, Fills, FillsA
 use Rattle.lines.specs.Layouts.{Layout, cut_by}
 use Rattle.lines.specs.Pages.{page}
 use Rattle.lines.specs.declared.engine.Engine.{Engine}
-use Rattle.lines.specs.declared.print.Print.{Print}
+use Rattle.lines.specs.declared.printing.print.Print.{Print}
 use Rattle.session.specs.Edits.{Replacement, Held, replaced, refusal, text_refusal, width_refusal}
 use Rattle.session.specs.Damage.{IsDamage, NamesAll}
 use Rattle.session.specs.Kept.{changed, pars_of, text_of, layouts_of}

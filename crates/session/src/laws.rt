@@ -4,7 +4,7 @@ ghost use Rattle.bidi.specs.Cuts.{paragraphs};
 ghost use Rattle.lines.specs.Layouts.{Rules, cut_by};
 ghost use Rattle.lines.specs.Ordered.{MarksStay};
 ghost use Rattle.lines.specs.Pages.{page};
-ghost use Rattle.lines.specs.declared.print.Print.{Print};
+ghost use Rattle.lines.specs.declared.printing.print.Print.{Print};
 ghost use Rattle.session.specs.Kept.{layouts_of, IsCutAt};
 ghost use Rattle.session.specs.Steps.{StepsAreNearest};
 

@@ -9,7 +9,7 @@ ghost use Rattle.lines.specs.Bytes.{line_bytes};
 ghost use Rattle.lines.specs.Engine.{analysed_of, filled_of, rules_of, written_of, SameRules};
 ghost use Rattle.lines.specs.Separators.{separator_len};
 ghost use Rattle.lines.specs.Writing.{PassedOn, StoppedIn};
-ghost use Rattle.lines.specs.declared.print.Print.{Print};
+ghost use Rattle.lines.specs.declared.printing.print.Print.{Print};
 ghost use Rattle.session.specs.Carets.{caret_at};
 ghost use Rattle.session.specs.Edits.{after_all, replacing, deletion, insertion};
 ghost use Rattle.session.specs.Clusters.{cluster_at, line_clusters};

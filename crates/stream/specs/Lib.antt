@@ -1,3 +1,4 @@
+pub mod Packing
 pub mod Pages
 pub mod Reading
 pub mod Short

@@ -1,5 +1,5 @@
-//! Chunked input and output: reads bytes from a source, decodes them, and collects bytes before they are
-//! written.
+//! Chunked input and output: reads bytes from a source, decodes them, encodes characters, and collects bytes
+//! before they are written.
 //!
 //! `front` takes bytes that may end inside a character. It returns the text of the whole characters, and
 //! whether the rest is invalid:
@@ -10,11 +10,14 @@
 //! ```
 #![tactic(auto)]
 
+mod encoding;
+mod packing;
 mod page;
 mod reading;
 mod short;
 mod utf8;
 
+pub use encoding::{encode, encode_at};
 pub use page::Page;
 pub use reading::{CHUNK, read_to, zeroed};
 pub use utf8::{front, push_characters};

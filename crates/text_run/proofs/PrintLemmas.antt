@@ -9,9 +9,9 @@ use Rattle.lines.specs.Layouts.{Rules, layout_of}
 use Rattle.lines.specs.Pages.{paragraph_bytes}
 use Rattle.lines.specs.Printing.{FailedAs, skips_lines}
 use Rattle.lines.specs.Visual.{Visual, visual_of}
-use Rattle.lines.specs.declared.print.Print.{Print}
-use Rattle.lines.specs.declared.print.PrintFault.{PrintFault}
-use Rattle.lines.specs.declared.print.PrintFault.TheVariants.{Memory, Write}
+use Rattle.lines.specs.declared.printing.print.Print.{Print}
+use Rattle.lines.specs.declared.printing.print.PrintFault.{PrintFault}
+use Rattle.lines.specs.declared.printing.print.PrintFault.TheVariants.{Memory, Write}
 use Rattle.text_run.specs.Pages.{prints_some}
 
 -- whether no part of a line is printed

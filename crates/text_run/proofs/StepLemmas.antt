@@ -16,7 +16,7 @@ use Rattle.lines.specs.Engine.{Prints}
 use Rattle.lines.specs.Layouts.{Rules, cut_by}
 use Rattle.lines.specs.Pages.{page, paragraph_bytes}
 use Rattle.lines.specs.declared.engine.Engine.{Engine}
-use Rattle.lines.specs.declared.print.Print.{Print}
+use Rattle.lines.specs.declared.printing.print.Print.{Print}
 use Rattle.text_run.specs.declared.faults.RunFault.{RunFault}
 use Rattle.text_run.specs.declared.faults.RunFault.TheVariants as f
 use Rattle.text_run.specs.declared.text.Held.{Held}

@@ -15,7 +15,7 @@ use Rattle.lines.specs.Engine.{Prints}
 use Rattle.lines.specs.Layouts.{Rules, cut_by}
 use Rattle.lines.specs.Pages.{page, paragraph_bytes}
 use Rattle.lines.specs.declared.engine.Engine.{Engine}
-use Rattle.lines.specs.declared.print.Print.{Print}
+use Rattle.lines.specs.declared.printing.print.Print.{Print}
 use Rattle.text_run.specs.TextRun.{front_paragraphs, HasRead, HasStopped}
 use Rattle.text_run.specs.Streaming.{IsOpen}
 use Rattle.text_run.proofs.LeftLemmas.{last_pars, not_none}

@@ -3,7 +3,7 @@ use Rattle.std.specs.Prelude.{◌≡◌, ℕ, true}
 use Rattle.lines.specs.Engine.{filled_of, written_of, LaysOutAtMost}
 use Rattle.lines.specs.Printing.{skips_lines}
 use Rattle.lines.specs.declared.engine.Engine.{Engine}
-use Rattle.lines.specs.declared.print.Print.{Print}
+use Rattle.lines.specs.declared.printing.print.Print.{Print}
 
 -- At most n characters were printed. If no line is printed, the counts of filled and written characters are unchanged.
 pub record PrintsAtMost (n : ℕ) (print : Print) (old new : Engine) : Type 0 where

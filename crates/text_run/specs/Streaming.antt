@@ -11,7 +11,7 @@ use Rattle.lines.specs.Layouts.{Rules, cut_by}
 use Rattle.lines.specs.Pages.{page}
 use Rattle.lines.specs.declared.engine.TheConstants.{PARAGRAPH_LIMIT}
 use Rattle.lines.specs.declared.engine.Engine.{Engine}
-use Rattle.lines.specs.declared.print.Print.{Print}
+use Rattle.lines.specs.declared.printing.print.Print.{Print}
 use Rattle.text_run.specs.Pages.{prints_some}
 use Rattle.stream.specs.Reading.{IsReadTo}
 use Rattle.stream.specs.Utf8.{front_of, is_bad}

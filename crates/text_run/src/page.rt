@@ -5,7 +5,7 @@ ghost use Rattle.lines.specs.Engine.{rules_of, Prints, SameRules};
 ghost use Rattle.lines.specs.Layouts.{IsParagraph};
 ghost use Rattle.lines.specs.Pages.{paragraph_bytes};
 ghost use Rattle.lines.specs.Printing.{skips_lines};
-ghost use Rattle.lines.specs.declared.print.Print.{Print};
+ghost use Rattle.lines.specs.declared.printing.print.Print.{Print};
 ghost use Rattle.text_run.specs.Counts.{PrintsAtMost};
 ghost use Rattle.text_run.specs.Pages.{prints_some};
 

@@ -31,7 +31,6 @@ use std::io::ErrorKind;
 use stream::{CHUNK, Page, front, read_to, zeroed};
 
 /// What a run keeps between two reads.
-#[derive(Debug)]
 struct Held {
     // The last chunk. Its first `waiting` bytes are the beginning of a character.
     chunk: Vec<u8>,

@@ -5,7 +5,7 @@ use Rattle.std.proofs.lemmas.Bool.{true≢false}
 use Rattle.device.specs.Device.{Device}
 use Rattle.lines.specs.Layouts.{Rules}
 use Rattle.lines.specs.Writing.{PassedOn, StoppedIn}
-use Rattle.lines.specs.declared.print.Print.{Print}
+use Rattle.lines.specs.declared.printing.print.Print.{Print}
 use Rattle.session.specs.Edits.{Held}
 use Rattle.session.specs.declared.edits.Damage.{Damage}
 use Rattle.session.specs.declared.edits.EditFault.{EditFault}

@@ -6,14 +6,14 @@ use Rattle.device.specs.Device.{Device}
 use Rattle.lines.specs.Bytes.{line_bytes}
 use Rattle.lines.specs.Layouts.{Layout}
 use Rattle.lines.specs.Writing.{PassedOn}
-use Rattle.lines.specs.declared.print.Print.{Print}
+use Rattle.lines.specs.declared.printing.print.Print.{Print}
 use Rattle.lines.proofs.WriteLemmas.{stopped-after, stopped-before}
 use Rattle.session.specs.Kept.{lines_in, text_of}
 use Rattle.session.specs.Printing.{WritesNot}
 use Rattle.session.specs.Reading.{utf8_len, utf8_part}
 use Rattle.session.specs.declared.printing.RangeFault.{RangeFault}
 use Rattle.session.specs.declared.printing.RangeFault.TheVariants.{Write}
-use Rattle.lines.specs.declared.bytes.WriteFault.{WriteFault}
+use Rattle.lines.specs.declared.printing.bytes.WriteFault.{WriteFault}
 use Rattle.text_run.specs.declared.faults.RunFault.{RunFault}
 use Rattle.text_run.specs.declared.faults.RunFault.TheVariants as f
 use Rattle.tool.specs.Queries.{lines_text, out_of_range, part_text, told}

@@ -12,7 +12,7 @@ use Rattle.reorder.specs.declared.runs.Run.{Run}
 use Rattle.lines.specs.Spans.{spans_of}
 use Rattle.lines.specs.Visual.{Visual}
 use Rattle.lines.specs.Writing.{StoppedIn}
-use Rattle.lines.specs.declared.print.Print.{Print}
+use Rattle.lines.specs.declared.printing.print.Print.{Print}
 use Rattle.lines.specs.declared.spans.Span.{Span}
 use Rattle.session.specs.Carets.{caret_at}
 use Rattle.session.specs.Clusters.{cluster_at, line_clusters}

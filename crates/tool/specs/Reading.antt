@@ -7,7 +7,7 @@ use Rattle.std.specs.Str.Lossy.{utf8_valid_len}
 use Rattle.device.specs.Device.{Device, Wrote, greatest}
 use Rattle.lines.specs.Layouts.{Rules}
 use Rattle.lines.specs.Writing.{PassedOn, StoppedIn}
-use Rattle.lines.specs.declared.print.Print.{Print}
+use Rattle.lines.specs.declared.printing.print.Print.{Print}
 use Rattle.session.specs.Edits.{Held}
 use Rattle.session.specs.Sessions.{SessionState, held_at}
 use Rattle.session.specs.declared.edits.Damage.{Damage}

@@ -5,7 +5,7 @@ use Rattle.std.specs.List.{concat, list_all}
 use Rattle.bidi.specs.Cuts.{paragraphs}
 use Rattle.lines.specs.Layouts.{Layout, Rules, cut_by}
 use Rattle.lines.specs.Pages.{page}
-use Rattle.lines.specs.declared.print.Print.{Print}
+use Rattle.lines.specs.declared.printing.print.Print.{Print}
 use Rattle.session.specs.Edits.{Replacement, Held, replaced, deletion, insertion, refusal, width_refusal}
 use Rattle.session.specs.Kept.{layouts_of, lines_in, pars_of}
 use Rattle.session.specs.Touched.{first_touched, touched_count}

@@ -1,6 +1,6 @@
 use Rattle.std.specs.Str.{chars}
 use Rattle.lines.specs.Engine.{rules_of}
-use Rattle.lines.specs.declared.print.PrintFault.TheVariants.{Write}
+use Rattle.lines.specs.declared.printing.print.PrintFault.TheVariants.{Write}
 use Rattle.stream.specs.Pages.{page_state}
 use Rattle.text_run.proofs.PrintLemmas.{some_printed}
 use Rattle.text_run.proofs.page.push_base_direction.Goals as goal

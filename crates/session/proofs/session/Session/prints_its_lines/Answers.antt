@@ -1,4 +1,4 @@
-use Rattle.lines.specs.declared.print.Print.{Print}
+use Rattle.lines.specs.declared.printing.print.Print.{Print}
 use Rattle.session.specs.Sessions.{SessionState}
 use Rattle.session.proofs.PrintLemmas.{page_by_lines}
 use Rattle.session.proofs.session.Session.prints_its_lines.Goals as goal

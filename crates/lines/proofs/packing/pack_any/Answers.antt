@@ -1,6 +1,0 @@
-use Rattle.std.proofs.Common.{◌++◌, List, ℕ, ap, take, ◌∙◌}
-use Rattle.lines.proofs.PackingLemmas.{any-encoded}
-use Rattle.lines.proofs.packing.pack_any.Goals as goal
-
-pub returns-clause-bytes : goal.returns-clause-bytes
-returns-clause-bytes c = c.pack.ensures.bytes ∙ ap (λ (bytes : List ℕ). take c.args.at c.args.buffer.now ++ bytes) (any-encoded c.args.codes c.fits-codes.0 c.requires.bounded)
