@@ -6,7 +6,6 @@ mod ClosersLemmas
 mod CutLemmas
 mod ExplicitLemmas
 mod FlatLemmas
-mod FlatRtlLemmas
 pub mod FrontLemmas
 pub mod GroupLemmas
 mod IsolateLemmas

@@ -18,8 +18,7 @@ use Rattle.bidi.specs.BracketTypes.{bracket_types, is_bracket, type_by}
 use Rattle.ucd.specs.Classes.{class_in}
 use Rattle.bidi.specs.Levels.{levels_of, paragraph_levels}
 use Rattle.bidi.specs.Plain.{has_bracket_in, is_flat, is_flat_at, is_flat_rtl}
-use Rattle.bidi.proofs.FlatLemmas.{zero_levels}
-use Rattle.bidi.proofs.FlatRtlLemmas.{one_levels}
+use Rattle.bidi.proofs.FlatLemmas.{same_levels}
 
 pub all_from : {X : Type 0} (p : X → Bool) (xs : List X) → list_all p xs ≡ true → All (λ x. p x ≡ true) xs
 all_from p xs e k d within =
@@ -83,8 +82,8 @@ none_are look text brackets are none = none-by look text (ap (list_any is_bracke
 -- if no character raises a level above the paragraph level, all levels equal it
 pub flat_levels : (look : ℕ → Option Bracket) (text : List ℕ) (classes : List BidiClass) (level : ℕ) → level ≤ 1 → list_all (is_flat_at level) classes ≡ true
     → paragraph_levels look text classes level ≡ replicate (length classes) level
-flat_levels look text classes zero low flat = zero_levels look text classes (all_from is_flat classes flat)
-flat_levels look text classes (suc zero) low flat = one_levels look text classes (all_from is_flat_rtl classes flat)
+flat_levels look text classes zero low flat = same_levels true look text classes (all_from is_flat classes flat)
+flat_levels look text classes (suc zero) low flat = same_levels false look text classes (all_from is_flat_rtl classes flat)
 flat_levels look text classes (suc (suc level)) low flat = absurd (omega arith)
 
 module _ (tables : Tables) (text : List ℕ) (properties : List Properties) (base : Base) (level : ℕ) (are : properties ≡ map (properties_of tables) text)

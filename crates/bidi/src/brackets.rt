@@ -26,7 +26,7 @@ const MAX_OPENERS: usize = 63;
 
 // An opening bracket on the stack: its index in the list of opening brackets, and the number of its bracket
 // type.
-#[derive(Clone, Copy, Debug, PartialEq, Eq)]
+#[derive(Clone, Copy, PartialEq, Eq)]
 struct Opener {
     index: usize,
     pair: u32,
@@ -34,7 +34,7 @@ struct Opener {
 
 // The indices of an opening bracket and of its closing bracket in the sequence. For an unpaired bracket,
 // `closer` is the length of the sequence.
-#[derive(Clone, Copy, Debug, PartialEq, Eq)]
+#[derive(Clone, Copy, PartialEq, Eq)]
 struct BracketPair {
     opener: usize,
     closer: usize,
@@ -98,7 +98,7 @@ fn close(openers: &mut Vec<Opener>, pairs: &mut [BracketPair], closer: u32, plac
 
 /// Reused lists for the bracket pairs of a sequence: its types before N0, the stack of opening brackets, and
 /// all opening brackets with their closing brackets.
-#[derive(Debug, Drop)]
+#[derive(Drop)]
 pub(crate) struct Pairs {
     before: Vec<BidiClass>,
     openers: Vec<Opener>,

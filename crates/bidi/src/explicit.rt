@@ -19,7 +19,7 @@ const MAX_ENTRIES: usize = 127;
 
 /// The class, explicit level and explicit type of each character of a paragraph that X9 keeps, in order. The
 /// lists are reused for each paragraph.
-#[derive(Debug, Drop)]
+#[derive(Drop)]
 pub(crate) struct Stayed {
     pub classes: Vec<BidiClass>,
     pub levels: Vec<u8>,
@@ -63,7 +63,7 @@ impl Stayed {
 
 // The state inside an embedding, override or isolate: its level, the type that an override gives, and whether
 // it is an isolate.
-#[derive(Clone, Copy, Debug, Default, PartialEq, Eq)]
+#[derive(Clone, Copy, Default, PartialEq, Eq)]
 struct Status {
     level: u8,
     overriding: Option<BidiClass>,

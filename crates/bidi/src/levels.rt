@@ -28,7 +28,7 @@ pub(crate) struct Classified<'a> {
 
 /// Reused lists for a paragraph: the characters that X9 keeps, their bracket types, and the lists for their
 /// sequences.
-#[derive(Debug, Drop)]
+#[derive(Drop)]
 pub(crate) struct Work {
     stayed: Stayed,
     brackets: Vec<BracketType>,
@@ -37,7 +37,7 @@ pub(crate) struct Work {
 
 // Reused lists for the sequences of the characters that X9 keeps. They hold the matches of the isolate
 // initiators, the starts of the runs that continue an earlier run, one sequence, and the levels found so far.
-#[derive(Debug, Drop)]
+#[derive(Drop)]
 struct Lists {
     isolates: Isolates,
     continued: Vec<bool>,

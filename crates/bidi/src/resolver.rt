@@ -23,10 +23,12 @@ use crate::groups::{GROUP, copy_each};
 use crate::levels::{Classified, Work, resolve_classes, resolve_plain};
 use crate::sequence_levels::Brackets;
 use std::alloc::{AllocError, Global};
+use std::fmt;
+use std::fmt::{Debug, Formatter};
 use ucd::{BidiClass, Properties, Tables};
 
 // The loops over classes below have no branches, so that the compiler tests many characters at a time. That
-// is why these three functions compare and do not match.
+// is why the next three functions compare and do not match.
 
 // Returns whether a character of this class is kept by X9, and neither opens nor closes an embedding,
 // override or isolate.
@@ -54,6 +56,18 @@ fn is_flat_rtl(class: BidiClass) -> bool
     (number <= BidiClass::ON as u8)
         & ((number != BidiClass::L as u8)
             & ((number != BidiClass::EN as u8) & (number != BidiClass::AN as u8)))
+}
+
+// Returns whether a character of this class raises no level above the base level, 0 or 1.
+#[inline(always)] // so that a loop tests the base level once
+fn is_flat_at(class: BidiClass, base: u8) -> bool
+    ensures { result ≡ is_flat_at base class }
+{
+    if base == 0 {
+        is_flat(class)
+    } else {
+        is_flat_rtl(class)
+    }
 }
 
 fn are_plain(classes: &[BidiClass]) -> bool
@@ -89,29 +103,9 @@ fn are_classes_flat(classes: &[BidiClass], base: u8) -> bool
     requires { base ≤ 1 }
     ensures { result ≡ list_all (is_flat_at base) classes.now }
 {
-    if base == 0 {
-        are_classes_flat_ltr(classes)
-    } else {
-        are_classes_flat_rtl(classes)
-    }
-}
-
-fn are_classes_flat_ltr(classes: &[BidiClass]) -> bool
-    ensures { result ≡ list_all is_flat classes.now }
-{
     let mut flat = true;
     for class in classes {
-        flat &= is_flat(*class);
-    }
-    flat
-}
-
-fn are_classes_flat_rtl(classes: &[BidiClass]) -> bool
-    ensures { result ≡ list_all is_flat_rtl classes.now }
-{
-    let mut flat = true;
-    for class in classes {
-        flat &= is_flat_rtl(*class);
+        flat &= is_flat_at(*class, base);
     }
     flat
 }
@@ -158,11 +152,11 @@ fn are_flat_in(properties: &[Properties], base: u8) -> bool
     requires { base ≤ 1 }
     ensures { result ≡ list_all (λ one. is_flat_at base (class_in one)) properties.now }
 {
-    if base == 0 {
-        are_flat_ltr(properties)
-    } else {
-        are_flat_rtl(properties)
+    let mut flat = true;
+    for at in 0..properties.len() {
+        flat &= is_flat_at(properties[at].bidi_class(), base);
     }
+    flat
 }
 
 // Does the same as `are_flat_by`, one character after another.
@@ -170,33 +164,9 @@ fn are_few_flat(properties: &[Properties], base: u8) -> bool
     requires { base ≤ 1 }
     ensures { result ≡ list_all (λ one. is_flat_at base (class_in one)) properties.now }
 {
-    if base == 0 {
-        properties.iter().all(|one| is_flat(one.bidi_class()))
-    } else {
-        properties.iter().all(|one| is_flat_rtl(one.bidi_class()))
-    }
-}
-
-#[inline(always)]
-fn are_flat_ltr(properties: &[Properties]) -> bool
-    ensures { result ≡ list_all (λ one. is_flat (class_in one)) properties.now }
-{
-    let mut flat = true;
-    for at in 0..properties.len() {
-        flat &= is_flat(properties[at].bidi_class());
-    }
-    flat
-}
-
-#[inline(always)]
-fn are_flat_rtl(properties: &[Properties]) -> bool
-    ensures { result ≡ list_all (λ one. is_flat_rtl (class_in one)) properties.now }
-{
-    let mut flat = true;
-    for at in 0..properties.len() {
-        flat &= is_flat_rtl(properties[at].bidi_class());
-    }
-    flat
+    properties
+        .iter()
+        .all(|one| is_flat_at(one.bidi_class(), base))
 }
 
 fn has_brackets(brackets: &[BracketType]) -> bool
@@ -451,12 +421,17 @@ fn put_base(levels: &mut Vec<u8>, len: usize, base: u8) -> Result<(), AllocError
 
 /// Finds the levels of paragraphs, reusing its lists. Does not allocate for a paragraph if the lists have
 /// enough capacity.
-#[derive(Debug)]
 pub struct Resolver {
     classes: Vec<BidiClass>,
     brackets: Vec<BracketType>,
     acting: Vec<BidiClass>,
     work: Work,
+}
+
+impl Debug for Resolver {
+    fn fmt<W: fmt::Write>(&self, f: &mut Formatter<'_, W>) -> fmt::Result {
+        f.debug_struct("Resolver").finish_non_exhaustive()
+    }
 }
 
 impl Drop for Resolver {

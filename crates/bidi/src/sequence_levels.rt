@@ -38,7 +38,7 @@ pub(crate) struct Paragraph<'a> {
 }
 
 /// The level of a sequence, and the directions at both ends (sos and eos).
-#[derive(Clone, Copy, Debug, PartialEq, Eq)]
+#[derive(Clone, Copy, PartialEq, Eq)]
 pub(crate) struct Sides {
     pub level: u8,
     pub sos: BidiClass,
@@ -183,7 +183,7 @@ fn put_levels(levels: &mut [u8], places: &[usize], values: &[u8])
 
 /// Reused lists for a sequence: the indices of its characters, their bracket types, explicit types, types and
 /// levels.
-#[derive(Debug, Drop)]
+#[derive(Drop)]
 pub(crate) struct Sequence {
     places: Vec<usize>,
     brackets: Vec<BracketType>,
