@@ -121,14 +121,67 @@ pub fn lay_out_one(
     ensures rules { SameRules engine.old engine.new }
     ensures counts { LaysOutAtMost (length text.now) engine.old engine.new }
 {
-    match engine.lay_out(alloc, Vec::from_slice(alloc, text)?, width) {
+    lay_out_owned(alloc, engine, Vec::from_slice(alloc, text)?, width)
+}
+
+// Lays out one paragraph, whose text moves into the layout.
+fn lay_out_owned(
+    alloc: Global,
+    engine: &mut Engine,
+    text: Vec<char>,
+    width: u16,
+) -> Result<Kept, AllocError>
+    requires paragraph { IsParagraph (rules_of engine.old) text.items }
+    requires width { 0 < width }
+    ensures ok { IfOk result (λ kept. kept ≡ layout_of (rules_of engine.old) width text.items) }
+    ensures rules { SameRules engine.old engine.new }
+    ensures counts { LaysOutAtMost (length text.items) engine.old engine.new }
+{
+    match engine.lay_out(alloc, text, width) {
         Ok(laid) => Ok(Kept::new(alloc, laid)?),
         Err((_, error)) => Err(error),
     }
 }
 
-// Lays out each paragraph of a text once.
+// Frees the unused capacity of a list if it is more than an eighth of the length and 16 items.
+fn trim(list: Vec<char>) -> Vec<char>
+    ensures { result.items ≡ list.items }
+{
+    let mut list = list;
+    if list.capacity() - list.len() > list.len() / 8 + 16 {
+        list.shrink_to_fit();
+    }
+    list
+}
+
+// Lays out each paragraph of a nonempty text once. If the text is one paragraph, it moves into the layout.
 fn lay_out(
+    alloc: Global,
+    engine: &mut Engine,
+    text: Vec<char>,
+    width: u16,
+) -> Result<Vec<Kept>, AllocError>
+    requires some { 0 < length text.items }
+    requires within { is_within_limit (cut_by (rules_of engine.old)) text.items ≡ true }
+    requires width { 0 < width }
+    ensures ok { IfOk result (λ kept. kept.items ≡ layouts_of (rules_of engine.old) width text.items) }
+    ensures rules { SameRules engine.old engine.new }
+    ensures counts { LaysOutAtMost (length text.items) engine.old engine.new }
+{
+    // By this theorem, a text without a boundary is one paragraph.
+    paragraphs_are_pieces();
+    match engine.first_cut(&text) {
+        Some(_) => lay_out_each(alloc, engine, &text, width),
+        None => {
+            let mut kept = Vec::new(alloc);
+            kept.push(lay_out_owned(alloc, engine, trim(text), width)?)?;
+            Ok(kept)
+        }
+    }
+}
+
+// Copies each paragraph of a text and lays it out.
+fn lay_out_each(
     alloc: Global,
     engine: &mut Engine,
     text: &[char],
@@ -189,7 +242,7 @@ pub fn lay_out_joined(
     let Ok(text) = joined(alloc, front, piece, back) else {
         return Err(EditFault::NoMemory);
     };
-    match lay_out(alloc, engine, &text, width) {
+    match lay_out(alloc, engine, text, width) {
         Ok(kept) => Ok(kept),
         Err(_) => Err(EditFault::NoMemory),
     }

@@ -3,7 +3,7 @@ use Rattle.lines.specs.Engine.{rules_of, analysed_of, filled_of, written_of, Sam
 use Rattle.lines.specs.Layouts.{cut_by}
 use Rattle.session.specs.Edits.{is_within_limit}
 use Rattle.session.specs.Kept.{layouts_of}
-use Rattle.session.proofs.joined.lay_out.Given as goal
+use Rattle.session.proofs.joined.lay_out_each.Given as goal
 
 -- the layouts so far, followed by those of the remaining text, are the layouts of the whole text
 abbrev pub invariant-loop-end : goal.invariant-loop-end

@@ -5,8 +5,8 @@ use Rattle.lines.specs.Layouts.{cut_by, layout_of, IsParagraph}
 use Rattle.session.specs.Edits.{is_within_limit}
 use Rattle.session.specs.Kept.{layouts_of}
 use Rattle.session.proofs.JoinedLemmas.{paragraph_in_front, rest_within, layouts_more, layouts_last, layouts_none, some_left, none_left}
-use Rattle.session.proofs.joined.lay_out.Goals as goal
-use Rattle.session.proofs.joined.lay_out.Goals.{then-not-is_empty+in_ok-lay_out_one-2+in_ok-push-2, else-not-is_empty}
+use Rattle.session.proofs.joined.lay_out_each.Goals as goal
+use Rattle.session.proofs.joined.lay_out_each.Goals.{then-not-is_empty+in_ok-lay_out_one-2+in_ok-push-2, else-not-is_empty}
 
 pub lay_out_one-requires-clause-paragraph : goal.lay_out_one-requires-clause-paragraph
 lay_out_one-requires-clause-paragraph c =
