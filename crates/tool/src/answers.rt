@@ -1,8 +1,11 @@
 //! Short replies to the lines of a script. A reply is built in an array, so building it never fails.
-ghost use Rattle.std.specs.Prelude.{◌≡◌, ◌+◌, ◌*◌, ◌++◌, ◌≤◌, IfOk, IfErr, length};
+ghost use Rattle.std.specs.Prelude.{◌≡◌, ◌+◌, ◌*◌, ◌++◌, ◌<◌, ◌≤◌, ◌∷◌, [], IfOk, IfErr, OnErr, length};
+ghost use Rattle.std.specs.Prelude.{option_map};
 ghost use Rattle.std.specs.Fmt.{decimal};
 ghost use Rattle.arrayvec.specs.ArrayVec.{array_vec_len};
 ghost use Rattle.lines.specs.Writing.{PassedOn};
+ghost use Rattle.session.specs.Kept.{text_of};
+ghost use Rattle.tool.specs.Queries.{cluster_text, told_of, word_text};
 ghost use Rattle.tool.specs.Queries.{edge_text, listed, out_of_range, side_text, told, told_count};
 ghost use Rattle.tool.specs.Queries.{told_edge, told_edges, told_end};
 ghost use Rattle.tool.specs.Reading.{answer_text, Stops};
@@ -11,7 +14,9 @@ ghost use Rattle.tool.specs.ScriptRun.{damage_text, refusal_text};
 use arrayvec::ArrayVec;
 use device::{Sink, write_all};
 use itoa::Buffer;
-use session::{Damage, Edge, EditFault, Side};
+use session::{Damage, Edge, EditFault, Kept, Session, Side};
+use std::alloc::AllocError;
+use store::ParagraphStore;
 use text_run::RunFault;
 
 /// The maximum length of a reply in bytes: three numbers of 20 digits, and 5 bytes before, between and after
@@ -106,6 +111,54 @@ pub fn out_of_range() -> Answer
     ensures { result.items ≡ out_of_range }
 {
     refusal_answer(EditFault::OutOfRange)
+}
+
+/// Returns the reply to `cluster POS`: where the grapheme cluster of a character starts and ends.
+pub fn cluster_answer<S: ParagraphStore<Kept>>(
+    session: &Session<S>,
+    pos: usize,
+) -> Result<Answer, AllocError>
+    ensures ok { IfOk result (λ answer. answer.items ≡ cluster_text session.now.kept pos) }
+    ensures memory { OnErr result (pos < length (text_of session.now.kept)) }
+{
+    match session.cluster(pos)? {
+        Some(cluster) => Ok(told(&[cluster.start, cluster.end])),
+        None => Ok(out_of_range()),
+    }
+}
+
+/// Returns the reply to `word POS`: where the word of a character starts and ends, and whether it has a letter.
+pub fn word_answer<S: ParagraphStore<Kept>>(
+    session: &Session<S>,
+    pos: usize,
+) -> Result<Answer, AllocError>
+    ensures ok { IfOk result (λ answer. answer.items ≡ word_text session.now.kept pos) }
+    ensures memory { OnErr result (pos < length (text_of session.now.kept)) }
+{
+    match session.word(pos)? {
+        Some(word) => Ok(told(&[word.start, word.end, usize::from(word.has_letter)])),
+        None => Ok(out_of_range()),
+    }
+}
+
+/// Returns the reply to a conversion of a position to an offset.
+pub fn offset_answer(offset: Option<usize>) -> Answer
+    ensures { result.items ≡ told_of (option_map (λ offset. offset ∷ []) offset) }
+{
+    match offset {
+        Some(offset) => told(&[offset]),
+        None => out_of_range(),
+    }
+}
+
+/// Returns the reply to a conversion of an offset to a position, and how far the offset is behind it.
+pub fn position_answer(found: Option<(usize, usize)>) -> Answer
+    ensures { result.items ≡ told_of (option_map (λ place. place.0 ∷ place.1 ∷ []) found) }
+{
+    match found {
+        Some((pos, rest)) => told(&[pos, rest]),
+        None => out_of_range(),
+    }
 }
 
 /// Writes bytes. `written` is the number of bytes already written. The returned total includes these bytes,

@@ -1,19 +1,22 @@
 //! The queries that a script makes about the current text, and the replies to them.
 ghost use Rattle.std.specs.Prelude.{◌≡◌, false, ◌^◌, ◌-◌, ◌<◌, ◌≤◌, IfOk, IfErr, OnErr, length, slice_get};
-ghost use Rattle.std.specs.Prelude.{slice_index, ◌∷◌, [], option_map, true, IfSome};
+ghost use Rattle.std.specs.Prelude.{slice_index, true, IfSome};
 ghost use Rattle.lines.specs.Engine.{rules_of};
 ghost use Rattle.reorder.specs.Order.{is_odd};
 ghost use Rattle.lines.specs.Writing.{PassedOn};
 ghost use Rattle.session.specs.Edges.{edge_caret_at, is_edge_in, HasCharacter};
 ghost use Rattle.session.specs.Kept.{lines_in, text_of};
-ghost use Rattle.tool.specs.Queries.{at_text, caret_text, cluster_text, clusters_text, edge_caret_text};
+ghost use Rattle.tool.specs.Queries.{at_text, caret_text, clusters_text, edge_caret_text};
 ghost use Rattle.tool.specs.Queries.{ends_text, hit_text, lines_text, part_text, query_text, runs_text};
-ghost use Rattle.tool.specs.Queries.{size_text, spans_text, step_text, told, told_of, word_text};
+ghost use Rattle.tool.specs.Queries.{size_text, spans_text, step_text, told};
 ghost use Rattle.tool.specs.Queries.{caret_numbers, direction_of, edge_of, empty_left, is_odd_at, left_on};
 ghost use Rattle.tool.specs.Queries.{screen_hit, screen_left, AnswersNot};
 ghost use Rattle.tool.specs.Reading.{Stops};
 
-use crate::answers::{Answer, out_of_range, told, told_edge, told_edges, told_end, write_bytes};
+use crate::answers::{
+    Answer, cluster_answer, offset_answer, out_of_range, position_answer, told, told_edge,
+    told_edges, told_end, word_answer, write_bytes,
+};
 use crate::listings::{write_ends, write_runs, write_spans};
 use device::Sink;
 use lines::{Print, VisualLine, lines_are_ordered, runs_have_all_columns};
@@ -122,50 +125,6 @@ fn hit_answer<S: ParagraphStore<Kept>>(
 {
     match screen_hit(session, print, n, column) {
         Some(hit) => told(&[hit.pos, usize::from(hit.trailing)]),
-        None => out_of_range(),
-    }
-}
-
-fn cluster_answer<S: ParagraphStore<Kept>>(
-    session: &Session<S>,
-    pos: usize,
-) -> Result<Answer, AllocError>
-    ensures ok { IfOk result (λ answer. answer.items ≡ cluster_text session.now.kept pos) }
-    ensures memory { OnErr result (pos < length (text_of session.now.kept)) }
-{
-    match session.cluster(pos)? {
-        Some(cluster) => Ok(told(&[cluster.start, cluster.end])),
-        None => Ok(out_of_range()),
-    }
-}
-
-fn word_answer<S: ParagraphStore<Kept>>(
-    session: &Session<S>,
-    pos: usize,
-) -> Result<Answer, AllocError>
-    ensures ok { IfOk result (λ answer. answer.items ≡ word_text session.now.kept pos) }
-    ensures memory { OnErr result (pos < length (text_of session.now.kept)) }
-{
-    match session.word(pos)? {
-        Some(word) => Ok(told(&[word.start, word.end, usize::from(word.has_letter)])),
-        None => Ok(out_of_range()),
-    }
-}
-
-fn offset_answer(offset: Option<usize>) -> Answer
-    ensures { result.items ≡ told_of (option_map (λ offset. offset ∷ []) offset) }
-{
-    match offset {
-        Some(offset) => told(&[offset]),
-        None => out_of_range(),
-    }
-}
-
-fn position_answer(found: Option<(usize, usize)>) -> Answer
-    ensures { result.items ≡ told_of (option_map (λ place. place.0 ∷ place.1 ∷ []) found) }
-{
-    match found {
-        Some((pos, rest)) => told(&[pos, rest]),
         None => out_of_range(),
     }
 }

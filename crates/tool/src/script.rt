@@ -50,7 +50,6 @@ pub struct ScriptOptions {
 }
 
 /// What a run keeps between two reads.
-#[derive(Debug)]
 struct Reading {
     // The bytes after the last line end.
     line: Vec<u8>,
