@@ -13,14 +13,14 @@ use std::mem;
 
 /// A balanced tree.
 #[cycle(subtree)]
-#[derive(Debug, Drop)]
+#[derive(Drop)]
 pub(crate) struct Subtree<P: Measured> {
     pub(crate) root: Option<Box<Node<P>>>,
 }
 
 /// The root of a tree, with the sums of all its items.
 #[cycle(subtree)]
-#[derive(Debug, Drop)]
+#[derive(Drop)]
 pub(crate) struct Node<P: Measured> {
     pub(crate) left: Subtree<P>,
     pub(crate) item: P,
@@ -52,7 +52,7 @@ impl<P: Measured> Model for Subtree<P> {
 }
 
 /// A node outside any tree, with its item.
-#[derive(Debug, Drop)]
+#[derive(Drop)]
 pub(crate) struct DetachedNode<P: Measured> {
     node: Box<Node<P>>,
 }

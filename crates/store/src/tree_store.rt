@@ -16,16 +16,23 @@ use crate::paragraph_store::ParagraphStore;
 use crate::subtree::{DetachedNode, Subtree};
 use crate::sums::Unit;
 use std::alloc::{AllocError, Global};
+use std::fmt;
+use std::fmt::{Debug, Formatter};
 use std::marker::Model;
 use std::mem;
 use std::ops::Range;
 
 /// A store that is a balanced tree: the heights of the two subtrees of a node differ by at most 1. Searches
 /// and `replace` go down from the root, so their time is proportional to the height.
-#[derive(Debug)]
 pub struct TreeStore<P: Measured> {
     root: Subtree<P>,
     alloc: Global,
+}
+
+impl<P: Measured> Debug for TreeStore<P> {
+    fn fmt<W: fmt::Write>(&self, f: &mut Formatter<'_, W>) -> fmt::Result {
+        f.debug_struct("TreeStore").finish_non_exhaustive()
+    }
 }
 
 impl<P: Measured + Drop> Drop for TreeStore<P> {
