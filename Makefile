@@ -19,7 +19,7 @@
 #   make            Proves and builds the command and the programs that make check runs.
 #   make check      Runs the tests that need no new proof, in about a minute. Run it before each commit.
 #   make test       Runs CI: every proof, the must-fail edits and all tests. tests/README.md lists them.
-#   make attack     Runs the mutation tests, after make. CRATES="lines session" runs only those of these crates.
+#   make attack     Runs the mutation tests, after make, make c and make fribidi. CRATES="lines session" runs only those of these crates.
 #   make conformance  Runs Unicode's conformance tests on the proved library.
 #   make fribidi-compare  Compares FriBidi's interface with FriBidi on a million random lists.
 #   make callers    Runs pyfribidi, Pango, a VTE terminal and libass with FriBidi's interface (installs Debian packages).
