@@ -31,7 +31,7 @@
 #   make test-draw  Tests examples/draw.c with HarfBuzz, cairo and Noto fonts (installs Debian packages): 20 seconds.
 #   make test-python  Tests the Python package, compares it with python-bidi and pyfribidi, and runs its mutants, after make c.
 #   make test-hosts Runs examples/many on three hosts on the loopback address, and kills one during a run.
-#   make release    Checks the version, runs CI, builds and tests all packages, writes them to dist/, and tags the commit.
+#   make release    Checks the version, runs CI and make attack, builds and tests all packages, writes them to dist/, and tags the commit.
 #   make bench      Runs all benchmarks of bench/, which compare with Debian's fribidi, with ICU and with Rust crates.
 
 UNICODE = /usr/share/unicode
