@@ -19,7 +19,7 @@
 #   make            Proves and builds the command and the programs that make check runs.
 #   make check      Runs the tests that need no new proof, in about a minute. Run it before each commit.
 #   make test       Runs CI: every proof, the must-fail edits and all tests. tests/README.md lists them.
-#   make attack     Runs the mutation tests, after make. CRATES="lines session" runs only those of these crates.
+#   make attack     Runs the mutation tests, after make, make c and make fribidi. CRATES="lines session" runs only those of these crates.
 #   make conformance  Runs Unicode's conformance tests on the proved library.
 #   make fribidi-compare  Compares FriBidi's interface with FriBidi on a million random lists.
 #   make callers    Runs pyfribidi, Pango, a VTE terminal and libass with FriBidi's interface (installs Debian packages).
@@ -31,7 +31,7 @@
 #   make test-draw  Tests examples/draw.c with HarfBuzz, cairo and Noto fonts (installs Debian packages): 20 seconds.
 #   make test-python  Tests the Python package, compares it with python-bidi and pyfribidi, and runs its mutants, after make c.
 #   make test-hosts Runs examples/many on three hosts on the loopback address, and kills one during a run.
-#   make release    Checks the version, runs CI, builds and tests all packages, writes them to dist/, and tags the commit.
+#   make release    Checks the version, runs CI and make attack, builds and tests all packages, writes them to dist/, and tags the commit.
 #   make bench      Runs all benchmarks of bench/, which compare with Debian's fribidi, with ICU and with Rust crates.
 
 UNICODE = /usr/share/unicode

@@ -1,5 +1,5 @@
 """Runs programs in which calls to the C library fail (faults.c). Shared by several scripts."""
-import os, re, shutil, subprocess, sys, tempfile
+import os, shutil, subprocess, sys, tempfile
 
 ROOT = os.path.dirname(os.path.dirname(os.path.dirname(os.path.abspath(__file__))))
 FOLDER = tempfile.TemporaryDirectory()
@@ -47,11 +47,8 @@ def counted(words, input=b"", **given):
         return ending, {name: int(number) for name, number in map(str.split, file.read().decode().splitlines())}
 
 
-def finish(passed, failed, log):
-    """Adds the counts in a log's last line, if there is a log, prints how many checks passed and failed, and exits."""
-    if log:
-        before = re.findall(r"(?m)^(\d+) passed, (\d+) failed$", open(log).read())[-1]
-        passed, failed = passed + int(before[0]), failed + int(before[1])
+def finish(passed, failed):
+    """Prints how many checks passed and failed, and exits."""
     print(f"{passed} passed, {failed} failed")
     sys.exit(failed > 0)
 

@@ -5,12 +5,12 @@ import pathlib
 import hordguli
 import pytest
 from hordguli import Options
-from hypothesis import settings
+from hypothesis import HealthCheck, settings
 
 DIRECTIONS = Options.WEAK_LTR, Options.WEAK_RTL, Options.LTR, Options.RTL
 
-# The same examples in each run.
-settings.register_profile("fixed", derandomize=True, database=None, deadline=None)
+# The same examples in each run, however long they take: other tests may use the processors.
+settings.register_profile("fixed", derandomize=True, database=None, deadline=None, suppress_health_check=[HealthCheck.too_slow])
 settings.load_profile("fixed")
 
 
