@@ -5,12 +5,13 @@ import operator
 import os
 import threading
 import weakref
-from ctypes import byref, c_size_t
+from ctypes import Structure, byref, c_size_t
 from struct import calcsize
 from typing import Any, Callable, NoReturn, Optional, SupportsIndex, TypeVar
 
+from ._declarations import NO_ROOM, OK
 from ._errors import check
-from ._library import NO_ROOM, OK, SIZE_MAX, RawHandle
+from ._library import SIZE_MAX
 from ._records import FORMATS, Break, Direction, Options, Print, Side
 
 Flags = TypeVar("Flags", Options, Print)
@@ -21,15 +22,15 @@ Call = Callable[..., int]  # a function of the C library, or `Handle.call`
 class Handle:
     """A handle of the C library, which is in one call at a time. The object's finalizer closes it, on any thread."""
 
-    def __init__(self, close: Callable[[Any], None]) -> None:
-        self._close = close
+    def __init__(self, kind: type[Structure], close: Callable[[Any], None]) -> None:
+        self._kind, self._close = kind, close
         # (a signal handler or a finalizer may use the handle while its own thread is between two calls)
         self.lock = threading.RLock()
         self._reset()
         _handles.add(self)
 
     def _reset(self) -> None:
-        self.closed, self.pointer = True, byref(RawHandle())
+        self.closed, self.pointer = True, byref(self._kind())
 
     def open(self, function: Call, *arguments: Any) -> int:
         """Calls a function that opens the handle, and returns the status."""

@@ -1,10 +1,14 @@
-"""The exceptions, and the statuses of the C library that raise them."""
+"""The exceptions, and the statuses of the C library that raise them.
+
+tools/generate_declarations writes the lines below the comment `from hordguli.h`.
+"""
 
 import enum
 import os
 from typing import Any, Optional
 
-from ._library import CLOSED, NO_MEMORY, OK, OUT_OF_RANGE, UNKNOWN_OPTION, library
+from ._declarations import CLOSED, FUNCTIONS, NO_MEMORY, OK, OUT_OF_RANGE, UNKNOWN_OPTION
+from ._library import library
 from ._records import Options, Print, Side
 
 
@@ -22,6 +26,7 @@ class Cause(enum.IntEnum):
     """
 
     UNREAD_FILE = 0
+    # from hordguli.h: HORDGULI_CAUSE_*
     NOT_ASCII = 1
     CODE_POINT = 2
     REVERSED = 3
@@ -61,14 +66,8 @@ class TableError(ValueError):
 
 
 _EXCEPTIONS: dict[int, type[Exception]] = {OUT_OF_RANGE: IndexError, NO_MEMORY: MemoryError, CLOSED: ClosedError}
-# What a function calls the first argument after the handle, by its name without `hordguli_`.
-_NOUNS = {
-    **dict.fromkeys("insert place_of caret_at cluster_at word_at byte_of utf16_of".split(), "position"),
-    **dict.fromkeys("line line_start hit_at spans runs edge_at line_edges line_clusters".split(), "line"),
-    "paragraph": "paragraph",
-    "position_of_byte": "byte",
-    "position_of_utf16": "UTF-16 code unit",
-}
+# What a message calls the first parameter after the handle, by its name in C.
+_NOUNS = {"pos": "position", "line": "line", "paragraph": "paragraph", "byte": "byte", "unit": "UTF-16 code unit"}
 
 
 def check(status: int, function: Any = None, *arguments: Any) -> None:
@@ -81,14 +80,14 @@ def check(status: int, function: Any = None, *arguments: Any) -> None:
 
 
 def _message(status: int, function: str, arguments: tuple[Any, ...]) -> str:
-    name = function[len("hordguli_") :]
+    names = list(FUNCTIONS[function][1])[1:] if function in FUNCTIONS else []
     flags = [one for one in arguments if isinstance(one, (Options, Print))]
-    if status == OUT_OF_RANGE and name in _NOUNS:
-        return f"{_NOUNS[name]} {arguments[0]} is out of range"
-    if status == OUT_OF_RANGE and name in ("delete", "replace"):
+    if status == OUT_OF_RANGE and names[:2] == ["pos", "count"]:
         return f"{arguments[1]} characters from {arguments[0]} on are out of range"
-    if status == OUT_OF_RANGE and name in ("edge_caret", "step"):
+    if status == OUT_OF_RANGE and names[:1] == ["edge"]:
         return f"the edge {Side(arguments[0].side).name.lower()} position {arguments[0].pos} is out of range"
+    if status == OUT_OF_RANGE and names and names[0] in _NOUNS:
+        return f"{_NOUNS[names[0]]} {arguments[0]} is out of range"
     if status == UNKNOWN_OPTION and flags:
         if isinstance(flags[0], Options) and flags[0] & flags[0] >> 24 & 3:  # (a bit is given as 0 and as 1)
             return f"different directions: {flags[0]!r}"

@@ -1,4 +1,7 @@
-"""What the calls take and return: flags, enumerations and named tuples, and how the C library stores these."""
+"""What the calls take and return: flags, enumerations and named tuples, and how the C library stores these.
+
+tools/generate_declarations writes the lines below each comment `from hordguli.h`.
+"""
 
 import enum
 from struct import Struct
@@ -23,11 +26,12 @@ class Options(enum.IntFlag):
     `tab_width(n)`: there is a tab stop every n columns, from 1 to 255.
     """
 
-    # (bits 0 and 1; bits 24 and 25 say which of the two is given as 0)
+    # (a direction is bits 0 and 1; bits 24 and 25 say which of the two is given as 0)
+    # from hordguli.h: Session options
     WEAK_LTR = 0x3000000
     WEAK_RTL = 0x2000001
     LTR = 0x1000002
-    RTL = 3
+    RTL = 0x0000003
     NOBREAK = 4
     REORDER_NSM = 8
     WHOLE_NUMBERS = 16
@@ -58,6 +62,7 @@ class Print(enum.IntFlag):
     `MIRRORED` mirrors characters at odd levels (UAX #9, L4).
     """
 
+    # from hordguli.h: HORDGULI_PRINT_*
     VISUAL = 1
     BASEDIR = 2
     LTOV = 4
@@ -71,6 +76,7 @@ class Print(enum.IntFlag):
 class Break(enum.IntEnum):
     """Whether a line ends after a character."""
 
+    # from hordguli.h: HORDGULI_BREAK_*
     NEVER = 0
     MAY = 1
     MUST = 2
@@ -79,6 +85,7 @@ class Break(enum.IntEnum):
 class Side(enum.IntEnum):
     """`BEFORE`: the leading edge of the character at a position. `AFTER`: the trailing edge of the one before it."""
 
+    # from hordguli.h: HORDGULI_BEFORE, HORDGULI_AFTER
     BEFORE = 0
     AFTER = 1
 
@@ -86,6 +93,7 @@ class Side(enum.IntEnum):
 class Direction(enum.IntEnum):
     """A direction on the screen."""
 
+    # from hordguli.h: HORDGULI_LEFT, HORDGULI_RIGHT
     LEFT = 0
     RIGHT = 1
 
@@ -93,6 +101,7 @@ class Direction(enum.IntEnum):
 class Damage(NamedTuple):
     """What an edit replaced: `old_lines` lines from `first_line` on became `new_lines` lines; likewise for paragraphs."""
 
+    # from hordguli.h: hordguli_damage
     first_line: int
     old_lines: int
     new_lines: int
@@ -104,6 +113,7 @@ class Damage(NamedTuple):
 class Counts(NamedTuple):
     """The size of a session. `width` is in columns."""
 
+    # from hordguli.h: hordguli_counts
     characters: int
     lines: int
     paragraphs: int
@@ -113,6 +123,7 @@ class Counts(NamedTuple):
 class Work(NamedTuple):
     """The characters that a session has analysed, filled into lines and put into visual order since it was opened."""
 
+    # from hordguli.h: hordguli_work
     analysed: int
     filled: int
     written: int
@@ -121,6 +132,7 @@ class Work(NamedTuple):
 class Place(NamedTuple):
     """The place of a position: its paragraph, its line, and the characters of the line before it."""
 
+    # from hordguli.h: hordguli_place
     paragraph: int
     line: int
     offset: int
@@ -129,6 +141,7 @@ class Place(NamedTuple):
 class Caret(NamedTuple):
     """Where to draw a caret: columns left of it, without padding. `level` is that of its character, or the base level."""
 
+    # from hordguli.h: hordguli_caret
     line: int
     column: int
     level: int
@@ -137,6 +150,7 @@ class Caret(NamedTuple):
 class Hit(NamedTuple):
     """The character at a column. `trailing`: the caret goes after it."""
 
+    # from hordguli.h: hordguli_hit
     pos: int
     trailing: bool
 
@@ -144,6 +158,7 @@ class Hit(NamedTuple):
 class Cluster(NamedTuple):
     """The characters from `start` up to but not including `end`."""
 
+    # from hordguli.h: hordguli_cluster
     start: int
     end: int
 
@@ -151,6 +166,7 @@ class Cluster(NamedTuple):
 class Word(NamedTuple):
     """The characters from `start` up to but not including `end`. `kind` is 1 if one of them is alphabetic or numeric, else 0."""
 
+    # from hordguli.h: hordguli_word
     start: int
     end: int
     kind: int
@@ -159,6 +175,7 @@ class Word(NamedTuple):
 class Position(NamedTuple):
     """The character that has an offset, and how many of its own bytes or code units come before the offset."""
 
+    # from hordguli.h: hordguli_position
     pos: int
     rest: int
 
@@ -166,6 +183,7 @@ class Position(NamedTuple):
 class Span(NamedTuple):
     """The columns from `left` up to but not including `right`, from the left edge of a line's shown part."""
 
+    # from hordguli.h: hordguli_span
     left: int
     right: int
 
@@ -173,6 +191,7 @@ class Span(NamedTuple):
 class Run(NamedTuple):
     """The `length` characters of a line from `start` on, counted from the start of the line, all at one level."""
 
+    # from hordguli.h: hordguli_run
     start: int
     length: int
     level: int
@@ -181,6 +200,7 @@ class Run(NamedTuple):
 class Edge(NamedTuple):
     """One of the two edges of a position. They are apart where the direction changes or a line wraps."""
 
+    # from hordguli.h: hordguli_edge
     pos: int
     side: Side = Side.BEFORE
 
@@ -253,25 +273,18 @@ class Character(NamedTuple):
     bracket: str
 
 
-BIDI_CLASSES = "L R AL EN ES ET AN CS NSM BN B S WS ON LRE LRO RLE RLO PDF LRI RLI FSI PDI".split()
-LINE_CLASSES = (
-    "BK CM CR GL LF NL SP WJ ZW ZWJ B2 BA BB CB HY CL CP EX IN NS OP QU IS NU PO PR SY AI AL CJ EB EM H2 H3 HL ID JL JT JV"
-    " RI SA SG XX"
-).split()
 BRACKETS = ["", "open", "close"]
 
 
 class TableFault(NamedTuple):
-    """`hordguli_table_fault`."""
-
+    # from hordguli.h: hordguli_table_fault
     file: int
     line: int
     cause: int
 
 
 class LineInfo(NamedTuple):
-    """`hordguli_line_info`."""
-
+    # from hordguli.h: hordguli_line_info
     start: int
     length: int
     shown: int
@@ -282,8 +295,7 @@ class LineInfo(NamedTuple):
 
 
 class ParagraphInfo(NamedTuple):
-    """`hordguli_paragraph_info`."""
-
+    # from hordguli.h: hordguli_paragraph_info
     length: int
     lines: int
     base: int
@@ -292,8 +304,7 @@ class ParagraphInfo(NamedTuple):
 
 
 class RawCharacter(NamedTuple):
-    """`hordguli_character`."""
-
+    # from hordguli.h: hordguli_character
     mirror: int
     pair: int
     flags: int
@@ -305,7 +316,7 @@ class RawCharacter(NamedTuple):
 
 # How C stores each record: N is a size_t, I a uint32_t, Q a uint64_t, B a uint8_t, and 4x the member `zero`.
 FORMATS: dict[Any, Struct] = {
-    TableFault: Struct("3N"),
+    # from hordguli.h: the records
     Damage: Struct("6N"),
     Counts: Struct("4N"),
     Work: Struct("3Q"),
@@ -317,6 +328,8 @@ FORMATS: dict[Any, Struct] = {
     Position: Struct("2N"),
     Span: Struct("2N"),
     Run: Struct("2NI4x"),
+    Edge: Struct("NI4x"),
+    TableFault: Struct("3N"),
     LineInfo: Struct("5N2I"),
     ParagraphInfo: Struct("2NI4x2N"),
     RawCharacter: Struct("3I4B"),

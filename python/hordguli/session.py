@@ -22,7 +22,8 @@ from ._calls import (
     text_of,
     uint32,
 )
-from ._library import RawEdge, library
+from ._declarations import RawEdge, RawSession
+from ._library import library
 from ._records import (
     Caret,
     Cluster,
@@ -76,7 +77,7 @@ class Session:
         *,
         tables: Optional[Tables] = None,
     ) -> None:
-        self._handle = Handle(library.hordguli_session_close)
+        self._handle = Handle(RawSession, library.hordguli_session_close)
         self._call = self._handle.call
         data = text.encode()
         arguments = flags(Options, options, "options"), uint32(width, "width"), data, len(data)

@@ -7,20 +7,11 @@ from types import TracebackType
 from typing import Optional, Union
 
 from ._calls import Handle, address, refuse_copy
+from ._declarations import TABLE_FAULT, UNREAD_FILE, RawBytes, RawTables
+from ._declarations import TABLE_FILES as TABLE_FILES  # (is public here too)
 from ._errors import Cause, TableError, check
-from ._library import TABLE_FAULT, UNREAD_FILE, RawBytes, library
+from ._library import library
 from ._records import FORMATS, TableFault
-
-TABLE_FILES = (
-    "DerivedBidiClass.txt",
-    "BidiBrackets.txt",
-    "BidiMirroring.txt",
-    "LineBreak.txt",
-    "DerivedGeneralCategory.txt",
-    "EastAsianWidth.txt",
-    "emoji-data.txt",
-)
-
 
 _USUAL_CAPACITY = 1000
 
@@ -54,7 +45,7 @@ class Tables:
     """
 
     def __init__(self, files: Union[str, "os.PathLike[str]", bytes, Sequence[bytes], None] = None) -> None:
-        self._handle = Handle(library.hordguli_tables_close)
+        self._handle = Handle(RawTables, library.hordguli_tables_close)
         fault = bytearray(FORMATS[TableFault].size)
         folder: Optional[str] = None
         if files is None:

@@ -7,15 +7,15 @@ from ctypes import byref, c_size_t, c_uint32
 from typing import Optional, SupportsIndex, Union, overload
 
 from ._calls import Call, address, flags, get_array, get_records, get_size, make_call, numbers, text_of, uint32, utf32
+from ._declarations import BIDI_CLASSES, LINE_CLASSES, MARK, WIDE
 from ._errors import check
 from ._library import library, quick_base, quick_levels, quick_row
-from ._records import BIDI_CLASSES, BRACKETS, FORMATS, LINE_CLASSES, Character, Options, Print, RawCharacter, Row, Run
+from ._records import BRACKETS, FORMATS, Character, Options, Print, RawCharacter, Row, Run
 from .tables import Buffers, Tables, default_tables
 
 _BASE_DIRECTIONS = {None: 0, "L": 2, "R": 3, "AL": 3}  # (plain numbers, for speed)
 _FIXED = (2, 3)  # the direction LTR or RTL for each base level
 _SEPARATORS = re.compile("(\r\n|[\n\r\x1c-\x1e\x85\u2029])")  # (UAX #9, P1)
-_MARK, _WIDE = 1, 2  # flags of a character
 _HIGHEST_LEVEL = 126
 
 # In private functions, characters are in UTF-32, 4 bytes each.
@@ -227,8 +227,8 @@ def properties(text: str, *, tables: Optional[Tables] = None) -> list[Character]
         Character(
             chr(mirror) if mirror else "",
             chr(pair) if pair else "",
-            bool(flags & _MARK),
-            bool(flags & _WIDE),
+            bool(flags & MARK),
+            bool(flags & WIDE),
             BIDI_CLASSES[bidi_class],
             LINE_CLASSES[line_class],
             columns,

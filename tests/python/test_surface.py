@@ -1,4 +1,4 @@
-"""The declarations of the package, beside include/hordguli.h and c/symbols; its documentation."""
+"""The declarations of the package, beside include/hordguli.h; its documentation."""
 
 import copy
 import ctypes
@@ -16,10 +16,14 @@ import sys
 import hordguli
 import pytest
 from conftest import DIRECTIONS
-from hordguli import Options, _library, _records
+from hordguli import Options, _declarations, _library, _records
 
 TOP = os.path.dirname(os.path.dirname(os.path.dirname(os.path.abspath(__file__))))
-NOT_OFFERED = []  # functions of the C library that the package deliberately leaves out
+sys.path.insert(0, f"{TOP}/tools")
+from c_header import Header
+
+HEADER = Header("include/hordguli.h")
+NOT_OFFERED = set()  # functions of the C library that the package deliberately leaves out
 PUBLIC = [getattr(hordguli, name) for name in hordguli.__all__]
 
 
@@ -28,74 +32,58 @@ def read(path):
         return file.read()
 
 
-HEADER = re.sub(r"/\*.*?\*/", "", read("include/hordguli.h"), flags=re.S)
-DECLARED = {*_library.PARAMETERS, *_library.OTHERS}
-
-
 def constants(prefix):
     """Returns the constants of the header whose names have a prefix, without it."""
-    found = re.findall(rf"(?m)^#define HORDGULI_{prefix}(\w+) (?:UINT32_C\()?(0x[0-9A-Fa-f]+|\d+)\)?", HEADER)
-    return {name: int(value, 0) for name, value in found}
+    names = {one.name.removeprefix("HORDGULI_"): one.number for one in HEADER.constants if one.number is not None}
+    return {name[len(prefix):]: number for name, number in names.items() if name.startswith(prefix)}
 
 
-def test_each_function_of_the_library_is_declared():
-    assert sorted([*DECLARED, *NOT_OFFERED]) == read("c/symbols").split()
-
-
-def test_each_declared_function_is_called():
+def test_each_function_of_the_header_is_called():
     folder = os.path.dirname(hordguli.__file__)
     source = "".join(open(f"{folder}/{name}").read() for name in os.listdir(folder) if name.endswith(".py"))
-    assert DECLARED == set(re.findall(r"library\.(hordguli_\w+)", source))
+    assert {*HEADER.functions} - NOT_OFFERED == set(re.findall(r"library\.(hordguli_\w+)", source))
 
 
-def test_parameters_are_those_of_the_header():
-    kinds = {"size_t": ctypes.c_size_t, "uint32_t": ctypes.c_uint32, "hordguli_edge": _library.RawEdge, "hordguli_status": ctypes.c_int32}
-    found = re.findall(r"(?m)^(const char \*|void|hordguli_status) ?(hordguli_\w+)\(([^)]*)\)", HEADER)
-    assert {name for _, name, _ in found} == DECLARED
+def test_functions_are_those_of_the_header():
+    kinds = {"size_t": ctypes.c_size_t, "uint32_t": ctypes.c_uint32, "hordguli_edge": _declarations.RawEdge, "hordguli_status": ctypes.c_int32}
     results = {"const char *": ctypes.c_char_p, "void": None, "hordguli_status": ctypes.c_int32}
-    for result, name, parameters in found:
+    for name, declared in HEADER.functions.items():
         function = getattr(_library.library, name)
-        is_pointer = lambda one: "*" in one or "[" in one
-        words = [one.strip() for one in parameters.split(",") if one.strip() != "void"]
-        wanted = [ctypes.c_void_p if is_pointer(one) else kinds[one.split()[0]] for one in words]
-        assert (function.restype, list(function.argtypes)) == (results[result], wanted), name
+        wanted = [ctypes.c_void_p if one.is_pointer else kinds[one.type] for one in declared.variables()]
+        assert (function.restype, list(function.argtypes)) == (results[declared.result], wanted), name
 
 
 def test_records_are_those_of_the_header():
     codes = {"size_t": "N", "uint32_t": "I", "uint64_t": "Q", "uint8_t": "B"}
-    structs = {name: re.findall(r"(?m)^ +(\w+) (\w+);", body) for body, name in re.findall(r"(?s)struct \w+ \{(.*?)\} (\w+);", HEADER)}
-    names = {"TableFault": "table_fault", "LineInfo": "line_info", "ParagraphInfo": "paragraph_info", "RawCharacter": "character"}
+    structs = {name: HEADER.members(name) for name in HEADER.structs}
     for kind, layout in _records.FORMATS.items():
-        fields = structs.pop("hordguli_" + names.get(kind.__name__, kind.__name__.lower()))
+        name = re.sub(r"(?<=[a-z])(?=[A-Z])", "_", kind.__name__.removeprefix("Raw")).lower()
+        fields = structs.pop(f"hordguli_{name}")
         wanted = "".join("4x" if name == "zero" else codes[code] for code, name in fields)
         assert list(kind._fields) == [name for _, name in fields if name != "zero"], kind
         unrolled = re.sub(r"(\d+)([A-Z])", lambda m: int(m[1]) * m[2], layout.format)
         assert unrolled == wanted and layout.size == struct.calcsize(wanted), kind
-    # handles, an edge and the contents of a file are ctypes structures
-    assert set(structs) == {"hordguli_tables", "hordguli_session", "hordguli_edge", "hordguli_bytes"}
+    # handles and the contents of a file have pointers
+    assert {*structs} == {"hordguli_tables", "hordguli_session", "hordguli_bytes"}
 
 
 def test_constants_are_those_of_the_header():
-    sizes = len(_records.BIDI_CLASSES), len(_records.LINE_CLASSES)
-    assert {name: at for at, name in enumerate(_records.BIDI_CLASSES)} == constants("BIDI_CLASS_") and sizes[0] == 23
-    assert {name: at for at, name in enumerate(_records.LINE_CLASSES)} == constants("LINE_CLASS_") and sizes[1] == 43
+    assert {name: at for at, name in enumerate(_declarations.BIDI_CLASSES)} == constants("BIDI_CLASS_")
+    assert {name: at for at, name in enumerate(_declarations.LINE_CLASSES)} == constants("LINE_CLASS_")
     assert {one.name: one.value for one in hordguli.Break} == constants("BREAK_")
     assert {one.name: one.value for one in hordguli.Cause if one} == constants("CAUSE_")
-    prints = constants("PRINT_")
-    assert {name: int(value) for name, value in hordguli.Print.__members__.items() if name != "DEFAULT"} == prints
+    assert {name: int(value) for name, value in hordguli.Print.__members__.items() if name != "DEFAULT"} == constants("PRINT_")
     both = constants("")
     assert {name: both[name] for name in ("BEFORE", "AFTER")} == {one.name: one.value for one in hordguli.Side}
     assert {name: both[name] for name in ("LEFT", "RIGHT")} == {one.name: one.value for one in hordguli.Direction}
     assert [both[f"BRACKET_{name.upper() or 'NONE'}"] for name in _records.BRACKETS] == [0, 1, 2]
-    statuses = "OK OUT_OF_RANGE NO_MEMORY TABLE_FAULT CLOSED UNKNOWN_OPTION NO_ROOM UNREAD_FILE".split()
-    assert [both[name] for name in statuses] == [getattr(_library, name) for name in statuses]
+    plain = {name: value for name, value in vars(_declarations).items() if isinstance(value, int)}
+    assert plain == {name: both[name] for name in plain} and {"OK", "UNREAD_FILE", "MARK", "WIDE"} <= {*plain}
 
 
 def test_options_are_those_of_the_header():
-    section = HEADER[HEADER.index("#define HORDGULI_WEAK_LTR") : HEADER.index("#define HORDGULI_PRINT_VISUAL")]
-    names = re.findall(r"#define HORDGULI_(\w+) UINT32_C", section)
-    values = constants("")
-    assert {name: values[name] for name in names} == {name: int(value) for name, value in Options.__members__.items()}
+    options = {f"HORDGULI_{name}": int(value) for name, value in Options.__members__.items()}
+    assert options == {one.name: one.number for one in HEADER.constants if one.section == "Session options" and one.number is not None}
 
 
 def test_each_direction_contains_itself_alone():
