@@ -1,23 +1,17 @@
-//! Prints the properties of characters in the table files of a folder: `dump_properties FOLDER`.
-//!
-//! Each line is one property of a character: a bidi class other than L, a bracket and whether it is an
-//! opening one, or a mirror. `tests/fribidi/run` compares the tables of FriBidi's interface with this output.
-#![tactic(auto)]
+//! The properties of characters in the table files.
 
-use anyhow::{Result, bail};
+use anyhow::Result;
 use std::alloc::Global;
+use std::io;
 use std::io::{BufWriter, Write};
-use std::{env, io};
 use tables::in_folder;
 use ucd::{BidiClass, Tables};
 
-fn main(rt: HostRuntime) -> Result<()> {
-    let words: Vec<String> = env::args(&rt)?.collect(rt.alloc())?;
-    let Some(folder) = words.get(1) else {
-        bail!("usage: dump_properties FOLDER");
-    };
-    let tables = in_folder(&rt, folder.as_str())?;
-    write_buffered(&rt, &tables)
+/// Prints the properties of characters in the table files of a folder. Each line is one property of a
+/// character: a bidi class other than L, a bracket and whether it is an opening one, or a mirror.
+pub fn print_properties(rt: &HostRuntime, folder: &str) -> Result<()> {
+    let tables = in_folder(rt, folder)?;
+    write_buffered(rt, &tables)
 }
 
 fn write_buffered(rt: &HostRuntime, tables: &Tables) -> Result<()> {
