@@ -44,7 +44,7 @@ OPTIONS = --width 44 --basedir
 
 DIST = dist
 
-all: programs = fribidi conformance oom_driver no_allocation table_image
+all: programs = fribidi conformance oom_driver no_allocation table_tools
 program: programs = fribidi
 bench-program: programs = fribidi bench
 conformance-program: programs = conformance
@@ -66,7 +66,7 @@ lib-oom_calls lib-hordguli_c: lib-session
 lib-hordguli_c: lib-text_run
 lib-oom_calls: lib-test_tables
 lib-hordguli_fribidi: lib-bidi lib-reorder
-run-dump_properties run-table_image: lib-ucd lib-tables
+run-table_tools: lib-ucd lib-tables
 run-fribidi run-oom_driver: lib-tool
 run-fribidi: lib-tables lib-program_input
 run-oom_driver run-no_allocation: lib-oom_calls
@@ -78,8 +78,7 @@ run-conformance: $(if $(filter run-fribidi,$(MAKECMDGOALS)),lib-session)
 
 run-fribidi: words = -- --help
 run-bench: words = -- edits tree 1 1
-run-dump_properties: words = -- data
-run-table_image: words = -- data /dev/null
+run-table_tools: words = -- image data /dev/null
 run-no_allocation: words = -- 1
 
 lib-%:
@@ -127,16 +126,16 @@ test:
 	@tools/ci
 
 image: ucd
-	$(MAKE) --no-print-directory --jobs=$(JOBS) run-table_image
+	$(MAKE) --no-print-directory --jobs=$(JOBS) run-table_tools
 	tools/build_image
 
 c: ucd
-	$(MAKE) --no-print-directory --jobs=$(JOBS) run-table_image lib-hordguli_c
+	$(MAKE) --no-print-directory --jobs=$(JOBS) run-table_tools lib-hordguli_c
 	tools/build_image
 	tools/build_c
 
 fribidi: ucd
-	$(MAKE) --no-print-directory --jobs=$(JOBS) lib-hordguli_fribidi run-dump_properties
+	$(MAKE) --no-print-directory --jobs=$(JOBS) lib-hordguli_fribidi run-table_tools
 	tools/build_fribidi
 
 fribidi-compare: fribidi

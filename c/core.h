@@ -26,6 +26,13 @@ void hordguli_core_tables_close(hordguli_tables *tables);
 extern const uint8_t hordguli_image[];
 extern const size_t hordguli_image_length;
 
+uint32_t hordguli_core_layout(hordguli_tables *tables, uint32_t options, uint16_t width, uint32_t print,
+                              const uint8_t *text, size_t text_length, uint8_t *array, size_t array_length,
+                              size_t *len);
+
+uint32_t hordguli_core_count_utf8(const uint8_t *bytes, size_t bytes_length, size_t *count);
+uint32_t hordguli_core_valid_utf8(const uint8_t *bytes, size_t bytes_length, size_t *valid);
+
 uint32_t hordguli_core_session_open(hordguli_session *session, hordguli_tables *tables, uint32_t options,
                                     uint16_t width, const uint8_t *text, size_t text_length);
 void hordguli_core_session_close(hordguli_session *session);
@@ -41,26 +48,6 @@ uint32_t hordguli_core_session_counts(hordguli_session *session, hordguli_counts
 uint32_t hordguli_core_session_work(hordguli_session *session, hordguli_work *work);
 
 uint32_t hordguli_core_line_start(hordguli_session *session, size_t line, size_t *start);
-uint32_t hordguli_core_place_of(hordguli_session *session, size_t pos, hordguli_place *place);
-uint32_t hordguli_core_caret_at(hordguli_session *session, size_t pos, hordguli_caret *caret);
-uint32_t hordguli_core_hit_at(hordguli_session *session, size_t line, size_t column, hordguli_hit *hit);
-uint32_t hordguli_core_cluster_at(hordguli_session *session, size_t pos, hordguli_cluster *cluster);
-uint32_t hordguli_core_word_at(hordguli_session *session, size_t pos, hordguli_word *word);
-uint32_t hordguli_core_byte_of(hordguli_session *session, size_t pos, size_t *byte);
-uint32_t hordguli_core_utf16_of(hordguli_session *session, size_t pos, size_t *unit);
-uint32_t hordguli_core_position_of_byte(hordguli_session *session, size_t byte, hordguli_position *position);
-uint32_t hordguli_core_position_of_utf16(hordguli_session *session, size_t unit, hordguli_position *position);
-uint32_t hordguli_core_spans(hordguli_session *session, size_t n, size_t from, size_t to, hordguli_span *array,
-                             size_t array_length, size_t *count);
-uint32_t hordguli_core_runs(hordguli_session *session, size_t n, hordguli_run *array, size_t array_length,
-                            size_t *count);
-uint32_t hordguli_core_edge_caret(hordguli_session *session, size_t pos, uint32_t side, hordguli_caret *caret);
-uint32_t hordguli_core_step(hordguli_session *session, size_t pos, uint32_t side, uint32_t direction,
-                            hordguli_edge *next, uint32_t *moved);
-uint32_t hordguli_core_edge_at(hordguli_session *session, size_t n, size_t column, hordguli_edge *edge);
-uint32_t hordguli_core_line_edges(hordguli_session *session, size_t n, hordguli_edge *first, hordguli_edge *last);
-uint32_t hordguli_core_line_clusters(hordguli_session *session, size_t n, size_t *array, size_t array_length,
-                                     size_t *count);
 
 /* Bits of `wanted`, which select the requested arrays. The other arrays have length 0 and are ignored. */
 #define HORDGULI_CORE_CHARACTERS UINT32_C(1)
@@ -73,6 +60,8 @@ uint32_t hordguli_core_line(hordguli_session *session, size_t n, hordguli_line_i
                             uint32_t *ltov, size_t ltov_length, uint32_t *vtol, size_t vtol_length, size_t *columns,
                             size_t columns_length);
 
+uint32_t hordguli_core_runs(hordguli_session *session, size_t n, hordguli_run *array, size_t array_length,
+                            size_t *count);
 uint32_t hordguli_core_lines_utf8(hordguli_session *session, size_t first, size_t count, uint32_t print, uint8_t *array,
                                   size_t array_length, size_t *len);
 uint32_t hordguli_core_text(hordguli_session *session, size_t pos, size_t count, uint8_t *array, size_t array_length,
@@ -81,22 +70,31 @@ uint32_t hordguli_core_text_utf32(hordguli_session *session, size_t pos, size_t 
                                   size_t array_length, size_t *len);
 uint32_t hordguli_core_utf8_length(hordguli_session *session, size_t pos, size_t count, size_t *len);
 
+uint32_t hordguli_core_byte_of(hordguli_session *session, size_t pos, size_t *byte);
+uint32_t hordguli_core_utf16_of(hordguli_session *session, size_t pos, size_t *unit);
+uint32_t hordguli_core_position_of_byte(hordguli_session *session, size_t byte, hordguli_position *position);
+uint32_t hordguli_core_position_of_utf16(hordguli_session *session, size_t unit, hordguli_position *position);
+
 /* Bits of `wanted`, as above. */
 #define HORDGULI_CORE_PARAGRAPH_LEVELS UINT32_C(1)
 #define HORDGULI_CORE_PARAGRAPH_MARKS UINT32_C(2)
 uint32_t hordguli_core_paragraph(hordguli_session *session, size_t index, hordguli_paragraph_info *out, uint32_t wanted,
                                  uint8_t *levels, size_t levels_length, uint8_t *marks, size_t marks_length);
 
-uint32_t hordguli_core_layout(hordguli_tables *tables, uint32_t options, uint16_t width, uint32_t print,
-                              const uint8_t *text, size_t text_length, uint8_t *array, size_t array_length,
-                              size_t *len);
-
-uint32_t hordguli_core_base(hordguli_tables *tables, uint32_t direction, const uint32_t *characters,
-                            size_t characters_length, uint32_t *level);
-uint32_t hordguli_core_levels(hordguli_tables *tables, uint32_t direction, const uint32_t *characters,
-                              size_t characters_length, uint8_t *levels, size_t levels_length);
-uint32_t hordguli_core_marks(hordguli_tables *tables, uint32_t options, const uint32_t *characters,
-                             size_t characters_length, uint8_t *marks, size_t marks_length);
+uint32_t hordguli_core_place_of(hordguli_session *session, size_t pos, hordguli_place *place);
+uint32_t hordguli_core_caret_at(hordguli_session *session, size_t pos, hordguli_caret *caret);
+uint32_t hordguli_core_hit_at(hordguli_session *session, size_t line, size_t column, hordguli_hit *hit);
+uint32_t hordguli_core_cluster_at(hordguli_session *session, size_t pos, hordguli_cluster *cluster);
+uint32_t hordguli_core_word_at(hordguli_session *session, size_t pos, hordguli_word *word);
+uint32_t hordguli_core_spans(hordguli_session *session, size_t n, size_t from, size_t to, hordguli_span *array,
+                             size_t array_length, size_t *count);
+uint32_t hordguli_core_edge_caret(hordguli_session *session, size_t pos, uint32_t side, hordguli_caret *caret);
+uint32_t hordguli_core_step(hordguli_session *session, size_t pos, uint32_t side, uint32_t direction,
+                            hordguli_edge *next, uint32_t *moved);
+uint32_t hordguli_core_edge_at(hordguli_session *session, size_t n, size_t column, hordguli_edge *edge);
+uint32_t hordguli_core_line_edges(hordguli_session *session, size_t n, hordguli_edge *first, hordguli_edge *last);
+uint32_t hordguli_core_line_clusters(hordguli_session *session, size_t n, size_t *array, size_t array_length,
+                                     size_t *count);
 
 /* Bits of `wanted`, as above. `levels` has as many elements as `characters`. */
 #define HORDGULI_CORE_ROW_VISUAL UINT32_C(1)
@@ -111,11 +109,15 @@ uint32_t hordguli_core_row_runs(hordguli_tables *tables, uint32_t base, const ui
                                 size_t characters_length, const uint8_t *levels, size_t levels_length,
                                 hordguli_run *array, size_t array_length, size_t *count);
 
+uint32_t hordguli_core_base(hordguli_tables *tables, uint32_t direction, const uint32_t *characters,
+                            size_t characters_length, uint32_t *level);
+uint32_t hordguli_core_levels(hordguli_tables *tables, uint32_t direction, const uint32_t *characters,
+                              size_t characters_length, uint8_t *levels, size_t levels_length);
+uint32_t hordguli_core_marks(hordguli_tables *tables, uint32_t options, const uint32_t *characters,
+                             size_t characters_length, uint8_t *marks, size_t marks_length);
+
 /* If `records_length` is less than `characters_length`, returns NO_ROOM after CLOSED. */
 uint32_t hordguli_core_properties(hordguli_tables *tables, const uint32_t *characters, size_t characters_length,
                                   hordguli_character *records, size_t records_length);
-
-uint32_t hordguli_core_count_utf8(const uint8_t *bytes, size_t bytes_length, size_t *count);
-uint32_t hordguli_core_valid_utf8(const uint8_t *bytes, size_t bytes_length, size_t *valid);
 
 #endif

@@ -39,6 +39,10 @@ static size_t times(size_t count, size_t size) { return count > SIZE_MAX / size 
 #define OR(pointer, other) ((pointer) == NULL ? &(other) : (pointer))
 #define LENGTH(pointer, count) ((pointer) == NULL ? 0 : (count))
 
+/* Used instead of NULL if there are no characters. */
+static const uint32_t no_characters[1] = {0};
+#define CHARACTERS(pointer) ((pointer) == NULL ? no_characters : (pointer))
+
 /* ---- Constants ---- */
 
 PUBLIC const char *hordguli_status_text(hordguli_status status) {
@@ -107,6 +111,31 @@ PUBLIC void hordguli_tables_close(hordguli_tables *tables) {
     if (tables != NULL) hordguli_core_tables_close(tables);
 }
 
+/* ---- Whole texts ---- */
+
+PUBLIC hordguli_status hordguli_layout(hordguli_tables *tables, uint32_t options, uint32_t width, uint32_t print,
+                                       const char *text, size_t length, size_t capacity, char *buffer,
+                                       size_t *written) {
+    uint8_t none[1];
+    if (tables == NULL || written == NULL || LACKS(text, length) || LACKS(buffer, capacity)) return HORDGULI_NULL;
+    if (OVERLAP(AT(tables), AT(written), ARRAY(buffer, capacity), ARRAY(text, length))) return HORDGULI_OVERLAP;
+    if (width > UINT16_MAX) return HORDGULI_WIDTH_OUT_OF_RANGE;
+    return (hordguli_status)hordguli_core_layout(tables, options, (uint16_t)width, print, BYTES(text), length,
+                                                 ROOM(uint8_t, buffer, none), capacity, written);
+}
+
+PUBLIC hordguli_status hordguli_count_utf8(const char *bytes, size_t length, size_t *count) {
+    if (count == NULL || LACKS(bytes, length)) return HORDGULI_NULL;
+    if (OVERLAP(AT(count), ARRAY(bytes, length))) return HORDGULI_OVERLAP;
+    return (hordguli_status)hordguli_core_count_utf8(BYTES(bytes), length, count);
+}
+
+PUBLIC hordguli_status hordguli_valid_utf8(const char *bytes, size_t length, size_t *valid) {
+    if (valid == NULL || LACKS(bytes, length)) return HORDGULI_NULL;
+    if (OVERLAP(AT(valid), ARRAY(bytes, length))) return HORDGULI_OVERLAP;
+    return (hordguli_status)hordguli_core_valid_utf8(BYTES(bytes), length, valid);
+}
+
 /* ---- Sessions and edits ---- */
 
 PUBLIC hordguli_status hordguli_session_open(hordguli_session *session, hordguli_tables *tables, uint32_t options,
@@ -164,13 +193,111 @@ PUBLIC hordguli_status hordguli_session_work(hordguli_session *session, hordguli
     return (hordguli_status)hordguli_core_session_work(session, work);
 }
 
-/* ---- Carets and hit testing ---- */
+/* ---- Lines and text ---- */
 
 PUBLIC hordguli_status hordguli_line_start(hordguli_session *session, size_t line, size_t *start) {
     if (session == NULL || start == NULL) return HORDGULI_NULL;
     if (OVERLAP(AT(session), AT(start))) return HORDGULI_OVERLAP;
     return (hordguli_status)hordguli_core_line_start(session, line, start);
 }
+
+PUBLIC hordguli_status hordguli_line(hordguli_session *session, size_t line, hordguli_line_info *info, size_t capacity,
+                                     uint32_t *characters, uint8_t *levels, uint32_t *ltov, uint32_t *vtol,
+                                     size_t *columns) {
+    uint32_t none[1];
+    uint8_t no_levels[1];
+    size_t no_columns[1];
+    uint32_t wanted = (characters != NULL ? HORDGULI_CORE_CHARACTERS : 0) | (levels != NULL ? HORDGULI_CORE_LEVELS : 0)
+                      | (ltov != NULL ? HORDGULI_CORE_LTOV : 0) | (vtol != NULL ? HORDGULI_CORE_VTOL : 0)
+                      | (columns != NULL ? HORDGULI_CORE_COLUMNS : 0);
+    if (session == NULL || info == NULL) return HORDGULI_NULL;
+    if (OVERLAP(AT(session), AT(info), ARRAY(characters, capacity), ARRAY(levels, capacity), ARRAY(ltov, capacity),
+                ARRAY(vtol, capacity), ARRAY(columns, capacity)))
+        return HORDGULI_OVERLAP;
+    return (hordguli_status)hordguli_core_line(
+        session, line, info, wanted, ROOM(uint32_t, characters, none), LENGTH(characters, capacity),
+        ROOM(uint8_t, levels, no_levels), LENGTH(levels, capacity), ROOM(uint32_t, ltov, none), LENGTH(ltov, capacity),
+        ROOM(uint32_t, vtol, none), LENGTH(vtol, capacity), ROOM(size_t, columns, no_columns),
+        LENGTH(columns, capacity));
+}
+
+PUBLIC hordguli_status hordguli_runs(hordguli_session *session, size_t line, size_t capacity, hordguli_run *runs,
+                                     size_t *count) {
+    hordguli_run none[1];
+    if (session == NULL || count == NULL || LACKS(runs, capacity)) return HORDGULI_NULL;
+    if (OVERLAP(AT(session), AT(count), ARRAY(runs, capacity))) return HORDGULI_OVERLAP;
+    return (hordguli_status)hordguli_core_runs(session, line, ROOM(hordguli_run, runs, none), capacity, count);
+}
+
+PUBLIC hordguli_status hordguli_lines_utf8(hordguli_session *session, size_t first, size_t count, uint32_t print,
+                                           size_t capacity, char *buffer, size_t *length) {
+    uint8_t none[1];
+    if (session == NULL || length == NULL || LACKS(buffer, capacity)) return HORDGULI_NULL;
+    if (OVERLAP(AT(session), AT(length), ARRAY(buffer, capacity))) return HORDGULI_OVERLAP;
+    return (hordguli_status)hordguli_core_lines_utf8(session, first, count, print, ROOM(uint8_t, buffer, none),
+                                                     capacity, length);
+}
+
+PUBLIC hordguli_status hordguli_text(hordguli_session *session, size_t pos, size_t count, size_t capacity, char *buffer,
+                                     size_t *length) {
+    uint8_t none[1];
+    if (session == NULL || length == NULL || LACKS(buffer, capacity)) return HORDGULI_NULL;
+    if (OVERLAP(AT(session), AT(length), ARRAY(buffer, capacity))) return HORDGULI_OVERLAP;
+    return (hordguli_status)hordguli_core_text(session, pos, count, ROOM(uint8_t, buffer, none), capacity, length);
+}
+
+PUBLIC hordguli_status hordguli_text_utf32(hordguli_session *session, size_t pos, size_t count, size_t capacity,
+                                           uint32_t *characters, size_t *length) {
+    uint32_t none[1];
+    if (session == NULL || length == NULL || LACKS(characters, capacity)) return HORDGULI_NULL;
+    if (OVERLAP(AT(session), AT(length), ARRAY(characters, capacity))) return HORDGULI_OVERLAP;
+    return (hordguli_status)hordguli_core_text_utf32(session, pos, count, ROOM(uint32_t, characters, none), capacity,
+                                                     length);
+}
+
+PUBLIC hordguli_status hordguli_utf8_length(hordguli_session *session, size_t pos, size_t count, size_t *length) {
+    if (session == NULL || length == NULL) return HORDGULI_NULL;
+    if (OVERLAP(AT(session), AT(length))) return HORDGULI_OVERLAP;
+    return (hordguli_status)hordguli_core_utf8_length(session, pos, count, length);
+}
+
+PUBLIC hordguli_status hordguli_byte_of(hordguli_session *session, size_t pos, size_t *byte) {
+    if (session == NULL || byte == NULL) return HORDGULI_NULL;
+    if (OVERLAP(AT(session), AT(byte))) return HORDGULI_OVERLAP;
+    return (hordguli_status)hordguli_core_byte_of(session, pos, byte);
+}
+
+PUBLIC hordguli_status hordguli_utf16_of(hordguli_session *session, size_t pos, size_t *unit) {
+    if (session == NULL || unit == NULL) return HORDGULI_NULL;
+    if (OVERLAP(AT(session), AT(unit))) return HORDGULI_OVERLAP;
+    return (hordguli_status)hordguli_core_utf16_of(session, pos, unit);
+}
+
+PUBLIC hordguli_status hordguli_position_of_byte(hordguli_session *session, size_t byte, hordguli_position *position) {
+    if (session == NULL || position == NULL) return HORDGULI_NULL;
+    if (OVERLAP(AT(session), AT(position))) return HORDGULI_OVERLAP;
+    return (hordguli_status)hordguli_core_position_of_byte(session, byte, position);
+}
+
+PUBLIC hordguli_status hordguli_position_of_utf16(hordguli_session *session, size_t unit, hordguli_position *position) {
+    if (session == NULL || position == NULL) return HORDGULI_NULL;
+    if (OVERLAP(AT(session), AT(position))) return HORDGULI_OVERLAP;
+    return (hordguli_status)hordguli_core_position_of_utf16(session, unit, position);
+}
+
+PUBLIC hordguli_status hordguli_paragraph(hordguli_session *session, size_t paragraph, hordguli_paragraph_info *info,
+                                          size_t capacity, uint8_t *levels, uint8_t *marks) {
+    uint8_t none[1];
+    uint32_t wanted = (levels != NULL ? HORDGULI_CORE_PARAGRAPH_LEVELS : 0)
+                      | (marks != NULL ? HORDGULI_CORE_PARAGRAPH_MARKS : 0);
+    if (session == NULL || info == NULL) return HORDGULI_NULL;
+    if (OVERLAP(AT(session), AT(info), ARRAY(levels, capacity), ARRAY(marks, capacity))) return HORDGULI_OVERLAP;
+    return (hordguli_status)hordguli_core_paragraph(session, paragraph, info, wanted, ROOM(uint8_t, levels, none),
+                                                    LENGTH(levels, capacity), ROOM(uint8_t, marks, none),
+                                                    LENGTH(marks, capacity));
+}
+
+/* ---- Carets and edges ---- */
 
 PUBLIC hordguli_status hordguli_place_of(hordguli_session *session, size_t pos, hordguli_place *place) {
     if (session == NULL || place == NULL) return HORDGULI_NULL;
@@ -202,30 +329,6 @@ PUBLIC hordguli_status hordguli_word_at(hordguli_session *session, size_t pos, h
     return (hordguli_status)hordguli_core_word_at(session, pos, word);
 }
 
-PUBLIC hordguli_status hordguli_byte_of(hordguli_session *session, size_t pos, size_t *byte) {
-    if (session == NULL || byte == NULL) return HORDGULI_NULL;
-    if (OVERLAP(AT(session), AT(byte))) return HORDGULI_OVERLAP;
-    return (hordguli_status)hordguli_core_byte_of(session, pos, byte);
-}
-
-PUBLIC hordguli_status hordguli_utf16_of(hordguli_session *session, size_t pos, size_t *unit) {
-    if (session == NULL || unit == NULL) return HORDGULI_NULL;
-    if (OVERLAP(AT(session), AT(unit))) return HORDGULI_OVERLAP;
-    return (hordguli_status)hordguli_core_utf16_of(session, pos, unit);
-}
-
-PUBLIC hordguli_status hordguli_position_of_byte(hordguli_session *session, size_t byte, hordguli_position *position) {
-    if (session == NULL || position == NULL) return HORDGULI_NULL;
-    if (OVERLAP(AT(session), AT(position))) return HORDGULI_OVERLAP;
-    return (hordguli_status)hordguli_core_position_of_byte(session, byte, position);
-}
-
-PUBLIC hordguli_status hordguli_position_of_utf16(hordguli_session *session, size_t unit, hordguli_position *position) {
-    if (session == NULL || position == NULL) return HORDGULI_NULL;
-    if (OVERLAP(AT(session), AT(position))) return HORDGULI_OVERLAP;
-    return (hordguli_status)hordguli_core_position_of_utf16(session, unit, position);
-}
-
 PUBLIC hordguli_status hordguli_spans(hordguli_session *session, size_t line, size_t from, size_t to, size_t capacity,
                                       hordguli_span *spans, size_t *count) {
     hordguli_span none[1];
@@ -234,16 +337,6 @@ PUBLIC hordguli_status hordguli_spans(hordguli_session *session, size_t line, si
     return (hordguli_status)hordguli_core_spans(session, line, from, to, ROOM(hordguli_span, spans, none), capacity,
                                                 count);
 }
-
-PUBLIC hordguli_status hordguli_runs(hordguli_session *session, size_t line, size_t capacity, hordguli_run *runs,
-                                     size_t *count) {
-    hordguli_run none[1];
-    if (session == NULL || count == NULL || LACKS(runs, capacity)) return HORDGULI_NULL;
-    if (OVERLAP(AT(session), AT(count), ARRAY(runs, capacity))) return HORDGULI_OVERLAP;
-    return (hordguli_status)hordguli_core_runs(session, line, ROOM(hordguli_run, runs, none), capacity, count);
-}
-
-/* ---- Edges ---- */
 
 PUBLIC hordguli_status hordguli_edge_caret(hordguli_session *session, hordguli_edge edge, hordguli_caret *caret) {
     if (session == NULL || caret == NULL) return HORDGULI_NULL;
@@ -279,115 +372,7 @@ PUBLIC hordguli_status hordguli_line_clusters(hordguli_session *session, size_t 
     return (hordguli_status)hordguli_core_line_clusters(session, line, ROOM(size_t, ends, none), capacity, count);
 }
 
-/* ---- Lines and text ---- */
-
-PUBLIC hordguli_status hordguli_line(hordguli_session *session, size_t line, hordguli_line_info *info, size_t capacity,
-                                     uint32_t *characters, uint8_t *levels, uint32_t *ltov, uint32_t *vtol,
-                                     size_t *columns) {
-    uint32_t none[1];
-    uint8_t no_levels[1];
-    size_t no_columns[1];
-    uint32_t wanted = (characters != NULL ? HORDGULI_CORE_CHARACTERS : 0) | (levels != NULL ? HORDGULI_CORE_LEVELS : 0)
-                      | (ltov != NULL ? HORDGULI_CORE_LTOV : 0) | (vtol != NULL ? HORDGULI_CORE_VTOL : 0)
-                      | (columns != NULL ? HORDGULI_CORE_COLUMNS : 0);
-    if (session == NULL || info == NULL) return HORDGULI_NULL;
-    if (OVERLAP(AT(session), AT(info), ARRAY(characters, capacity), ARRAY(levels, capacity), ARRAY(ltov, capacity),
-                ARRAY(vtol, capacity), ARRAY(columns, capacity)))
-        return HORDGULI_OVERLAP;
-    return (hordguli_status)hordguli_core_line(
-        session, line, info, wanted, ROOM(uint32_t, characters, none), LENGTH(characters, capacity),
-        ROOM(uint8_t, levels, no_levels), LENGTH(levels, capacity), ROOM(uint32_t, ltov, none), LENGTH(ltov, capacity),
-        ROOM(uint32_t, vtol, none), LENGTH(vtol, capacity), ROOM(size_t, columns, no_columns),
-        LENGTH(columns, capacity));
-}
-
-PUBLIC hordguli_status hordguli_lines_utf8(hordguli_session *session, size_t first, size_t count, uint32_t print,
-                                           size_t capacity, char *buffer, size_t *length) {
-    uint8_t none[1];
-    if (session == NULL || length == NULL || LACKS(buffer, capacity)) return HORDGULI_NULL;
-    if (OVERLAP(AT(session), AT(length), ARRAY(buffer, capacity))) return HORDGULI_OVERLAP;
-    return (hordguli_status)hordguli_core_lines_utf8(session, first, count, print, ROOM(uint8_t, buffer, none),
-                                                     capacity, length);
-}
-
-PUBLIC hordguli_status hordguli_text(hordguli_session *session, size_t pos, size_t count, size_t capacity, char *buffer,
-                                     size_t *length) {
-    uint8_t none[1];
-    if (session == NULL || length == NULL || LACKS(buffer, capacity)) return HORDGULI_NULL;
-    if (OVERLAP(AT(session), AT(length), ARRAY(buffer, capacity))) return HORDGULI_OVERLAP;
-    return (hordguli_status)hordguli_core_text(session, pos, count, ROOM(uint8_t, buffer, none), capacity, length);
-}
-
-PUBLIC hordguli_status hordguli_text_utf32(hordguli_session *session, size_t pos, size_t count, size_t capacity,
-                                           uint32_t *characters, size_t *length) {
-    uint32_t none[1];
-    if (session == NULL || length == NULL || LACKS(characters, capacity)) return HORDGULI_NULL;
-    if (OVERLAP(AT(session), AT(length), ARRAY(characters, capacity))) return HORDGULI_OVERLAP;
-    return (hordguli_status)hordguli_core_text_utf32(session, pos, count, ROOM(uint32_t, characters, none), capacity,
-                                                     length);
-}
-
-PUBLIC hordguli_status hordguli_utf8_length(hordguli_session *session, size_t pos, size_t count, size_t *length) {
-    if (session == NULL || length == NULL) return HORDGULI_NULL;
-    if (OVERLAP(AT(session), AT(length))) return HORDGULI_OVERLAP;
-    return (hordguli_status)hordguli_core_utf8_length(session, pos, count, length);
-}
-
-PUBLIC hordguli_status hordguli_paragraph(hordguli_session *session, size_t paragraph, hordguli_paragraph_info *info,
-                                          size_t capacity, uint8_t *levels, uint8_t *marks) {
-    uint8_t none[1];
-    uint32_t wanted = (levels != NULL ? HORDGULI_CORE_PARAGRAPH_LEVELS : 0)
-                      | (marks != NULL ? HORDGULI_CORE_PARAGRAPH_MARKS : 0);
-    if (session == NULL || info == NULL) return HORDGULI_NULL;
-    if (OVERLAP(AT(session), AT(info), ARRAY(levels, capacity), ARRAY(marks, capacity))) return HORDGULI_OVERLAP;
-    return (hordguli_status)hordguli_core_paragraph(session, paragraph, info, wanted, ROOM(uint8_t, levels, none),
-                                                    LENGTH(levels, capacity), ROOM(uint8_t, marks, none),
-                                                    LENGTH(marks, capacity));
-}
-
-/* ---- Layout without a session ---- */
-
-PUBLIC hordguli_status hordguli_layout(hordguli_tables *tables, uint32_t options, uint32_t width, uint32_t print,
-                                       const char *text, size_t length, size_t capacity, char *buffer,
-                                       size_t *written) {
-    uint8_t none[1];
-    if (tables == NULL || written == NULL || LACKS(text, length) || LACKS(buffer, capacity)) return HORDGULI_NULL;
-    if (OVERLAP(AT(tables), AT(written), ARRAY(buffer, capacity), ARRAY(text, length))) return HORDGULI_OVERLAP;
-    if (width > UINT16_MAX) return HORDGULI_WIDTH_OUT_OF_RANGE;
-    return (hordguli_status)hordguli_core_layout(tables, options, (uint16_t)width, print, BYTES(text), length,
-                                                 ROOM(uint8_t, buffer, none), capacity, written);
-}
-
-/* ---- Levels and breaks without a session ---- */
-
-/* Used instead of NULL if there are no characters. */
-static const uint32_t no_characters[1] = {0};
-#define CHARACTERS(pointer) ((pointer) == NULL ? no_characters : (pointer))
-
-PUBLIC hordguli_status hordguli_base(hordguli_tables *tables, uint32_t direction, const uint32_t *characters,
-                                     size_t count, uint32_t *base) {
-    if (tables == NULL || base == NULL || LACKS(characters, count)) return HORDGULI_NULL;
-    if (OVERLAP(AT(tables), AT(base), ARRAY(characters, count))) return HORDGULI_OVERLAP;
-    return (hordguli_status)hordguli_core_base(tables, direction, CHARACTERS(characters), count, base);
-}
-
-PUBLIC hordguli_status hordguli_levels(hordguli_tables *tables, uint32_t direction, const uint32_t *characters,
-                                       size_t count, size_t capacity, uint8_t *levels) {
-    uint8_t none[1];
-    if (tables == NULL || LACKS(levels, capacity) || LACKS(characters, count)) return HORDGULI_NULL;
-    if (OVERLAP(AT(tables), ARRAY(levels, capacity), ARRAY(characters, count))) return HORDGULI_OVERLAP;
-    return (hordguli_status)hordguli_core_levels(tables, direction, CHARACTERS(characters), count,
-                                                 ROOM(uint8_t, levels, none), capacity);
-}
-
-PUBLIC hordguli_status hordguli_marks(hordguli_tables *tables, uint32_t options, const uint32_t *characters,
-                                      size_t count, size_t capacity, uint8_t *marks) {
-    uint8_t none[1];
-    if (tables == NULL || LACKS(marks, capacity) || LACKS(characters, count)) return HORDGULI_NULL;
-    if (OVERLAP(AT(tables), ARRAY(marks, capacity), ARRAY(characters, count))) return HORDGULI_OVERLAP;
-    return (hordguli_status)hordguli_core_marks(tables, options, CHARACTERS(characters), count,
-                                                ROOM(uint8_t, marks, none), capacity);
-}
+/* ---- Rows ---- */
 
 PUBLIC hordguli_status hordguli_row(hordguli_tables *tables, uint32_t options, uint32_t base, size_t count,
                                     const uint32_t *characters, const uint8_t *levels, size_t capacity,
@@ -424,6 +409,33 @@ PUBLIC hordguli_status hordguli_row_runs(hordguli_tables *tables, uint32_t base,
                                                    ROOM(hordguli_run, runs, none), capacity, run_count);
 }
 
+/* ---- Levels and properties ---- */
+
+PUBLIC hordguli_status hordguli_base(hordguli_tables *tables, uint32_t direction, const uint32_t *characters,
+                                     size_t count, uint32_t *base) {
+    if (tables == NULL || base == NULL || LACKS(characters, count)) return HORDGULI_NULL;
+    if (OVERLAP(AT(tables), AT(base), ARRAY(characters, count))) return HORDGULI_OVERLAP;
+    return (hordguli_status)hordguli_core_base(tables, direction, CHARACTERS(characters), count, base);
+}
+
+PUBLIC hordguli_status hordguli_levels(hordguli_tables *tables, uint32_t direction, const uint32_t *characters,
+                                       size_t count, size_t capacity, uint8_t *levels) {
+    uint8_t none[1];
+    if (tables == NULL || LACKS(levels, capacity) || LACKS(characters, count)) return HORDGULI_NULL;
+    if (OVERLAP(AT(tables), ARRAY(levels, capacity), ARRAY(characters, count))) return HORDGULI_OVERLAP;
+    return (hordguli_status)hordguli_core_levels(tables, direction, CHARACTERS(characters), count,
+                                                 ROOM(uint8_t, levels, none), capacity);
+}
+
+PUBLIC hordguli_status hordguli_marks(hordguli_tables *tables, uint32_t options, const uint32_t *characters,
+                                      size_t count, size_t capacity, uint8_t *marks) {
+    uint8_t none[1];
+    if (tables == NULL || LACKS(marks, capacity) || LACKS(characters, count)) return HORDGULI_NULL;
+    if (OVERLAP(AT(tables), ARRAY(marks, capacity), ARRAY(characters, count))) return HORDGULI_OVERLAP;
+    return (hordguli_status)hordguli_core_marks(tables, options, CHARACTERS(characters), count,
+                                                ROOM(uint8_t, marks, none), capacity);
+}
+
 PUBLIC hordguli_status hordguli_properties(hordguli_tables *tables, size_t count, const uint32_t *characters,
                                            hordguli_character *records) {
     hordguli_character none[1];
@@ -431,16 +443,4 @@ PUBLIC hordguli_status hordguli_properties(hordguli_tables *tables, size_t count
     if (OVERLAP(AT(tables), ARRAY(characters, count), ARRAY(records, count))) return HORDGULI_OVERLAP;
     return (hordguli_status)hordguli_core_properties(tables, CHARACTERS(characters), count,
                                                      ROOM(hordguli_character, records, none), count);
-}
-
-PUBLIC hordguli_status hordguli_count_utf8(const char *bytes, size_t length, size_t *count) {
-    if (count == NULL || LACKS(bytes, length)) return HORDGULI_NULL;
-    if (OVERLAP(AT(count), ARRAY(bytes, length))) return HORDGULI_OVERLAP;
-    return (hordguli_status)hordguli_core_count_utf8(BYTES(bytes), length, count);
-}
-
-PUBLIC hordguli_status hordguli_valid_utf8(const char *bytes, size_t length, size_t *valid) {
-    if (valid == NULL || LACKS(bytes, length)) return HORDGULI_NULL;
-    if (OVERLAP(AT(valid), ARRAY(bytes, length))) return HORDGULI_OVERLAP;
-    return (hordguli_status)hordguli_core_valid_utf8(BYTES(bytes), length, valid);
 }

@@ -313,6 +313,37 @@ hordguli_status hordguli_tables_open_folder(hordguli_tables *tables, const char 
 /* Closes the handle. Safe on a closed handle or NULL. The tables are freed once no open session uses them. */
 void hordguli_tables_close(hordguli_tables *tables);
 
+/* ---- Whole texts ---- */
+
+/* Lays out a text, and writes its lines to a buffer (see BUFFERS), as UTF-8. `*written` is the byte count. The bytes are
+ * those that `hordguli_lines_utf8` writes for all lines of a session with these `options`, this `width` and this text.
+ * `print` is as in that function. For example, the line of a log:
+ *
+ *     status = hordguli_layout(&tables, HORDGULI_WEAK_LTR, 80, HORDGULI_PRINT_DEFAULT, line, strlen(line),
+ *                              sizeof buffer, buffer, &written);
+ *
+ * The handle keeps the memory that a call used, and a call that needs no more than that allocates nothing. The handle
+ * keeps at most 5 MB: memory for a text or for lines of more than 65,536 bytes is freed. `hordguli_tables_close` frees
+ * it. Calls at the same time in several threads need a handle of tables each.
+ *
+ * NO_MEMORY comes before NO_ROOM, because the lines are gathered before their size is known.
+ * Errors: NULL, OVERLAP, WIDTH_OUT_OF_RANGE (above 65,535), UNKNOWN_OPTION, NOT_UTF8, CLOSED, WIDTH_OUT_OF_RANGE (0),
+ * TEXT_TOO_LONG, PARAGRAPH_TOO_LONG, NO_MEMORY, NO_ROOM.
+ * Cost: time and memory proportional to `length` and to the lines, even with capacity 0. */
+hordguli_status hordguli_layout(hordguli_tables *tables, uint32_t options, uint32_t width, uint32_t print,
+                                const char *text, size_t length, size_t capacity, char *buffer, size_t *written);
+
+/* Stores in `*count` the number of characters in UTF-8 text of `length` bytes.
+ * Errors: NULL, OVERLAP, NOT_UTF8.
+ * Cost: O(length). */
+hordguli_status hordguli_count_utf8(const char *bytes, size_t length, size_t *count);
+
+/* Stores in `*valid` the length of the longest prefix of `bytes` that is valid UTF-8: `length` if all of it is, else
+ * the index of the first byte that belongs to no character. An incomplete character at the end is not valid.
+ * Errors: NULL, OVERLAP.
+ * Cost: O(length). */
+hordguli_status hordguli_valid_utf8(const char *bytes, size_t length, size_t *valid);
+
 /* ---- Sessions and edits ---- */
 
 /* What an edit replaced: `old_lines` lines from `first_line` on became `new_lines` lines, and likewise for paragraphs.
@@ -387,12 +418,152 @@ typedef struct hordguli_work {
  * Cost: O(1). */
 hordguli_status hordguli_session_work(hordguli_session *session, hordguli_work *work);
 
-/* ---- Carets and hit testing ---- */
+/* ---- Lines and text ---- */
 
 /* Stores the position of a line's first character in `*start`.
  * Errors: NULL, OVERLAP, CLOSED, OUT_OF_RANGE.
  * Cost: O(log n). */
 hordguli_status hordguli_line_start(hordguli_session *session, size_t line, size_t *start);
+
+typedef struct hordguli_line_info {
+    size_t start;      /* position of its first character */
+    size_t length;     /* characters, including the tail */
+    size_t shown;      /* characters in the shown part */
+    size_t columns;    /* columns of the shown part */
+    size_t padding;    /* spaces left of the shown part if it is padded */
+    uint32_t base;     /* base level of its paragraph, 0 or 1 */
+    uint32_t first;    /* 1 for the first line of a paragraph, else 0 */
+} hordguli_line_info;
+
+/* Stores information about a line in `*info`, and `info->shown` elements in each array. Each array has `capacity`
+ * elements. NULL arrays are skipped. Positions count from the start of the line.
+ *   characters  characters in visual order, mirrored
+ *   levels      level of each character after L1, in logical order
+ *   ltov        visual position of each logical position
+ *   vtol        logical position of each visual position
+ *   columns     columns at each visual position
+ *
+ * On NO_ROOM, `*info` is set and the arrays are unchanged.
+ * Errors: NULL, OVERLAP, CLOSED, OUT_OF_RANGE, NO_ROOM.
+ * Cost: O(log n), plus the elements written. */
+hordguli_status hordguli_line(hordguli_session *session, size_t line, hordguli_line_info *info, size_t capacity,
+                              uint32_t *characters, uint8_t *levels, uint32_t *ltov, uint32_t *vtol,
+                              size_t *columns);
+
+/* The `length` characters of a line from position `start` on, all at one level. `start` counts from the start of the
+ * line. The characters are read from left to right if the level is even, else from right to left. */
+typedef struct hordguli_run {
+    size_t start;
+    size_t length;
+    uint32_t level;
+    uint32_t zero;  /* always 0 */
+} hordguli_run;
+
+/* Stores the directional runs of a line's shown part, from left to right, for shaping text: the longest ranges of
+ * characters at one level after L1. They do not depend on HORDGULI_REORDER_NSM and HORDGULI_REORDER_CLUSTERS, which
+ * move characters only inside runs. The number of runs is stored in `*count`, and the runs in an array of `capacity`
+ * elements (see BUFFERS). Fails with OUT_OF_RANGE if the line does not exist. For the characters of a run, in logical
+ * order:
+ *
+ *     status = hordguli_line_start(&session, line, &start);
+ *     if (!status) status = hordguli_text_utf32(&session, start + run.start, run.length, 80, characters, &length);
+ *
+ * Errors: NULL, OVERLAP, CLOSED, OUT_OF_RANGE, NO_ROOM.
+ * Cost: O(log n), plus O(length of the line) times its highest level. */
+hordguli_status hordguli_runs(hordguli_session *session, size_t line, size_t capacity, hordguli_run *runs,
+                              size_t *count);
+
+/* Writes `count` lines, starting with line `first`, to a buffer (see BUFFERS), as UTF-8. `print` selects what is
+ * written for each line, in the order VISUAL, BASEDIR, LTOV, VTOL, LEVELS. Each of these ends in U+000A. Numbers are
+ * decimal, separated by spaces. For example, the lines that an edit changed:
+ *
+ *     status = hordguli_lines_utf8(&session, damage.first_line, damage.new_lines,
+ *                                  HORDGULI_PRINT_DEFAULT, capacity, buffer, &length);
+ *
+ * NO_MEMORY comes before NO_ROOM, because the output is gathered before its size is known.
+ * Errors: NULL, OVERLAP, UNKNOWN_OPTION, CLOSED, OUT_OF_RANGE, NO_MEMORY, NO_ROOM.
+ * Cost: O(log n) per paragraph, plus time and memory proportional to the output, even with capacity 0. */
+hordguli_status hordguli_lines_utf8(hordguli_session *session, size_t first, size_t count, uint32_t print,
+                                    size_t capacity, char *buffer, size_t *length);
+
+/* Writes `count` characters, starting at `pos`, to a buffer (see BUFFERS), as UTF-8. NO_MEMORY comes before NO_ROOM, as
+ * in `hordguli_lines_utf8`.
+ * Errors: NULL, OVERLAP, CLOSED, OUT_OF_RANGE, NO_MEMORY, NO_ROOM.
+ * Cost: as `hordguli_lines_utf8`. */
+hordguli_status hordguli_text(hordguli_session *session, size_t pos, size_t count, size_t capacity, char *buffer,
+                              size_t *length);
+
+/* Stores `count` characters, starting at `pos`, in an array of `capacity` elements (see BUFFERS), in logical order and
+ * not mirrored, as a shaper needs them. `*length` is `count`.
+ * Errors: NULL, OVERLAP, CLOSED, OUT_OF_RANGE, NO_ROOM.
+ * Cost: O(log n) per paragraph, plus O(count). */
+hordguli_status hordguli_text_utf32(hordguli_session *session, size_t pos, size_t count, size_t capacity,
+                                    uint32_t *characters, size_t *length);
+
+/* Stores in `*length` how many bytes of UTF-8 the `count` characters that start at `pos` need.
+ * Errors: NULL, OVERLAP, CLOSED, OUT_OF_RANGE.
+ * Cost: O(log n) per paragraph, plus O(count). */
+hordguli_status hordguli_utf8_length(hordguli_session *session, size_t pos, size_t count, size_t *length);
+
+/* Stores in `*byte` how many bytes of UTF-8 the text before `pos` needs. Fails with OUT_OF_RANGE if `pos` is past the
+ * end.
+ * Errors: NULL, OVERLAP, CLOSED, OUT_OF_RANGE.
+ * Cost: O(log n), plus O(length of the paragraph) unless the paragraph is ASCII. */
+hordguli_status hordguli_byte_of(hordguli_session *session, size_t pos, size_t *byte);
+
+/* Stores in `*unit` how many UTF-16 code units the text before `pos` needs, which is how the Language Server Protocol
+ * counts. Fails with OUT_OF_RANGE if `pos` is past the end.
+ * Errors: NULL, OVERLAP, CLOSED, OUT_OF_RANGE.
+ * Cost: O(log n), plus O(length of the paragraph) if the paragraph has a character above U+FFFF. */
+hordguli_status hordguli_utf16_of(hordguli_session *session, size_t pos, size_t *unit);
+
+/* The character at `pos`, and how many of its bytes or code units come before an offset: 0 at its start. */
+typedef struct hordguli_position {
+    size_t pos;
+    size_t rest;
+} hordguli_position;
+
+/* Stores the position of a UTF-8 byte, counted from 0, in `*position`. At the end of the text, `pos` is the number of
+ * characters and `rest` is 0. Fails with OUT_OF_RANGE if `byte` is past the end.
+ * Errors: NULL, OVERLAP, CLOSED, OUT_OF_RANGE.
+ * Cost: as `hordguli_byte_of`. */
+hordguli_status hordguli_position_of_byte(hordguli_session *session, size_t byte, hordguli_position *position);
+
+/* Stores the position of a UTF-16 code unit, counted from 0, in `*position`. At the end of the text, `pos` is the number
+ * of characters and `rest` is 0. Fails with OUT_OF_RANGE if `unit` is past the end.
+ * Errors: NULL, OVERLAP, CLOSED, OUT_OF_RANGE.
+ * Cost: as `hordguli_utf16_of`. */
+hordguli_status hordguli_position_of_utf16(hordguli_session *session, size_t unit, hordguli_position *position);
+
+typedef struct hordguli_paragraph_info {
+    size_t length;      /* characters, including the separator */
+    size_t lines;
+    uint32_t base;      /* base level, 0 or 1 */
+    uint32_t zero;      /* always 0 */
+    size_t start;       /* position of its first character */
+    size_t first_line;  /* index of its first line */
+} hordguli_paragraph_info;
+
+/* Stores information about a paragraph in `*info`, and `info->length` elements in each array, in logical order. Each
+ * array has `capacity` elements. NULL arrays are skipped.
+ *   levels      level of each character before L1
+ *   marks       break mark after each character
+ *
+ * On NO_ROOM, `*info` is set and the arrays are unchanged.
+ * Errors: NULL, OVERLAP, CLOSED, OUT_OF_RANGE, NO_ROOM.
+ * Cost: O(log n), plus the elements written. */
+hordguli_status hordguli_paragraph(hordguli_session *session, size_t paragraph, hordguli_paragraph_info *info,
+                                   size_t capacity, uint8_t *levels, uint8_t *marks);
+
+/* ---- Carets and edges ----
+ *
+ * A position has two edges: the leading edge of the character at it, and the trailing edge of the character before it.
+ * Where the direction changes or a line wraps, the two are apart on the screen. An editor keeps one of them as its
+ * caret; an edit goes to `pos` either way. For example, in `abc `, three Hebrew letters and ` def`, before 4 is at
+ * column 7, right of the first letter, and after 4 at column 4, right of the space.
+ *
+ * A caret moves over one grapheme cluster at a time, or over the part of it that is in one level run if the cluster
+ * has several: over one caret unit. A boundary is a column where a caret unit begins or ends. */
 
 typedef struct hordguli_place {
     size_t paragraph;
@@ -484,36 +655,6 @@ typedef struct hordguli_word {
  * Cost: O(log n), plus time and memory proportional to the whole paragraph. */
 hordguli_status hordguli_word_at(hordguli_session *session, size_t pos, hordguli_word *word);
 
-/* Stores in `*byte` how many bytes of UTF-8 the text before `pos` needs. Fails with OUT_OF_RANGE if `pos` is past the
- * end.
- * Errors: NULL, OVERLAP, CLOSED, OUT_OF_RANGE.
- * Cost: O(log n), plus O(length of the paragraph) unless the paragraph is ASCII. */
-hordguli_status hordguli_byte_of(hordguli_session *session, size_t pos, size_t *byte);
-
-/* Stores in `*unit` how many UTF-16 code units the text before `pos` needs, which is how the Language Server Protocol
- * counts. Fails with OUT_OF_RANGE if `pos` is past the end.
- * Errors: NULL, OVERLAP, CLOSED, OUT_OF_RANGE.
- * Cost: O(log n), plus O(length of the paragraph) if the paragraph has a character above U+FFFF. */
-hordguli_status hordguli_utf16_of(hordguli_session *session, size_t pos, size_t *unit);
-
-/* The character at `pos`, and how many of its bytes or code units come before an offset: 0 at its start. */
-typedef struct hordguli_position {
-    size_t pos;
-    size_t rest;
-} hordguli_position;
-
-/* Stores the position of a UTF-8 byte, counted from 0, in `*position`. At the end of the text, `pos` is the number of
- * characters and `rest` is 0. Fails with OUT_OF_RANGE if `byte` is past the end.
- * Errors: NULL, OVERLAP, CLOSED, OUT_OF_RANGE.
- * Cost: as `hordguli_byte_of`. */
-hordguli_status hordguli_position_of_byte(hordguli_session *session, size_t byte, hordguli_position *position);
-
-/* Stores the position of a UTF-16 code unit, counted from 0, in `*position`. At the end of the text, `pos` is the number
- * of characters and `rest` is 0. Fails with OUT_OF_RANGE if `unit` is past the end.
- * Errors: NULL, OVERLAP, CLOSED, OUT_OF_RANGE.
- * Cost: as `hordguli_utf16_of`. */
-hordguli_status hordguli_position_of_utf16(hordguli_session *session, size_t unit, hordguli_position *position);
-
 /* The columns from `left` up to but not including `right`, counted from the left edge of a line's shown part. */
 typedef struct hordguli_span {
     size_t left;
@@ -535,39 +676,6 @@ typedef struct hordguli_span {
  * Cost: O(log n), plus O(length of the line). */
 hordguli_status hordguli_spans(hordguli_session *session, size_t line, size_t from, size_t to, size_t capacity,
                                hordguli_span *spans, size_t *count);
-
-/* The `length` characters of a line from position `start` on, all at one level. `start` counts from the start of the
- * line. The characters are read from left to right if the level is even, else from right to left. */
-typedef struct hordguli_run {
-    size_t start;
-    size_t length;
-    uint32_t level;
-    uint32_t zero;  /* always 0 */
-} hordguli_run;
-
-/* Stores the directional runs of a line's shown part, from left to right, for shaping text: the longest ranges of
- * characters at one level after L1. They do not depend on HORDGULI_REORDER_NSM and HORDGULI_REORDER_CLUSTERS, which
- * move characters only inside runs. The number of runs is stored in `*count`, and the runs in an array of `capacity`
- * elements (see BUFFERS). Fails with OUT_OF_RANGE if the line does not exist. For the characters of a run, in logical
- * order:
- *
- *     status = hordguli_line_start(&session, line, &start);
- *     if (!status) status = hordguli_text_utf32(&session, start + run.start, run.length, 80, characters, &length);
- *
- * Errors: NULL, OVERLAP, CLOSED, OUT_OF_RANGE, NO_ROOM.
- * Cost: O(log n), plus O(length of the line) times its highest level. */
-hordguli_status hordguli_runs(hordguli_session *session, size_t line, size_t capacity, hordguli_run *runs,
-                              size_t *count);
-
-/* ---- Edges ----
- *
- * A position has two edges: the leading edge of the character at it, and the trailing edge of the character before it.
- * Where the direction changes or a line wraps, the two are apart on the screen. An editor keeps one of them as its
- * caret; an edit goes to `pos` either way. For example, in `abc `, three Hebrew letters and ` def`, before 4 is at
- * column 7, right of the first letter, and after 4 at column 4, right of the space.
- *
- * A caret moves over one grapheme cluster at a time, or over the part of it that is in one level run if the cluster
- * has several: over one caret unit. A boundary is a column where a caret unit begins or ends. */
 
 /* The leading edge of the character at `pos`. */
 #define HORDGULI_BEFORE UINT32_C(0)
@@ -649,143 +757,7 @@ hordguli_status hordguli_line_edges(hordguli_session *session, size_t line, hord
 hordguli_status hordguli_line_clusters(hordguli_session *session, size_t line, size_t capacity, size_t *ends,
                                        size_t *count);
 
-/* ---- Lines and text ---- */
-
-typedef struct hordguli_line_info {
-    size_t start;      /* position of its first character */
-    size_t length;     /* characters, including the tail */
-    size_t shown;      /* characters in the shown part */
-    size_t columns;    /* columns of the shown part */
-    size_t padding;    /* spaces left of the shown part if it is padded */
-    uint32_t base;     /* base level of its paragraph, 0 or 1 */
-    uint32_t first;    /* 1 for the first line of a paragraph, else 0 */
-} hordguli_line_info;
-
-/* Stores information about a line in `*info`, and `info->shown` elements in each array. Each array has `capacity`
- * elements. NULL arrays are skipped. Positions count from the start of the line.
- *   characters  characters in visual order, mirrored
- *   levels      level of each character after L1, in logical order
- *   ltov        visual position of each logical position
- *   vtol        logical position of each visual position
- *   columns     columns at each visual position
- *
- * On NO_ROOM, `*info` is set and the arrays are unchanged.
- * Errors: NULL, OVERLAP, CLOSED, OUT_OF_RANGE, NO_ROOM.
- * Cost: O(log n), plus the elements written. */
-hordguli_status hordguli_line(hordguli_session *session, size_t line, hordguli_line_info *info, size_t capacity,
-                              uint32_t *characters, uint8_t *levels, uint32_t *ltov, uint32_t *vtol,
-                              size_t *columns);
-
-/* Writes `count` lines, starting with line `first`, to a buffer (see BUFFERS), as UTF-8. `print` selects what is
- * written for each line, in the order VISUAL, BASEDIR, LTOV, VTOL, LEVELS. Each of these ends in U+000A. Numbers are
- * decimal, separated by spaces. For example, the lines that an edit changed:
- *
- *     status = hordguli_lines_utf8(&session, damage.first_line, damage.new_lines,
- *                                  HORDGULI_PRINT_DEFAULT, capacity, buffer, &length);
- *
- * NO_MEMORY comes before NO_ROOM, because the output is gathered before its size is known.
- * Errors: NULL, OVERLAP, UNKNOWN_OPTION, CLOSED, OUT_OF_RANGE, NO_MEMORY, NO_ROOM.
- * Cost: O(log n) per paragraph, plus time and memory proportional to the output, even with capacity 0. */
-hordguli_status hordguli_lines_utf8(hordguli_session *session, size_t first, size_t count, uint32_t print,
-                                    size_t capacity, char *buffer, size_t *length);
-
-/* Writes `count` characters, starting at `pos`, to a buffer (see BUFFERS), as UTF-8. NO_MEMORY comes before NO_ROOM, as
- * in `hordguli_lines_utf8`.
- * Errors: NULL, OVERLAP, CLOSED, OUT_OF_RANGE, NO_MEMORY, NO_ROOM.
- * Cost: as `hordguli_lines_utf8`. */
-hordguli_status hordguli_text(hordguli_session *session, size_t pos, size_t count, size_t capacity, char *buffer,
-                              size_t *length);
-
-/* Stores `count` characters, starting at `pos`, in an array of `capacity` elements (see BUFFERS), in logical order and
- * not mirrored, as a shaper needs them. `*length` is `count`.
- * Errors: NULL, OVERLAP, CLOSED, OUT_OF_RANGE, NO_ROOM.
- * Cost: O(log n) per paragraph, plus O(count). */
-hordguli_status hordguli_text_utf32(hordguli_session *session, size_t pos, size_t count, size_t capacity,
-                                    uint32_t *characters, size_t *length);
-
-/* Stores in `*length` how many bytes of UTF-8 the `count` characters that start at `pos` need.
- * Errors: NULL, OVERLAP, CLOSED, OUT_OF_RANGE.
- * Cost: O(log n) per paragraph, plus O(count). */
-hordguli_status hordguli_utf8_length(hordguli_session *session, size_t pos, size_t count, size_t *length);
-
-/* Stores in `*count` the number of characters in UTF-8 text of `length` bytes.
- * Errors: NULL, OVERLAP, NOT_UTF8.
- * Cost: O(length). */
-hordguli_status hordguli_count_utf8(const char *bytes, size_t length, size_t *count);
-
-/* Stores in `*valid` the length of the longest prefix of `bytes` that is valid UTF-8: `length` if all of it is, else
- * the index of the first byte that belongs to no character. An incomplete character at the end is not valid.
- * Errors: NULL, OVERLAP.
- * Cost: O(length). */
-hordguli_status hordguli_valid_utf8(const char *bytes, size_t length, size_t *valid);
-
-typedef struct hordguli_paragraph_info {
-    size_t length;      /* characters, including the separator */
-    size_t lines;
-    uint32_t base;      /* base level, 0 or 1 */
-    uint32_t zero;      /* always 0 */
-    size_t start;       /* position of its first character */
-    size_t first_line;  /* index of its first line */
-} hordguli_paragraph_info;
-
-/* Stores information about a paragraph in `*info`, and `info->length` elements in each array, in logical order. Each
- * array has `capacity` elements. NULL arrays are skipped.
- *   levels      level of each character before L1
- *   marks       break mark after each character
- *
- * On NO_ROOM, `*info` is set and the arrays are unchanged.
- * Errors: NULL, OVERLAP, CLOSED, OUT_OF_RANGE, NO_ROOM.
- * Cost: O(log n), plus the elements written. */
-hordguli_status hordguli_paragraph(hordguli_session *session, size_t paragraph, hordguli_paragraph_info *info,
-                                   size_t capacity, uint8_t *levels, uint8_t *marks);
-
-/* ---- Layout without a session ---- */
-
-/* Lays out a text, and writes its lines to a buffer (see BUFFERS), as UTF-8. `*written` is the byte count. The bytes are
- * those that `hordguli_lines_utf8` writes for all lines of a session with these `options`, this `width` and this text.
- * `print` is as in that function. For example, the line of a log:
- *
- *     status = hordguli_layout(&tables, HORDGULI_WEAK_LTR, 80, HORDGULI_PRINT_DEFAULT, line, strlen(line),
- *                              sizeof buffer, buffer, &written);
- *
- * The handle keeps the memory that a call used, and a call that needs no more than that allocates nothing. The handle
- * keeps at most 5 MB: memory for a text or for lines of more than 65,536 bytes is freed. `hordguli_tables_close` frees
- * it. Calls at the same time in several threads need a handle of tables each.
- *
- * NO_MEMORY comes before NO_ROOM, because the lines are gathered before their size is known.
- * Errors: NULL, OVERLAP, WIDTH_OUT_OF_RANGE (above 65,535), UNKNOWN_OPTION, NOT_UTF8, CLOSED, WIDTH_OUT_OF_RANGE (0),
- * TEXT_TOO_LONG, PARAGRAPH_TOO_LONG, NO_MEMORY, NO_ROOM.
- * Cost: time and memory proportional to `length` and to the lines, even with capacity 0. */
-hordguli_status hordguli_layout(hordguli_tables *tables, uint32_t options, uint32_t width, uint32_t print,
-                                const char *text, size_t length, size_t capacity, char *buffer, size_t *written);
-
-/* ---- Levels and breaks without a session ----
- *
- * These functions take one paragraph of `count` characters, and do not split it at separators. `direction` is a base
- * direction without other options, or 0. NO_ROOM means that `capacity` is less than `count`.
- *
- * To lay out text with these functions, a caller has to:
- *   - split the text into paragraphs (UAX #9, P1);
- *   - choose where rows end, by break marks and the widths of characters (`hordguli_properties`);
- *   - put each row into visual order (`hordguli_row`). */
-
-/* Stores in `*base` the base level of a paragraph, 0 or 1.
- * Errors: NULL, OVERLAP, UNKNOWN_OPTION, CLOSED, NOT_A_CHARACTER, NO_MEMORY.
- * Cost: time and memory proportional to `count`. */
-hordguli_status hordguli_base(hordguli_tables *tables, uint32_t direction, const uint32_t *characters, size_t count,
-                              uint32_t *base);
-
-/* Stores in `levels` the level of each character before L1.
- * Errors: NULL, OVERLAP, UNKNOWN_OPTION, CLOSED, NO_ROOM, NOT_A_CHARACTER, NO_MEMORY.
- * Cost: time and memory proportional to `count`. */
-hordguli_status hordguli_levels(hordguli_tables *tables, uint32_t direction, const uint32_t *characters, size_t count,
-                                size_t capacity, uint8_t *levels);
-
-/* Stores in `marks` the break mark after each character. `options` is 0 or HORDGULI_WHOLE_NUMBERS.
- * Errors: NULL, OVERLAP, UNKNOWN_OPTION, CLOSED, NO_ROOM, NOT_A_CHARACTER, NO_MEMORY.
- * Cost: time and memory proportional to `count`. */
-hordguli_status hordguli_marks(hordguli_tables *tables, uint32_t options, const uint32_t *characters, size_t count,
-                               size_t capacity, uint8_t *marks);
+/* ---- Rows ---- */
 
 /* Puts a row of `count` characters into visual order. The caller chose where the row starts and ends. `base` is the
  * base level of its paragraph (`hordguli_base`), and `levels` are the levels of the row's characters in the whole
@@ -824,7 +796,34 @@ hordguli_status hordguli_row(hordguli_tables *tables, uint32_t options, uint32_t
 hordguli_status hordguli_row_runs(hordguli_tables *tables, uint32_t base, size_t count, const uint32_t *characters,
                                   const uint8_t *levels, size_t capacity, hordguli_run *runs, size_t *run_count);
 
-/* ---- Properties of characters ---- */
+/* ---- Levels and properties ----
+ *
+ * `hordguli_base`, `hordguli_levels` and `hordguli_marks` take one paragraph of `count` characters, and do not split it
+ * at separators. `direction` is a base direction without other options, or 0. NO_ROOM means that `capacity` is less
+ * than `count`.
+ *
+ * To lay out text with these functions, a caller has to:
+ *   - split the text into paragraphs (UAX #9, P1);
+ *   - choose where rows end, by break marks and the widths of characters (`hordguli_properties`);
+ *   - put each row into visual order (`hordguli_row`). */
+
+/* Stores in `*base` the base level of a paragraph, 0 or 1.
+ * Errors: NULL, OVERLAP, UNKNOWN_OPTION, CLOSED, NOT_A_CHARACTER, NO_MEMORY.
+ * Cost: time and memory proportional to `count`. */
+hordguli_status hordguli_base(hordguli_tables *tables, uint32_t direction, const uint32_t *characters, size_t count,
+                              uint32_t *base);
+
+/* Stores in `levels` the level of each character before L1.
+ * Errors: NULL, OVERLAP, UNKNOWN_OPTION, CLOSED, NO_ROOM, NOT_A_CHARACTER, NO_MEMORY.
+ * Cost: time and memory proportional to `count`. */
+hordguli_status hordguli_levels(hordguli_tables *tables, uint32_t direction, const uint32_t *characters, size_t count,
+                                size_t capacity, uint8_t *levels);
+
+/* Stores in `marks` the break mark after each character. `options` is 0 or HORDGULI_WHOLE_NUMBERS.
+ * Errors: NULL, OVERLAP, UNKNOWN_OPTION, CLOSED, NO_ROOM, NOT_A_CHARACTER, NO_MEMORY.
+ * Cost: time and memory proportional to `count`. */
+hordguli_status hordguli_marks(hordguli_tables *tables, uint32_t options, const uint32_t *characters, size_t count,
+                               size_t capacity, uint8_t *marks);
 
 /* Bidi classes (UAX #9), by their short names. */
 #define HORDGULI_BIDI_CLASS_L 0

@@ -6,7 +6,7 @@ use Rattle.session.specs.Sessions.{opening_refusal}
 use Rattle.session.specs.declared.edits.EditFault.{EditFault}
 use Rattle.hordguli_c.specs.Arrays.{PutsItems}
 use Rattle.hordguli_c.specs.Calls.{OrNoMemory}
-use Rattle.hordguli_c.specs.Pages.{PutsPage, UnlessRefused, text_page}
+use Rattle.hordguli_c.specs.Texts.{PutsPage, UnlessRefused, text_page}
 use Rattle.hordguli_c.specs.declared.options.PageForm.{PageForm}
 use Rattle.hordguli_c.specs.declared.status.Status.{Status}
 use Rattle.hordguli_c.specs.declared.status.Status.TheVariants as is

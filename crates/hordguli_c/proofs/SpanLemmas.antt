@@ -10,7 +10,7 @@ use Rattle.lines.specs.Columns.{columns_left}
 use Rattle.lines.specs.Spans.{is_covered, is_left_edge, span_at, spans_from, spans_of}
 use Rattle.lines.specs.Visual.{Visual}
 use Rattle.lines.specs.declared.spans.Span.{Span}
-use Rattle.hordguli_c.specs.Spans.{span_out, spans_out}
+use Rattle.hordguli_c.specs.Edges.{span_out, spans_out}
 
 -- there are no more spans than columns
 pub spans_few : (line : Visual) (from to : ℕ) → length (spans_out line from to) ≤ columns_left line (length line.vtol)

@@ -1,23 +1,81 @@
--- The edges of positions, and steps from edge to edge.
-use Rattle.std.specs.Prelude.{◌≡◌, ℕ, ◌<◌, ◌==◌, Bool, true, false, List, length, option_and_then, option_map, Option, Some, None, if◌then◌else◌}
+-- Places, carets, hits, clusters and words at positions of a text; the columns of a selection; the edges of positions, and steps from
+-- edge to edge.
+use Rattle.std.specs.Prelude.{◌≡◌, ℕ, ◌-◌, ◌<◌, ◌==◌, Bool, true, false, List, length, map, option_and_then, option_map, slice_get, Option, Some, None, if◌then◌else◌}
 use Rattle.lines.specs.Engine.{rules_of}
-use Rattle.session.specs.Clusters.{line_clusters}
+use Rattle.lines.specs.Spans.{spans_of}
+use Rattle.lines.specs.Visual.{Visual}
+use Rattle.lines.specs.declared.spans.Span.{Span}
+use Rattle.session.specs.Clusters.{cluster_at, line_clusters}
 use Rattle.session.specs.Edges.{edge_at, edge_caret_at, is_edge_in, line_edges, step_at, HasCharacter}
 use Rattle.session.specs.Kept.{lines_in}
+use Rattle.session.specs.Places.{line_starts}
 use Rattle.session.specs.Sessions.{SessionState, text_at}
+use Rattle.session.specs.Words.{word_at}
+use Rattle.session.specs.declared.carets.Caret.{Caret}
+use Rattle.session.specs.declared.clusters.Cluster.{Cluster}
 use Rattle.session.specs.declared.edges.Direction.{Direction}
 use Rattle.session.specs.declared.edges.Direction.TheVariants.{Left, Right}
 use Rattle.session.specs.declared.edges.Edge.{Edge}
 use Rattle.session.specs.declared.edges.LineEdges.{LineEdges}
 use Rattle.session.specs.declared.edges.Side.{Side}
 use Rattle.session.specs.declared.edges.Side.TheVariants.{Before, After}
+use Rattle.session.specs.declared.hits.Hit.{Hit}
+use Rattle.session.specs.declared.places.Place.{Place}
+use Rattle.session.specs.declared.words.Word.{Word}
 use Rattle.hordguli_c.specs.Arrays.{PutsItems}
 use Rattle.hordguli_c.specs.Calls.{Gives, OrNoMemory}
-use Rattle.hordguli_c.specs.Places.{caret_out}
+use Rattle.hordguli_c.specs.Flags.{flag}
+use Rattle.hordguli_c.specs.declared.edge_calls.CaretOut.{CaretOut}
+use Rattle.hordguli_c.specs.declared.edge_calls.ClusterOut.{ClusterOut}
 use Rattle.hordguli_c.specs.declared.edge_calls.EdgeOut.{EdgeOut}
-use Rattle.hordguli_c.specs.declared.place_calls.CaretOut.{CaretOut}
+use Rattle.hordguli_c.specs.declared.edge_calls.HitOut.{HitOut}
+use Rattle.hordguli_c.specs.declared.edge_calls.PlaceOut.{PlaceOut}
+use Rattle.hordguli_c.specs.declared.edge_calls.SpanOut.{SpanOut}
+use Rattle.hordguli_c.specs.declared.edge_calls.WordOut.{WordOut}
 use Rattle.hordguli_c.specs.declared.status.Status.{Status}
 use Rattle.hordguli_c.specs.declared.status.Status.TheVariants as is
+
+abbrev pub place_out : Place → PlaceOut
+place_out place = record { paragraph = place.paragraph; line = place.line; offset = place.offset }
+
+abbrev pub caret_out : Caret → CaretOut
+caret_out caret = record { line = caret.line; column = caret.column; level = caret.level; zero = 0 }
+
+abbrev pub hit_out : Hit → HitOut
+hit_out hit = record { pos = hit.pos; trailing = flag hit.trailing; zero = 0 }
+
+abbrev pub cluster_out : Cluster → ClusterOut
+cluster_out cluster = record { start = cluster.start; end = cluster.end }
+
+-- the cluster of a character is stored
+abbrev pub GivesCluster : ℕ → Status → SessionState → ClusterOut → ClusterOut → Type 0
+GivesCluster pos status state old new =
+    OrNoMemory (pos < length (text_at state)) status (new ≡ old)
+    (Gives (option_map cluster_out (cluster_at state.kept pos)) status old new)
+
+abbrev pub word_out : Word → WordOut
+word_out word = record { start = word.start; end = word.end; kind = flag word.has_letter; zero = 0 }
+
+-- the word of a character is stored
+abbrev pub GivesWord : ℕ → Status → SessionState → WordOut → WordOut → Type 0
+GivesWord pos status state old new =
+    OrNoMemory (pos < length (text_at state)) status (new ≡ old)
+    (Gives (option_map word_out (word_at state.kept pos)) status old new)
+
+abbrev pub span_out : Span → SpanOut
+span_out span = record { left = span.left; right = span.right }
+
+-- the spans of a range in a line; `from` and `to` count from the start of the line
+abbrev pub spans_out : Visual → ℕ → ℕ → List SpanOut
+spans_out line from to = map span_out (spans_of line from to)
+
+-- the spans of a range of text positions in a line are stored, if the line exists
+abbrev pub ShowsSpans : ℕ → ℕ → Option ℕ → Option Visual → Status → List SpanOut × ℕ → List SpanOut × ℕ → Type 0
+ShowsSpans from to (Some start) (Some line) status old new = PutsItems (spans_out line (from - start) (to - start)) status old new
+ShowsSpans from to start line status old new = (status ≡ is.OutOfRange) × (new ≡ old)
+
+abbrev pub GivesSpans : ℕ → ℕ → ℕ → Status → SessionState → List SpanOut × ℕ → List SpanOut × ℕ → Type 0
+GivesSpans n from to status state = ShowsSpans from to (slice_get (line_starts state.kept) n) (slice_get (lines_in state.kept) n) status
 
 -- the side, the direction and the edge with these numbers, or `None` if a number is unknown
 abbrev pub side_of : ℕ → Option Side

@@ -1,15 +1,29 @@
--- What is stored for a line and for a paragraph: numbers, and lists in optional arrays.
-use Rattle.std.specs.Prelude.{◌≡◌, ℕ, ◌&&◌, Bool, List, length, map, Option, Some, MatchBool}
-use Rattle.lines.specs.Columns.{padding_of}
+-- What is stored for lines, paragraphs and text of a session: numbers, bytes, characters, and lists in optional arrays. Positions as
+-- offsets in UTF-8 bytes or UTF-16 code units.
+use Rattle.std.specs.Prelude.{◌≡◌, ℕ, ◌+◌, ◌<◌, ◌≤◌, ◌&&◌, Bool, List, length, map, option_map, slice_get, Option, Some, MatchBool}
+use Rattle.std.specs.List.{slice_range}
+use Rattle.lines.specs.Columns.{padding_of, width_at}
 use Rattle.lines.specs.Layouts.{Layout}
-use Rattle.lines.specs.Columns.{width_at}
 use Rattle.lines.specs.Visual.{Visual}
-use Rattle.hordguli_c.specs.Arrays.{has_room, put_if}
+use Rattle.lines.specs.declared.printing.print.Print.{Print}
+use Rattle.session.specs.Kept.{lines_in}
+use Rattle.session.specs.Offsets.{offset_of, position_of}
+use Rattle.session.specs.Printing.{lines_page}
+use Rattle.session.specs.Reading.{utf8_part}
+use Rattle.session.specs.Sessions.{SessionState, text_at}
+use Rattle.session.specs.declared.offsets.Encoding.{Encoding}
+use Rattle.session.specs.declared.printing.RangeFault.{RangeFault}
+use Rattle.session.specs.declared.printing.RangeFault.TheVariants.{OutOfRange, Write}
+use Rattle.hordguli_c.specs.Arrays.{has_room, put_if, PutsItems}
+use Rattle.hordguli_c.specs.Calls.{Given, Gives, OrNoMemory}
+use Rattle.hordguli_c.specs.Flags.{flag}
+use Rattle.hordguli_c.specs.Levels.{mark_number}
 use Rattle.hordguli_c.specs.Options.{has_bit}
-use Rattle.hordguli_c.specs.Paragraphs.{mark_number}
-use Rattle.hordguli_c.specs.Places.{flag}
+use Rattle.hordguli_c.specs.Runs.{runs_out}
 use Rattle.hordguli_c.specs.declared.line_calls.LineOut.{LineOut}
-use Rattle.hordguli_c.specs.declared.layout_calls.ParagraphOut.{ParagraphOut}
+use Rattle.hordguli_c.specs.declared.line_calls.ParagraphOut.{ParagraphOut}
+use Rattle.hordguli_c.specs.declared.line_calls.PositionOut.{PositionOut}
+use Rattle.hordguli_c.specs.declared.runs.RunOut.{RunOut}
 use Rattle.hordguli_c.specs.declared.status.Status.{Status}
 use Rattle.hordguli_c.specs.declared.status.Status.TheVariants as is
 
@@ -63,6 +77,51 @@ PutsLine wanted line status old new =
 abbrev pub ShowsLine : ℕ → ℕ → Option ℕ → Option Visual → Status → LineOut × LineArrays → LineOut × LineArrays → Type 0
 ShowsLine wanted width (Some start) (Some line) status old new = (new.0 ≡ line_out width start line) × PutsLine wanted line status old.1 new.1
 ShowsLine wanted width start line status old new = (status ≡ is.OutOfRange) × (new ≡ old)
+
+-- the runs of a line are stored, if the line exists
+abbrev pub ShowsRuns : Option Visual → Status → List RunOut × ℕ → List RunOut × ℕ → Type 0
+ShowsRuns (Some line) status old new = PutsItems (runs_out line.levels) status old new
+ShowsRuns line status old new = (status ≡ is.OutOfRange) × (new ≡ old)
+
+abbrev pub GivesRuns : ℕ → Status → SessionState → List RunOut × ℕ → List RunOut × ℕ → Type 0
+GivesRuns n status state = ShowsRuns (slice_get (lines_in state.kept) n) status
+
+-- The bytes of a range of items are stored. They are collected before they are copied, so an allocation may
+-- fail before their number is known.
+abbrev pub PutsRange : ℕ → ℕ → ℕ → List ℕ → Status → List ℕ × ℕ → List ℕ × ℕ → Type 0
+PutsRange size first count bytes status old new =
+    Given (first + count ≤ size) is.OutOfRange status (new ≡ old)
+    (OrNoMemory (0 < length bytes) status (new ≡ old) (PutsItems bytes status old new))
+
+-- the reason why the bytes of a range were not collected: the range is past the end, or an allocation failed
+abbrev pub RangeNot : ℕ → ℕ → ℕ → List ℕ → RangeFault → Type 0
+RangeNot size first count bytes OutOfRange = size < first + count
+RangeNot size first count bytes (Write fault) = (first + count ≤ size) × (0 < length bytes)
+
+-- the printed bytes of lines are stored
+abbrev pub PutsLines : ℕ → ℕ → Print → Status → SessionState → List ℕ × ℕ → List ℕ × ℕ → Type 0
+PutsLines first count print status state = PutsRange (length (lines_in state.kept)) first count (lines_page state first count print) status
+
+-- characters are stored as UTF-8
+abbrev pub PutsText : ℕ → ℕ → Status → SessionState → List ℕ × ℕ → List ℕ × ℕ → Type 0
+PutsText pos count status state = PutsRange (length (text_at state)) pos count (utf8_part state.kept pos count) status
+
+-- the characters of a range of the text are stored
+abbrev pub PutsCharacters : ℕ → ℕ → Status → SessionState → List ℕ × ℕ → List ℕ × ℕ → Type 0
+PutsCharacters pos count status state old new =
+    Given (pos + count ≤ length (text_at state)) is.OutOfRange status (new ≡ old)
+    (PutsItems (slice_range (text_at state) pos (pos + count)) status old new)
+
+abbrev pub position_out : ℕ × ℕ → PositionOut
+position_out place = record { pos = place.0; rest = place.1 }
+
+-- the offset of a position is stored
+abbrev pub GivesOffset : Encoding → ℕ → Status → SessionState → ℕ → ℕ → Type 0
+GivesOffset encoding pos status state = Gives (offset_of encoding (text_at state) pos) status
+
+-- the position of an offset is stored, and how many bytes or code units of the character there precede the offset
+abbrev pub GivesPosition : Encoding → ℕ → Status → SessionState → PositionOut → PositionOut → Type 0
+GivesPosition encoding offset status state = Gives (option_map position_out (position_of encoding (text_at state) offset)) status
 
 -- the information about a paragraph whose first character is at `start` and whose first line has number `first_line`
 abbrev pub paragraph_out : ℕ → ℕ → Layout → ParagraphOut

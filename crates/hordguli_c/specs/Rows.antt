@@ -15,7 +15,7 @@ use Rattle.hordguli_c.specs.Calls.{Given, OrNoMemory}
 use Rattle.hordguli_c.specs.Options.{has_bit}
 use Rattle.hordguli_c.specs.Runs.{runs_out}
 use Rattle.hordguli_c.specs.declared.row_calls.LaidRow.{LaidRow}
-use Rattle.hordguli_c.specs.declared.run_calls.RunOut.{RunOut}
+use Rattle.hordguli_c.specs.declared.runs.RunOut.{RunOut}
 use Rattle.hordguli_c.specs.declared.status.Status.{Status}
 use Rattle.hordguli_c.specs.declared.status.Status.TheVariants as is
 

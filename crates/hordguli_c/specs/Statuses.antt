@@ -1,5 +1,7 @@
--- The numbers of the statuses, as in include/hordguli.h.
+-- The numbers of the statuses, as in include/hordguli.h, and the statuses of faults.
 use Rattle.std.specs.Prelude.{ℕ, ◌≤◌, List, [], ◌∷◌, slice_index_or}
+use Rattle.session.specs.declared.edits.EditFault.{EditFault}
+use Rattle.session.specs.declared.edits.EditFault.TheVariants as faults
 use Rattle.hordguli_c.specs.declared.status.Status.{Status}
 use Rattle.hordguli_c.specs.declared.status.Status.TheVariants as is
 
@@ -16,3 +18,11 @@ status_of number = slice_index_or statuses number is.NoRoom
 pub record Returns (says : Status → Type 0) (number : ℕ) : Type 0 where
   pub status : says (status_of number)
   pub within : number ≤ 12
+
+-- the status of each fault of an edit
+abbrev pub edit_status : EditFault → Status
+edit_status faults.OutOfRange = is.OutOfRange
+edit_status faults.WidthOutOfRange = is.WidthOutOfRange
+edit_status faults.TextTooLong = is.TextTooLong
+edit_status faults.ParagraphTooLong = is.ParagraphTooLong
+edit_status faults.NoMemory = is.NoMemory

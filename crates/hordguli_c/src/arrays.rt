@@ -4,7 +4,7 @@ ghost use Rattle.std.specs.Prelude.{IfErr, IfOk, IsFalse, IsTrue, OnErr};
 ghost use Rattle.std.specs.Char.{IsScalar};
 ghost use Rattle.hordguli_c.specs.Arrays.{has_room, put, put_if, PutsItems};
 ghost use Rattle.hordguli_c.specs.Lines.{columns_in};
-ghost use Rattle.hordguli_c.specs.Paragraphs.{CharactersNot, mark_number};
+ghost use Rattle.hordguli_c.specs.Levels.{CharactersNot, mark_number};
 
 use crate::status::{Status, number_of};
 use breaks::Mark;

@@ -1,19 +1,373 @@
-//! Functions for the edges of positions, and for steps from edge to edge.
-ghost use Rattle.std.specs.Prelude.{◌≡◌, ◌≤◌, length};
-ghost use Rattle.hordguli_c.specs.Arrays.{put, PutsItems};
-ghost use Rattle.hordguli_c.specs.Calls.{Asks, AsksBy};
+//! Functions for carets and for the edges of positions: places, hits, clusters, words, selections and steps.
+ghost use Rattle.std.specs.Prelude.{◌≡◌, ◌≤◌, length, option_map};
+ghost use Rattle.lines.specs.Engine.{rules_of};
+ghost use Rattle.session.specs.Carets.{caret_at};
 ghost use Rattle.session.specs.Edges.{is_edge_in};
+ghost use Rattle.session.specs.Hits.{hit_at};
+ghost use Rattle.session.specs.Places.{place_at};
+ghost use Rattle.hordguli_c.specs.Arrays.{put, PutsItems};
+ghost use Rattle.hordguli_c.specs.Calls.{Asks, AsksBy, Gives};
+ghost use Rattle.hordguli_c.specs.Edges.{caret_out, hit_out, place_out, GivesCluster, GivesWord};
 ghost use Rattle.hordguli_c.specs.Edges.{edge_of, edge_out, side_of, step_direction, step_of};
+ghost use Rattle.hordguli_c.specs.Edges.{spans_out, GivesSpans};
 ghost use Rattle.hordguli_c.specs.Edges.{GivesEdge, GivesEdgeCaret, GivesLineClusters, GivesLineEdges};
 ghost use Rattle.hordguli_c.specs.Edges.{GivesStep};
-ghost use Rattle.hordguli_c.specs.Places.{caret_out};
 ghost use Rattle.hordguli_c.specs.Statuses.{Returns};
 
-use crate::place_calls::CaretOut;
+use crate::flags::flag;
 use crate::session_handle::{SessionHandle, SessionObject};
 use crate::status::{Status, number_of};
+use lines::VisualLine;
 use session::{Caret, Direction, Edge, Side};
 use std::alloc::Global;
+
+/// The place of a character (`hordguli_place` in C).
+#[repr(C)]
+#[derive(Clone, Copy)]
+pub struct PlaceOut {
+    pub paragraph: usize,
+    pub line: usize,
+    pub offset: usize,
+}
+
+fn find_place(session: &SessionObject, pos: usize, place: &mut PlaceOut) -> Status
+    ensures { Gives (option_map place_out (place_at (rules_of session.now.engine) session.now.kept pos))
+        result place.old place.new }
+{
+    match session.place(pos) {
+        Some(found) => {
+            *place = PlaceOut {
+                paragraph: found.paragraph,
+                line: found.line,
+                offset: found.offset,
+            };
+            Status::Ok
+        }
+        None => Status::OutOfRange,
+    }
+}
+
+/// Stores the place of the character at a position.
+#[unsafe(no_mangle)]
+pub extern "C" fn hordguli_core_place_of(
+    alloc: Global,
+    session: &mut SessionHandle,
+    pos: usize,
+    place: &mut PlaceOut,
+) -> u32
+    ensures unchanged { session.new.held ≡ session.old.held }
+    ensures place { Returns (λ status. Asks (λ status state.
+        Gives (option_map place_out (place_at (rules_of state.engine) state.kept pos)) status) status
+        session.old.held place.old place.new) result }
+{
+    match session.swap(alloc, None) {
+        Some(object) => {
+            let status = find_place(&object, pos, place);
+            session.swap(alloc, Some(object));
+            number_of(status)
+        }
+        None => number_of(Status::Closed),
+    }
+}
+
+/// Where to draw a caret (`hordguli_caret` in C).
+#[repr(C)]
+#[derive(Clone, Copy)]
+pub struct CaretOut {
+    pub line: usize,
+    pub column: usize,
+    pub level: u32,
+    pub zero: u32,
+}
+
+fn find_caret(session: &SessionObject, pos: usize, caret: &mut CaretOut) -> Status
+    ensures { Gives (option_map caret_out (caret_at (rules_of session.now.engine) session.now.kept pos))
+        result caret.old caret.new }
+{
+    match session.caret(pos) {
+        Some(found) => {
+            *caret = CaretOut {
+                line: found.line,
+                column: found.column,
+                level: u32::from(found.level),
+                zero: 0,
+            };
+            Status::Ok
+        }
+        None => Status::OutOfRange,
+    }
+}
+
+/// Stores where to draw the caret before the character at a position.
+#[unsafe(no_mangle)]
+pub extern "C" fn hordguli_core_caret_at(
+    alloc: Global,
+    session: &mut SessionHandle,
+    pos: usize,
+    caret: &mut CaretOut,
+) -> u32
+    ensures unchanged { session.new.held ≡ session.old.held }
+    ensures caret { Returns (λ status. Asks (λ status state.
+        Gives (option_map caret_out (caret_at (rules_of state.engine) state.kept pos)) status) status
+        session.old.held caret.old caret.new) result }
+{
+    match session.swap(alloc, None) {
+        Some(object) => {
+            let status = find_caret(&object, pos, caret);
+            session.swap(alloc, Some(object));
+            number_of(status)
+        }
+        None => number_of(Status::Closed),
+    }
+}
+
+/// The character at a column (`hordguli_hit` in C).
+#[repr(C)]
+#[derive(Clone, Copy)]
+pub struct HitOut {
+    pub pos: usize,
+    pub trailing: u32,
+    pub zero: u32,
+}
+
+fn find_hit(session: &SessionObject, line: usize, column: usize, hit: &mut HitOut) -> Status
+    ensures { Gives (option_map hit_out (hit_at session.now.kept line column)) result hit.old hit.new }
+{
+    match session.hit(line, column) {
+        Some(found) => {
+            *hit = HitOut {
+                pos: found.pos,
+                trailing: flag(found.trailing),
+                zero: 0,
+            };
+            Status::Ok
+        }
+        None => Status::OutOfRange,
+    }
+}
+
+/// Stores the character that covers a column of a line.
+#[unsafe(no_mangle)]
+pub extern "C" fn hordguli_core_hit_at(
+    alloc: Global,
+    session: &mut SessionHandle,
+    line: usize,
+    column: usize,
+    hit: &mut HitOut,
+) -> u32
+    ensures unchanged { session.new.held ≡ session.old.held }
+    ensures hit { Returns (λ status.
+        Asks (λ status state. Gives (option_map hit_out (hit_at state.kept line column)) status)
+        status session.old.held hit.old hit.new) result }
+{
+    match session.swap(alloc, None) {
+        Some(object) => {
+            let status = find_hit(&object, line, column, hit);
+            session.swap(alloc, Some(object));
+            number_of(status)
+        }
+        None => number_of(Status::Closed),
+    }
+}
+
+/// A grapheme cluster (`hordguli_cluster` in C).
+#[repr(C)]
+#[derive(Clone, Copy)]
+pub struct ClusterOut {
+    pub start: usize,
+    pub end: usize,
+}
+
+fn find_cluster(session: &SessionObject, pos: usize, cluster: &mut ClusterOut) -> Status
+    ensures { GivesCluster pos result session.now cluster.old cluster.new }
+{
+    match session.cluster(pos) {
+        Ok(Some(found)) => {
+            *cluster = ClusterOut {
+                start: found.start,
+                end: found.end,
+            };
+            Status::Ok
+        }
+        Ok(None) => Status::OutOfRange,
+        Err(_) => Status::NoMemory,
+    }
+}
+
+/// Stores the grapheme cluster of the character at a position.
+#[unsafe(no_mangle)]
+pub extern "C" fn hordguli_core_cluster_at(
+    alloc: Global,
+    session: &mut SessionHandle,
+    pos: usize,
+    cluster: &mut ClusterOut,
+) -> u32
+    ensures unchanged { session.new.held ≡ session.old.held }
+    ensures cluster { Returns (λ status.
+        Asks (GivesCluster pos) status session.old.held cluster.old cluster.new) result }
+{
+    match session.swap(alloc, None) {
+        Some(object) => {
+            let status = find_cluster(&object, pos, cluster);
+            session.swap(alloc, Some(object));
+            number_of(status)
+        }
+        None => number_of(Status::Closed),
+    }
+}
+
+/// A word (`hordguli_word` in C). `kind` is 1 if it has a letter or a digit, else 0.
+#[repr(C)]
+#[derive(Clone, Copy)]
+pub struct WordOut {
+    pub start: usize,
+    pub end: usize,
+    pub kind: u32,
+    pub zero: u32,
+}
+
+fn find_word(session: &SessionObject, pos: usize, word: &mut WordOut) -> Status
+    ensures { GivesWord pos result session.now word.old word.new }
+{
+    match session.word(pos) {
+        Ok(Some(found)) => {
+            *word = WordOut {
+                start: found.start,
+                end: found.end,
+                kind: u32::from(found.has_letter),
+                zero: 0,
+            };
+            Status::Ok
+        }
+        Ok(None) => Status::OutOfRange,
+        Err(_) => Status::NoMemory,
+    }
+}
+
+/// Stores the word of the character at a position.
+#[unsafe(no_mangle)]
+pub extern "C" fn hordguli_core_word_at(
+    alloc: Global,
+    session: &mut SessionHandle,
+    pos: usize,
+    word: &mut WordOut,
+) -> u32
+    ensures unchanged { session.new.held ≡ session.old.held }
+    ensures word { Returns (λ status.
+        Asks (GivesWord pos) status session.old.held word.old word.new) result }
+{
+    match session.swap(alloc, None) {
+        Some(object) => {
+            let status = find_word(&object, pos, word);
+            session.swap(alloc, Some(object));
+            number_of(status)
+        }
+        None => number_of(Status::Closed),
+    }
+}
+
+/// An interval of columns (`hordguli_span` in C).
+#[repr(C)]
+#[derive(Clone, Copy)]
+pub struct SpanOut {
+    pub left: usize,
+    pub right: usize,
+}
+
+// Returns the number of spans of a range. Positions count from the start of the line.
+fn span_count(line: &VisualLine<'_>, from: usize, to: usize) -> usize
+    ensures { result ≡ length (spans_out line.now from to) }
+{
+    // There are no more spans than columns, and the contract of `columns_left` bounds these.
+    let _columns = line.columns_left(line.vtol().len());
+    let mut count = 0;
+    for _span in line.spans(from, to) {
+        count += 1;
+    }
+    count
+}
+
+// Copies the spans of a range to the front of an array. Positions count from the start of the line.
+fn put_each_span(line: &VisualLine<'_>, from: usize, to: usize, array: &mut [SpanOut])
+    requires { length (spans_out line.now from to) ≤ length array.old }
+    ensures { array.new ≡ put (spans_out line.now from to) array.old }
+{
+    let mut k = 0;
+    for span in line.spans(from, to) {
+        array[k] = SpanOut {
+            left: span.left,
+            right: span.right,
+        };
+        k += 1;
+    }
+}
+
+fn put_spans(
+    line: &VisualLine<'_>,
+    from: usize,
+    to: usize,
+    array: &mut [SpanOut],
+    count: &mut usize,
+) -> Status
+    ensures { PutsItems (spans_out line.now from to) result (array.old, count.old) (array.new, count.new) }
+{
+    *count = span_count(line, from, to);
+    if array.len() < *count {
+        return Status::NoRoom;
+    }
+    put_each_span(line, from, to, array);
+    Status::Ok
+}
+
+fn find_spans(
+    session: &SessionObject,
+    n: usize,
+    from: usize,
+    to: usize,
+    array: &mut [SpanOut],
+    count: &mut usize,
+) -> Status
+    ensures { GivesSpans n from to result session.now (array.old, count.old) (array.new, count.new) }
+{
+    let Some(start) = session.line_start(n) else {
+        return Status::OutOfRange;
+    };
+    let Some(line) = session.line(n) else {
+        return Status::OutOfRange;
+    };
+    put_spans(
+        &line,
+        from.saturating_sub(start),
+        to.saturating_sub(start),
+        array,
+        count,
+    )
+}
+
+/// Stores the columns that a range of characters covers in a line.
+#[unsafe(no_mangle)]
+pub extern "C" fn hordguli_core_spans(
+    alloc: Global,
+    session: &mut SessionHandle,
+    n: usize,
+    from: usize,
+    to: usize,
+    array: &mut [SpanOut],
+    count: &mut usize,
+) -> u32
+    ensures unchanged { session.new.held ≡ session.old.held }
+    ensures spans { Returns (λ status. Asks (GivesSpans n from to) status session.old.held
+        (array.old, count.old) (array.new, count.new)) result }
+{
+    match session.swap(alloc, None) {
+        Some(object) => {
+            let status = find_spans(&object, n, from, to, array, count);
+            session.swap(alloc, Some(object));
+            number_of(status)
+        }
+        None => number_of(Status::Closed),
+    }
+}
 
 // The sides and directions of include/hordguli.h.
 const BEFORE: u32 = 0;

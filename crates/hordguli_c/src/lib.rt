@@ -1,25 +1,19 @@
-//! The functions of the C library.
+//! The functions of the C library. The files `*_calls.rt` follow the sections of include/hordguli.h.
 #![tactic(auto)]
 
 mod arrays;
 mod edge_calls;
-mod edit_calls;
-mod layout_calls;
+mod flags;
+mod level_calls;
 mod line_calls;
-mod offset_calls;
 mod options;
-mod page_calls;
-mod paragraph_calls;
-mod place_calls;
-mod property_calls;
 mod raw_box;
 mod row_calls;
-mod run_calls;
+mod runs;
 mod session_calls;
 mod session_handle;
-mod span_calls;
 mod status;
-mod tables_calls;
+mod table_calls;
 mod tables_handle;
 mod tables_object;
 mod text_calls;

@@ -21,7 +21,7 @@ ghost use Rattle.hordguli_c.specs.Statuses.{Returns};
 
 use crate::arrays::{are_characters, collect_characters, has_room, put_levels_if, put_places_if};
 use crate::options::{has_bit, row_options_of};
-use crate::run_calls::{RunOut, put_runs};
+use crate::runs::{RunOut, put_runs};
 use crate::status::{Status, number_of};
 use crate::tables_handle::TablesHandle;
 use lines::{Options, cluster_ends};

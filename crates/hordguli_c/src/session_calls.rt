@@ -1,20 +1,22 @@
-//! Functions that open and close a session, and store its size and its work counters.
+//! Functions that open, edit and close a session, and store its size and its work counters.
 ghost use Rattle.std.specs.Prelude.{◌≡◌, chars, length, None, Some, MatchResult};
 ghost use Rattle.lines.specs.Engine.{analysed_of, filled_of, written_of};
+ghost use Rattle.session.specs.Edits.{deletion, insertion, replacing};
 ghost use Rattle.session.specs.Kept.{lines_in};
 ghost use Rattle.session.specs.Sessions.{text_at};
-ghost use Rattle.hordguli_c.specs.Calls.{Asks, Gives};
-ghost use Rattle.hordguli_c.specs.Statuses.{Returns};
-ghost use Rattle.hordguli_c.specs.Opening.{IsFresh, IsOpened, IsRefused, OpensOn, OpensSession};
+ghost use Rattle.hordguli_c.specs.Calls.{Asks, Changes, Gives, OfText};
 ghost use Rattle.hordguli_c.specs.Options.{options_of};
+ghost use Rattle.hordguli_c.specs.Sessions.{IsFresh, IsOpened, IsRefused, OpensOn, OpensSession};
+ghost use Rattle.hordguli_c.specs.Sessions.{damage_out, TriesEdit, TriesWidth};
+ghost use Rattle.hordguli_c.specs.Statuses.{Returns};
+ghost use Rattle.hordguli_c.specs.declared.status.Status.TheVariants.{Ok};
 
-use crate::edit_calls::edit_status;
 use crate::options::options_of;
 use crate::session_handle::{SessionHandle, SessionObject};
-use crate::status::{Status, number_of};
+use crate::status::{Status, edit_status, number_of};
 use crate::tables_handle::TablesHandle;
 use lines::{Engine, Options};
-use session::Session;
+use session::{Damage, Session};
 use simdutf8::compat::from_utf8;
 use std::alloc::Global;
 use ucd::Tables;
@@ -105,6 +107,176 @@ pub extern "C" fn hordguli_core_session_close(alloc: Global, session: &mut Sessi
     ensures { session.new.held ≡ None }
 {
     session.swap(alloc, None);
+}
+
+/// What an edit replaced (`hordguli_damage` in C).
+#[repr(C)]
+#[derive(Clone, Copy)]
+pub struct DamageOut {
+    pub first_line: usize,
+    pub old_lines: usize,
+    pub new_lines: usize,
+    pub first_paragraph: usize,
+    pub old_paragraphs: usize,
+    pub new_paragraphs: usize,
+}
+
+// Stores the damage of an edit, and returns `Ok`.
+fn tell(damage: Damage, out: &mut DamageOut) -> Status
+    ensures status { result ≡ Ok }
+    ensures damage { out.new ≡ damage_out damage }
+{
+    *out = DamageOut {
+        first_line: damage.first_line,
+        old_lines: damage.old_lines,
+        new_lines: damage.new_lines,
+        first_paragraph: damage.first_par,
+        old_paragraphs: damage.old_pars,
+        new_paragraphs: damage.new_pars,
+    };
+    Status::Ok
+}
+
+fn insert(session: &mut SessionObject, pos: usize, text: &str, damage: &mut DamageOut) -> Status
+    ensures { TriesEdit (insertion pos (chars text.now)) result session.old session.new
+        damage.old damage.new }
+{
+    match session.insert(pos, text) {
+        Ok(made) => tell(made, damage),
+        Err(fault) => edit_status(fault),
+    }
+}
+
+/// Inserts text before the character at a position, or at the end of the text.
+#[unsafe(no_mangle)]
+pub extern "C" fn hordguli_core_insert(
+    alloc: Global,
+    session: &mut SessionHandle,
+    pos: usize,
+    text: &[u8],
+    damage: &mut DamageOut,
+) -> u32
+    ensures { Returns (λ status. OfText text.now status
+        ((session.new.held ≡ session.old.held) × (damage.new ≡ damage.old))
+        (λ piece. Changes (TriesEdit (insertion pos piece)) status
+        session.old.held session.new.held damage.old damage.new)) result }
+{
+    let Ok(text) = from_utf8(text) else {
+        return number_of(Status::NotUtf8);
+    };
+    match session.swap(alloc, None) {
+        Some(mut object) => {
+            let status = insert(&mut object, pos, text, damage);
+            session.swap(alloc, Some(object));
+            number_of(status)
+        }
+        None => number_of(Status::Closed),
+    }
+}
+
+fn delete(session: &mut SessionObject, pos: usize, count: usize, damage: &mut DamageOut) -> Status
+    ensures { TriesEdit (deletion pos count) result session.old session.new damage.old damage.new }
+{
+    match session.delete(pos, count) {
+        Ok(made) => tell(made, damage),
+        Err(fault) => edit_status(fault),
+    }
+}
+
+/// Deletes characters, starting at a position.
+#[unsafe(no_mangle)]
+pub extern "C" fn hordguli_core_delete(
+    alloc: Global,
+    session: &mut SessionHandle,
+    pos: usize,
+    count: usize,
+    damage: &mut DamageOut,
+) -> u32
+    ensures { Returns (λ status. Changes (TriesEdit (deletion pos count)) status
+        session.old.held session.new.held damage.old damage.new) result }
+{
+    match session.swap(alloc, None) {
+        Some(mut object) => {
+            let status = delete(&mut object, pos, count, damage);
+            session.swap(alloc, Some(object));
+            number_of(status)
+        }
+        None => number_of(Status::Closed),
+    }
+}
+
+fn replace(
+    session: &mut SessionObject,
+    pos: usize,
+    count: usize,
+    text: &str,
+    damage: &mut DamageOut,
+) -> Status
+    ensures { TriesEdit (replacing pos count (chars text.now)) result session.old session.new
+        damage.old damage.new }
+{
+    match session.replace(pos, count, text) {
+        Ok(made) => tell(made, damage),
+        Err(fault) => edit_status(fault),
+    }
+}
+
+/// Replaces characters, starting at a position, with text.
+#[unsafe(no_mangle)]
+pub extern "C" fn hordguli_core_replace(
+    alloc: Global,
+    session: &mut SessionHandle,
+    pos: usize,
+    count: usize,
+    text: &[u8],
+    damage: &mut DamageOut,
+) -> u32
+    ensures { Returns (λ status. OfText text.now status
+        ((session.new.held ≡ session.old.held) × (damage.new ≡ damage.old))
+        (λ piece. Changes (TriesEdit (replacing pos count piece)) status
+        session.old.held session.new.held damage.old damage.new)) result }
+{
+    let Ok(text) = from_utf8(text) else {
+        return number_of(Status::NotUtf8);
+    };
+    match session.swap(alloc, None) {
+        Some(mut object) => {
+            let status = replace(&mut object, pos, count, text, damage);
+            session.swap(alloc, Some(object));
+            number_of(status)
+        }
+        None => number_of(Status::Closed),
+    }
+}
+
+fn set_width(session: &mut SessionObject, width: u16, damage: &mut DamageOut) -> Status
+    ensures { TriesWidth width result session.old session.new damage.old damage.new }
+{
+    match session.set_width(width) {
+        Ok(made) => tell(made, damage),
+        Err(fault) => edit_status(fault),
+    }
+}
+
+/// Sets the width, in columns, and rewraps the paragraphs.
+#[unsafe(no_mangle)]
+pub extern "C" fn hordguli_core_set_width(
+    alloc: Global,
+    session: &mut SessionHandle,
+    width: u16,
+    damage: &mut DamageOut,
+) -> u32
+    ensures { Returns (λ status.
+        Changes (TriesWidth width) status session.old.held session.new.held damage.old damage.new) result }
+{
+    match session.swap(alloc, None) {
+        Some(mut object) => {
+            let status = set_width(&mut object, width, damage);
+            session.swap(alloc, Some(object));
+            number_of(status)
+        }
+        None => number_of(Status::Closed),
+    }
 }
 
 /// The size of a session (`hordguli_counts` in C).

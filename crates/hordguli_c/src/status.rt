@@ -1,6 +1,8 @@
 //! The statuses that the functions return.
 ghost use Rattle.std.specs.Prelude.{◌≡◌, ◌≤◌};
-ghost use Rattle.hordguli_c.specs.Statuses.{status_of};
+ghost use Rattle.hordguli_c.specs.Statuses.{edit_status, status_of};
+
+use session::EditFault;
 
 /// The result of a call. The numbers are those of include/hordguli.h, and never change.
 #[derive(Clone, Copy)]
@@ -27,4 +29,17 @@ pub fn number_of(status: Status) -> u32
     ensures within { result ≤ 12 }
 {
     status as u32
+}
+
+/// Returns the status of a fault.
+pub fn edit_status(fault: EditFault) -> Status
+    ensures { result ≡ edit_status fault }
+{
+    match fault {
+        EditFault::OutOfRange => Status::OutOfRange,
+        EditFault::WidthOutOfRange => Status::WidthOutOfRange,
+        EditFault::TextTooLong => Status::TextTooLong,
+        EditFault::ParagraphTooLong => Status::ParagraphTooLong,
+        EditFault::NoMemory => Status::NoMemory,
+    }
 }

@@ -1,11 +1,10 @@
 //! Tables, with the buffers that the layout of a text without a session reuses.
 ghost use Rattle.std.specs.Prelude.{◌≡◌, chars, IfOk};
-ghost use Rattle.hordguli_c.specs.Pages.{PutsPage};
+ghost use Rattle.hordguli_c.specs.Texts.{PutsPage};
 
 use crate::arrays::put_bytes;
-use crate::edit_calls::edit_status;
 use crate::options::PageForm;
-use crate::status::Status;
+use crate::status::{Status, edit_status};
 use lines::{Engine, Options};
 use session::opening_refusal;
 use std::alloc::{AllocError, Global};

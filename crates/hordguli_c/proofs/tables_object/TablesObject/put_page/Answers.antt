@@ -5,7 +5,7 @@ use Rattle.lines.specs.Engine.{rules_of}
 use Rattle.lines.specs.Layouts.{cut_by}
 use Rattle.session.specs.Sessions.{opening_refusal}
 use Rattle.ucd.specs.declared.tables.Tables.{Tables}
-use Rattle.hordguli_c.specs.Pages.{PutsPage, text_page}
+use Rattle.hordguli_c.specs.Texts.{PutsPage, text_page}
 use Rattle.hordguli_c.specs.declared.status.Status.{Status}
 use Rattle.hordguli_c.proofs.PageLemmas.{lines_are_put, nothing_is_put}
 use Rattle.hordguli_c.proofs.tables_object.TablesObject.put_page.Goals as goal

@@ -1,0 +1,73 @@
+-- The results of opening a session, and of the functions that edit one.
+use Rattle.std.specs.Prelude.{◌≡◌, ℕ, ◌+◌, ◌<◌, ◌⊎◌, List, length, Option, Some, None}
+use Rattle.ucd.specs.declared.tables.Tables.{Tables}
+use Rattle.lines.specs.Engine.{analysed_of, filled_of, rules_of, written_of}
+use Rattle.lines.specs.Layouts.{cut_by}
+use Rattle.lines.specs.declared.engine.Engine.{Engine}
+use Rattle.lines.specs.declared.options.Options.{Options}
+use Rattle.session.specs.Edits.{Replacement}
+use Rattle.session.specs.Sessions.{SessionState, IsAnswerFor, Opens, Edits, EditsNot, SetsWidth, SetsWidthNot, opening_refusal, text_at}
+use Rattle.session.specs.declared.edits.Damage.{Damage}
+use Rattle.session.specs.declared.edits.EditFault.{EditFault}
+use Rattle.session.specs.declared.edits.EditFault.TheVariants as faults
+use Rattle.hordguli_c.specs.Calls.{OfText}
+use Rattle.hordguli_c.specs.Statuses.{edit_status}
+use Rattle.hordguli_c.specs.declared.session_calls.DamageOut.{DamageOut}
+use Rattle.hordguli_c.specs.declared.status.Status.{Status}
+use Rattle.hordguli_c.specs.declared.status.Status.TheVariants as is
+
+-- whether an engine has these tables and options, and has done no work yet
+pub record IsFresh (tables : Tables) (options : Options) (engine : Engine) : Type 0 where
+  pub rules : rules_of engine ≡ record { tables = tables; options = options }
+  pub analysed : analysed_of engine ≡ 0
+  pub filled : filled_of engine ≡ 0
+  pub written : written_of engine ≡ 0
+
+-- a session was opened on a text at a width, with a new engine
+pub record IsOpened (tables : Tables) (options : Options) (text : List ℕ) (width : ℕ) (state : SessionState) : Type 0 where
+  pub engine : Engine
+  pub fresh : IsFresh tables options engine
+  pub opens : Opens engine text width state
+
+-- a session was not opened, for the first reason that applies, or with `NoMemory` if none applies
+pub record IsRefused (tables : Tables) (options : Options) (text : List ℕ) (width : ℕ) (status : Status) : Type 0 where
+  pub fault : EditFault
+  pub reason : IsAnswerFor (opening_refusal (cut_by (record { tables = tables; options = options })) text width) fault
+  pub status_is : status ≡ edit_status fault
+
+-- The result of opening a session on tables. If the tables have too many owners, the call fails with
+-- `NoMemory` before it checks the limits of the text.
+abbrev pub OpensOn : Options → List ℕ → ℕ → Status → Option Tables → Option SessionState → Option SessionState → Type 0
+OpensOn options text width status tables (Some state) after = (status ≡ is.AlreadyOpen) × (after ≡ Some state)
+OpensOn options text width status None None after = (status ≡ is.Closed) × (after ≡ None)
+OpensOn options text width status (Some tables) None (Some state) = (status ≡ is.Ok) × IsOpened tables options text width state
+OpensOn options text width status (Some tables) None None = (status ≡ is.NoMemory) ⊎ IsRefused tables options text width status
+
+abbrev pub OpensSession : Option Options → List ℕ → ℕ → Status → Option Tables → Option SessionState → Option SessionState → Type 0
+OpensSession None bytes width status tables before after = (status ≡ is.UnknownOption) × (after ≡ before)
+OpensSession (Some options) bytes width status tables before after =
+    OfText bytes status (after ≡ before) (λ text. OpensOn options text width status tables before after)
+
+abbrev pub damage_out : Damage → DamageOut
+damage_out damage = record {
+  first_line = damage.first_line;
+  old_lines = damage.old_lines;
+  new_lines = damage.new_lines;
+  first_paragraph = damage.first_par;
+  old_paragraphs = damage.old_pars;
+  new_paragraphs = damage.new_pars;
+}
+
+-- Either an edit is executed and its damage is stored, or it fails and nothing is stored. It fails with
+-- `NoMemory` only if `may_want` holds.
+abbrev pub Tries : (SessionState → SessionState → Damage → Type 0) → (SessionState → SessionState → EditFault → Type 0) → Type 0
+    → Status → SessionState → SessionState → DamageOut → DamageOut → Type 0
+Tries makes refuses may_want status before after old new =
+    ((damage : Damage) × (status ≡ is.Ok) × makes before after damage × (new ≡ damage_out damage))
+    ⊎ ((fault : EditFault) × (status ≡ edit_status fault) × refuses before after fault × (fault ≡ faults.NoMemory → may_want) × (new ≡ old))
+
+abbrev pub TriesEdit : Replacement → Status → SessionState → SessionState → DamageOut → DamageOut → Type 0
+TriesEdit edit status before = Tries (Edits edit) (EditsNot edit) (0 < length (text_at before) + length edit.piece) status before
+
+abbrev pub TriesWidth : ℕ → Status → SessionState → SessionState → DamageOut → DamageOut → Type 0
+TriesWidth width status before = Tries (SetsWidth width) (SetsWidthNot width) (0 < length (text_at before)) status before

@@ -1,0 +1,186 @@
+//! Functions that open and close a handle of tables.
+ghost use Rattle.std.specs.Prelude.{◌≡◌, IfErr, IfOk, None};
+ghost use Rattle.ucd.specs.Imaged.{IsImageOf};
+ghost use Rattle.ucd.specs.Images.{IsImageFault};
+ghost use Rattle.ucd.specs.declared.tables.UcdFiles.{UcdFiles};
+ghost use Rattle.hordguli_c.specs.Statuses.{Returns};
+ghost use Rattle.hordguli_c.specs.Tables.{cause_number, fault_out, ReadsTables, TellsFault};
+ghost use Rattle.hordguli_c.specs.Tables.{image_cause_number, OpensImage, TellsImageFault};
+
+use crate::status::{Status, number_of};
+use crate::tables_handle::TablesHandle;
+use crate::tables_object::TablesObject;
+use std::alloc::{AllocError, Global};
+use ucd::{Cause, FILE_NAMES, ImageFault, TableFault, Tables, UcdFiles};
+
+/// The first malformed line, or the first fault of an image (`hordguli_table_fault` in C).
+#[repr(C)]
+#[derive(Clone, Copy)]
+pub struct TableFaultOut {
+    pub file: usize,
+    pub line: usize,
+    pub cause: usize,
+}
+
+fn cause_number(cause: Cause) -> usize
+    ensures { result ≡ cause_number cause }
+{
+    match cause {
+        Cause::NotAscii => 1,
+        Cause::CodePoint => 2,
+        Cause::Reversed => 3,
+        Cause::FieldCount => 4,
+        Cause::Value => 5,
+        Cause::NamedBefore => 6,
+        Cause::Memory => 7,
+    }
+}
+
+// Stores a fault, and returns its status.
+fn tell(fault: TableFault, out: &mut TableFaultOut) -> Status
+    ensures { TellsFault fault.cause fault result out.old out.new }
+{
+    if fault.cause == Cause::Memory {
+        return Status::NoMemory;
+    }
+    *out = TableFaultOut {
+        file: fault.file.saturating_sub(1),
+        line: fault.line,
+        cause: cause_number(fault.cause),
+    };
+    Status::TableFault
+}
+
+fn image_cause_number(fault: ImageFault) -> usize
+    ensures { result ≡ image_cause_number fault }
+{
+    match fault {
+        ImageFault::Truncated => 8,
+        ImageFault::Magic => 9,
+        ImageFault::Format => 10,
+        ImageFault::Version => 11,
+        ImageFault::Excess => 12,
+        ImageFault::Checksum => 13,
+        ImageFault::PageNumber => 14,
+        ImageFault::Entry => 15,
+        ImageFault::Bracket => 16,
+        ImageFault::Mirror => 17,
+        ImageFault::Flags => 18,
+        ImageFault::Memory => 7,
+    }
+}
+
+// Stores a fault of an image, and returns its status.
+fn tell_image_fault(fault: ImageFault, out: &mut TableFaultOut) -> Status
+    ensures { TellsImageFault fault result out.old out.new }
+{
+    if fault == ImageFault::Memory {
+        return Status::NoMemory;
+    }
+    *out = TableFaultOut {
+        file: FILE_NAMES.len(),
+        line: 0,
+        cause: image_cause_number(fault),
+    };
+    Status::TableFault
+}
+
+// Makes the object of a handle.
+fn boxed(alloc: Global, tables: Tables) -> Result<Box<TablesObject>, AllocError>
+    ensures { IfOk result (λ object. object.value ≡ tables) }
+{
+    Ok(Box::new(alloc, TablesObject::new(alloc, tables)?)?)
+}
+
+/// Opens tables from the contents of the files, each in its own slice.
+#[unsafe(no_mangle)]
+pub extern "C" fn hordguli_core_tables_read(
+    alloc: Global,
+    tables: &mut TablesHandle,
+    bidi_class: &[u8],
+    bidi_brackets: &[u8],
+    bidi_mirroring: &[u8],
+    line_break: &[u8],
+    general_category: &[u8],
+    east_asian_width: &[u8],
+    emoji_data: &[u8],
+    fault: &mut TableFaultOut,
+) -> u32
+    ensures { Returns (λ status. ReadsTables (record {
+      bidi_class = bidi_class.entry;
+      bidi_brackets = bidi_brackets.entry;
+      bidi_mirroring = bidi_mirroring.entry;
+      line_break = line_break.entry;
+      general_category = general_category.entry;
+      east_asian_width = east_asian_width.entry;
+      emoji_data = emoji_data.entry;
+    }) status tables.old.held tables.new.held fault.old fault.new) result }
+{
+    if let Some(object) = tables.swap(alloc, None) {
+        tables.swap(alloc, Some(object));
+        return number_of(Status::AlreadyOpen);
+    }
+    let files = UcdFiles {
+        bidi_class,
+        bidi_brackets,
+        bidi_mirroring,
+        line_break,
+        general_category,
+        east_asian_width,
+        emoji_data,
+    };
+    match Tables::read(alloc, &files) {
+        Ok(read) => match boxed(alloc, read) {
+            Ok(object) => {
+                tables.swap(alloc, Some(object));
+                number_of(Status::Ok)
+            }
+            Err(_) => number_of(Status::NoMemory),
+        },
+        Err(refused) => number_of(tell(refused, fault)),
+    }
+}
+
+// Decodes an image, and makes the object of its handle.
+fn decoded(alloc: Global, image: &[u8]) -> Result<Box<TablesObject>, ImageFault>
+    ensures ok { IfOk result (λ object. IsImageOf image.now object.value) }
+    ensures err { IfErr result (IsImageFault image.now) }
+{
+    let tables = Tables::from_image(alloc, image)?;
+    match boxed(alloc, tables) {
+        Ok(object) => Ok(object),
+        Err(_) => Err(ImageFault::Memory),
+    }
+}
+
+/// Opens tables from a compiled image.
+#[unsafe(no_mangle)]
+pub extern "C" fn hordguli_core_tables_open_image(
+    alloc: Global,
+    tables: &mut TablesHandle,
+    image: &[u8],
+    fault: &mut TableFaultOut,
+) -> u32
+    ensures { Returns (λ status. OpensImage image.now status tables.old.held tables.new.held
+        fault.old fault.new) result }
+{
+    if let Some(object) = tables.swap(alloc, None) {
+        tables.swap(alloc, Some(object));
+        return number_of(Status::AlreadyOpen);
+    }
+    match decoded(alloc, image) {
+        Ok(object) => {
+            tables.swap(alloc, Some(object));
+            number_of(Status::Ok)
+        }
+        Err(refused) => number_of(tell_image_fault(refused, fault)),
+    }
+}
+
+/// Closes a handle of tables. Frees the tables once no open session uses them.
+#[unsafe(no_mangle)]
+pub extern "C" fn hordguli_core_tables_close(alloc: Global, tables: &mut TablesHandle)
+    ensures { tables.new.held ≡ None }
+{
+    tables.swap(alloc, None);
+}

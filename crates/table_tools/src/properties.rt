@@ -1,0 +1,76 @@
+//! The properties of characters in the table files.
+
+use anyhow::Result;
+use std::alloc::Global;
+use std::io;
+use std::io::{BufWriter, Write};
+use tables::in_folder;
+use ucd::{BidiClass, Tables};
+
+/// Prints the properties of characters in the table files of a folder. Each line is one property of a
+/// character: a bidi class other than L, a bracket and whether it is an opening one, or a mirror.
+pub fn print_properties(rt: &HostRuntime, folder: &str) -> Result<()> {
+    let tables = in_folder(rt, folder)?;
+    write_buffered(rt, &tables)
+}
+
+fn write_buffered(rt: &HostRuntime, tables: &Tables) -> Result<()> {
+    let mut output = BufWriter::new(rt.alloc(), io::writer(rt))?;
+    write_all(tables, &mut output)
+}
+
+fn write_all<W: Write>(tables: &Tables, output: &mut W) -> Result<()> {
+    for number in 0..1_114_112_u32 {
+        if let Some(c) = char::from_u32(number) {
+            write_properties(tables, c, output)?;
+        }
+    }
+    Ok(output.flush()?)
+}
+
+fn write_properties<W: Write>(tables: &Tables, c: char, output: &mut W) -> Result<()> {
+    let class = tables.bidi_class(c);
+    if class != BidiClass::L {
+        writeln!(output, "{:x} class {}", c as u32, name_of(class))?;
+    }
+    if let Some(bracket) = tables.bracket(c) {
+        writeln!(
+            output,
+            "{:x} bracket {:x} {}",
+            c as u32, bracket.pair as u32, bracket.opens
+        )?;
+    }
+    if let Some(mirror) = tables.mirror(c) {
+        writeln!(output, "{:x} mirror {:x}", c as u32, mirror as u32)?;
+    }
+    Ok(())
+}
+
+// Returns FriBidi's name of a class.
+fn name_of(class: BidiClass) -> &'static str {
+    match class {
+        BidiClass::L => "LTR",
+        BidiClass::R => "RTL",
+        BidiClass::AL => "AL",
+        BidiClass::EN => "EN",
+        BidiClass::ES => "ES",
+        BidiClass::ET => "ET",
+        BidiClass::AN => "AN",
+        BidiClass::CS => "CS",
+        BidiClass::NSM => "NSM",
+        BidiClass::BN => "BN",
+        BidiClass::B => "BS",
+        BidiClass::S => "SS",
+        BidiClass::WS => "WS",
+        BidiClass::ON => "ON",
+        BidiClass::LRE => "LRE",
+        BidiClass::LRO => "LRO",
+        BidiClass::RLE => "RLE",
+        BidiClass::RLO => "RLO",
+        BidiClass::PDF => "PDF",
+        BidiClass::LRI => "LRI",
+        BidiClass::RLI => "RLI",
+        BidiClass::FSI => "FSI",
+        BidiClass::PDI => "PDI",
+    }
+}
