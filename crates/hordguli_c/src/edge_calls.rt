@@ -14,6 +14,7 @@ ghost use Rattle.hordguli_c.specs.Edges.{GivesEdge, GivesEdgeCaret, GivesLineClu
 ghost use Rattle.hordguli_c.specs.Edges.{GivesStep};
 ghost use Rattle.hordguli_c.specs.Statuses.{Returns};
 
+use crate::calls::with_object;
 use crate::flags::flag;
 use crate::session_handle::{SessionHandle, SessionObject};
 use crate::status::{Status, number_of};
@@ -60,14 +61,7 @@ pub extern "C" fn hordguli_core_place_of(
         Gives (option_map place_out (place_at (rules_of state.engine) state.kept pos)) status) status
         session.old.held place.old place.new) result }
 {
-    match session.swap(alloc, None) {
-        Some(object) => {
-            let status = find_place(&object, pos, place);
-            session.swap(alloc, Some(object));
-            number_of(status)
-        }
-        None => number_of(Status::Closed),
-    }
+    with_object!(session, alloc, object, find_place(&object, pos, place))
 }
 
 /// Where to draw a caret (`hordguli_caret` in C).
@@ -111,14 +105,7 @@ pub extern "C" fn hordguli_core_caret_at(
         Gives (option_map caret_out (caret_at (rules_of state.engine) state.kept pos)) status) status
         session.old.held caret.old caret.new) result }
 {
-    match session.swap(alloc, None) {
-        Some(object) => {
-            let status = find_caret(&object, pos, caret);
-            session.swap(alloc, Some(object));
-            number_of(status)
-        }
-        None => number_of(Status::Closed),
-    }
+    with_object!(session, alloc, object, find_caret(&object, pos, caret))
 }
 
 /// The character at a column (`hordguli_hit` in C).
@@ -160,14 +147,7 @@ pub extern "C" fn hordguli_core_hit_at(
         Asks (λ status state. Gives (option_map hit_out (hit_at state.kept line column)) status)
         status session.old.held hit.old hit.new) result }
 {
-    match session.swap(alloc, None) {
-        Some(object) => {
-            let status = find_hit(&object, line, column, hit);
-            session.swap(alloc, Some(object));
-            number_of(status)
-        }
-        None => number_of(Status::Closed),
-    }
+    with_object!(session, alloc, object, find_hit(&object, line, column, hit))
 }
 
 /// A grapheme cluster (`hordguli_cluster` in C).
@@ -206,14 +186,7 @@ pub extern "C" fn hordguli_core_cluster_at(
     ensures cluster { Returns (λ status.
         Asks (GivesCluster pos) status session.old.held cluster.old cluster.new) result }
 {
-    match session.swap(alloc, None) {
-        Some(object) => {
-            let status = find_cluster(&object, pos, cluster);
-            session.swap(alloc, Some(object));
-            number_of(status)
-        }
-        None => number_of(Status::Closed),
-    }
+    with_object!(session, alloc, object, find_cluster(&object, pos, cluster))
 }
 
 /// A word (`hordguli_word` in C). `kind` is 1 if it has a letter or a digit, else 0.
@@ -256,14 +229,7 @@ pub extern "C" fn hordguli_core_word_at(
     ensures word { Returns (λ status.
         Asks (GivesWord pos) status session.old.held word.old word.new) result }
 {
-    match session.swap(alloc, None) {
-        Some(object) => {
-            let status = find_word(&object, pos, word);
-            session.swap(alloc, Some(object));
-            number_of(status)
-        }
-        None => number_of(Status::Closed),
-    }
+    with_object!(session, alloc, object, find_word(&object, pos, word))
 }
 
 /// An interval of columns (`hordguli_span` in C).
@@ -359,14 +325,12 @@ pub extern "C" fn hordguli_core_spans(
     ensures spans { Returns (λ status. Asks (GivesSpans n from to) status session.old.held
         (array.old, count.old) (array.new, count.new)) result }
 {
-    match session.swap(alloc, None) {
-        Some(object) => {
-            let status = find_spans(&object, n, from, to, array, count);
-            session.swap(alloc, Some(object));
-            number_of(status)
-        }
-        None => number_of(Status::Closed),
-    }
+    with_object!(
+        session,
+        alloc,
+        object,
+        find_spans(&object, n, from, to, array, count)
+    )
 }
 
 // The sides and directions of include/hordguli.h.
@@ -484,14 +448,12 @@ pub extern "C" fn hordguli_core_edge_caret(
     let Some(edge) = edge_of(pos, side) else {
         return number_of(Status::UnknownOption);
     };
-    match session.swap(alloc, None) {
-        Some(object) => {
-            let status = find_edge_caret(&object, edge, caret);
-            session.swap(alloc, Some(object));
-            number_of(status)
-        }
-        None => number_of(Status::Closed),
-    }
+    with_object!(
+        session,
+        alloc,
+        object,
+        find_edge_caret(&object, edge, caret)
+    )
 }
 
 // Returns whether `edge` exists in a text of `chars` characters.
@@ -549,14 +511,12 @@ pub extern "C" fn hordguli_core_step(
     let Some(asked) = step_of(pos, side, direction) else {
         return number_of(Status::UnknownOption);
     };
-    match session.swap(alloc, None) {
-        Some(object) => {
-            let status = find_step(&object, asked, next, moved);
-            session.swap(alloc, Some(object));
-            number_of(status)
-        }
-        None => number_of(Status::Closed),
-    }
+    with_object!(
+        session,
+        alloc,
+        object,
+        find_step(&object, asked, next, moved)
+    )
 }
 
 fn find_edge(session: &SessionObject, n: usize, column: usize, edge: &mut EdgeOut) -> Status
@@ -585,14 +545,7 @@ pub extern "C" fn hordguli_core_edge_at(
     ensures edge { Returns (λ status. Asks (GivesEdge n column) status
         session.old.held edge.old edge.new) result }
 {
-    match session.swap(alloc, None) {
-        Some(object) => {
-            let status = find_edge(&object, n, column, edge);
-            session.swap(alloc, Some(object));
-            number_of(status)
-        }
-        None => number_of(Status::Closed),
-    }
+    with_object!(session, alloc, object, find_edge(&object, n, column, edge))
 }
 
 fn find_line_edges(
@@ -626,14 +579,12 @@ pub extern "C" fn hordguli_core_line_edges(
     ensures edges { Returns (λ status. Asks (GivesLineEdges n) status
         session.old.held (first.old, last.old) (first.new, last.new)) result }
 {
-    match session.swap(alloc, None) {
-        Some(object) => {
-            let status = find_line_edges(&object, n, first, last);
-            session.swap(alloc, Some(object));
-            number_of(status)
-        }
-        None => number_of(Status::Closed),
-    }
+    with_object!(
+        session,
+        alloc,
+        object,
+        find_line_edges(&object, n, first, last)
+    )
 }
 
 fn put_ends(ends: &[usize], array: &mut [usize], count: &mut usize) -> Status
@@ -675,12 +626,10 @@ pub extern "C" fn hordguli_core_line_clusters(
     ensures clusters { Returns (λ status. Asks (GivesLineClusters n) status session.old.held
         (array.old, count.old) (array.new, count.new)) result }
 {
-    match session.swap(alloc, None) {
-        Some(object) => {
-            let status = find_line_clusters(&object, n, array, count);
-            session.swap(alloc, Some(object));
-            number_of(status)
-        }
-        None => number_of(Status::Closed),
-    }
+    with_object!(
+        session,
+        alloc,
+        object,
+        find_line_clusters(&object, n, array, count)
+    )
 }

@@ -11,6 +11,7 @@ ghost use Rattle.hordguli_c.specs.Options.{direction_of, tailoring_of};
 ghost use Rattle.hordguli_c.specs.Statuses.{Returns};
 
 use crate::arrays::{are_characters, characters_of, put_levels, put_marks};
+use crate::calls::with_object;
 use crate::options::{direction_of, tailoring_of};
 use crate::status::{Status, number_of};
 use crate::tables_handle::TablesHandle;
@@ -55,14 +56,12 @@ pub extern "C" fn hordguli_core_base(
     let Some(base) = direction_of(direction) else {
         return number_of(Status::UnknownOption);
     };
-    match tables.swap(alloc, None) {
-        Some(object) => {
-            let status = find_base(alloc, object.tables(), base, characters, level);
-            tables.swap(alloc, Some(object));
-            number_of(status)
-        }
-        None => number_of(Status::Closed),
-    }
+    with_object!(
+        tables,
+        alloc,
+        object,
+        find_base(alloc, object.tables(), base, characters, level)
+    )
 }
 
 #[tactic(auto, unfolding(crate::specs::Levels::levels_by))]
@@ -121,14 +120,12 @@ pub extern "C" fn hordguli_core_levels(
     let Some(base) = direction_of(direction) else {
         return number_of(Status::UnknownOption);
     };
-    match tables.swap(alloc, None) {
-        Some(object) => {
-            let status = find_levels(alloc, object.tables(), base, characters, levels);
-            tables.swap(alloc, Some(object));
-            number_of(status)
-        }
-        None => number_of(Status::Closed),
-    }
+    with_object!(
+        tables,
+        alloc,
+        object,
+        find_levels(alloc, object.tables(), base, characters, levels)
+    )
 }
 
 fn find_marks(
@@ -173,14 +170,12 @@ pub extern "C" fn hordguli_core_marks(
     let Some(whole_numbers) = tailoring_of(options) else {
         return number_of(Status::UnknownOption);
     };
-    match tables.swap(alloc, None) {
-        Some(object) => {
-            let status = find_marks(alloc, object.tables(), whole_numbers, characters, marks);
-            tables.swap(alloc, Some(object));
-            number_of(status)
-        }
-        None => number_of(Status::Closed),
-    }
+    with_object!(
+        tables,
+        alloc,
+        object,
+        find_marks(alloc, object.tables(), whole_numbers, characters, marks)
+    )
 }
 
 /// The properties of a character (`hordguli_character` in C).
@@ -305,12 +300,10 @@ pub extern "C" fn hordguli_core_properties(
     ensures properties { Returns (λ status. Asks (PutsProperties characters.now) status
         tables.old.held records.old records.new) result }
 {
-    match tables.swap(alloc, None) {
-        Some(object) => {
-            let status = put_properties(object.tables(), characters, records);
-            tables.swap(alloc, Some(object));
-            number_of(status)
-        }
-        None => number_of(Status::Closed),
-    }
+    with_object!(
+        tables,
+        alloc,
+        object,
+        put_properties(object.tables(), characters, records)
+    )
 }

@@ -2,6 +2,7 @@
 #![tactic(auto)]
 
 mod arrays;
+mod calls;
 mod edge_calls;
 mod flags;
 mod level_calls;

@@ -19,6 +19,7 @@ use crate::arrays::{
     has_room, put_bytes, put_characters_if, put_columns_if, put_each_character, put_levels_if,
     put_marks_if, put_places_if,
 };
+use crate::calls::with_object;
 use crate::flags::flag;
 use crate::options::{has_bit, print_of};
 use crate::runs::{RunOut, put_runs};
@@ -54,14 +55,7 @@ pub extern "C" fn hordguli_core_line_start(
         Asks (λ status state. Gives (slice_get (line_starts state.kept) line) status) status
         session.old.held start.old start.new) result }
 {
-    match session.swap(alloc, None) {
-        Some(object) => {
-            let status = find_start(&object, line, start);
-            session.swap(alloc, Some(object));
-            number_of(status)
-        }
-        None => number_of(Status::Closed),
-    }
+    with_object!(session, alloc, object, find_start(&object, line, start))
 }
 
 /// Information about a line (`hordguli_line_info` in C).
@@ -229,16 +223,14 @@ pub extern "C" fn hordguli_core_line(
           },
         )) result }
 {
-    match session.swap(alloc, None) {
-        Some(object) => {
-            let status = show_line(
-                &object, n, out, wanted, characters, levels, ltov, vtol, columns,
-            );
-            session.swap(alloc, Some(object));
-            number_of(status)
-        }
-        None => number_of(Status::Closed),
-    }
+    with_object!(
+        session,
+        alloc,
+        object,
+        show_line(
+            &object, n, out, wanted, characters, levels, ltov, vtol, columns
+        )
+    )
 }
 
 fn find_runs(session: &SessionObject, n: usize, array: &mut [RunOut], count: &mut usize) -> Status
@@ -263,14 +255,7 @@ pub extern "C" fn hordguli_core_runs(
     ensures runs { Returns (λ status. Asks (GivesRuns n) status session.old.held
         (array.old, count.old) (array.new, count.new)) result }
 {
-    match session.swap(alloc, None) {
-        Some(object) => {
-            let status = find_runs(&object, n, array, count);
-            session.swap(alloc, Some(object));
-            number_of(status)
-        }
-        None => number_of(Status::Closed),
-    }
+    with_object!(session, alloc, object, find_runs(&object, n, array, count))
 }
 
 // Returns lines in the form in which they are printed.
@@ -329,14 +314,12 @@ pub extern "C" fn hordguli_core_lines_utf8(
     let Some(print) = print_of(print) else {
         return number_of(Status::UnknownOption);
     };
-    match session.swap(alloc, None) {
-        Some(object) => {
-            let status = put_lines(alloc, &object, first, count, &print, array, len);
-            session.swap(alloc, Some(object));
-            number_of(status)
-        }
-        None => number_of(Status::Closed),
-    }
+    with_object!(
+        session,
+        alloc,
+        object,
+        put_lines(alloc, &object, first, count, &print, array, len)
+    )
 }
 
 // Returns characters as UTF-8.
@@ -389,14 +372,12 @@ pub extern "C" fn hordguli_core_text(
     ensures text { Returns (λ status. Asks (PutsText pos count) status session.old.held
         (array.old, len.old) (array.new, len.new)) result }
 {
-    match session.swap(alloc, None) {
-        Some(object) => {
-            let status = put_text(alloc, &object, pos, count, array, len);
-            session.swap(alloc, Some(object));
-            number_of(status)
-        }
-        None => number_of(Status::Closed),
-    }
+    with_object!(
+        session,
+        alloc,
+        object,
+        put_text(alloc, &object, pos, count, array, len)
+    )
 }
 
 // Copies the characters from a position on to an array, as many as it has elements.
@@ -451,14 +432,12 @@ pub extern "C" fn hordguli_core_text_utf32(
     ensures text { Returns (λ status. Asks (PutsCharacters pos count) status session.old.held
         (array.old, len.old) (array.new, len.new)) result }
 {
-    match session.swap(alloc, None) {
-        Some(object) => {
-            let status = put_text_utf32(&object, pos, count, array, len);
-            session.swap(alloc, Some(object));
-            number_of(status)
-        }
-        None => number_of(Status::Closed),
-    }
+    with_object!(
+        session,
+        alloc,
+        object,
+        put_text_utf32(&object, pos, count, array, len)
+    )
 }
 
 fn find_utf8_len(session: &SessionObject, pos: usize, count: usize, len: &mut usize) -> Status
@@ -486,14 +465,12 @@ pub extern "C" fn hordguli_core_utf8_length(
     ensures len { Returns (λ status. Asks (λ status state. Gives (utf8_len state.kept pos count) status)
         status session.old.held len.old len.new) result }
 {
-    match session.swap(alloc, None) {
-        Some(object) => {
-            let status = find_utf8_len(&object, pos, count, len);
-            session.swap(alloc, Some(object));
-            number_of(status)
-        }
-        None => number_of(Status::Closed),
-    }
+    with_object!(
+        session,
+        alloc,
+        object,
+        find_utf8_len(&object, pos, count, len)
+    )
 }
 
 /// A position, and an offset in the character there (`hordguli_position` in C).
@@ -540,14 +517,12 @@ pub extern "C" fn hordguli_core_byte_of(
     ensures byte { Returns (λ status. Asks (GivesOffset Utf8 pos) status session.old.held
         byte.old byte.new) result }
 {
-    match session.swap(alloc, None) {
-        Some(object) => {
-            let status = put_offset(object.byte_of(pos), byte);
-            session.swap(alloc, Some(object));
-            number_of(status)
-        }
-        None => number_of(Status::Closed),
-    }
+    with_object!(
+        session,
+        alloc,
+        object,
+        put_offset(object.byte_of(pos), byte)
+    )
 }
 
 /// Stores the number of UTF-16 code units before a position.
@@ -562,14 +537,12 @@ pub extern "C" fn hordguli_core_utf16_of(
     ensures unit { Returns (λ status. Asks (GivesOffset Utf16 pos) status session.old.held
         unit.old unit.new) result }
 {
-    match session.swap(alloc, None) {
-        Some(object) => {
-            let status = put_offset(object.utf16_of(pos), unit);
-            session.swap(alloc, Some(object));
-            number_of(status)
-        }
-        None => number_of(Status::Closed),
-    }
+    with_object!(
+        session,
+        alloc,
+        object,
+        put_offset(object.utf16_of(pos), unit)
+    )
 }
 
 /// Stores the position of a UTF-8 byte.
@@ -584,14 +557,12 @@ pub extern "C" fn hordguli_core_position_of_byte(
     ensures position { Returns (λ status. Asks (GivesPosition Utf8 byte) status session.old.held
         position.old position.new) result }
 {
-    match session.swap(alloc, None) {
-        Some(object) => {
-            let status = put_position(object.position_of_byte(byte), position);
-            session.swap(alloc, Some(object));
-            number_of(status)
-        }
-        None => number_of(Status::Closed),
-    }
+    with_object!(
+        session,
+        alloc,
+        object,
+        put_position(object.position_of_byte(byte), position)
+    )
 }
 
 /// Stores the position of a UTF-16 code unit.
@@ -606,14 +577,12 @@ pub extern "C" fn hordguli_core_position_of_utf16(
     ensures position { Returns (λ status. Asks (GivesPosition Utf16 unit) status session.old.held
         position.old position.new) result }
 {
-    match session.swap(alloc, None) {
-        Some(object) => {
-            let status = put_position(object.position_of_utf16(unit), position);
-            session.swap(alloc, Some(object));
-            number_of(status)
-        }
-        None => number_of(Status::Closed),
-    }
+    with_object!(
+        session,
+        alloc,
+        object,
+        put_position(object.position_of_utf16(unit), position)
+    )
 }
 
 /// Information about a paragraph (`hordguli_paragraph_info` in C).
@@ -702,12 +671,10 @@ pub extern "C" fn hordguli_core_paragraph(
         (out.old, record { levels = levels.old; marks = marks.old })
         (out.new, record { levels = levels.new; marks = marks.new })) result }
 {
-    match session.swap(alloc, None) {
-        Some(object) => {
-            let status = show_paragraph(&object, index, out, wanted, levels, marks);
-            session.swap(alloc, Some(object));
-            number_of(status)
-        }
-        None => number_of(Status::Closed),
-    }
+    with_object!(
+        session,
+        alloc,
+        object,
+        show_paragraph(&object, index, out, wanted, levels, marks)
+    )
 }

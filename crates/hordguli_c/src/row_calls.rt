@@ -20,6 +20,7 @@ ghost use Rattle.hordguli_c.specs.Rows.{IsLaid, IsRow, IsSized, PutsRow, PutsRow
 ghost use Rattle.hordguli_c.specs.Statuses.{Returns};
 
 use crate::arrays::{are_characters, collect_characters, has_room, put_levels_if, put_places_if};
+use crate::calls::with_object;
 use crate::options::{has_bit, row_options_of};
 use crate::runs::{RunOut, put_runs};
 use crate::status::{Status, number_of};
@@ -384,26 +385,24 @@ pub extern "C" fn hordguli_core_row(
     let Some(options) = row_options_of(options) else {
         return number_of(Status::UnknownOption);
     };
-    match tables.swap(alloc, None) {
-        Some(object) => {
-            let status = show_row(
-                alloc,
-                object.tables(),
-                options,
-                base,
-                characters,
-                levels,
-                wanted,
-                visual,
-                row_levels,
-                ltov,
-                vtol,
-            );
-            tables.swap(alloc, Some(object));
-            number_of(status)
-        }
-        None => number_of(Status::Closed),
-    }
+    with_object!(
+        tables,
+        alloc,
+        object,
+        show_row(
+            alloc,
+            object.tables(),
+            options,
+            base,
+            characters,
+            levels,
+            wanted,
+            visual,
+            row_levels,
+            ltov,
+            vtol
+        )
+    )
 }
 
 fn find_row_runs(
@@ -444,20 +443,18 @@ pub extern "C" fn hordguli_core_row_runs(
         Asks (PutsRowRuns base characters.now levels.now) status tables.old.held
         (array.old, count.old) (array.new, count.new)) result }
 {
-    match tables.swap(alloc, None) {
-        Some(object) => {
-            let status = find_row_runs(
-                alloc,
-                object.tables(),
-                base,
-                characters,
-                levels,
-                array,
-                count,
-            );
-            tables.swap(alloc, Some(object));
-            number_of(status)
-        }
-        None => number_of(Status::Closed),
-    }
+    with_object!(
+        tables,
+        alloc,
+        object,
+        find_row_runs(
+            alloc,
+            object.tables(),
+            base,
+            characters,
+            levels,
+            array,
+            count
+        )
+    )
 }

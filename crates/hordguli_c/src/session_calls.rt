@@ -11,6 +11,7 @@ ghost use Rattle.hordguli_c.specs.Sessions.{damage_out, TriesEdit, TriesWidth};
 ghost use Rattle.hordguli_c.specs.Statuses.{Returns};
 ghost use Rattle.hordguli_c.specs.declared.status.Status.TheVariants.{Ok};
 
+use crate::calls::with_object;
 use crate::options::options_of;
 use crate::session_handle::{SessionHandle, SessionObject};
 use crate::status::{Status, edit_status, number_of};
@@ -91,14 +92,12 @@ pub extern "C" fn hordguli_core_session_open(
         session.swap(alloc, Some(object));
         return number_of(Status::AlreadyOpen);
     }
-    match tables.swap(alloc, None) {
-        Some(object) => {
-            let status = open_at(alloc, session, object.tables(), options, text, width);
-            tables.swap(alloc, Some(object));
-            number_of(status)
-        }
-        None => number_of(Status::Closed),
-    }
+    with_object!(
+        tables,
+        alloc,
+        object,
+        open_at(alloc, session, object.tables(), options, text, width)
+    )
 }
 
 /// Frees the session of a handle, and closes the handle.
@@ -164,14 +163,7 @@ pub extern "C" fn hordguli_core_insert(
     let Ok(text) = from_utf8(text) else {
         return number_of(Status::NotUtf8);
     };
-    match session.swap(alloc, None) {
-        Some(mut object) => {
-            let status = insert(&mut object, pos, text, damage);
-            session.swap(alloc, Some(object));
-            number_of(status)
-        }
-        None => number_of(Status::Closed),
-    }
+    with_object!(session, alloc, mut object, insert(&mut object, pos, text, damage))
 }
 
 fn delete(session: &mut SessionObject, pos: usize, count: usize, damage: &mut DamageOut) -> Status
@@ -195,14 +187,7 @@ pub extern "C" fn hordguli_core_delete(
     ensures { Returns (λ status. Changes (TriesEdit (deletion pos count)) status
         session.old.held session.new.held damage.old damage.new) result }
 {
-    match session.swap(alloc, None) {
-        Some(mut object) => {
-            let status = delete(&mut object, pos, count, damage);
-            session.swap(alloc, Some(object));
-            number_of(status)
-        }
-        None => number_of(Status::Closed),
-    }
+    with_object!(session, alloc, mut object, delete(&mut object, pos, count, damage))
 }
 
 fn replace(
@@ -239,14 +224,7 @@ pub extern "C" fn hordguli_core_replace(
     let Ok(text) = from_utf8(text) else {
         return number_of(Status::NotUtf8);
     };
-    match session.swap(alloc, None) {
-        Some(mut object) => {
-            let status = replace(&mut object, pos, count, text, damage);
-            session.swap(alloc, Some(object));
-            number_of(status)
-        }
-        None => number_of(Status::Closed),
-    }
+    with_object!(session, alloc, mut object, replace(&mut object, pos, count, text, damage))
 }
 
 fn set_width(session: &mut SessionObject, width: u16, damage: &mut DamageOut) -> Status
@@ -269,14 +247,7 @@ pub extern "C" fn hordguli_core_set_width(
     ensures { Returns (λ status.
         Changes (TriesWidth width) status session.old.held session.new.held damage.old damage.new) result }
 {
-    match session.swap(alloc, None) {
-        Some(mut object) => {
-            let status = set_width(&mut object, width, damage);
-            session.swap(alloc, Some(object));
-            number_of(status)
-        }
-        None => number_of(Status::Closed),
-    }
+    with_object!(session, alloc, mut object, set_width(&mut object, width, damage))
 }
 
 /// The size of a session (`hordguli_counts` in C).

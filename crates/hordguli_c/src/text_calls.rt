@@ -7,6 +7,7 @@ ghost use Rattle.hordguli_c.specs.Statuses.{Returns};
 ghost use Rattle.hordguli_c.specs.Texts.{PrintsText};
 ghost use Rattle.hordguli_c.specs.declared.status.Status.TheVariants.{Ok};
 
+use crate::calls::with_object;
 use crate::options::page_form_of;
 use crate::status::{Status, number_of};
 use crate::tables_handle::TablesHandle;
@@ -36,15 +37,7 @@ pub extern "C" fn hordguli_core_layout(
     let Ok(text) = from_utf8(text) else {
         return number_of(Status::NotUtf8);
     };
-    match tables.swap(alloc, None) {
-        Some(object) => {
-            let mut object = object;
-            let status = object.put_page(alloc, &form, text, array, len);
-            tables.swap(alloc, Some(object));
-            number_of(status)
-        }
-        None => number_of(Status::Closed),
-    }
+    with_object!(tables, alloc, mut object, object.put_page(alloc, &form, text, array, len))
 }
 
 /// Stores the number of characters in UTF-8 text.
