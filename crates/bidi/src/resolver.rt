@@ -429,7 +429,7 @@ pub struct Resolver {
 }
 
 impl Debug for Resolver {
-    fn fmt<W: fmt::Write>(&self, f: &mut Formatter<'_, W>) -> fmt::Result {
+    fn fmt<W: fmt::Write>(&self, f: &mut Formatter<W>) -> fmt::Result {
         f.debug_struct("Resolver").finish_non_exhaustive()
     }
 }

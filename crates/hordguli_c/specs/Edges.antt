@@ -94,14 +94,14 @@ side_number After = 1
 abbrev pub edge_out : Edge → EdgeOut
 edge_out edge = record { pos = edge.pos; side = side_number edge.side; zero = 0 }
 
--- whether finding the caret at an edge may allocate: only if the edge is one of a character
-unfoldable pub MayAllocate : SessionState → Edge → Type 0
-MayAllocate state edge = HasCharacter (length (text_at state)) edge
+-- whether an edge is one of a character: only then may finding its caret allocate
+unfoldable pub IsOfCharacter : SessionState → Edge → Type 0
+IsOfCharacter state edge = HasCharacter (length (text_at state)) edge
 
 -- the caret at an edge is stored
 abbrev pub GivesEdgeCaret : Edge → Status → SessionState → CaretOut → CaretOut → Type 0
 GivesEdgeCaret edge status state old new =
-    OrNoMemory (MayAllocate state edge) status (new ≡ old)
+    OrNoMemory (IsOfCharacter state edge) status (new ≡ old)
     (Gives (option_map caret_out (edge_caret_at (rules_of state.engine) state.kept edge)) status old new)
 
 -- The edge after a step is stored, and 1 as the number of steps. At the end of a line, 0 is stored as this number.

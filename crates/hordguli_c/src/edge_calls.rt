@@ -418,7 +418,7 @@ fn caret_out(caret: Caret) -> CaretOut
     }
 }
 
-#[tactic(auto, unfolding(crate::specs::Edges::MayAllocate))]
+#[tactic(auto, unfolding(crate::specs::Edges::IsOfCharacter))]
 fn find_edge_caret(session: &SessionObject, edge: Edge, caret: &mut CaretOut) -> Status
     ensures { GivesEdgeCaret edge result session.now caret.old caret.new }
 {

@@ -17,17 +17,13 @@ use Rattle.std.proofs.lemmas.List.Folds.{list_all_at}
 use Rattle.lines.specs.CharInfos.{columns_of}
 use Rattle.lines.proofs.InfoLemmas.{printable_columns}
 use Rattle.lines.specs.Clusters.{lies_in}
-use Rattle.lines.specs.KnownWidths.{is_common, is_narrow, is_printable, is_wide, lies_in_any, narrow_ranges, wide_ranges}
+use Rattle.lines.specs.KnownWidths.{is_common, is_narrow, is_printable, lies_in_any, narrow_ranges}
 
 abbrev has_one : Kind → Bool
 has_one kinds.Narrow = true
 has_one kinds.Ambiguous = true
 has_one kinds.Alef = true
 has_one other = false
-
-abbrev has_two : Kind → Bool
-has_two kinds.Wide = true
-has_two other = false
 
 -- whether all characters in the ranges have a kind that passes a test
 abbrev in_test : (Kind → Bool) → List Range → ℕ → Bool
@@ -40,17 +36,9 @@ narrow_rise : rises_from 0 (range_rows narrow_ranges) ≡ true
 unfolding rises_from
 narrow_rise = refl
 
-wide_rise : rises_from 0 (range_rows wide_ranges) ≡ true
-unfolding rises_from
-wide_rise = refl
-
 narrow_always : always (in_test has_one narrow_ranges) (stepped_test has_one narrow_ranges narrow_rise) ≡ true
 unfolding tables kind_stepped
 narrow_always = refl
-
-wide_always : always (in_test has_two wide_ranges) (stepped_test has_two wide_ranges wide_rise) ≡ true
-unfolding tables kind_stepped
-wide_always = refl
 
 within : (test : Kind → Bool) (ranges : List Range) (rise : rises_from 0 (range_rows ranges) ≡ true)
     → always (in_test test ranges) (stepped_test test ranges rise) ≡ true → (c : ℕ) → c ≤ 0x10FFFF → in_ranges ranges c ≡ true → test (kind c) ≡ true
@@ -62,10 +50,6 @@ one_column c kinds.Narrow is = refl
 one_column c kinds.Ambiguous is = refl
 one_column c kinds.Alef is = refl
 one_column c k is = cc
-
-two_columns : (c : ℕ) (k : Kind) → has_two k ≡ true → 2 ≡ (of_kind false c k).0
-two_columns c kinds.Wide is = refl
-two_columns c k is = cc
 
 columns_by_kind : (c : ℕ) → 0xA0 ≤ c → (of_kind false c (kind c)).0 ≡ columns_of c
 unfolding alone char_width
@@ -109,11 +93,6 @@ pub narrow_columns : (c : ℕ) → is_narrow c ≡ true → 1 ≡ columns_of c
 narrow_columns c lies =
     let at = lies_between 0xA0 0x10FFFF narrow_ranges c refl lies in
     one_column c (kind c) (within has_one narrow_ranges narrow_rise narrow_always c at.1 (same_ranges narrow_ranges c ∙ lies)) ∙ columns_by_kind c at.0
-
-pub wide_columns : (c : ℕ) → is_wide c ≡ true → 2 ≡ columns_of c
-wide_columns c lies =
-    let at = lies_between 0xA0 0x10FFFF wide_ranges c refl lies in
-    two_columns c (kind c) (within has_two wide_ranges wide_rise wide_always c at.1 (same_ranges wide_ranges c ∙ lies)) ∙ columns_by_kind c at.0
 
 -- ---- characters tested together
 

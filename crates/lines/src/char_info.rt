@@ -290,8 +290,8 @@ fn put_infos(
     }
     let mut k = 0;
     while k < text.len() {
-        let columns = cache.columns(text[k]);
-        infos[k] = CharInfo::of(columns, properties[k], text[k], marks[k], tab_width);
+        let c = text[k];
+        infos[k] = CharInfo::of(cache.columns(c), properties[k], c, marks[k], tab_width);
         k += 1;
     }
 }

@@ -52,7 +52,7 @@ pub struct Engine {
 }
 
 impl Debug for Engine {
-    fn fmt<W: fmt::Write>(&self, f: &mut Formatter<'_, W>) -> fmt::Result {
+    fn fmt<W: fmt::Write>(&self, f: &mut Formatter<W>) -> fmt::Result {
         f.debug_struct("Engine").finish_non_exhaustive()
     }
 }

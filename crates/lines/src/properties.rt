@@ -18,6 +18,14 @@ pub(crate) fn fill_properties(
     ensures len { OnOk result (length text.now ≤ length properties.new.items) }
 {
     grow(properties, text.len(), tables.properties('\0'))?;
-    tables.look_up(text, &mut properties[..text.len()]);
+    look_up_front(tables, text, properties);
     Ok(())
+}
+
+// Overwrites the front of a list.
+fn look_up_front(tables: &Tables, text: &[char], properties: &mut [Properties])
+    requires { length text.now ≤ length properties.old }
+    ensures { take (length text.now) properties.new ≡ map (properties_of tables.now) text.now }
+{
+    tables.look_up(text, &mut properties[..text.len()]);
 }

@@ -3,7 +3,7 @@ ghost use Rattle.std.specs.Prelude.{◌≡◌, ◌+◌, ◌*◌, ◌%◌, ◌^�
 ghost use Rattle.std.specs.List.{list_all};
 ghost use Rattle.lines.specs.CharInfos.{columns_of};
 ghost use Rattle.lines.specs.Clusters.{lies_in};
-ghost use Rattle.lines.specs.KnownWidths.{is_common, is_narrow, is_printable, is_wide};
+ghost use Rattle.lines.specs.KnownWidths.{is_common, is_printable};
 ghost use Rattle.lines.specs.Tabs.{is_tab, to_stop};
 ghost use Rattle.lines.specs.Widths.{widths_of};
 
@@ -20,45 +20,10 @@ pub(crate) fn columns(c: char) -> u8
     if code >= 0x20 && code < 0x7f {
         return 1;
     }
-    if is_narrow(c) {
-        return 1;
-    }
-    if is_wide(c) {
-        return 2;
-    }
     match c.width() {
         Some(width) => width as u8,
         None => 0,
     }
-}
-
-// Returns whether a quick test shows that a character has one column. (U+05DC, Hebrew lamed, has a rule of
-// its own in `unicode_width`.)
-fn is_narrow(c: char) -> bool
-    ensures { result ≡ is_narrow c }
-{
-    matches!(
-        c,
-        '\u{AE}'..='\u{2FF}'
-            | '\u{370}'..='\u{482}'
-            | '\u{5D0}'..='\u{5DB}'
-            | '\u{5DD}'..='\u{5EA}'
-            | '\u{620}'..='\u{64A}'
-    )
-}
-
-// Returns whether a quick test shows that a character has two columns.
-fn is_wide(c: char) -> bool
-    ensures { result ≡ is_wide c }
-{
-    matches!(
-        c,
-        '\u{3001}'..='\u{3029}'
-            | '\u{3041}'..='\u{3096}'
-            | '\u{309B}'..='\u{30FF}'
-            | '\u{4E00}'..='\u{9FFF}'
-            | '\u{AC00}'..='\u{D7A3}'
-    )
 }
 
 /// Returns the columns of the character at index `k` of a line. For a tab, reads the characters back to the

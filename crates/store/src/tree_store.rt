@@ -30,7 +30,7 @@ pub struct TreeStore<P: Measured> {
 }
 
 impl<P: Measured> Debug for TreeStore<P> {
-    fn fmt<W: fmt::Write>(&self, f: &mut Formatter<'_, W>) -> fmt::Result {
+    fn fmt<W: fmt::Write>(&self, f: &mut Formatter<W>) -> fmt::Result {
         f.debug_struct("TreeStore").finish_non_exhaustive()
     }
 }

@@ -1,7 +1,7 @@
 -- The UTF-8 encoding of a list of characters, and bytes written to a buffer one after another.
 use Rattle.std.specs.Char.{is_ascii}
 use Rattle.std.specs.List.{list_all}
-use Rattle.std.proofs.Common.{◌&&◌, nat_lt, ◌/◌, ◌%◌, set, true, ap₂, ◌≡◌, ℕ, zero, suc, ◌+◌, ◌-◌, ◌<◌, ◌≤◌, List, [], ◌∷◌, ◌++◌, length, get_or, take}
+use Rattle.std.proofs.Common.{◌&&◌, nat_lt, ◌/◌, ◌%◌, set, true, ap₂, ◌≡◌, ℕ, suc, ◌+◌, ◌-◌, ◌<◌, ◌≤◌, List, [], ◌∷◌, ◌++◌, length, get_or, take}
 use Rattle.std.proofs.Common.{drop, encode_utf8, encode_utf8_all, refl, sym, ap, ◌∙◌, arith}
 use Rattle.std.proofs.lemmas.Str.{encode_ascii}
 use Rattle.std.proofs.str.Laws.{two, three, four}

@@ -1,12 +1,9 @@
 //! Decodes a text whose bytes come in chunks, each of which may end inside a character.
 ghost use Rattle.std.specs.Prelude.{◌≡◌, ◌+◌, ◌++◌, ◌<◌, ◌≤◌, ℕ, false, true, None, OnErr, OnOk};
 ghost use Rattle.std.specs.Prelude.{length, slice_index, take, vec_len, vec_capacity};
-ghost use Rattle.std.specs.Char.{is_ascii};
-ghost use Rattle.std.specs.List.{list_all};
 ghost use Rattle.std.specs.Simd.Lanes.{Each1};
 ghost use Rattle.std.specs.Str.{IsCharBoundary, chars};
 ghost use Rattle.stream.specs.declared.short.TheConstants.{LANES};
-ghost use Rattle.stream.specs.declared.utf8.TheConstants.{GROUP};
 ghost use Rattle.std.specs.Str.Lossy.{utf8_valid_len, utf8_error_len};
 ghost use Rattle.stream.specs.Utf8.{is_bad, char_len, IsCutOff, Moved};
 
@@ -93,9 +90,6 @@ fn short_len(text: &str) -> usize
     }
 }
 
-// The number of characters that are added together if they are ASCII.
-const GROUP: usize = 8;
-
 // Adds the characters at the start of a text that have the same length in bytes, and returns the rest of the
 // text.
 #[inline(always)]
@@ -114,37 +108,7 @@ fn push_some<'a>(text: &'a str, characters: &mut Vec<char>) -> &'a str
     if first >= 0x80 {
         return push_row(text, 0x80, 0xe0, characters);
     }
-    if starts_with_ascii(text) {
-        let (group, rest) = text.split_at(GROUP);
-        push_ascii(group.as_bytes(), characters);
-        return rest;
-    }
     push_row(text, 0, 0x80, characters)
-}
-
-// Returns whether the first `GROUP` bytes of a text are ASCII.
-#[inline(always)]
-fn starts_with_ascii(text: &str) -> bool
-    ensures len { result ≡ true → GROUP ≤ length text.now }
-    ensures ascii { result ≡ true → list_all is_ascii (take GROUP text.now) ≡ true }
-    ensures none { GROUP ≤ length text.now → list_all is_ascii (take GROUP text.now) ≡ true → result ≡ true }
-{
-    // In many scripts, a single space between two words is tested. Its next byte is enough.
-    let bytes = text.as_bytes();
-    bytes.len() >= GROUP && bytes[1] < 0x80 && are_ascii(&bytes[..GROUP])
-}
-
-// Returns whether all bytes are ASCII. The loop has no branches, so that the compiler tests several bytes at
-// a time.
-#[inline(always)]
-fn are_ascii(bytes: &[u8]) -> bool
-    ensures { result ≡ list_all is_ascii bytes.now }
-{
-    let mut all = true;
-    for byte in bytes {
-        all &= *byte < 0x80;
-    }
-    all
 }
 
 // Adds the first character of a text, and the following characters as long as their first byte is in a range.

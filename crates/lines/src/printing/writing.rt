@@ -20,7 +20,7 @@ ghost use Rattle.lines.specs.declared.engine.TheConstants.{PARAGRAPH_LIMIT};
 
 use crate::buffers::VisualBuffers;
 use crate::counts::Count;
-use crate::extents::Extents;
+use crate::extents::{Extents, end_of};
 use crate::paragraph::{LogicalLine, Text};
 use crate::printing::bytes::WriteFault;
 use crate::printing::print::Print;
