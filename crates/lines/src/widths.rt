@@ -93,8 +93,8 @@ pub(crate) fn are_printable(text: &[char]) -> bool
     all
 }
 
-/// Returns whether all characters are printable ASCII, or Latin, Greek, Cyrillic, Hebrew or Arabic letters, or
-/// between these in Unicode. All of them have one column.
+/// Returns whether all characters are printable ASCII, or Latin, Greek, Cyrillic, Hebrew or Arabic letters,
+/// or between these in Unicode. All of them have one column.
 #[inline(always)]
 pub(crate) fn are_common(text: &[char]) -> bool
     ensures { result ≡ list_all is_common text.now }

@@ -16,11 +16,10 @@ use crate::paragraph_store::ParagraphStore;
 use crate::subtree::{DetachedNode, Subtree};
 use crate::sums::Unit;
 use std::alloc::{AllocError, Global};
-use std::fmt;
 use std::fmt::{Debug, Formatter};
 use std::marker::Model;
-use std::mem;
 use std::ops::Range;
+use std::{fmt, mem};
 
 /// A store that is a balanced tree: the heights of the two subtrees of a node differ by at most 1. Searches
 /// and `replace` go down from the root, so their time is proportional to the height.

@@ -127,7 +127,8 @@ pub fn cluster_answer<S: ParagraphStore<Kept>>(
     }
 }
 
-/// Returns the reply to `word POS`: where the word of a character starts and ends, and whether it has a letter.
+/// Returns the reply to `word POS`: where the word of a character starts and ends, and whether it has a
+/// letter.
 pub fn word_answer<S: ParagraphStore<Kept>>(
     session: &Session<S>,
     pos: usize,

@@ -1,7 +1,8 @@
 use Rattle.std.proofs.Common.{◌+◌, ◌-◌, ◌++◌, drop, length, take, encode_utf8_all, ap, ◌∙◌, arith}
 use Rattle.std.specs.List.{slice_range}
 use Rattle.lines.specs.Writing.{StoppedIn}
-use Rattle.lines.proofs.WriteLemmas.{encoded-append, passed-append, same_fault, stopped-after, stopped-before}
+use Rattle.stream.proofs.EncodingLemmas.{encoded-append}
+use Rattle.lines.proofs.WriteLemmas.{passed-append, same_fault, stopped-after, stopped-before}
 use Rattle.session.specs.Kept.{text_of}
 use Rattle.session.proofs.BorderLemmas.{length-text}
 use Rattle.session.proofs.ReadingLemmas.{all_parts, part_few, part_more, part_there}
