@@ -21,12 +21,12 @@ fn main(rt: HostRuntime) -> Result<()> {
 
 fn run(rt: &HostRuntime, words: &[String]) -> Result<()> {
     if let [_, tool, folder, file] = words {
-        if tool == "image" {
+        if tool.as_str() == "image" {
             return write_image(rt, folder.as_str(), file.as_str());
         }
     }
     if let [_, tool, folder] = words {
-        if tool == "properties" {
+        if tool.as_str() == "properties" {
             return print_properties(rt, folder.as_str());
         }
     }
