@@ -7,8 +7,9 @@
 #   make c          Proves and builds the C library, bin/libhordguli.a and bin/libhordguli.so.1 (CC, CXX, CFLAGS, LDFLAGS).
 #   make fribidi    Proves and builds FriBidi's interface, bin/libhordguli_fribidi.so, for LD_PRELOAD.
 #   make python     Builds the Python wheel, hordguli-VERSION-py3-none-manylinux2014_x86_64.whl, from what make c has built (DIST=dist).
-#   make ucd        Copies the seven Unicode table files into ucd/: from Debian's package unicode-data, which it installs,
-#                   or from another folder by UNICODE=FOLDER. crates/ucd/src/version.rt names the Unicode version.
+#   make ucd        Collects the seven table files of Unicode 15.0 in ucd/, if they are not there: from Debian's package unicode-data,
+#                   which apt downloads if this system has another version, or from a folder by UNICODE=FOLDER.
+#   make ucd-17     Collects those of Unicode 17.0 in ucd-17.0/, in the same way.
 #   make image      Compiles the table files to ucd/tables.image, with a program that it proves and builds. make c runs it too.
 #   make install    Installs what make, make c, make fribidi and make ucd have built (PREFIX=/usr/local, LIBDIR, DESTDIR,
 #                   COMMAND=fribidi, ZSHDIR).
@@ -20,6 +21,7 @@
 #   make check      Runs the tests that need no new proof, in about a minute. Run it before each commit.
 #   make test       Runs CI: every proof, the must-fail edits and all tests. tests/README.md lists them.
 #   make attack     Runs the mutation tests, after make, make c and make fribidi. CRATES="lines session" runs only those of these crates.
+#   make ucd-tests  Collects Unicode's test files of both versions in ucd-tests/, as make ucd does.
 #   make conformance  Runs Unicode's conformance tests on the proved library.
 #   make fribidi-compare  Compares FriBidi's interface with FriBidi on a million random lists.
 #   make callers    Runs pyfribidi, Pango, a VTE terminal and libass with FriBidi's interface (installs Debian packages).
@@ -34,12 +36,12 @@
 #   make release    Checks the version, runs CI and make attack, builds and tests all packages, writes them to dist/, and tags the commit.
 #   make bench      Runs all benchmarks of bench/, which compare with Debian's fribidi, with ICU and with Rust crates.
 
-UNICODE = /usr/share/unicode
+UNICODE =
 JOBS := $(shell nproc)
 TABLES = DerivedBidiClass BidiBrackets BidiMirroring LineBreak DerivedGeneralCategory EastAsianWidth emoji-data
 OPTIONS = --width 44 --basedir
 
-.PHONY: all program quick ucd image demo check tmux parallel linters test attack bench-program conformance-program conformance bench c fribidi fribidi-compare \
+.PHONY: all program quick ucd ucd-17 ucd-tests image demo check tmux parallel linters test attack bench-program conformance-program conformance bench c fribidi fribidi-compare \
 	callers install uninstall python deb dist test-packages test-reproducible test-threads test-draw test-python test-hosts release
 
 DIST = dist
@@ -88,7 +90,14 @@ run-%:
 	tools/prove $* run $(words)
 
 ucd:
-	@tools/collect_ucd '$(UNICODE)'
+	@tools/collect_ucd 15.0.0 '$(UNICODE)'
+
+ucd-17:
+	@tools/collect_ucd 17.0.0 '$(UNICODE)'
+
+ucd-tests:
+	@tools/collect_ucd --tests 15.0.0 '$(UNICODE)'
+	@tools/collect_ucd --tests 17.0.0 '$(UNICODE)'
 
 # Runs the command in a new folder with copies of the table files. With --cases FOLDER, runs it once for each text in FOLDER, with
 # the arguments in the text's .args file.
@@ -187,7 +196,7 @@ attack:
 	tests/mutants/run $(CRATES)
 	$(if $(CRATES),,tests/mutants_by_test/run)
 
-conformance: conformance-program ucd
+conformance: conformance-program ucd ucd-tests
 	tests/conformance/run
 
 bench: bench-program c fribidi ucd parallel
