@@ -10,8 +10,9 @@
 #   make ucd        Collects the seven table files of Unicode 15.0 in ucd/, if they are not there: from Debian's package unicode-data,
 #                   which apt downloads if this system has another version, or from a folder by UNICODE=FOLDER.
 #   make ucd-17     Collects those of Unicode 17.0 in ucd-17.0/, in the same way.
-#   make image      Compiles the table files to ucd/tables.image, with a program that it proves and builds. make c runs it too.
-#   make install    Installs what make, make c, make fribidi and make ucd have built (PREFIX=/usr/local, LIBDIR, DESTDIR,
+#   make image      Compiles the table files of both versions to ucd/tables.image and ucd-17.0/tables.image, with a program that it
+#                   proves and builds. make c runs it too.
+#   make install    Installs what make, make c, make fribidi, make ucd and make ucd-17 have built (PREFIX=/usr/local, LIBDIR, DESTDIR,
 #                   COMMAND=fribidi, ZSHDIR).
 #   make uninstall  Removes what make install has installed, with the same PREFIX, LIBDIR, DESTDIR and ZSHDIR.
 #
@@ -134,11 +135,11 @@ linters:
 test:
 	@tools/ci
 
-image: ucd
+image: ucd ucd-17
 	$(MAKE) --no-print-directory --jobs=$(JOBS) run-table_tools
 	tools/build_image
 
-c: ucd
+c: ucd ucd-17
 	$(MAKE) --no-print-directory --jobs=$(JOBS) run-table_tools lib-hordguli_c
 	tools/build_image
 	tools/build_c
@@ -162,7 +163,7 @@ install uninstall: export ZSHDIR := $(ZSHDIR)
 install uninstall:
 	@tools/install $@
 
-python: ucd
+python: ucd ucd-17
 	@tools/build_wheel "$$DIST"
 
 python deb dist: export DIST := $(DIST)
@@ -196,7 +197,7 @@ attack:
 	tests/mutants/run $(CRATES)
 	$(if $(CRATES),,tests/mutants_by_test/run)
 
-conformance: conformance-program ucd ucd-tests
+conformance: conformance-program ucd ucd-17 ucd-tests
 	tests/conformance/run
 
 bench: bench-program c fribidi ucd parallel

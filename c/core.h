@@ -11,20 +11,24 @@
 #include "hordguli.h"
 
 /* `fault` is never NULL. */
-uint32_t hordguli_core_tables_read(hordguli_tables *tables, const uint8_t *bidi_class, size_t bidi_class_length,
-                                   const uint8_t *bidi_brackets, size_t bidi_brackets_length,
-                                   const uint8_t *bidi_mirroring, size_t bidi_mirroring_length,
-                                   const uint8_t *line_break, size_t line_break_length,
-                                   const uint8_t *general_category, size_t general_category_length,
-                                   const uint8_t *east_asian_width, size_t east_asian_width_length,
-                                   const uint8_t *emoji_data, size_t emoji_data_length, hordguli_table_fault *fault);
+uint32_t hordguli_core_tables_read_version(hordguli_tables *tables, uint32_t version, const uint8_t *bidi_class,
+                                           size_t bidi_class_length, const uint8_t *bidi_brackets,
+                                           size_t bidi_brackets_length, const uint8_t *bidi_mirroring,
+                                           size_t bidi_mirroring_length, const uint8_t *line_break,
+                                           size_t line_break_length, const uint8_t *general_category,
+                                           size_t general_category_length, const uint8_t *east_asian_width,
+                                           size_t east_asian_width_length, const uint8_t *emoji_data,
+                                           size_t emoji_data_length, hordguli_table_fault *fault);
 uint32_t hordguli_core_tables_open_image(hordguli_tables *tables, const uint8_t *image, size_t image_length,
                                          hordguli_table_fault *fault);
+uint32_t hordguli_core_tables_version(hordguli_tables *tables, uint32_t *version);
 void hordguli_core_tables_close(hordguli_tables *tables);
 
-/* The image of the tables that tools/build_c makes from ucd/tables.image. */
-extern const uint8_t hordguli_image[];
-extern const size_t hordguli_image_length;
+/* The images of both versions, which tools/build_c makes from ucd/tables.image and ucd-17.0/tables.image. */
+extern const uint8_t hordguli_image_15_0[];
+extern const size_t hordguli_image_15_0_length;
+extern const uint8_t hordguli_image_17_0[];
+extern const size_t hordguli_image_17_0_length;
 
 uint32_t hordguli_core_layout(hordguli_tables *tables, uint32_t options, uint16_t width, uint32_t print,
                               const uint8_t *text, size_t text_length, uint8_t *array, size_t array_length,

@@ -1,4 +1,5 @@
-/* Implements hordguli_tables_open_folder, which is not in the proved crate because it reads files. */
+/* Implements hordguli_tables_open_folder and hordguli_tables_open_folder_version, which are not in the proved crate
+ * because they read files. */
 #include "hordguli.h"
 
 #include <errno.h>
@@ -65,8 +66,8 @@ static int overlaps(const void *one, size_t size, const void *other, size_t othe
     return a < b ? b - a < size : a - b < other_size;
 }
 
-PUBLIC hordguli_status hordguli_tables_open_folder(hordguli_tables *tables, const char *folder,
-                                                   hordguli_table_fault *fault) {
+PUBLIC hordguli_status hordguli_tables_open_folder_version(hordguli_tables *tables, uint32_t version,
+                                                           const char *folder, hordguli_table_fault *fault) {
     content contents[HORDGULI_TABLE_FILES] = {{NULL, 0}};
     hordguli_bytes files[HORDGULI_TABLE_FILES];
     hordguli_status status = HORDGULI_OK;
@@ -76,6 +77,7 @@ PUBLIC hordguli_status hordguli_tables_open_folder(hordguli_tables *tables, cons
     if (overlaps(tables, sizeof *tables, folder, size)) return HORDGULI_OVERLAP;
     if (fault != NULL && overlaps(fault, sizeof *fault, tables, sizeof *tables)) return HORDGULI_OVERLAP;
     if (fault != NULL && overlaps(fault, sizeof *fault, folder, size)) return HORDGULI_OVERLAP;
+    if (version != HORDGULI_UNICODE_15_0 && version != HORDGULI_UNICODE_17_0) return HORDGULI_UNKNOWN_OPTION;
     if (tables->at != NULL) return HORDGULI_ALREADY_OPEN;
     for (uint32_t k = 0; k < HORDGULI_TABLE_FILES && status == HORDGULI_OK; k++) {
         status = read_file(folder, names[k], &contents[k]);
@@ -87,7 +89,12 @@ PUBLIC hordguli_status hordguli_tables_open_folder(hordguli_tables *tables, cons
             fault->line = 0;
         }
     }
-    if (status == HORDGULI_OK) status = hordguli_tables_read(tables, files, fault);
+    if (status == HORDGULI_OK) status = hordguli_tables_read_version(tables, version, files, fault);
     for (size_t k = 0; k < HORDGULI_TABLE_FILES; k++) free(contents[k].bytes);
     return status;
+}
+
+PUBLIC hordguli_status hordguli_tables_open_folder(hordguli_tables *tables, const char *folder,
+                                                   hordguli_table_fault *fault) {
+    return hordguli_tables_open_folder_version(tables, HORDGULI_UNICODE_15_0, folder, fault);
 }

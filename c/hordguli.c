@@ -73,8 +73,9 @@ PUBLIC const char *hordguli_unicode_version(void) { return HORDGULI_UNICODE_VERS
 
 /* ---- Tables ---- */
 
-PUBLIC hordguli_status hordguli_tables_read(hordguli_tables *tables, const hordguli_bytes files[HORDGULI_TABLE_FILES],
-                                            hordguli_table_fault *fault) {
+PUBLIC hordguli_status hordguli_tables_read_version(hordguli_tables *tables, uint32_t version,
+                                                    const hordguli_bytes files[HORDGULI_TABLE_FILES],
+                                                    hordguli_table_fault *fault) {
     hordguli_table_fault found = {0, 0, 0};
     const uint8_t *bytes[HORDGULI_TABLE_FILES];
     hordguli_status status;
@@ -85,11 +86,16 @@ PUBLIC hordguli_status hordguli_tables_read(hordguli_tables *tables, const hordg
         if (OVERLAP(AT(tables), ARRAY(fault, 1), {files[k].bytes, files[k].length})) return HORDGULI_OVERLAP;
         bytes[k] = BYTES(files[k].bytes);
     }
-    status = (hordguli_status)hordguli_core_tables_read(
-        tables, bytes[0], files[0].length, bytes[1], files[1].length, bytes[2], files[2].length, bytes[3],
+    status = (hordguli_status)hordguli_core_tables_read_version(
+        tables, version, bytes[0], files[0].length, bytes[1], files[1].length, bytes[2], files[2].length, bytes[3],
         files[3].length, bytes[4], files[4].length, bytes[5], files[5].length, bytes[6], files[6].length, &found);
     if (status == HORDGULI_TABLE_FAULT && fault != NULL) *fault = found;
     return status;
+}
+
+PUBLIC hordguli_status hordguli_tables_read(hordguli_tables *tables, const hordguli_bytes files[HORDGULI_TABLE_FILES],
+                                            hordguli_table_fault *fault) {
+    return hordguli_tables_read_version(tables, HORDGULI_UNICODE_15_0, files, fault);
 }
 
 PUBLIC hordguli_status hordguli_tables_open_image(hordguli_tables *tables, const void *image, size_t length,
@@ -103,8 +109,25 @@ PUBLIC hordguli_status hordguli_tables_open_image(hordguli_tables *tables, const
     return status;
 }
 
+PUBLIC hordguli_status hordguli_tables_open_builtin_version(hordguli_tables *tables, uint32_t version) {
+    if (tables == NULL) return HORDGULI_NULL;
+    switch (version) {
+        case HORDGULI_UNICODE_15_0:
+            return hordguli_tables_open_image(tables, hordguli_image_15_0, hordguli_image_15_0_length, NULL);
+        case HORDGULI_UNICODE_17_0:
+            return hordguli_tables_open_image(tables, hordguli_image_17_0, hordguli_image_17_0_length, NULL);
+        default: return HORDGULI_UNKNOWN_OPTION;
+    }
+}
+
 PUBLIC hordguli_status hordguli_tables_open_builtin(hordguli_tables *tables) {
-    return hordguli_tables_open_image(tables, hordguli_image, hordguli_image_length, NULL);
+    return hordguli_tables_open_builtin_version(tables, HORDGULI_UNICODE_15_0);
+}
+
+PUBLIC hordguli_status hordguli_tables_version(hordguli_tables *tables, uint32_t *version) {
+    if (tables == NULL || version == NULL) return HORDGULI_NULL;
+    if (OVERLAP(AT(tables), AT(version))) return HORDGULI_OVERLAP;
+    return (hordguli_status)hordguli_core_tables_version(tables, version);
 }
 
 PUBLIC void hordguli_tables_close(hordguli_tables *tables) {

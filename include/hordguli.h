@@ -117,7 +117,8 @@ typedef int32_t hordguli_status;
 #define HORDGULI_CLOSED 9
 /* The handle to open is already open. */
 #define HORDGULI_ALREADY_OPEN 10
-/* The options or print flags have a bit that is unknown, or that the function does not accept. */
+/* The options or print flags have a bit that is unknown, or that the function does not accept, or no tables have the
+ * Unicode version. */
 #define HORDGULI_UNKNOWN_OPTION 11
 /* The capacity is too small. */
 #define HORDGULI_NO_ROOM 12
@@ -141,7 +142,7 @@ const char *hordguli_status_text(hordguli_status status);
 /* Returns the version of the library, such as "0.5.0". */
 const char *hordguli_version(void);
 
-/* Returns the Unicode version of the rules for levels and line breaks, such as "15.0". */
+/* Returns "15.0", the Unicode version of tables that are opened without a version. */
 const char *hordguli_unicode_version(void);
 
 /* ---- Session options ----
@@ -233,8 +234,13 @@ typedef struct hordguli_session {
 
 /* ---- Tables ----
  *
- * Tables hold character properties from seven files of the Unicode Character Database. The library contains these
- * tables as a compiled image. */
+ * Tables hold character properties from seven files of the Unicode Character Database, of Unicode 15.0 or 17.0. The
+ * library contains the tables of both versions as compiled images. The version of its tables decides by which rules a
+ * call finds levels and line breaks. */
+
+/* The versions: 65,536 times the major version plus 256 times the minor one, as in images. */
+#define HORDGULI_UNICODE_15_0 UINT32_C(0x000F0000)
+#define HORDGULI_UNICODE_17_0 UINT32_C(0x00110000)
 
 /* The number of files. */
 #define HORDGULI_TABLE_FILES 7
@@ -267,7 +273,7 @@ typedef struct hordguli_bytes {
 #define HORDGULI_CAUSE_TRUNCATED 8     /* fewer bytes than the header has or its counts say */
 #define HORDGULI_CAUSE_MAGIC 9         /* other first bytes than those of an image */
 #define HORDGULI_CAUSE_FORMAT 10       /* another version of the format */
-#define HORDGULI_CAUSE_VERSION 11      /* another version of Unicode */
+#define HORDGULI_CAUSE_VERSION 11      /* a version of Unicode that is not supported */
 #define HORDGULI_CAUSE_EXCESS 12       /* more bytes than the counts say */
 #define HORDGULI_CAUSE_CHECKSUM 13     /* another checksum */
 #define HORDGULI_CAUSE_PAGE_NUMBER 14  /* a page number out of range */
@@ -283,32 +289,55 @@ typedef struct hordguli_table_fault {
     size_t cause;  /* one of the causes; 0 if the file cannot be read */
 } hordguli_table_fault;
 
-/* Opens the tables that the library contains, those of `hordguli_unicode_version`. Reads no file.
+/* Opens the tables of Unicode 15.0 that the library contains. Reads no file.
  * Errors: NULL, ALREADY_OPEN, NO_MEMORY.
  * Cost: as `hordguli_tables_open_image`. */
 hordguli_status hordguli_tables_open_builtin(hordguli_tables *tables);
 
-/* Opens tables from a compiled image, such as the file `tables.image` that is installed with the table files. `fault`
- * may be NULL, and is set only on TABLE_FAULT. The causes up to HORDGULI_CAUSE_ENTRY are ruled out before any memory is
- * allocated. If memory runs out before a later cause is found, NO_MEMORY is returned.
+/* Opens the tables of `version` that the library contains, such as those of HORDGULI_UNICODE_17_0. Reads no file.
+ * Errors: NULL, UNKNOWN_OPTION (another version), ALREADY_OPEN, NO_MEMORY.
+ * Cost: as `hordguli_tables_open_image`. */
+hordguli_status hordguli_tables_open_builtin_version(hordguli_tables *tables, uint32_t version);
+
+/* Opens tables from a compiled image, such as the file `tables.image` that is installed with the table files. They have
+ * the version of the image. `fault` may be NULL, and is set only on TABLE_FAULT. The causes up to HORDGULI_CAUSE_ENTRY
+ * are ruled out before any memory is allocated. If memory runs out before a later cause is found, NO_MEMORY is returned.
  * Errors: NULL, OVERLAP, ALREADY_OPEN, TABLE_FAULT, NO_MEMORY.
  * Cost: O(`length`), plus a pass over the code points of the pages that have separators, brackets or mirrors. */
 hordguli_status hordguli_tables_open_image(hordguli_tables *tables, const void *image, size_t length,
                                            hordguli_table_fault *fault);
 
-/* Opens tables from the contents of the files. `fault` may be NULL, and is set only on TABLE_FAULT. NULL and OVERLAP
- * are checked for the parameters first, then for each file in turn. If memory runs out before the first malformed line
- * is found, NO_MEMORY is returned.
+/* Opens tables of Unicode 15.0 from the contents of the files. `fault` may be NULL, and is set only on TABLE_FAULT. NULL
+ * and OVERLAP are checked for the parameters first, then for each file in turn. If memory runs out before the first
+ * malformed line is found, NO_MEMORY is returned.
  * Errors: NULL, OVERLAP, ALREADY_OPEN, TABLE_FAULT, NO_MEMORY.
  * Cost: O(size of the files), plus passes over all code points. */
 hordguli_status hordguli_tables_read(hordguli_tables *tables, const hordguli_bytes files[HORDGULI_TABLE_FILES],
                                      hordguli_table_fault *fault);
 
-/* Opens tables from the files in a folder. `folder` is a NUL-terminated path. `fault` may be NULL, and is set only on
- * UNREAD_FILE or TABLE_FAULT. If memory runs out before either is found, NO_MEMORY is returned.
+/* As `hordguli_tables_read`, with the files of `version`.
+ * Errors: NULL, OVERLAP, UNKNOWN_OPTION (another version), ALREADY_OPEN, TABLE_FAULT, NO_MEMORY.
+ * Cost: as `hordguli_tables_read`. */
+hordguli_status hordguli_tables_read_version(hordguli_tables *tables, uint32_t version,
+                                             const hordguli_bytes files[HORDGULI_TABLE_FILES],
+                                             hordguli_table_fault *fault);
+
+/* Opens tables of Unicode 15.0 from the files in a folder. `folder` is a NUL-terminated path. `fault` may be NULL, and is
+ * set only on UNREAD_FILE or TABLE_FAULT. If memory runs out before either is found, NO_MEMORY is returned.
  * Errors: NULL, OVERLAP, ALREADY_OPEN, UNREAD_FILE, TABLE_FAULT, NO_MEMORY.
  * Cost: as `hordguli_tables_read`. */
 hordguli_status hordguli_tables_open_folder(hordguli_tables *tables, const char *folder, hordguli_table_fault *fault);
+
+/* As `hordguli_tables_open_folder`, with the files of `version`.
+ * Errors: NULL, OVERLAP, UNKNOWN_OPTION (another version), ALREADY_OPEN, UNREAD_FILE, TABLE_FAULT, NO_MEMORY.
+ * Cost: as `hordguli_tables_read`. */
+hordguli_status hordguli_tables_open_folder_version(hordguli_tables *tables, uint32_t version, const char *folder,
+                                                    hordguli_table_fault *fault);
+
+/* Stores the version of the tables, such as HORDGULI_UNICODE_15_0.
+ * Errors: NULL, OVERLAP, CLOSED.
+ * Cost: O(1). */
+hordguli_status hordguli_tables_version(hordguli_tables *tables, uint32_t *version);
 
 /* Closes the handle. Safe on a closed handle or NULL. The tables are freed once no open session uses them. */
 void hordguli_tables_close(hordguli_tables *tables);
@@ -850,7 +879,7 @@ hordguli_status hordguli_marks(hordguli_tables *tables, uint32_t options, const 
 #define HORDGULI_BIDI_CLASS_FSI 21
 #define HORDGULI_BIDI_CLASS_PDI 22
 
-/* Line breaking classes (UAX #14), by their short names. */
+/* Line breaking classes (UAX #14), by their short names. Tables of Unicode 15.0 have those up to XX. */
 #define HORDGULI_LINE_CLASS_BK 0
 #define HORDGULI_LINE_CLASS_CM 1
 #define HORDGULI_LINE_CLASS_CR 2
@@ -894,6 +923,12 @@ hordguli_status hordguli_marks(hordguli_tables *tables, uint32_t options, const 
 #define HORDGULI_LINE_CLASS_SA 40
 #define HORDGULI_LINE_CLASS_SG 41
 #define HORDGULI_LINE_CLASS_XX 42
+#define HORDGULI_LINE_CLASS_AK 43
+#define HORDGULI_LINE_CLASS_AP 44
+#define HORDGULI_LINE_CLASS_AS 45
+#define HORDGULI_LINE_CLASS_HH 46
+#define HORDGULI_LINE_CLASS_VF 47
+#define HORDGULI_LINE_CLASS_VI 48
 
 /* Flags: a mark (general category Mn or Mc); a wide character (East Asian width F, W or H). */
 #define HORDGULI_MARK UINT32_C(1)
@@ -916,8 +951,8 @@ typedef struct hordguli_character {
 } hordguli_character;
 
 /* Stores the properties of `count` characters in `records`, an array of `count` elements. All properties are from the
- * tables, except the columns (see COLUMNS). A character that no table names has bidi class L, line breaking class XX,
- * and no mirror, bracket or flags.
+ * tables, except the columns (see COLUMNS). A character that no table names has line breaking class XX, and no mirror,
+ * bracket or flags. Its bidi class is L, or with tables of Unicode 17.0 the default in DerivedBidiClass.txt.
  * Errors: NULL, OVERLAP, CLOSED, NOT_A_CHARACTER.
  * Cost: O(count). */
 hordguli_status hordguli_properties(hordguli_tables *tables, size_t count, const uint32_t *characters,

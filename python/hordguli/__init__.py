@@ -11,7 +11,7 @@
 Positions are indexes into a `str`. Positions, lines and columns are counted from 0. Exceptions:
 
 - `IndexError` for a position, line or paragraph that is past the end
-- `ValueError` for a width, for options, and for a lone surrogate (`UnicodeEncodeError`)
+- `ValueError` for a width, for options, for a Unicode version, and for a lone surrogate (`UnicodeEncodeError`)
 - `ValueError` from `Session`, `wrap` and `explain` for a text of more than 16,777,216 characters, or a paragraph of more than
   1,048,576; the other functions have no such limits
 - `TypeError` for a `Print` in place of `Options`, and for copying or pickling sessions and tables
@@ -21,7 +21,7 @@ Threads may share sessions and tables: a lock keeps each of them in one call at 
 `default_tables()`, so programs that lay out long texts in several threads should open `Tables` for each. After a fork, the child
 has its own copies. What another thread was using during the fork is closed in the child.
 
-`__version__` is the version of the C library, and `UNICODE_VERSION` that of the rules for levels and line breaks.
+`__version__` is the version of the C library, and `UNICODE_VERSION` the Unicode version of tables that are opened without one.
 """
 
 from ._errors import Cause, ClosedError, TableError

@@ -6,6 +6,7 @@ import sys
 
 import hordguli
 
+from ._declarations import UNICODE_VERSIONS
 from ._explain import explain, page, table
 
 OPTIONS = {
@@ -32,6 +33,9 @@ def parser() -> argparse.ArgumentParser:
     command.add_argument("text", metavar="TEXT", nargs="?", help="the text [default: standard input]")
     command.add_argument("--width", metavar="N", type=int, default=80, help="wrap lines at N columns [default: 80]")
     command.add_argument("--tabs", metavar="N", type=int, help="set a tab stop every N columns, from 1 to 255")
+    versions = ", ".join(UNICODE_VERSIONS)
+    its_help = f"the Unicode version of the tables: {versions} [default: {hordguli.UNICODE_VERSION}]"
+    command.add_argument("--unicode", metavar="VERSION", choices=UNICODE_VERSIONS, default=hordguli.UNICODE_VERSION, help=its_help)
     directions = command.add_mutually_exclusive_group()
     for group, names in ((command, OPTIONS), (directions, DIRECTIONS)):
         for name, (option, what) in names.items():
@@ -50,11 +54,12 @@ def main() -> None:
     try:
         if given.tabs is not None:
             options |= hordguli.Options.tab_width(given.tabs)
+        tables = hordguli.default_tables(given.unicode)
         if given.html:
             with open(given.html, "w", encoding="utf-8") as file:
-                file.write(page(text, given.width, options))
+                file.write(page(text, given.width, options, tables=tables))
         else:
-            explained = explain(text, given.width, options)
+            explained = explain(text, given.width, options, tables=tables)
             print(json.dumps(explained) if given.json else table(explained))
     except (OSError, ValueError) as error:
         sys.exit(f"hordguli: {error}")

@@ -26,6 +26,11 @@ UNREAD_FILE = 15
 MARK = 1
 WIDE = 2
 
+# The Unicode versions of tables.
+UNICODE_VERSIONS = {
+    "15.0": 0x000F0000, "17.0": 0x00110000,
+}
+
 TABLE_FILES = (
     "DerivedBidiClass.txt", "BidiBrackets.txt", "BidiMirroring.txt", "LineBreak.txt", "DerivedGeneralCategory.txt",
     "EastAsianWidth.txt", "emoji-data.txt",
@@ -39,7 +44,7 @@ BIDI_CLASSES = [
 LINE_CLASSES = [
     "BK", "CM", "CR", "GL", "LF", "NL", "SP", "WJ", "ZW", "ZWJ", "B2", "BA", "BB", "CB", "HY", "CL", "CP", "EX", "IN",
     "NS", "OP", "QU", "IS", "NU", "PO", "PR", "SY", "AI", "AL", "CJ", "EB", "EM", "H2", "H3", "HL", "ID", "JL", "JT",
-    "JV", "RI", "SA", "SG", "XX",
+    "JV", "RI", "SA", "SG", "XX", "AK", "AP", "AS", "HH", "VF", "VI",
 ]
 
 
@@ -74,9 +79,15 @@ FUNCTIONS: dict[str, tuple[Any, dict[str, Any]]] = {
     "hordguli_version": (TEXT, {}),
     "hordguli_unicode_version": (TEXT, {}),
     "hordguli_tables_open_builtin": (STATUS, {"tables": POINTER}),
+    "hordguli_tables_open_builtin_version": (STATUS, {"tables": POINTER, "version": NUMBER}),
     "hordguli_tables_open_image": (STATUS, {"tables": POINTER, "image": POINTER, "length": SIZE, "fault": POINTER}),
     "hordguli_tables_read": (STATUS, {"tables": POINTER, "files": POINTER, "fault": POINTER}),
+    "hordguli_tables_read_version": (STATUS, {"tables": POINTER, "version": NUMBER, "files": POINTER,
+                                              "fault": POINTER}),
     "hordguli_tables_open_folder": (STATUS, {"tables": POINTER, "folder": POINTER, "fault": POINTER}),
+    "hordguli_tables_open_folder_version": (STATUS, {"tables": POINTER, "version": NUMBER, "folder": POINTER,
+                                                     "fault": POINTER}),
+    "hordguli_tables_version": (STATUS, {"tables": POINTER, "version": POINTER}),
     "hordguli_tables_close": (None, {"tables": POINTER}),
     "hordguli_layout": (STATUS, {"tables": POINTER, "options": NUMBER, "width": NUMBER, "print": NUMBER,
                                  "text": POINTER, "length": SIZE, "capacity": SIZE, "buffer": POINTER,

@@ -33,6 +33,7 @@ def explain(
 ) -> dict[str, Any]:
     """Returns what decides the layout of a text, as dicts and lists of strings and numbers, for JSON.
 
+    - `unicode`: the Unicode version of the tables.
     - `characters`: the properties of each character, its level before L1, and the break mark after it. For a character that is
       shown, also its line, its level after L1 (`line_level`), and its visual position in the line. Else these are `None`.
     - `lines`: the fields of each `Line`.
@@ -70,6 +71,7 @@ def explain(
         for offset, (level, visual) in enumerate(zip(line["levels"], line["logical_to_visual"])):
             characters[line["start"] + offset].update(line=number, line_level=level, visual=visual)
     return {
+        "unicode": tables.unicode_version,
         "width": width,
         "characters": characters,
         "lines": lines,
@@ -116,7 +118,7 @@ def _decider(text: str, paragraph: Paragraph, options: Options, tables: Tables) 
 
 
 def table(explained: dict[str, Any]) -> str:
-    """Returns what `explain` has returned as a table for a terminal: a row per character, then the lines and paragraphs."""
+    """Returns what `explain` has returned as a table for a terminal: a row per character, the lines and paragraphs, the version."""
     cells = [[one[field] for field in _COLUMNS.values()] for one in explained["characters"]]
     rows = [list(_COLUMNS), *(["" if cell is None else str(cell) for cell in row] for row in cells)]
     widths = [max(map(len, column)) for column in zip(*rows)]
@@ -127,6 +129,7 @@ def table(explained: dict[str, Any]) -> str:
     for number, one in enumerate(explained["paragraphs"]):
         why = "no character" if one["decided_by"] is None else f"the character at {one['decided_by']}"
         shown.append(f"paragraph {number}: {one['length']} from {one['start']}, base level {one['base_level']}, decided by {why}")
+    shown.append(f"Unicode {explained['unicode']}")
     return "\n".join(shown)
 
 

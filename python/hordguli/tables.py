@@ -7,10 +7,10 @@ from types import TracebackType
 from typing import Optional, Union
 
 from ._calls import Handle, address, refuse_copy
-from ._declarations import TABLE_FAULT, UNREAD_FILE, RawBytes, RawTables
+from ._declarations import TABLE_FAULT, UNICODE_VERSIONS, UNREAD_FILE, RawBytes, RawTables
 from ._declarations import TABLE_FILES as TABLE_FILES  # (is public here too)
 from ._errors import Cause, TableError, check
-from ._library import library
+from ._library import UNICODE_VERSION, library
 from ._records import FORMATS, TableFault
 
 _USUAL_CAPACITY = 1000
@@ -34,7 +34,11 @@ class Tables:
     Without `files`, these are the tables that the library contains. `files` is a folder that has the seven files named in
     `TABLE_FILES`, the contents of these files in this order, or the bytes of a compiled image.
 
-    Raises `TableError` if a file cannot be read, or if a file or the image is malformed.
+    `unicode` is the Unicode version, "15.0" or "17.0", which decides by which rules levels and line breaks are found. If it is
+    not given, it is 15.0, or that of the image.
+
+    Raises `TableError` if a file cannot be read, if a file or the image is malformed, or if the image has another version. Raises
+    `ValueError` for an unknown version.
 
     Tables may be used in several threads, one call at a time. A session shares the tables that it was opened with, so they may
     be closed before it.
@@ -44,28 +48,34 @@ class Tables:
     [0, 0, 0]
     """
 
-    def __init__(self, files: Union[str, "os.PathLike[str]", bytes, Sequence[bytes], None] = None) -> None:
+    def __init__(
+        self, files: Union[str, "os.PathLike[str]", bytes, Sequence[bytes], None] = None, *, unicode: Optional[str] = None
+    ) -> None:
+        version = _number(UNICODE_VERSION if unicode is None else unicode)
         self._handle = Handle(RawTables, library.hordguli_tables_close)
         fault = bytearray(FORMATS[TableFault].size)
         folder: Optional[str] = None
         if files is None:
-            status = self._handle.open(library.hordguli_tables_open_builtin)
+            status = self._handle.open(library.hordguli_tables_open_builtin_version, version)
         elif isinstance(files, bytes):
             status = self._handle.open(library.hordguli_tables_open_image, files, len(files), address(fault))
         elif isinstance(files, (str, os.PathLike)):
             folder = os.fsdecode(files)
             if "\0" in folder:
                 raise ValueError(f"a path has a null character: {folder!r}")
-            status = self._handle.open(library.hordguli_tables_open_folder, os.fsencode(folder), address(fault))
+            status = self._handle.open(library.hordguli_tables_open_folder_version, version, os.fsencode(folder), address(fault))
         else:
             if len(files) != len(TABLE_FILES):
                 raise ValueError(f"{len(files)} files are given, and {len(TABLE_FILES)} are needed")
             contents = (RawBytes * len(TABLE_FILES))(*[RawBytes(content, len(content)) for content in files])
-            status = self._handle.open(library.hordguli_tables_read, contents, address(fault))
+            status = self._handle.open(library.hordguli_tables_read_version, version, contents, address(fault))
         if status in (TABLE_FAULT, UNREAD_FILE):
             file, line, cause = FORMATS[TableFault].unpack(fault)
             raise TableError((*TABLE_FILES, "image")[file], line, Cause(cause), folder)
         check(status)
+        if unicode is not None and self.unicode_version != unicode:
+            self.close()
+            raise TableError("image", 0, Cause.VERSION)
         self._buffers = Buffers(_USUAL_CAPACITY)
 
     __reduce__ = refuse_copy
@@ -79,6 +89,13 @@ class Tables:
         """Whether the tables are closed."""
         return self._handle.closed
 
+    @property
+    def unicode_version(self) -> str:
+        """The Unicode version of the tables, "15.0" or "17.0"."""
+        number = c_uint32()
+        check(self._handle.call(library.hordguli_tables_version, byref(number)))
+        return next(name for name, its in UNICODE_VERSIONS.items() if its == number.value)
+
     def __enter__(self) -> "Tables":
         return self
 
@@ -88,13 +105,22 @@ class Tables:
         self.close()
 
 
-_default: Optional[Tables] = None
+def _number(unicode: str) -> int:
+    """Returns the number of a Unicode version. Raises `ValueError` for an unknown version."""
+    if unicode not in UNICODE_VERSIONS:
+        raise ValueError(f"the Unicode version {unicode!r} is none of {', '.join(map(repr, UNICODE_VERSIONS))}")
+    return UNICODE_VERSIONS[unicode]
 
 
-def default_tables() -> Tables:
-    """Returns the tables that are used if none are given. They are opened when they are first needed, once per process."""
-    global _default
-    tables = _default
+_defaults: dict[str, Tables] = {}
+
+
+def default_tables(unicode: str = UNICODE_VERSION) -> Tables:
+    """Returns the tables that the library contains, by default those of Unicode 15.0, which are used if none are given.
+
+    Tables of a version are opened when they are first needed, once per process. Raises `ValueError` for an unknown version.
+    """
+    tables = _defaults.get(unicode)
     if tables is None or tables.closed:
-        tables = _default = Tables()
+        tables = _defaults[unicode] = Tables(unicode=unicode)
     return tables

@@ -1,5 +1,5 @@
-/* Tests what each function returns, and each of its statuses. Usage: calls FOLDER, where FOLDER has the table
- * files and their image. */
+/* Tests what each function returns, and each of its statuses. Usage: calls FOLDER FOLDER_17. FOLDER has the table files
+ * of Unicode 15.0 and their image, and FOLDER_17 those of Unicode 17.0. */
 #include "test.h"
 
 #include <limits.h>
@@ -158,6 +158,100 @@ static void opened_by_images(const char *folder) {
     IS(hordguli_tables_open_image(&other, NULL, 1, &fault), NULL);
     IS(hordguli_tables_open_image(&other, NULL, 0, &fault), TABLE_FAULT);
     HOLDS(fault.cause == HORDGULI_CAUSE_TRUNCATED);
+}
+
+/* What a character's base direction and the lines of `ls -v` are, by the rules of the tables' version. */
+static void has_rules(hordguli_tables *of, uint32_t wanted_version, uint32_t wanted_base, const char *wanted_lines) {
+    static const uint32_t garay[] = {0x10D5A}; /* a letter of Unicode 16.0, of class R */
+    char lines[20];
+    size_t length = 0;
+    uint32_t version = 77, base = 77;
+    OK(hordguli_tables_version(of, &version));
+    HOLDS(version == wanted_version);
+    OK(hordguli_base(of, HORDGULI_WEAK_LTR, garay, 1, &base));
+    HOLDS(base == wanted_base);
+    /* LB20a: no break after the hyphen at the start of a word */
+    OK(hordguli_layout(of, HORDGULI_LTR, 4, HORDGULI_PRINT_VISUAL, "ls -v", 5, sizeof lines, lines, &length));
+    same(lines, length, wanted_lines);
+}
+
+static void has_rules_of_15(hordguli_tables *of) { has_rules(of, HORDGULI_UNICODE_15_0, 0, "ls -\nv\n"); }
+static void has_rules_of_17(hordguli_tables *of) { has_rules(of, HORDGULI_UNICODE_17_0, 1, "ls\n-v\n"); }
+
+/* Tables of each version, from the library, from a folder's files and image, and from contents of files. */
+static void opened_by_version(const char *folder, const char *folder_17) {
+    static const uint32_t unknown[] = {0, 15, 17, 0x100000, 0xF0001, 0x110100, UINT32_MAX};
+    static unsigned char image[1 << 18];
+    char path[200];
+    FILE *from;
+    size_t length;
+    uint32_t version = 77;
+    hordguli_bytes files[HORDGULI_TABLE_FILES] = {{NULL, 0}};
+    hordguli_tables read = HORDGULI_TABLES_INIT, other = HORDGULI_TABLES_INIT;
+    hordguli_table_fault fault = {77, 77, 77};
+    has_rules_of_15(&tables);
+    OK(hordguli_tables_open_folder_version(&read, HORDGULI_UNICODE_17_0, folder_17, &fault));
+    has_rules_of_17(&read);
+    IS(hordguli_tables_open_folder_version(&read, HORDGULI_UNICODE_17_0, folder_17, &fault), ALREADY_OPEN);
+    OK(hordguli_tables_open_folder_version(&other, HORDGULI_UNICODE_15_0, folder, &fault));
+    has_rules_of_15(&other);
+    HOLDS(are_equal(&tables, &other) && !are_equal(&read, &other) && fault.file == 77);
+    hordguli_tables_close(&other);
+
+    OK(hordguli_tables_open_builtin_version(&other, HORDGULI_UNICODE_17_0));
+    IS(hordguli_tables_open_builtin_version(&other, HORDGULI_UNICODE_15_0), ALREADY_OPEN);
+    has_rules_of_17(&other);
+    HOLDS(are_equal(&read, &other));
+    hordguli_tables_close(&other);
+    OK(hordguli_tables_open_builtin_version(&other, HORDGULI_UNICODE_15_0));
+    has_rules_of_15(&other);
+    HOLDS(are_equal(&tables, &other));
+    hordguli_tables_close(&other);
+    OK(hordguli_tables_open_builtin(&other));
+    has_rules_of_15(&other);
+    hordguli_tables_close(&other);
+
+    snprintf(path, sizeof path, "%s/tables.image", folder_17);
+    from = fopen(path, "rb");
+    HOLDS(from != NULL);
+    if (from == NULL) return;
+    length = fread(image, 1, sizeof image, from);
+    fclose(from);
+    OK(hordguli_tables_open_image(&other, image, length, &fault)); /* an image has its version */
+    has_rules_of_17(&other);
+    HOLDS(are_equal(&read, &other));
+    hordguli_tables_close(&other);
+
+    /* Unicode 15.0 has no class AK */
+    files[HORDGULI_LINE_BREAK] = of("1B05;AK\n");
+    IS(hordguli_tables_read(&other, files, NULL), TABLE_FAULT);
+    IS(hordguli_tables_read_version(&other, HORDGULI_UNICODE_15_0, files, &fault), TABLE_FAULT);
+    HOLDS(fault.file == HORDGULI_LINE_BREAK && fault.line == 1 && fault.cause == HORDGULI_CAUSE_VALUE);
+    OK(hordguli_tables_read_version(&other, HORDGULI_UNICODE_17_0, files, NULL));
+    OK(hordguli_tables_version(&other, &version));
+    HOLDS(version == HORDGULI_UNICODE_17_0);
+    IS(hordguli_tables_read_version(&other, HORDGULI_UNICODE_17_0, files, NULL), ALREADY_OPEN);
+    hordguli_tables_close(&other);
+    hordguli_tables_close(&read);
+
+    version = fault.file = 77;
+    for (size_t k = 0; k < sizeof unknown / sizeof *unknown; k++) {
+        IS(hordguli_tables_open_builtin_version(&other, unknown[k]), UNKNOWN_OPTION);
+        IS(hordguli_tables_open_builtin_version(&tables, unknown[k]), UNKNOWN_OPTION);
+        IS(hordguli_tables_open_folder_version(&other, unknown[k], folder, &fault), UNKNOWN_OPTION);
+        IS(hordguli_tables_open_folder_version(&tables, unknown[k], "no such folder", &fault), UNKNOWN_OPTION);
+        IS(hordguli_tables_read_version(&other, unknown[k], files, &fault), UNKNOWN_OPTION);
+        IS(hordguli_tables_read_version(&tables, unknown[k], files, &fault), UNKNOWN_OPTION);
+    }
+    IS(hordguli_tables_open_builtin_version(NULL, 0), NULL);
+    IS(hordguli_tables_open_folder_version(NULL, 0, folder, &fault), NULL);
+    IS(hordguli_tables_open_folder_version(&other, 0, NULL, &fault), NULL);
+    IS(hordguli_tables_read_version(NULL, 0, files, &fault), NULL);
+    IS(hordguli_tables_version(NULL, &version), NULL);
+    IS(hordguli_tables_version(&tables, NULL), NULL);
+    IS(hordguli_tables_version(&tables, (uint32_t *)&tables), OVERLAP);
+    IS(hordguli_tables_version(&no_tables, &version), CLOSED);
+    HOLDS(version == 77 && fault.file == 77 && other.at == NULL);
 }
 
 /* ---- Sessions ---- */
@@ -1543,12 +1637,13 @@ static void end_of_text(void) {
 }
 
 int main(int count, char **words) {
-    if (count != 2) return 2;
+    if (count != 3) return 2;
     constants();
     opened_by_bytes();
     table_faults();
     opened_by_folder(words[1]);
     opened_by_images(words[1]);
+    opened_by_version(words[1], words[2]);
     opened();
     counts();
     changed();

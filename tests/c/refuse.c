@@ -84,7 +84,7 @@ static uint32_t found_characters[100];
 static hordguli_line_info found_info;
 
 enum {
-    BUILTIN, OPEN_TABLES, OPEN, INSERT, REPLACE, WIDTH, CLUSTER, WORD, CARET, STEP, EDGE, CLUSTERS, DELETE, BASE, LEVELS, MARKS, ROW,
+    BUILTIN, OPEN_17, OPEN_TABLES, OPEN, INSERT, REPLACE, WIDTH, CLUSTER, WORD, CARET, STEP, EDGE, CLUSTERS, DELETE, BASE, LEVELS, MARKS, ROW,
     ROW_RUNS, LAYOUT, LINES, TEXT, PAGE, STEPS
 };
 
@@ -97,9 +97,22 @@ static hordguli_status opens_builtin(void) {
     return status;
 }
 
+/* Opens the tables of Unicode 17.0 that the library contains, and those of the folder's files. */
+static hordguli_status opens_17(void) {
+    hordguli_tables builtin = HORDGULI_TABLES_INIT, read = HORDGULI_TABLES_INIT;
+    hordguli_status status = hordguli_tables_open_builtin_version(&builtin, HORDGULI_UNICODE_17_0);
+    if (status == HORDGULI_OK)
+        status = hordguli_tables_open_folder_version(&read, HORDGULI_UNICODE_17_0, folder, NULL);
+    HOLDS((status == HORDGULI_OK) == (read.at != NULL));
+    hordguli_tables_close(&builtin);
+    hordguli_tables_close(&read);
+    return status;
+}
+
 static hordguli_status step(int k) {
     switch (k) {
         case BUILTIN: return opens_builtin();
+        case OPEN_17: return opens_17();
         case OPEN_TABLES: return hordguli_tables_open_folder(&tables, folder, NULL);
         case OPEN: return hordguli_session_open(&session, &tables, 0, 4, start, sizeof start - 1);
         case INSERT: return hordguli_insert(&session, 3, "(a)\n\u05d0", 6, &damage);

@@ -68,7 +68,8 @@ static void constants_have_their_numbers(void) {
     NUMBER(BREAK_NEVER, 0), NUMBER(BREAK_MAY, 1), NUMBER(BREAK_MUST, 2);
     NUMBER(MARK, 1), NUMBER(WIDE, 2), NUMBER(BRACKET_NONE, 0), NUMBER(BRACKET_OPEN, 1), NUMBER(BRACKET_CLOSE, 2);
     NUMBER(BIDI_CLASS_L, 0), NUMBER(BIDI_CLASS_B, 10), NUMBER(BIDI_CLASS_PDI, 22);
-    NUMBER(LINE_CLASS_BK, 0), NUMBER(LINE_CLASS_B2, 10), NUMBER(LINE_CLASS_XX, 42);
+    NUMBER(LINE_CLASS_BK, 0), NUMBER(LINE_CLASS_B2, 10), NUMBER(LINE_CLASS_XX, 42), NUMBER(LINE_CLASS_VI, 48);
+    NUMBER(UNICODE_15_0, 983040), NUMBER(UNICODE_17_0, 1114112);
     NUMBER(TABLE_FILES, 7);
     NUMBER(BIDI_CLASS, 0), NUMBER(BIDI_BRACKETS, 1), NUMBER(BIDI_MIRRORING, 2), NUMBER(LINE_BREAK, 3);
     NUMBER(GENERAL_CATEGORY, 4), NUMBER(EAST_ASIAN_WIDTH, 5), NUMBER(EMOJI_DATA, 6);
@@ -665,6 +666,8 @@ WAY(tables_in_files, a->tables = (hordguli_tables *)(uintptr_t)(a->files + which
 
 /* values */
 WAY(unknown_option, a->flags |= UINT32_C(1) << which)
+WAY(unknown_version, static const uint32_t wrong[] = {0, 15, 17, 0x100000, 0xF0001, 0x110100, 0x1110000, UINT32_MAX};
+    a->flags = wrong[which])
 WAY(two_directions, a->flags |= UINT32_C(0x1000001) << which)
 WAY(unknown_direction, a->direction |= UINT32_C(1) << which)
 WAY(after_nothing, a->at = 0; a->flags = HORDGULI_AFTER)
@@ -1040,12 +1043,27 @@ static const way of_builtin[] = {
     END,
 };
 
+static const way of_version[] = {{"UNKNOWN_OPTION (another version)", FLAGS, unknown_version, 0, 7},
+    END};
+
+static const way of_tables[] = {
+    {"NULL", TABLES | TABLES_IS, null_tables, 0, 0},
+    {"NULL", OUT | OUT_IS, null_out, 0, 0},
+    {"OVERLAP", OUT | TABLES_IS, out_at_tables, 0, 0},
+    {"CLOSED", TABLES, closed_tables, 0, 0},
+    END,
+};
+
 #define MAKE(name, ...)                                                                                                \
     static hordguli_status make_##name(const arguments *a) { return hordguli_##name(__VA_ARGS__); }
 MAKE(tables_read, a->tables, a->files, a->fault)
+MAKE(tables_read_version, a->tables, a->flags, a->files, a->fault)
 MAKE(tables_open_builtin, a->tables)
+MAKE(tables_open_builtin_version, a->tables, a->flags)
 MAKE(tables_open_image, a->tables, a->text, a->length, a->fault)
 MAKE(tables_open_folder, a->tables, a->folder, a->fault)
+MAKE(tables_open_folder_version, a->tables, a->flags, a->folder, a->fault)
+MAKE(tables_version, a->tables, a->out)
 MAKE(session_open, a->session, a->tables, a->flags, a->width, a->text, a->length)
 MAKE(insert, a->session, a->at, a->text, a->length, a->out)
 MAKE(delete, a->session, a->at, a->count, a->out)
@@ -1092,6 +1110,10 @@ MAKE(properties, a->tables, a->count, a->characters, a->arrays[0])
 /* If the session is the only pointer that must not be NULL, NULL and CLOSED cannot both apply to a call. */
 #define NOT_BOTH_OF_SESSION NOT_BOTH ", NULL + CLOSED"
 #define ORDER_OF_FILE(k) "NULL (file " #k "), OVERLAP (file " #k "), "
+#define ORDER_OF_FILES                                                                                                 \
+    "NULL, OVERLAP, " ORDER_OF_FILE(0) ORDER_OF_FILE(1) ORDER_OF_FILE(2) ORDER_OF_FILE(3) ORDER_OF_FILE(4)             \
+        ORDER_OF_FILE(5) ORDER_OF_FILE(6)
+#define VERSION_UNKNOWN "UNKNOWN_OPTION (another version), "
 
 #define CALL(name, ...) {#name, make_##name, __VA_ARGS__}
 #define INSERTING "NULL, OVERLAP, NOT_UTF8, CLOSED, OUT_OF_RANGE, TEXT_TOO_LONG, PARAGRAPH_TOO_LONG, NO_MEMORY"
@@ -1102,11 +1124,19 @@ MAKE(properties, a->tables, a->count, a->characters, a->arrays[0])
 /* The session has 18 characters, 3 lines and 3 paragraphs. */
 static const call calls[] = {
     CALL(tables_read, "NULL, OVERLAP, ALREADY_OPEN, TABLE_FAULT, NO_MEMORY", .ways = {of_files},
-         .order = "NULL, OVERLAP, " ORDER_OF_FILE(0) ORDER_OF_FILE(1) ORDER_OF_FILE(2) ORDER_OF_FILE(3) ORDER_OF_FILE(4)
-             ORDER_OF_FILE(5) ORDER_OF_FILE(6) "ALREADY_OPEN, TABLE_FAULT, NO_MEMORY"),
+         .order = ORDER_OF_FILES "ALREADY_OPEN, TABLE_FAULT, NO_MEMORY"),
+    CALL(tables_read_version, "NULL, OVERLAP, " VERSION_UNKNOWN "ALREADY_OPEN, TABLE_FAULT, NO_MEMORY",
+         .ways = {of_files, of_version}, .order = ORDER_OF_FILES VERSION_UNKNOWN "ALREADY_OPEN, TABLE_FAULT, NO_MEMORY",
+         .flags = HORDGULI_UNICODE_17_0),
     CALL(tables_open_builtin, "NULL, ALREADY_OPEN, NO_MEMORY", .ways = {of_builtin}, .never = "NULL + ALREADY_OPEN"),
+    CALL(tables_open_builtin_version, "NULL, " VERSION_UNKNOWN "ALREADY_OPEN, NO_MEMORY", .ways = {of_builtin, of_version},
+         .never = "NULL + ALREADY_OPEN", .flags = HORDGULI_UNICODE_17_0),
     CALL(tables_open_image, "NULL, OVERLAP, ALREADY_OPEN, TABLE_FAULT, NO_MEMORY", .ways = {of_image}),
     CALL(tables_open_folder, "NULL, OVERLAP, ALREADY_OPEN, UNREAD_FILE, TABLE_FAULT, NO_MEMORY", .ways = {of_folder}),
+    CALL(tables_open_folder_version,
+         "NULL, OVERLAP, " VERSION_UNKNOWN "ALREADY_OPEN, UNREAD_FILE, TABLE_FAULT, NO_MEMORY",
+         .ways = {of_folder, of_version}, .flags = HORDGULI_UNICODE_17_0),
+    CALL(tables_version, "NULL, OVERLAP, CLOSED", .ways = {of_tables}, .out_size = sizeof(uint32_t), .never = NOT_BOTH),
     CALL(session_open,
          "NULL, OVERLAP, WIDTH_OUT_OF_RANGE (above 65,535), UNKNOWN_OPTION, NOT_UTF8, ALREADY_OPEN (the session), "
          "CLOSED (the tables), WIDTH_OUT_OF_RANGE (0), TEXT_TOO_LONG, PARAGRAPH_TOO_LONG, NO_MEMORY",
@@ -1269,7 +1299,8 @@ static content content_now(void) {
  * reopens the session. */
 static arguments good_arguments(const call *c, int is_new) {
     arguments a;
-    int opens_tables = strncmp(c->name, "tables_", 7) == 0, opens_session = strcmp(c->name, "session_open") == 0;
+    int opens_tables = strncmp(c->name, "tables_", 7) == 0 && strcmp(c->name, "tables_version") != 0;
+    int opens_session = strcmp(c->name, "session_open") == 0;
     static const uint32_t characters[ELEMENTS] = {'a', ' ', 0x5D0, '1', ')', 'b'};
     static const uint8_t levels[ELEMENTS] = {0, 0, 1, 2, 0, 0};
     if (is_new) {
@@ -1278,7 +1309,7 @@ static arguments good_arguments(const call *c, int is_new) {
         reopen(&own.session, session_text, 80);
         kept = content_now();
     }
-    if (strcmp(c->name, "tables_open_folder") == 0)
+    if (strncmp(c->name, "tables_open_folder", 18) == 0)
         for (size_t k = 0; k < 7; k++) write_file(k, "");
     memset(own.files, 0, sizeof own.files);
     memset(&own.fault, UNUSED, sizeof own.fault);

@@ -16,8 +16,14 @@ settings.load_profile("fixed")
 
 @pytest.fixture
 def folder():
-    """The folder of the table files."""
+    """The folder of the table files of Unicode 15.0."""
     return pathlib.Path(__file__).parents[2] / "ucd"
+
+
+@pytest.fixture
+def folder_17(folder):
+    """The folder of the table files of Unicode 17.0."""
+    return folder.with_name("ucd-17.0")
 
 
 @pytest.fixture

@@ -117,6 +117,8 @@ OPENING = {
     "bytes that are not UTF-8": (ValueError, lambda: hordguli.count_utf8(b"\xff")),
     "six table files": (ValueError, lambda: hordguli.Tables([b""] * 6)),
     "a path with a null character": (ValueError, lambda: hordguli.Tables("a\0b")),
+    "tables of an unknown version": (ValueError, lambda: hordguli.Tables(unicode="16.0")),
+    "default tables of an unknown version": (ValueError, lambda: hordguli.default_tables("17")),
 }
 
 
@@ -307,6 +309,27 @@ def test_a_malformed_image_is_named(folder):
         assert str(caught.value) == f"image: {cause.name.lower()}"
 
 
+def test_the_known_versions_are_named(folder):
+    for call in (hordguli.default_tables, lambda given: hordguli.Tables(unicode=given), lambda given: hordguli.Tables(folder, unicode=given)):
+        for given in ("16.0", "17", ""):
+            with pytest.raises(ValueError) as caught:
+                call(given)
+            assert str(caught.value) == f"the Unicode version {given!r} is none of '15.0', '17.0'"
+
+
+def test_an_image_of_another_version_is_refused(folder, folder_17):
+    for its, unicode in ((folder, "17.0"), (folder_17, "15.0")):
+        with pytest.raises(hordguli.TableError) as caught:
+            hordguli.Tables((its / "tables.image").read_bytes(), unicode=unicode)
+        assert (caught.value.file, caught.value.line, caught.value.cause) == ("image", 0, Cause.VERSION)
+
+
+def test_files_of_unicode_17_are_refused_as_those_of_15(folder_17):
+    with pytest.raises(hordguli.TableError) as caught:
+        hordguli.Tables(folder_17)
+    assert (caught.value.file, caught.value.cause) == ("LineBreak.txt", Cause.VALUE)
+
+
 def test_a_closed_session_raises():
     text = hordguli.Session("abc")
     assert not text.closed
@@ -328,6 +351,8 @@ def test_closed_tables_raise():
     for call in (hordguli.levels, hordguli.display, hordguli.wrap, hordguli.properties, hordguli.Session):
         with pytest.raises(hordguli.ClosedError):
             call("a", tables=tables)
+    with pytest.raises(hordguli.ClosedError):
+        tables.unicode_version
 
 
 def test_closed_default_tables_are_opened_again():

@@ -48,6 +48,13 @@ def test_all_values_are_those_of_the_library():
         assert tuple(one["line_level"] for one in placed) == line.levels
 
 
+def test_the_version_of_the_tables_is_named():
+    with hordguli.Tables(unicode="17.0") as tables:
+        later = hordguli.explain("ls -v", 4, tables=tables)
+    assert (hordguli.explain("ls -v", 4)["unicode"], later["unicode"]) == ("15.0", "17.0")
+    assert [line["text"] for line in later["lines"]] == ["ls", "-v"]
+
+
 def test_the_deciding_character_is_the_first_strong_one_outside_isolates():
     def deciders(text, options=Options.WEAK_LTR):
         return [one["decided_by"] for one in hordguli.explain(text, 80, options)["paragraphs"]]
@@ -65,6 +72,7 @@ def test_the_command_prints_json_or_a_table():
     assert table[2].split() == "1 U+05D0 R 1 1 never 0 1 HEBREW LETTER ALEF".split()
     assert table[4] == "line 0: 3 from 0, 2 columns; runs: 1 from 0 at level 0; 1 from 1 at level 1"
     assert table[5] == "paragraph 0: 3 from 0, base level 0, decided by the character at 0"
+    assert table[6:] == ["Unicode 15.0", ""]
     assert run("explain", "--json", input="a\u05d0".encode()).stdout == run("explain", "--json", "a\u05d0").stdout
 
 
@@ -75,7 +83,18 @@ def test_the_command_writes_a_page(tmp_path):
     assert written.count("</script>") == 2 and "http:" not in written.replace("http://www.w3.org", "")
 
 
+def test_the_command_takes_a_version(tmp_path):
+    found = json.loads(run("explain", "--unicode", "17.0", "--width", "4", "--json", "ls -v").stdout)
+    assert found["unicode"] == "17.0" and [line["text"] for line in found["lines"]] == ["ls", "-v"]
+    assert run("explain", "--unicode=17.0", "a").stdout.endswith(b"\nUnicode 17.0\n")
+    page = tmp_path / "page.html"
+    assert run("explain", "--unicode", "17.0", "--html", page, "a").returncode == 0
+    assert '"unicode": "17.0"' in page.read_text(encoding="utf-8")
+
+
 def test_errors_end_the_command():
+    refused = run("explain", "--unicode", "16.0", "a")
+    assert refused.returncode == 2 and b"15.0" in refused.stderr and b"17.0" in refused.stderr
     assert run("explain", "--width", "0", "a").returncode == 1
     assert run("explain", "--html", "/no/such/folder/page", "a").stderr.startswith(b"hordguli: ")
     assert run().returncode == run("explain", "--rtl", "--ltr", "a").returncode == 2

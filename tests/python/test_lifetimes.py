@@ -230,6 +230,7 @@ EDITS = {
 FUNCTIONS = {
     "Session": lambda: hordguli.Session(f"ab {HEBREW}", 9).text(),
     "Tables": lambda: hordguli.Tables().closed,
+    "Tables of Unicode 17.0": lambda: hordguli.Tables(unicode="17.0").closed,
     "display": lambda: hordguli.display(f"ab {HEBREW} (1)"),
     # (after a long text, the tables keep no memory, so the second call allocates)
     "wrap": lambda: [hordguli.wrap(text, 5) for text in ("ab " * 30_000, f"ab {HEBREW} (1)")][1],

@@ -160,5 +160,41 @@ def test_tables_are_read_from_files_a_folder_or_an_image(files, folder):
             assert hordguli.wrap("a b", 1, tables=tables) == ["a", "b"]
 
 
+def rules_of(tables):
+    """Returns what differs between the versions: the level of a letter of Unicode 16.0, and the break after a hyphen (LB20a)."""
+    return tables.unicode_version, hordguli.levels("\U00010d5a", tables=tables), hordguli.wrap("ls -v", 4, tables=tables)
+
+
+OF_15, OF_17 = ("15.0", [0], ["ls -", "v"]), ("17.0", [1], ["ls", "-v"])
+
+
+def test_tables_are_of_unicode_15_by_default(files, folder):
+    for given in (None, folder, files, (folder / "tables.image").read_bytes()):
+        for more in ({}, {"unicode": "15.0"}):
+            with hordguli.Tables(given, **more) as tables:
+                assert rules_of(tables) == OF_15
+
+
+def test_tables_may_be_of_unicode_17(folder_17):
+    contents = [(folder_17 / name).read_bytes() for name in hordguli.TABLE_FILES]
+    image = (folder_17 / "tables.image").read_bytes()
+    for given in (None, folder_17, contents, image):
+        with hordguli.Tables(given, unicode="17.0") as tables:
+            assert rules_of(tables) == OF_17
+            assert hordguli.properties("\u1b05", tables=tables)[0].line_class == "AK"
+            with Session("ls -v", 4, tables=tables) as text:
+                assert text.lines() == ["ls", "-v"]
+    with hordguli.Tables(image) as tables:
+        assert rules_of(tables) == OF_17
+
+
 def test_default_tables_are_opened_once():
     assert hordguli.default_tables() is hordguli.default_tables()
+    assert hordguli.default_tables("15.0") is hordguli.default_tables()
+
+
+def test_default_tables_of_each_version_are_opened_once():
+    tables = hordguli.default_tables("17.0")
+    assert tables is hordguli.default_tables("17.0") is not hordguli.default_tables()
+    assert (rules_of(tables), rules_of(hordguli.default_tables())) == (OF_17, OF_15)
+    assert hordguli.wrap("ls -v", 4) == ["ls -", "v"]

@@ -23,7 +23,8 @@ sys.path.insert(0, f"{TOP}/tools")
 from c_header import Header
 
 HEADER = Header("include/hordguli.h")
-NOT_OFFERED = set()  # functions of the C library that the package deliberately leaves out
+# functions of the C library that the package deliberately leaves out: it passes a version
+NOT_OFFERED = {f"hordguli_tables_{name}" for name in ("open_builtin", "open_folder", "read")}
 PUBLIC = [getattr(hordguli, name) for name in hordguli.__all__]
 
 
@@ -70,6 +71,7 @@ def test_records_are_those_of_the_header():
 def test_constants_are_those_of_the_header():
     assert {name: at for at, name in enumerate(_declarations.BIDI_CLASSES)} == constants("BIDI_CLASS_")
     assert {name: at for at, name in enumerate(_declarations.LINE_CLASSES)} == constants("LINE_CLASS_")
+    assert {name.replace(".", "_"): number for name, number in _declarations.UNICODE_VERSIONS.items()} == constants("UNICODE_")
     assert {one.name: one.value for one in hordguli.Break} == constants("BREAK_")
     assert {one.name: one.value for one in hordguli.Cause if one} == constants("CAUSE_")
     assert {name: int(value) for name, value in hordguli.Print.__members__.items() if name != "DEFAULT"} == constants("PRINT_")

@@ -14,6 +14,8 @@ strings: list[str] = text.lines(show=SHOWN)
 row: hordguli.Row = hordguli.row("a", hordguli.levels("a", DIRECTION), hordguli.base_level("a", DIRECTION), Options.REORDER_NSM)
 shown: str = hordguli.display("a", direction=DIRECTION)
 encoded: bytes = hordguli.display(b"a", base_dir="R")
+later: hordguli.Tables = hordguli.default_tables("17.0")
+version: str = hordguli.Tables(unicode="17.0").unicode_version
 
 hordguli.Session("a", 80, SHOWN)  # type: ignore[arg-type]
 hordguli.wrap("a", 80, SHOWN)  # type: ignore[arg-type]
@@ -25,3 +27,5 @@ hordguli.breaks("a", SHOWN)  # type: ignore[arg-type]
 hordguli.row("a", [0], 0, SHOWN)  # type: ignore[arg-type]
 hordguli.display("a", direction=SHOWN)  # type: ignore[call-overload]
 hordguli.explain("a", 80, SHOWN)  # type: ignore[arg-type]
+hordguli.Tables(unicode=17.0)  # type: ignore[arg-type]
+hordguli.Tables(None, "17.0")  # type: ignore[misc]

@@ -52,3 +52,10 @@ is_within a b h = grind (arith, nat_tests)
 
 pub is_equal : (a b : ℕ) → (a == b) ≡ true → a ≡ b
 is_equal a b h = grind (arith, nat_tests)
+
+-- if two numbers are equal, or are not, so is their Boolean comparison
+pub equal_is : (a b : ℕ) → a ≡ b → (a == b) ≡ true
+equal_is a b h = grind (arith, nat_tests)
+
+pub different_is : (a b : ℕ) → (a ≡ b → ⊥) → (a == b) ≡ false
+different_is a b h = grind (arith, nat_tests)

@@ -1,11 +1,15 @@
 -- Each entry of the break table agrees with the rules, which is checked by computation.
 use Rattle.std.proofs.Common.{◌≡◌, ℕ, ◌+◌, ◌*◌, ◌/◌, ◌==◌, nat_lt, nat_le, Bool, true, false, not, ◌&&◌, ◌||◌, List, [], ◌∷◌, map, get_or, refl, if◌then◌else◌}
 use Rattle.std.proofs.Math.ListN.{set}
+use Rattle.ucd.specs.Answers.{line_answers_at}
+use Rattle.ucd.specs.declared.line_class.LineClass.{LineClass}
+use Rattle.ucd.specs.declared.line_detail.LineDetail.{LineDetail}
+use Rattle.ucd.specs.declared.version.Version.TheVariants.{V15_0}
 use Rattle.ucd.specs.declared.line_class.LineClass.TheVariants.{CM, NU, OP, ZWJ}
 use Rattle.breaks.specs.Bases.{Base, Character, alone}
-use Rattle.breaks.specs.Classes.{is_same, is_one_of}
+use Rattle.breaks.specs.Classes.{is_detail, is_same, is_one_of}
 use Rattle.breaks.specs.Rules.{rows_before_numbers, rows_of_numbers, rows_after_numbers, is}
-use Rattle.breaks.specs.Symbols.{shown}
+use Rattle.breaks.specs.Symbols.{character_in, shown, told}
 use Rattle.breaks.specs.Walk.{base, bases_at, unattached, answers, carried, decided_at, mark_of, rows}
 use Rattle.breaks.specs.declared.mark.Mark.{Mark}
 use Rattle.breaks.specs.declared.mark.Mark.TheVariants.{Never, May, Must}
@@ -13,7 +17,6 @@ use Rattle.breaks.specs.declared.symbol.TheConstants.{ATTACHED, DIGIT, JOINER, S
 use Rattle.breaks.specs.declared.entries.TheConstants.{NEXT_ROWS, OUTCOMES}
 use Rattle.breaks.specs.declared.table.TheConstants.{ENTRY_COUNT, LAST_ROW, STATE_COUNT, STAYS, WAITS}
 use Rattle.breaks.proofs.BoolLemmas.{same, all_same, all_below}
-use Rattle.ucd.specs.declared.properties.TheConstants.{LINE_INDEX_COUNT}
 
 -- the mark of the first row whose conditions before and after both hold, or `May` (LB31) if there is none
 abbrev pub decide : List Mark → List Bool → List Bool → Mark
@@ -131,7 +134,17 @@ rows_are_within = refl
 pub outcomes_are_within : all_below ENTRY_COUNT (λ place. nat_lt (get_or OUTCOMES place 0) 8) ≡ true
 outcomes_are_within = refl
 
-pub symbols_are_within : all_below LINE_INDEX_COUNT (λ place. nat_lt (get_or SYMBOLS place 0) SYMBOL_COUNT) ≡ true
+-- the character with these parts, and whether two characters are the same
+abbrev pub character_with : LineClass → LineDetail → Bool → Bool → Character
+character_with class detail is_wide is_future_pictograph = record { class = class; detail = detail; is_wide = is_wide; is_future_pictograph = is_future_pictograph }
+
+abbrev pub is_character : Character → Character → Bool
+is_character c d = is_same c.class d.class && (is_detail c.detail d.detail && (same c.is_wide d.is_wide && same c.is_future_pictograph d.is_future_pictograph))
+
+pub symbols_are_right : all_below 448 (λ index. is_character (shown (get_or SYMBOLS index 0)) (told (character_in V15_0 (line_answers_at index)))) ≡ true
+symbols_are_right = refl
+
+pub symbols_are_within : all_below 448 (λ place. nat_lt (get_or SYMBOLS place 0) SYMBOL_COUNT) ≡ true
 symbols_are_within = refl
 
 pub joiner_is_one : all_below SYMBOL_COUNT (λ symbol. same (symbol == JOINER) (is_same (shown symbol).class ZWJ)) ≡ true

@@ -1,9 +1,16 @@
 pub mod BoolLemmas
 pub mod Computed
+pub mod Computed17
 pub mod NumberLemmas
 pub mod OrdinaryLemmas
 pub mod PassLemmas
+pub mod PassLemmas17
+pub mod QuestionLemmas
 pub mod StepLemmas
+pub mod StepLemmas17
 pub mod SymbolLemmas
+pub mod SymbolLemmas17
 pub mod WalkLemmas
+pub mod WalkLemmas17
 mod WorkedRows
+mod WorkedRows17

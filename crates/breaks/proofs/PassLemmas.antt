@@ -1,5 +1,6 @@
 -- One step of the pass: the new state belongs to the bases so far, and the mark agrees with the rules.
 use Rattle.std.proofs.Common.{◌≡◌, ℕ, ◌+◌, ◌*◌, ◌/◌, ◌<◌, ◌≤◌, ◌==◌, nat_lt, nat_le, Bool, true, false, not, ◌&&◌, ◌||◌, List, [], ◌∷◌, ◌++◌, map, get_or, refl, sym, ap, ◌∙◌, arith, if◌then◌else◌, inl, inr}
+use Rattle.ucd.specs.declared.version.Version.TheVariants.{V15_0}
 use Rattle.std.proofs.lemmas.Bool.{cases_Bool}
 use Rattle.ucd.specs.declared.line_class.LineClass.{LineClass}
 use Rattle.ucd.specs.declared.line_class.LineClass.TheVariants.{CM, NU, OP, ZWJ}
@@ -19,7 +20,7 @@ use Rattle.breaks.proofs.Computed.{all_right, decide, marks_by_row, answers_afte
 use Rattle.breaks.proofs.StepLemmas.{end_attached, marked, answers_attached, carried_attached, answers_same, carried_same, answers_told, carried_told}
 use Rattle.breaks.proofs.SymbolLemmas.{is_joiner, answers_after_told}
 
-is_mark_is : (a b : Mark) → is_mark a b ≡ true → a ≡ b
+pub is_mark_is : (a b : Mark) → is_mark a b ≡ true → a ≡ b
 is_mark_is Never Never h = refl
 is_mark_is Never May h = cc
 is_mark_is Never Must h = cc
@@ -30,20 +31,20 @@ is_mark_is Must Never h = cc
 is_mark_is Must May h = cc
 is_mark_is Must Must h = refl
 
-joiner_attaches : (class : LineClass) → is_same class ZWJ ≡ true → is_one_of unattached class ≡ false
+pub joiner_attaches : (class : LineClass) → is_same class ZWJ ≡ true → is_one_of unattached class ≡ false
 joiner_attaches ZWJ h = refl
 joiner_attaches class h = cc
 
-mark_attaches : (class : LineClass) → is_one_of (CM ∷ ZWJ ∷ []) class ≡ true → is_one_of unattached class ≡ false
+pub mark_attaches : (class : LineClass) → is_one_of (CM ∷ ZWJ ∷ []) class ≡ true → is_one_of unattached class ≡ false
 mark_attaches CM h = refl
 mark_attaches ZWJ h = refl
 mark_attaches class h = cc
 
-not_true : (b : Bool) → not b ≡ true → b ≡ false
+pub not_true : (b : Bool) → not b ≡ true → b ≡ false
 not_true true h = cc
 not_true false h = refl
 
-and_false : (b : Bool) → (b && false) ≡ false
+pub and_false : (b : Bool) → (b && false) ≡ false
 and_false true = refl
 and_false false = refl
 
@@ -294,7 +295,7 @@ marks_begun : (whole_numbers : Bool) (walk : Walk) (last : Base) (others : List 
     (stands : Stands whole_numbers walk last others) (symbol next_row outcome : ℕ) (c : Character) (text : List Character)
     → shown symbol ≡ told c → Leads whole_numbers stands.state symbol next_row outcome → stays stands.state symbol ≡ false
     → mark_of whole_numbers (decided_at outcome walk.is_joined walk.is_pictograph) (is_before_digit text)
-    ≡ mark_by (rules whole_numbers) (last ∷ others) (bases_of (c ∷ text))
+    ≡ mark_by (rules V15_0 whole_numbers) (last ∷ others) (bases_of (c ∷ text))
 marks_begun whole_numbers walk last others stands symbol next_row outcome c text shows entry_leads begun =
     let says : Begins whole_numbers stands.state symbol outcome entry_leads.next = beginning _ _ _ _ _ (rw begun at entry_leads.leads) in
     let digit : Bool = second_is_digit (bases_of (c ∷ text)) in

@@ -1,5 +1,6 @@
 -- The results of all conditions after one step of the pass.
 use Rattle.std.proofs.Common.{◌≡◌, ℕ, ◌+◌, ◌%◌, ◌==◌, Bool, true, false, not, cond, ◌&&◌, ◌||◌, List, [], ◌∷◌, ◌++◌, map, get_or, refl, sym, ap, ◌∙◌, arith, if◌then◌else◌}
+use Rattle.ucd.specs.declared.version.Version.TheVariants.{V15_0}
 use Rattle.std.specs.List.{prefix_len}
 use Rattle.std.proofs.lemmas.Bool.Decides.{nat_tests}
 use Rattle.ucd.specs.declared.line_class.LineClass.{LineClass}
@@ -23,19 +24,19 @@ end_attached first [] c = refl
 end_attached first (a ∷ attached) c = end_attached a attached c
 
 -- the mark of the first row that applies, or the given mark if none does
-abbrev row_mark : List Row → Mark → List Base → List Base → Mark
+abbrev pub row_mark : List Row → Mark → List Base → List Base → Mark
 row_mark [] else_mark before after = else_mark
 row_mark (row ∷ rest) else_mark before after = if row.before before && row.after after then row.mark else row_mark rest else_mark before after
 
-rules_of_rows : (some : List Row) (more : List Rule) (before after : List Base) → mark_by (map rule_of some ++ more) before after ≡ row_mark some (mark_by more before after) before after
+pub rules_of_rows : (some : List Row) (more : List Rule) (before after : List Base) → mark_by (map rule_of some ++ more) before after ≡ row_mark some (mark_by more before after) before after
 rules_of_rows [] more before after = refl
 rules_of_rows (row ∷ some) more before after = ap (λ mark. if row.before before && row.after after then row.mark else mark) (rules_of_rows some more before after)
 
-last_rules_of_rows : (some : List Row) (before after : List Base) → mark_by (map rule_of some) before after ≡ row_mark some May before after
+pub last_rules_of_rows : (some : List Row) (before after : List Base) → mark_by (map rule_of some) before after ≡ row_mark some May before after
 last_rules_of_rows [] before after = refl
 last_rules_of_rows (row ∷ some) before after = ap (λ mark. if row.before before && row.after after then row.mark else mark) (last_rules_of_rows some before after)
 
-more_rows : (some more : List Row) (mark : Mark) (before after : List Base) → row_mark (some ++ more) mark before after ≡ row_mark some (row_mark more mark before after) before after
+pub more_rows : (some more : List Row) (mark : Mark) (before after : List Base) → row_mark (some ++ more) mark before after ≡ row_mark some (row_mark more mark before after) before after
 more_rows [] more mark before after = refl
 more_rows (row ∷ some) more mark before after = ap (λ rest. if row.before before && row.after after then row.mark else rest) (more_rows some more mark before after)
 
@@ -59,37 +60,37 @@ number_mark mark before after =
     (ends_in_digits before && is goes_on_after_digits after) (ends_in_closed_digits before && is affix after) mark
 
 -- all rules together give the same mark as their rows
-rows_mark : (whole_numbers : Bool) (before after : List Base) → mark_by (rules whole_numbers) before after
-    ≡ row_mark rows_before_numbers
-    (row_mark (number_rows whole_numbers) (row_mark rows_after_numbers May before after) before after) before after
+rows_mark : (whole_numbers : Bool) (before after : List Base) → mark_by (rules V15_0 whole_numbers) before after
+    ≡ row_mark (rows_before_numbers V15_0)
+    (row_mark (number_rows whole_numbers) (row_mark (rows_after_numbers V15_0) May before after) before after) before after
 unfolding rules
 rows_mark true before after =
-    rules_of_rows rows_before_numbers _ before after
-    ∙ ap (λ mark. row_mark rows_before_numbers mark before after)
-    (ap (λ mark. if is_in_number before after then Never else mark) (last_rules_of_rows rows_after_numbers before after)
-    ∙ number_mark (row_mark rows_after_numbers May before after) before after)
+    rules_of_rows (rows_before_numbers V15_0) _ before after
+    ∙ ap (λ mark. row_mark (rows_before_numbers V15_0) mark before after)
+    (ap (λ mark. if is_in_number before after then Never else mark) (last_rules_of_rows (rows_after_numbers V15_0) before after)
+    ∙ number_mark (row_mark (rows_after_numbers V15_0) May before after) before after)
 rows_mark false before after =
-    rules_of_rows rows_before_numbers _ before after
-    ∙ ap (λ mark. row_mark rows_before_numbers mark before after)
-    (rules_of_rows rows_of_numbers _ before after
-    ∙ ap (λ mark. row_mark rows_of_numbers mark before after) (last_rules_of_rows rows_after_numbers before after))
+    rules_of_rows (rows_before_numbers V15_0) _ before after
+    ∙ ap (λ mark. row_mark (rows_before_numbers V15_0) mark before after)
+    (rules_of_rows (rows_of_numbers V15_0) _ before after
+    ∙ ap (λ mark. row_mark (rows_of_numbers V15_0) mark before after) (last_rules_of_rows (rows_after_numbers V15_0) before after))
 
-rules_decide : (whole_numbers : Bool) (before after : List Base) → mark_by (rules whole_numbers) before after
+rules_decide : (whole_numbers : Bool) (before after : List Base) → mark_by (rules V15_0 whole_numbers) before after
     ≡ decide (marks_by_row whole_numbers) (map (λ row. row.before before) (rows whole_numbers))
     (map (λ row. row.after after) (rows whole_numbers))
 unfolding rows
 rules_decide whole_numbers before after =
     rows_mark whole_numbers before after
-    ∙ sym (more_rows rows_before_numbers (number_rows whole_numbers ++ rows_after_numbers) May before after
-    ∙ ap (λ mark. row_mark rows_before_numbers mark before after) (more_rows (number_rows whole_numbers) rows_after_numbers May before after))
-    ∙ decides (rows_before_numbers ++ (number_rows whole_numbers ++ rows_after_numbers)) before after
+    ∙ sym (more_rows (rows_before_numbers V15_0) (number_rows whole_numbers ++ (rows_after_numbers V15_0)) May before after
+    ∙ ap (λ mark. row_mark (rows_before_numbers V15_0) mark before after) (more_rows (number_rows whole_numbers) (rows_after_numbers V15_0) May before after))
+    ∙ decides ((rows_before_numbers V15_0) ++ (number_rows whole_numbers ++ (rows_after_numbers V15_0))) before after
 
 -- after one more base, each condition on several bases depends on that base and on a carried result
-pair_after : (firsts classes : List LineClass) (b : Base) (bases : List Base) → is_pair firsts classes (b ∷ bases) ≡ (is firsts bases && is_one_of classes (class_of b))
+pub pair_after : (firsts classes : List LineClass) (b : Base) (bases : List Base) → is_pair firsts classes (b ∷ bases) ≡ (is firsts bases && is_one_of classes (class_of b))
 pair_after firsts classes b [] = refl
 pair_after firsts classes b (a ∷ bases) = refl
 
-spaced_after : (classes : List LineClass) (b : Base) (bases : List Base) → is_spaced classes (b ∷ bases) ≡ (if is_same (class_of b) SP then is_spaced classes bases else is_one_of classes (class_of b))
+pub spaced_after : (classes : List LineClass) (b : Base) (bases : List Base) → is_spaced classes (b ∷ bases) ≡ (if is_same (class_of b) SP then is_spaced classes bases else is_one_of classes (class_of b))
 spaced_after classes b bases =
     elim (is_same (class_of b) SP) as (λ space. is classes (if space then without_spaces bases else b ∷ bases)
     ≡ (if space then is_spaced classes bases else is_one_of classes (class_of b))) [ true ↦ refl | false ↦ refl ]
@@ -104,7 +105,7 @@ spaced_same_class classes b d bases e =
 odd_more : (n : ℕ) → ((1 + n) % 2 == 1) ≡ not (n % 2 == 1)
 odd_more n = grind (arith, nat_tests)
 
-odd_after : (b : Base) (bases : List Base) → ends_in_odd_run (b ∷ bases) ≡ (is_same (class_of b) RI && not (ends_in_odd_run bases))
+pub odd_after : (b : Base) (bases : List Base) → ends_in_odd_run (b ∷ bases) ≡ (is_same (class_of b) RI && not (ends_in_odd_run bases))
 odd_after b bases =
     elim (is_same (class_of b) RI) as (λ r. (cond r (1 + prefix_len (λ b. is_same (class_of b) RI) bases) 0 % 2 == 1) ≡ (r && not (ends_in_odd_run bases))) [
       | true ↦ odd_more (prefix_len (λ b. is_same (class_of b) RI) bases)
@@ -204,7 +205,7 @@ all_answers false last others =
     ) refl
 
 pub marked : (whole_numbers : Bool) (last : Base) (others after : List Base)
-    → mark_by (rules whole_numbers) (last ∷ others) after
+    → mark_by (rules V15_0 whole_numbers) (last ∷ others) after
     ≡ decide (marks_by_row whole_numbers)
     (answered_with whole_numbers (is_same (end_of last).class ZWJ) last.first.is_future_pictograph
     (answers whole_numbers (last ∷ others))) (map (λ row. row.after after) (rows whole_numbers))

@@ -1,83 +1,34 @@
 -- The symbol of a character, from its properties.
-use Rattle.std.proofs.Common.{◌≡◌, ℕ, ◌+◌, ◌*◌, ◌<◌, nat_lt, Bool, true, false, not, ◌&&◌, ◌==◌, [], ◌∷◌, get_or, refl, ap, ◌∙◌, if◌then◌else◌}
+use Rattle.std.proofs.Common.{◌≡◌, ℕ, ◌<◌, nat_lt, Bool, true, false, not, ◌&&◌, ◌==◌, [], ◌∷◌, get_or, refl, sym, ap, ◌∙◌}
+use Rattle.ucd.specs.declared.version.Version.TheVariants.{V15_0}
 use Rattle.ucd.specs.declared.line_class.LineClass.{LineClass}
-use Rattle.ucd.specs.declared.line_class.LineClass.TheVariants.{BK, CM, CR, GL, LF, NL, SP, WJ, ZW, ZWJ, B2, BA, BB, CB, HY, CL, CP, EX, IN, NS, OP, QU, IS, NU, PO, PR, SY, AI, AL, CJ, EB, EM, H2, H3, HL, ID, JL, JT, JV, RI, SA, SG, XX}
-use Rattle.ucd.specs.contracts.line_class.LineClass.{the_type}
-use denote.Enum.Declared.{tag_of}
-use Rattle.breaks.specs.Bases.{Character, resolved, base_class}
-use Rattle.breaks.specs.Classes.{is_same, is_one_of}
+use Rattle.ucd.specs.declared.line_class.LineClass.TheVariants.{CM, CP, NU, OP, ZWJ}
+use Rattle.ucd.specs.contracts.line_class.LineClass as class_type
+use Rattle.ucd.specs.contracts.line_detail.LineDetail as detail_type
+use Rattle.ucd.specs.declared.line_detail.LineDetail.{LineDetail}
+use denote.Enum.Bare.{same_true}
+use Rattle.breaks.specs.Bases.{Character, base_class}
+use Rattle.breaks.specs.Classes.{is_detail, is_same, is_one_of}
 use Rattle.breaks.specs.Rules.{rows_before_numbers, rows_of_numbers, rows_after_numbers}
 use Rattle.breaks.specs.Walk.{rows}
 use Rattle.ucd.specs.declared.properties.Properties.{Properties}
-use Rattle.ucd.specs.Answers.{line_index}
-use Rattle.breaks.specs.Symbols.{character_by, shown, told}
+use Rattle.ucd.specs.Answers.{line_answers, line_answers_at}
+use Rattle.breaks.specs.Symbols.{character_by, character_in, shown, told}
 use Rattle.breaks.specs.declared.symbol.TheConstants.{ATTACHED, DIGIT, JOINER, SYMBOLS, SYMBOL_COUNT}
-use Rattle.breaks.proofs.BoolLemmas.{same, same_is, below, is_below}
-use Rattle.breaks.proofs.Computed.{attached_are_last, answers_after, digit_is_one, joiner_is_one, symbols_are_within}
-use Rattle.ucd.specs.declared.properties.TheConstants.{LINE_INDEX_COUNT}
+use Rattle.breaks.proofs.BoolLemmas.{both, same, same_is, below, is_below}
+use Rattle.breaks.proofs.Computed.{attached_are_last, answers_after, character_with, digit_is_one, is_character, joiner_is_one, symbols_are_right, symbols_are_within}
 
--- the symbol table has a symbol that agrees with LB1 for these properties
-abbrev HasSymbol : LineClass → Bool → Bool → Bool → Type 0
-HasSymbol class is_wide is_mark is_future_pictograph =
-    shown (get_or SYMBOLS (tag_of the_type class * 8 + (if is_wide then 4 else 0) + (if is_mark then 2 else 0) + (if is_future_pictograph then 1 else 0)) 0)
-    ≡ told (record { class = resolved class is_mark; is_wide = is_wide; is_future_pictograph = is_future_pictograph })
+-- two characters are the same if the test says so
+alike : (class class′ : LineClass) (detail detail′ : LineDetail) (wide wide′ pictograph pictograph′ : Bool) → class ≡ class′ → detail ≡ detail′ → wide ≡ wide′
+    → pictograph ≡ pictograph′ → character_with class detail wide pictograph ≡ character_with class′ detail′ wide′ pictograph′
+alike class class′ detail detail′ wide wide′ pictograph pictograph′ a b e f = rw (a, b, e, f) refl
 
-eight : (P : Bool → Bool → Bool → Type 0) → P true true true → P true true false → P true false true
-    → P true false false → P false true true → P false true false → P false false true → P false false false
-    → (a b c : Bool) → P a b c
-eight P p q r s t u v w true true true = p
-eight P p q r s t u v w true true false = q
-eight P p q r s t u v w true false true = r
-eight P p q r s t u v w true false false = s
-eight P p q r s t u v w false true true = t
-eight P p q r s t u v w false true false = u
-eight P p q r s t u v w false false true = v
-eight P p q r s t u v w false false false = w
-
-pub has_symbol : (class : LineClass) (is_wide is_mark is_future_pictograph : Bool) → HasSymbol class is_wide is_mark is_future_pictograph
-has_symbol BK = eight (HasSymbol BK) refl refl refl refl refl refl refl refl
-has_symbol CM = eight (HasSymbol CM) refl refl refl refl refl refl refl refl
-has_symbol CR = eight (HasSymbol CR) refl refl refl refl refl refl refl refl
-has_symbol GL = eight (HasSymbol GL) refl refl refl refl refl refl refl refl
-has_symbol LF = eight (HasSymbol LF) refl refl refl refl refl refl refl refl
-has_symbol NL = eight (HasSymbol NL) refl refl refl refl refl refl refl refl
-has_symbol SP = eight (HasSymbol SP) refl refl refl refl refl refl refl refl
-has_symbol WJ = eight (HasSymbol WJ) refl refl refl refl refl refl refl refl
-has_symbol ZW = eight (HasSymbol ZW) refl refl refl refl refl refl refl refl
-has_symbol ZWJ = eight (HasSymbol ZWJ) refl refl refl refl refl refl refl refl
-has_symbol B2 = eight (HasSymbol B2) refl refl refl refl refl refl refl refl
-has_symbol BA = eight (HasSymbol BA) refl refl refl refl refl refl refl refl
-has_symbol BB = eight (HasSymbol BB) refl refl refl refl refl refl refl refl
-has_symbol CB = eight (HasSymbol CB) refl refl refl refl refl refl refl refl
-has_symbol HY = eight (HasSymbol HY) refl refl refl refl refl refl refl refl
-has_symbol CL = eight (HasSymbol CL) refl refl refl refl refl refl refl refl
-has_symbol CP = eight (HasSymbol CP) refl refl refl refl refl refl refl refl
-has_symbol EX = eight (HasSymbol EX) refl refl refl refl refl refl refl refl
-has_symbol IN = eight (HasSymbol IN) refl refl refl refl refl refl refl refl
-has_symbol NS = eight (HasSymbol NS) refl refl refl refl refl refl refl refl
-has_symbol OP = eight (HasSymbol OP) refl refl refl refl refl refl refl refl
-has_symbol QU = eight (HasSymbol QU) refl refl refl refl refl refl refl refl
-has_symbol IS = eight (HasSymbol IS) refl refl refl refl refl refl refl refl
-has_symbol NU = eight (HasSymbol NU) refl refl refl refl refl refl refl refl
-has_symbol PO = eight (HasSymbol PO) refl refl refl refl refl refl refl refl
-has_symbol PR = eight (HasSymbol PR) refl refl refl refl refl refl refl refl
-has_symbol SY = eight (HasSymbol SY) refl refl refl refl refl refl refl refl
-has_symbol AI = eight (HasSymbol AI) refl refl refl refl refl refl refl refl
-has_symbol AL = eight (HasSymbol AL) refl refl refl refl refl refl refl refl
-has_symbol CJ = eight (HasSymbol CJ) refl refl refl refl refl refl refl refl
-has_symbol EB = eight (HasSymbol EB) refl refl refl refl refl refl refl refl
-has_symbol EM = eight (HasSymbol EM) refl refl refl refl refl refl refl refl
-has_symbol H2 = eight (HasSymbol H2) refl refl refl refl refl refl refl refl
-has_symbol H3 = eight (HasSymbol H3) refl refl refl refl refl refl refl refl
-has_symbol HL = eight (HasSymbol HL) refl refl refl refl refl refl refl refl
-has_symbol ID = eight (HasSymbol ID) refl refl refl refl refl refl refl refl
-has_symbol JL = eight (HasSymbol JL) refl refl refl refl refl refl refl refl
-has_symbol JT = eight (HasSymbol JT) refl refl refl refl refl refl refl refl
-has_symbol JV = eight (HasSymbol JV) refl refl refl refl refl refl refl refl
-has_symbol RI = eight (HasSymbol RI) refl refl refl refl refl refl refl refl
-has_symbol SA = eight (HasSymbol SA) refl refl refl refl refl refl refl refl
-has_symbol SG = eight (HasSymbol SG) refl refl refl refl refl refl refl refl
-has_symbol XX = eight (HasSymbol XX) refl refl refl refl refl refl refl refl
+pub character_is : (c d : Character) → is_character c d ≡ true → c ≡ d
+character_is c d h =
+    let class : (is_same c.class d.class ≡ true) × _ = both _ _ h in
+    let detail : (is_detail c.detail d.detail ≡ true) × _ = both _ _ class.1 in
+    let flags : (same c.is_wide d.is_wide ≡ true) × (same c.is_future_pictograph d.is_future_pictograph ≡ true) = both _ _ detail.1 in
+    alike _ _ _ _ _ _ _ _ (same_true class_type.the_type tt _ _ class.0) (same_true detail_type.the_type tt _ _ detail.0) (same_is _ _ flags.0) (same_is _ _ flags.1)
 
 -- a symbol is `JOINER` if and only if its class is ZWJ
 pub is_joiner : (symbol : ℕ) → symbol < SYMBOL_COUNT → (symbol == JOINER) ≡ is_same (shown symbol).class ZWJ
@@ -109,12 +60,13 @@ answers_after_told false c true = rw (narrow_after c.class c.is_wide) refl
 answers_after_told false c false = rw (narrow_after c.class c.is_wide) refl
 
 -- the symbol in the table represents all that the rules read of the character
-pub symbol_shown : (p : Properties) (index symbol : ℕ) → index ≡ line_index p → symbol ≡ get_or SYMBOLS index 0 → shown symbol ≡ told (character_by p)
-symbol_shown p index symbol is reads =
-    ap shown reads ∙ ap (λ i. shown (get_or SYMBOLS i 0)) is
-    ∙ has_symbol p.line_class p.is_wide p.is_mark p.is_future_pictograph
+pub symbol_shown : (p : Properties) (index symbol : ℕ) → index < 448 → line_answers p ≡ line_answers_at index → symbol ≡ get_or SYMBOLS index 0
+    → shown symbol ≡ told (character_by V15_0 p)
+symbol_shown p index symbol lt is reads =
+    ap shown reads ∙ character_is _ _ (below 448 (λ i. is_character (shown (get_or SYMBOLS i 0)) (told (character_in V15_0 (line_answers_at i)))) symbols_are_right index lt)
+    ∙ ap (λ a. told (character_in V15_0 a)) (sym is)
 
-pub symbol_below : (index symbol : ℕ) → index < LINE_INDEX_COUNT → symbol ≡ get_or SYMBOLS index 0 → symbol < SYMBOL_COUNT
+pub symbol_below : (index symbol : ℕ) → index < 448 → symbol ≡ get_or SYMBOLS index 0 → symbol < SYMBOL_COUNT
 symbol_below index symbol lt reads =
-    let test : nat_lt (get_or SYMBOLS index 0) SYMBOL_COUNT ≡ true = below LINE_INDEX_COUNT (λ place. nat_lt (get_or SYMBOLS place 0) SYMBOL_COUNT) symbols_are_within index lt in
+    let test : nat_lt (get_or SYMBOLS index 0) SYMBOL_COUNT ≡ true = below 448 (λ place. nat_lt (get_or SYMBOLS place 0) SYMBOL_COUNT) symbols_are_within index lt in
     is_below symbol SYMBOL_COUNT (ap (λ s. nat_lt s SYMBOL_COUNT) reads ∙ test)

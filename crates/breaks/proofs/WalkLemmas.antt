@@ -1,5 +1,7 @@
 -- The pass over the characters gives the marks of the bases.
-use Rattle.std.proofs.Common.{◌≡◌, ℕ, Bool, true, false, ◌==◌, nat_lt, not, suc, ◌+◌, ◌-◌, ◌<◌, ◌≤◌, Some, length, get_or, take, drop, arith, List, [], ◌∷◌, ◌++◌, map, if◌then◌else◌, refl, sym, ap, ◌∙◌, append_assoc, append-nil, inl, inr}
+use Rattle.std.proofs.Common.{◌≡◌, ℕ, Bool, true, false, ◌==◌, nat_lt, not, suc, ◌+◌, ◌-◌, ◌<◌, ◌≤◌, Some, length, get_or, take, drop, arith, List, [], ◌∷◌, ◌++◌, map, if◌then◌else◌, refl, sym, ap, subst, ◌∙◌, append_assoc, append-nil, inl, inr}
+use Rattle.ucd.specs.declared.version.Version.TheVariants.{V15_0, V17_0}
+use Rattle.ucd.specs.declared.version.Version.{Version}
 use Rattle.std.proofs.Math.ListN.{set}
 use Rattle.std.specs.List.{slice_get}
 use Rattle.std.proofs.lemmas.Bool.{cases_Bool}
@@ -8,7 +10,7 @@ use Rattle.std.proofs.lemmas.List.{at_drop_more, drop_all, length-map, length-se
 use Rattle.breaks.specs.Bases.{Base, Character, alone, joined, stays_with, bases_of, end_of, character}
 use Rattle.breaks.specs.Marks.{marks_after, marks_of}
 use Rattle.breaks.specs.Classes.{is_same, is_one_of}
-use Rattle.breaks.specs.Rules.{rules, rows_before_numbers, mark_by}
+use Rattle.breaks.specs.Rules.{Rule, rules, rows_before_numbers, mark_by}
 use Rattle.breaks.specs.Symbols.{character_by, shown, told}
 use Rattle.breaks.specs.Walk.{Passes, Stands, is_before_digit, mark_of, with_attached}
 use Rattle.ucd.specs.declared.line_class.LineClass.TheVariants.{CM, NU, ZWJ}
@@ -24,11 +26,11 @@ use Rattle.breaks.proofs.StepLemmas.{end_attached}
 use Rattle.breaks.proofs.SymbolLemmas.{is_digit, is_not_attached}
 
 -- the marks from the position after the base `last` on, by recursion over the characters
-abbrev pub walk : Bool → List Base → Base → List Character → List Mark
-walk whole_numbers others last [] = Must ∷ []
-walk whole_numbers others last (c ∷ text) =
-    if stays_with (end_of last) c then Never ∷ walk whole_numbers others (with_attached last c) text
-    else mark_by (rules whole_numbers) (last ∷ others) (bases_of (c ∷ text)) ∷ walk whole_numbers (last ∷ others) (alone c) text
+abbrev pub walk : List Rule → List Base → Base → List Character → List Mark
+walk rules others last [] = Must ∷ []
+walk rules others last (c ∷ text) =
+    if stays_with (end_of last) c then Never ∷ walk rules others (with_attached last c) text
+    else mark_by rules (last ∷ others) (bases_of (c ∷ text)) ∷ walk rules (last ∷ others) (alone c) text
 
 -- the bases that result if `last` replaces the first character of the first base
 abbrev grown : Base → List Base → List Base
@@ -40,10 +42,12 @@ abbrev nevers : List Character → List Mark
 nevers attached = map (λ _. Never) attached
 
 -- LB3: the mark after the last base is `Must`
-end_mark : (whole_numbers : Bool) (before : List Base) → mark_by (rules whole_numbers) before [] ≡ Must
+pub end_mark : (v : Version) (whole_numbers : Bool) (before : List Base) → mark_by (rules v whole_numbers) before [] ≡ Must
 unfolding rules rows_before_numbers
-end_mark true before = refl
-end_mark false before = refl
+end_mark V15_0 true before = refl
+end_mark V15_0 false before = refl
+end_mark V17_0 true before = refl
+end_mark V17_0 false before = refl
 
 grown_end : (last : Base) (end : Character) (bases : List Base) → grown last (alone end ∷ bases) ≡ last ∷ bases
 grown_end last end bases = rw append-nil refl
@@ -62,27 +66,27 @@ same_tail : (front : List Mark) (m n : Mark) (ms ns : List Mark) → m ≡ n →
 same_tail front m n ms ns mark marks = rw (mark, marks) refl
 
 -- the recursion from the base `last` on gives the marks of the bases
-walk_is : (whole_numbers : Bool) (others : List Base) (last : Base) (text : List Character) (end : Character)
-    → end_of last ≡ end → nevers last.attached ++ walk whole_numbers others last text
-    ≡ marks_after whole_numbers others (grown last (bases_of (end ∷ text)))
-walk_is whole_numbers others last [] end is =
-    same_tail (nevers last.attached) _ _ [] [] (sym (end_mark whole_numbers (last ∷ others))) refl
-    ∙ ap (marks_after whole_numbers others) (sym (grown_end last end []))
-walk_is whole_numbers others last (c ∷ text) end is =
+walk_is : (v : Version) (whole_numbers : Bool) (others : List Base) (last : Base) (text : List Character) (end : Character)
+    → end_of last ≡ end → nevers last.attached ++ walk (rules v whole_numbers) others last text
+    ≡ marks_after (rules v whole_numbers) others (grown last (bases_of (end ∷ text)))
+walk_is v whole_numbers others last [] end is =
+    same_tail (nevers last.attached) _ _ [] [] (sym (end_mark v whole_numbers (last ∷ others))) refl
+    ∙ ap (marks_after (rules v whole_numbers) others) (sym (grown_end last end []))
+walk_is v whole_numbers others last (c ∷ text) end is =
     elim (cases_Bool (stays_with end c)) [
       | inl stays ↦ rw (is, stays)
-          (nevers_attached last.attached c (walk whole_numbers others (with_attached last c) text)
-          ∙ walk_is whole_numbers others (with_attached last c) text c (end_attached last.first last.attached c)
-          ∙ ap (marks_after whole_numbers others) (grown_attached last c text end))
+          (nevers_attached last.attached c (walk (rules v whole_numbers) others (with_attached last c) text)
+          ∙ walk_is v whole_numbers others (with_attached last c) text c (end_attached last.first last.attached c)
+          ∙ ap (marks_after (rules v whole_numbers) others) (grown_attached last c text end))
       | inr begins ↦ rw (is, begins)
           (same_tail (nevers last.attached) _ _ _ _ refl
-          (walk_is whole_numbers (last ∷ others) (alone c) text c refl ∙ ap (marks_after whole_numbers (last ∷ others)) (grown_alone c text))
-          ∙ ap (marks_after whole_numbers others) (sym (grown_end last end (bases_of (c ∷ text)))))
+          (walk_is v whole_numbers (last ∷ others) (alone c) text c refl ∙ ap (marks_after (rules v whole_numbers) (last ∷ others)) (grown_alone c text))
+          ∙ ap (marks_after (rules v whole_numbers) others) (sym (grown_end last end (bases_of (c ∷ text)))))
     ]
 
 -- the recursion over a text gives the marks of its bases
-pub walk_from_start : (whole_numbers : Bool) (c : Character) (text : List Character) → walk whole_numbers [] (alone c) text ≡ marks_after whole_numbers [] (bases_of (c ∷ text))
-walk_from_start whole_numbers c text = walk_is whole_numbers [] (alone c) text c refl ∙ ap (marks_after whole_numbers []) (grown_alone c text)
+pub walk_from_start : (v : Version) (whole_numbers : Bool) (c : Character) (text : List Character) → walk (rules v whole_numbers) [] (alone c) text ≡ marks_after (rules v whole_numbers) [] (bases_of (c ∷ text))
+walk_from_start v whole_numbers c text = walk_is v whole_numbers [] (alone c) text c refl ∙ ap (marks_after (rules v whole_numbers) []) (grown_alone c text)
 
 -- an empty text has no marks
 pub none_marked : (t : Tables) (whole_numbers : Bool) (text : List ℕ) → length text ≡ 0 → marks_of t whole_numbers text ≡ []
@@ -93,19 +97,19 @@ none_marked t whole_numbers (c ∷ text) none = absurd (omega arith)
 -- the recursion from the second character of a text on gives the marks of the text
 pub begins_walk : (t : Tables) (whole_numbers : Bool) (text rest : List ℕ) (c : ℕ) (first : Character)
     (marks : List Mark) → text ≡ c ∷ rest → first ≡ character t c → marks ≡ [] → marks
-    ++ walk whole_numbers [] (alone first) (map (character t) rest) ≡ marks_of t whole_numbers text
+    ++ walk (rules t.version whole_numbers) [] (alone first) (map (character t) rest) ≡ marks_of t whole_numbers text
 unfolding marks_of
-begins_walk t whole_numbers text rest c first marks is reads none = rw (none, is, reads) (walk_from_start whole_numbers (character t c) (map (character t) rest))
+begins_walk t whole_numbers text rest c first marks is reads none = rw (none, is, reads) (walk_from_start t.version whole_numbers (character t c) (map (character t) rest))
 
 -- The state belongs to the bases so far. The marks so far, followed by the marks of the recursion, are all
 -- marks.
 abbrev pub Walks : Bool → Walk → List Mark → List Character → List Mark → Type 0
 Walks whole_numbers before marks text whole =
-    (last : Base) × (others : List Base) × Stands whole_numbers before last others × (marks ++ walk whole_numbers others last text ≡ whole)
+    (last : Base) × (others : List Base) × Stands whole_numbers before last others × (marks ++ walk (rules V15_0 whole_numbers) others last text ≡ whole)
 
 passes_on : (whole_numbers : Bool) (before after : Walk) (marks : List Mark) (mark : Mark) (decided : ℕ)
     (c : Character) (text : List Character) (whole : List Mark) (last : Base) (others : List Base) → marks
-    ++ walk whole_numbers others last (c ∷ text) ≡ whole → Passes whole_numbers after last others c decided → mark
+    ++ walk (rules V15_0 whole_numbers) others last (c ∷ text) ≡ whole → Passes whole_numbers after last others c decided → mark
     ≡ mark_of whole_numbers decided (is_before_digit text) → Walks whole_numbers after (marks ++ mark ∷ []) text whole
 passes_on whole_numbers before after marks mark decided c text whole last others is passes seen =
     elim (cases_Bool (stays_with (end_of last) c)) [
@@ -114,15 +118,15 @@ passes_on whole_numbers before after marks mark decided c text whole last others
           (with_attached last c, others, stayed.1, rw (append_assoc, seen ∙ stayed.0 (is_before_digit text)) (rw stays at is))
       | inr begins ↦
           let begun : ((text : List Character) → mark_of whole_numbers decided (is_before_digit text)
-          ≡ mark_by (rules whole_numbers) (last ∷ others) (bases_of (c ∷ text)))
+          ≡ mark_by (rules V15_0 whole_numbers) (last ∷ others) (bases_of (c ∷ text)))
           × Stands whole_numbers after (alone c) (last ∷ others) = rw begins at passes in
           (alone c, last ∷ others, begun.1, rw (append_assoc, seen ∙ begun.0 text) (rw begins at is))
     ]
 
-is_less : (a b : ℕ) → a < b → nat_lt a b ≡ true
+pub is_less : (a b : ℕ) → a < b → nat_lt a b ≡ true
 is_less a b h = grind (arith, nat_tests)
 
-is_no_less : (a b : ℕ) → b ≤ a → nat_lt a b ≡ false
+pub is_no_less : (a b : ℕ) → b ≤ a → nat_lt a b ≡ false
 is_no_less a b h = grind (arith, nat_tests)
 
 not_is : (b : Bool) → not b ≡ true → b ≡ false
@@ -187,27 +191,27 @@ module _ {X : Type 0} (read : X → Character) (rest : List X) (whole : List Mar
       sym all_of_it ∙ written ∙ ap (λ n. take n marks ++ Must ∷ []) (sym last_place) ∙ rw none at so_far
 
 -- the recursion gives a mark for each position
-length-walk : (whole_numbers : Bool) (others : List Base) (last : Base) (text : List Character) → length (walk whole_numbers others last text) ≡ suc (length text)
-length-walk whole_numbers others last [] = refl
-length-walk whole_numbers others last (c ∷ text) =
+length-walk : (rs : List Rule) (others : List Base) (last : Base) (text : List Character) → length (walk rs others last text) ≡ suc (length text)
+length-walk rs others last [] = refl
+length-walk rs others last (c ∷ text) =
     elim (cases_Bool (stays_with (end_of last) c)) [
-      | inl stays ↦ rw stays (ap suc (length-walk whole_numbers others (with_attached last c) text))
-      | inr begins ↦ rw begins (ap suc (length-walk whole_numbers (last ∷ others) (alone c) text))
+      | inl stays ↦ rw stays (ap suc (length-walk rs others (with_attached last c) text))
+      | inr begins ↦ rw begins (ap suc (length-walk rs (last ∷ others) (alone c) text))
     ]
 
 pub length-marks : (t : Tables) (whole_numbers : Bool) (text : List ℕ) → length (marks_of t whole_numbers text) ≡ length text
 length-marks t whole_numbers [] = ap length (none_marked t whole_numbers [] refl)
 length-marks t whole_numbers (c ∷ text) =
     ap length (sym (begins_walk t whole_numbers (c ∷ text) text c (character t c) [] refl refl refl))
-    ∙ length-walk whole_numbers [] (alone (character t c)) (map (character t) text) ∙ ap suc (length-map text (character t))
+    ∙ length-walk (rules t.version whole_numbers) [] (alone (character t c)) (map (character t) text) ∙ ap suc (length-map text (character t))
 
 -- the last mark is `Must`
-last-walk : (whole_numbers : Bool) (others : List Base) (last : Base) (text : List Character) → slice_get (walk whole_numbers others last text) (length text) ≡ Some Must
-last-walk whole_numbers others last [] = refl
-last-walk whole_numbers others last (c ∷ text) =
+last-walk : (rs : List Rule) (others : List Base) (last : Base) (text : List Character) → slice_get (walk rs others last text) (length text) ≡ Some Must
+last-walk rs others last [] = refl
+last-walk rs others last (c ∷ text) =
     elim (cases_Bool (stays_with (end_of last) c)) [
-      | inl stays ↦ rw stays (last-walk whole_numbers others (with_attached last c) text)
-      | inr begins ↦ rw begins (last-walk whole_numbers (last ∷ others) (alone c) text)
+      | inl stays ↦ rw stays (last-walk rs others (with_attached last c) text)
+      | inr begins ↦ rw begins (last-walk rs (last ∷ others) (alone c) text)
     ]
 
 pub last_mark : (t : Tables) (whole_numbers : Bool) (text : List ℕ) → 0 < length text → slice_get (marks_of t whole_numbers text) (length text - 1) ≡ Some Must
@@ -216,10 +220,10 @@ last_mark t whole_numbers (c ∷ text) some =
     let place : length (c ∷ text) - 1 ≡ length (map (character t) text) = omega (arith, length-map text (character t)) in
     ap (λ k. slice_get (marks_of t whole_numbers (c ∷ text)) k) place
     ∙ ap (λ ms. slice_get ms (length (map (character t) text))) (sym (begins_walk t whole_numbers (c ∷ text) text c (character t c) [] refl refl refl))
-    ∙ last-walk whole_numbers [] (alone (character t c)) (map (character t) text)
+    ∙ last-walk (rules t.version whole_numbers) [] (alone (character t c)) (map (character t) text)
 
 -- the characters read from the properties are those read from the tables
-pub read_once : (t : Tables) (text : List ℕ) → map character_by (map (properties_of t) text) ≡ map (character t) text
+pub read_once : (t : Tables) (text : List ℕ) → map (character_by t.version) (map (properties_of t) text) ≡ map (character t) text
 read_once t [] = refl
 read_once t (c ∷ text) = ap (λ cs. character t c ∷ cs) (read_once t text)
 
@@ -234,17 +238,24 @@ one_longer text x rest marks len is = omega (arith, ap length is)
 
 -- the recursion from the second character of a text on, with characters read from their properties, gives the
 -- marks of the text
-pub begins_read : (t : Tables) (whole_numbers : Bool) (text : List ℕ) (properties rest : List Properties)
+read_from : (t : Tables) (whole_numbers : Bool) (text : List ℕ) (properties rest : List Properties)
     (p : Properties) → properties ≡ map (properties_of t) text → properties ≡ p ∷ rest
-    → walk whole_numbers [] (alone (character_by p)) (map character_by rest) ≡ marks_of t whole_numbers text
-begins_read t whole_numbers [] properties rest p is reads =
+    → walk (rules t.version whole_numbers) [] (alone (character_by t.version p)) (map (character_by t.version) rest) ≡ marks_of t whole_numbers text
+read_from t whole_numbers [] properties rest p is reads =
     let none : [] ≡ p ∷ rest = sym is ∙ reads in
     cc
-begins_read t whole_numbers (c ∷ text) properties rest p is reads =
+read_from t whole_numbers (c ∷ text) properties rest p is reads =
     let same : properties_of t c ∷ map (properties_of t) text ≡ p ∷ rest = sym is ∙ reads in
     let first : p ≡ properties_of t c = cc in
     let others : rest ≡ map (properties_of t) text = cc in
     rw (first, others) (rw (read_once t text) (begins_walk t whole_numbers (c ∷ text) text c (character t c) [] refl refl refl))
+
+pub begins_read : (v : Version) (t : Tables) (whole_numbers : Bool) (text : List ℕ) (properties rest : List Properties)
+    (p : Properties) → t.version ≡ v → properties ≡ map (properties_of t) text → properties ≡ p ∷ rest
+    → walk (rules v whole_numbers) [] (alone (character_by v p)) (map (character_by v) rest) ≡ marks_of t whole_numbers text
+begins_read v t whole_numbers text properties rest p version is reads =
+    subst (λ v. walk (rules v whole_numbers) [] (alone (character_by v p)) (map (character_by v) rest) ≡ marks_of t whole_numbers text) version
+    (read_from t whole_numbers text properties rest p is reads)
 
 pub no_text : (t : Tables) (text : List ℕ) (properties : List Properties) → properties ≡ map (properties_of t) text → length properties ≡ 0 → length text ≡ 0
 no_text t text properties is none = sym (length-map text (properties_of t)) ∙ sym (ap length is) ∙ none

@@ -2,6 +2,8 @@
 use Rattle.std.proofs.Common.{◌≡◌, true, false, List, [], ◌∷◌, map, refl}
 use Rattle.ucd.specs.declared.line_class.LineClass.{LineClass}
 use Rattle.ucd.specs.declared.line_class.LineClass.TheVariants.{AI, AL, B2, BA, BK, CB, CJ, CL, CM, CP, CR, EB, EM, GL, H2, HL, HY, ID, IS, JT, LF, NL, NS, NU, OP, PO, PR, QU, RI, SA, SP, SY, WJ, XX, ZW, ZWJ}
+use Rattle.ucd.specs.declared.line_detail.LineDetail.TheVariants.{Plain}
+use Rattle.ucd.specs.declared.version.Version.TheVariants.{V15_0}
 use Rattle.breaks.specs.Bases.{Character, resolved, bases_of}
 use Rattle.breaks.specs.Marks.{marks_after}
 use Rattle.breaks.specs.Rules.{rules, rows_before_numbers, rows_of_numbers, rows_after_numbers}
@@ -9,19 +11,19 @@ use Rattle.breaks.specs.declared.mark.Mark.{Mark}
 use Rattle.breaks.specs.declared.mark.Mark.TheVariants.{Never, May, Must}
 
 abbrev narrow : LineClass → Character
-narrow class = record { class = class; is_wide = false; is_future_pictograph = false }
+narrow class = record { class = class; detail = Plain; is_wide = false; is_future_pictograph = false }
 
 abbrev wide : LineClass → Character
-wide class = record { class = class; is_wide = true; is_future_pictograph = false }
+wide class = record { class = class; detail = Plain; is_wide = true; is_future_pictograph = false }
 
 abbrev pictograph : LineClass → Character
-pictograph class = record { class = class; is_wide = true; is_future_pictograph = true }
+pictograph class = record { class = class; detail = Plain; is_wide = true; is_future_pictograph = true }
 
 abbrev marks : List Character → List Mark
-marks text = marks_after false [] (bases_of text)
+marks text = marks_after (rules V15_0 false) [] (bases_of text)
 
 abbrev whole_marks : List Character → List Mark
-whole_marks text = marks_after true [] (bases_of text)
+whole_marks text = marks_after (rules V15_0 true) [] (bases_of text)
 
 abbrev marks_by : List LineClass → List Mark
 marks_by classes = marks (map narrow classes)

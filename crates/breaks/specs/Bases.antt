@@ -1,10 +1,14 @@
 -- The bases of a paragraph, each of which is a character with the combining marks that join it (UAX #14, LB1,
 -- LB9 and LB10).
 use Rattle.std.specs.Prelude.{ℕ, Bool, true, false, not, ◌&&◌, List, [], ◌∷◌, if◌then◌else◌}
-use Rattle.ucd.specs.Tables.{line_class_of, is_wide_in, is_mark_in, is_future_pictograph_in}
+use Rattle.ucd.specs.Tables.{line_class_of, line_detail_of, is_wide_in, is_mark_in, is_future_pictograph_in}
 use Rattle.ucd.specs.declared.line_class.LineClass.{LineClass}
-use Rattle.ucd.specs.declared.line_class.LineClass.TheVariants.{AI, AL, BK, CJ, CM, CR, LF, NL, NS, SA, SG, SP, XX, ZW, ZWJ}
+use Rattle.ucd.specs.declared.line_class.LineClass.TheVariants.{AI, AK, AL, AP, AS, BK, CJ, CM, CR, HH, LF, NL, NS, SA, SG, SP, VF, VI, XX, ZW, ZWJ}
+use Rattle.ucd.specs.declared.line_detail.LineDetail.{LineDetail}
+use Rattle.ucd.specs.declared.line_detail.LineDetail.TheVariants.{Plain}
 use Rattle.ucd.specs.declared.tables.Tables.{Tables}
+use Rattle.ucd.specs.declared.version.Version.{Version}
+use Rattle.ucd.specs.declared.version.Version.TheVariants.{V15_0, V17_0}
 use Rattle.breaks.specs.Classes.{is_one_of}
 
 -- LB1: AI, SG and XX become AL, and CJ becomes NS. SA becomes CM for a mark of category Mn or Mc, and AL
@@ -18,16 +22,34 @@ resolved SA false = AL
 resolved CJ is_mark = NS
 resolved class is_mark = class
 
+-- The classes and details that a version knows. Tables of Unicode 15.0 never have the others, which would count as
+-- XX here.
+abbrev pub known : Version → LineClass → LineClass
+known V17_0 class = class
+known V15_0 AK = XX
+known V15_0 AP = XX
+known V15_0 AS = XX
+known V15_0 HH = XX
+known V15_0 VF = XX
+known V15_0 VI = XX
+known V15_0 class = class
+
+abbrev pub known_detail : Version → LineDetail → LineDetail
+known_detail V15_0 detail = Plain
+known_detail V17_0 detail = detail
+
 -- what the rules need to know about a character, with the class that LB1 gives it
 pub record Character : Type 0 where
   pub class : LineClass
+  pub detail : LineDetail
   pub is_wide : Bool
   pub is_future_pictograph : Bool
 
 -- the character with code point c, from the tables
 abbrev pub character : Tables → ℕ → Character
 character t c = record {
-  class = resolved (line_class_of t c) (is_mark_in t c);
+  class = resolved (known t.version (line_class_of t c)) (is_mark_in t c);
+  detail = known_detail t.version (line_detail_of t c);
   is_wide = is_wide_in t c;
   is_future_pictograph = is_future_pictograph_in t c;
 }
@@ -65,6 +87,10 @@ base_class class = class
 
 abbrev pub class_of : Base → LineClass
 class_of b = base_class b.first.class
+
+-- whether a base has East Asian width F, W or H. LB10: a CM or ZWJ that is AL has not.
+abbrev pub is_east_asian : Base → Bool
+is_east_asian b = b.first.is_wide && not (is_one_of (CM ∷ ZWJ ∷ []) b.first.class)
 
 -- the last character of a base
 abbrev pub last_of : Character → List Character → Character

@@ -5,3 +5,4 @@ pub mod Numbers
 pub mod Rules
 pub mod Symbols
 pub mod Walk
+pub mod Walk17

@@ -1,12 +1,17 @@
--- The rules for break marks (UAX #14, LB3 to LB31), in the order of the annex. LB1, LB9 and LB10 turn the
--- characters into bases (Bases.antt). LB2 is about the position before a text, which has no mark. LB31
--- applies if no rule of the table does. For whole numbers, a separate rule replaces LB25 (Numbers.antt).
-use Rattle.std.specs.Prelude.{◌%◌, ◌==◌, Bool, true, false, not, ◌&&◌, List, [], ◌∷◌, ◌++◌, map, if◌then◌else◌}
+-- The rules for break marks (UAX #14, LB3 to LB31) of Unicode 15.0 and 17.0, in the order of the annex. LB1, LB9
+-- and LB10 turn the characters into bases (Bases.antt). LB2 is about the position before a text, which has no
+-- mark. LB31 applies if no rule of the table does. For whole numbers in 15.0, a separate rule replaces LB25
+-- (Numbers.antt).
+use Rattle.std.specs.Prelude.{◌%◌, ◌==◌, Bool, true, false, not, ◌&&◌, ◌||◌, List, [], ◌∷◌, ◌++◌, map, if◌then◌else◌}
 use Rattle.std.specs.List.{prefix_len}
 use Rattle.ucd.specs.declared.line_class.LineClass.{LineClass}
-use Rattle.ucd.specs.declared.line_class.LineClass.TheVariants.{AL, B2, BA, BB, BK, CB, CL, CP, CR, EB, EM, EX, GL, H2, H3, HL, HY, ID, IN, IS, JL, JT, JV, LF, NL, NS, NU, OP, PO, PR, QU, RI, SP, SY, WJ, ZW, ZWJ}
-use Rattle.breaks.specs.Bases.{Base, class_of, end_of}
-use Rattle.breaks.specs.Classes.{is_same, is_one_of}
+use Rattle.ucd.specs.declared.line_class.LineClass.TheVariants.{AK, AL, AP, AS, B2, BA, BB, BK, CB, CL, CP, CR, EB, EM, EX, GL, H2, H3, HH, HL, HY, ID, IN, IS, JL, JT, JV, LF, NL, NS, NU, OP, PO, PR, QU, RI, SP, SY, VF, VI, WJ, ZW, ZWJ}
+use Rattle.ucd.specs.declared.line_detail.LineDetail.{LineDetail}
+use Rattle.ucd.specs.declared.line_detail.LineDetail.TheVariants.{DottedCircle, Final, Initial}
+use Rattle.ucd.specs.declared.version.Version.{Version}
+use Rattle.ucd.specs.declared.version.Version.TheVariants.{V15_0, V17_0}
+use Rattle.breaks.specs.Bases.{Base, class_of, end_of, is_east_asian}
+use Rattle.breaks.specs.Classes.{is_detail, is_same, is_one_of}
 use Rattle.breaks.specs.Numbers.{is_in_number}
 use Rattle.breaks.specs.declared.mark.Mark.{Mark}
 use Rattle.breaks.specs.declared.mark.Mark.TheVariants.{Never, May, Must}
@@ -73,6 +78,47 @@ without_spaces (b ∷ bases) = if is_same (class_of b) SP then without_spaces ba
 abbrev pub is_spaced : List LineClass → List Base → Bool
 is_spaced classes bases = is classes (without_spaces bases)
 
+-- the same after spaces, which the rules write as `SP*`
+abbrev pub spaced : (List Base → Bool) → List Base → Bool
+spaced condition bases = condition (without_spaces bases)
+
+-- whether the nearest base meets `first`, and the bases beyond it meet `others`
+abbrev pub followed : (List Base → Bool) → (List Base → Bool) → List Base → Bool
+followed first others [] = false
+followed first others (b ∷ bases) = first (b ∷ bases) && others bases
+
+-- whether there are no bases, or the nearest one meets the condition: the rules write `sot` or `eot` beside its classes
+abbrev pub or_edge : (List Base → Bool) → List Base → Bool
+or_edge condition [] = true
+or_edge condition (b ∷ bases) = condition (b ∷ bases)
+
+-- whether there is a nearest base, and its East Asian width is none of F, W and H
+abbrev pub is_not_east_asian : List Base → Bool
+is_not_east_asian [] = false
+is_not_east_asian (b ∷ bases) = not (is_east_asian b)
+
+-- whether the nearest base is QU with this detail, or QU with another
+abbrev pub is_quote : LineDetail → List Base → Bool
+is_quote detail [] = false
+is_quote detail (b ∷ bases) = is_same (class_of b) QU && is_detail b.first.detail detail
+
+abbrev pub is_quote_but : LineDetail → List Base → Bool
+is_quote_but detail [] = false
+is_quote_but detail (b ∷ bases) = is_same (class_of b) QU && not (is_detail b.first.detail detail)
+
+-- whether the nearest base is a letter of a Brahmic script in the sense of LB28a: AK or U+25CC, or also AS
+abbrev pub is_dotted_circle : Base → Bool
+is_dotted_circle b = is_same b.first.class AL && is_detail b.first.detail DottedCircle
+
+abbrev pub is_aksara : List LineClass → List Base → Bool
+is_aksara classes [] = false
+is_aksara classes (b ∷ bases) = is_one_of classes (class_of b) || is_dotted_circle b
+
+-- whether the bases nearest to a position are `NU ( SY | IS )*`
+abbrev pub ends_in_number : List Base → Bool
+ends_in_number [] = false
+ends_in_number (b ∷ bases) = is_same (class_of b) NU || (is_one_of (IS ∷ SY ∷ []) (class_of b) && ends_in_number bases)
+
 -- whether the character directly before the position is a ZWJ
 abbrev pub ends_in_zwj : List Base → Bool
 ends_in_zwj [] = false
@@ -94,8 +140,10 @@ letters = AL ∷ HL ∷ []
 abbrev syllables : List LineClass
 syllables = H2 ∷ H3 ∷ JL ∷ JT ∷ JV ∷ []
 
-unfoldable pub rows_before_numbers : List Row
-rows_before_numbers =
+-- ---- LB3 to LB24. A list is named after its rules, and has a version if the versions differ.
+
+abbrev LB3_to_LB12 : List Row
+LB3_to_LB12 =
     -- LB3
     must any none ∷
     -- LB4
@@ -116,31 +164,95 @@ rows_before_numbers =
     never (is (WJ ∷ [])) any ∷
     -- LB12
     never (is (GL ∷ [])) any ∷
-    -- LB12a
-    never (is_not (SP ∷ BA ∷ HY ∷ [])) (is (GL ∷ [])) ∷
-    -- LB13
-    never any (is (CL ∷ CP ∷ EX ∷ IS ∷ SY ∷ [])) ∷
-    -- LB14
-    never (is_spaced (OP ∷ [])) any ∷
-    -- LB15
-    never (is_spaced (QU ∷ [])) (is (OP ∷ [])) ∷
+    []
+
+abbrev LB12a : Version → List Row
+LB12a V15_0 = never (is_not (SP ∷ BA ∷ HY ∷ [])) (is (GL ∷ [])) ∷ []
+LB12a V17_0 = never (is_not (SP ∷ BA ∷ HY ∷ HH ∷ [])) (is (GL ∷ [])) ∷ []
+
+abbrev LB13 : Version → List Row
+LB13 V15_0 = never any (is (CL ∷ CP ∷ EX ∷ IS ∷ SY ∷ [])) ∷ []
+LB13 V17_0 = never any (is (CL ∷ CP ∷ EX ∷ SY ∷ [])) ∷ []
+
+abbrev LB14 : List Row
+LB14 = never (is_spaced (OP ∷ [])) any ∷ []
+
+abbrev pub before_initial : List LineClass
+before_initial = BK ∷ CR ∷ GL ∷ LF ∷ NL ∷ SP ∷ ZW ∷ OP ∷ QU ∷ []
+
+abbrev pub after_final : List LineClass
+after_final = BK ∷ CR ∷ GL ∷ LF ∷ NL ∷ SP ∷ WJ ∷ ZW ∷ CL ∷ CP ∷ EX ∷ QU ∷ IS ∷ SY ∷ []
+
+abbrev pub begins_quotation : List Base → Bool
+begins_quotation = followed (is_quote Initial) (or_edge (is before_initial))
+
+abbrev LB15 : Version → List Row
+LB15 V15_0 = never (is_spaced (QU ∷ [])) (is (OP ∷ [])) ∷ []
+LB15 V17_0 =
+    -- LB15a
+    never (spaced begins_quotation) any ∷
+    -- LB15b
+    never any (followed (is_quote Final) (or_edge (is after_final))) ∷
+    -- LB15c
+    may (is (SP ∷ [])) (followed (is (IS ∷ [])) (is (NU ∷ []))) ∷
+    -- LB15d
+    never any (is (IS ∷ [])) ∷
+    []
+
+abbrev LB16_to_LB18 : List Row
+LB16_to_LB18 =
     -- LB16
     never (is_spaced (CL ∷ CP ∷ [])) (is (NS ∷ [])) ∷
     -- LB17
     never (is_spaced (B2 ∷ [])) (is (B2 ∷ [])) ∷
     -- LB18
     may (is (SP ∷ [])) any ∷
-    -- LB19
+    []
+
+abbrev LB19 : Version → List Row
+LB19 V15_0 =
     never any (is (QU ∷ [])) ∷
     never (is (QU ∷ [])) any ∷
-    -- LB20
+    []
+LB19 V17_0 =
+    never any (is_quote_but Initial) ∷
+    never (is_quote_but Final) any ∷
+    -- LB19a
+    never is_not_east_asian (is (QU ∷ [])) ∷
+    never any (followed (is (QU ∷ [])) (or_edge is_not_east_asian)) ∷
+    never (is (QU ∷ [])) is_not_east_asian ∷
+    never (followed (is (QU ∷ [])) (or_edge is_not_east_asian)) any ∷
+    []
+
+abbrev LB20 : List Row
+LB20 =
     may any (is (CB ∷ [])) ∷
     may (is (CB ∷ [])) any ∷
-    -- LB21
-    never any (is (BA ∷ HY ∷ NS ∷ [])) ∷
+    []
+
+abbrev pub before_word : List LineClass
+before_word = BK ∷ CR ∷ GL ∷ LF ∷ NL ∷ SP ∷ ZW ∷ CB ∷ []
+
+abbrev LB20a : Version → List Row
+LB20a V15_0 = []
+LB20a V17_0 = never (followed (is (HY ∷ HH ∷ [])) (or_edge (is before_word))) (is letters) ∷ []
+
+abbrev LB21 : Version → List Row
+LB21 V15_0 = never any (is (BA ∷ HY ∷ NS ∷ [])) ∷ []
+LB21 V17_0 = never any (is (BA ∷ HY ∷ NS ∷ HH ∷ [])) ∷ []
+
+abbrev LB21a : Version → List Row
+LB21a V15_0 =
     never (is (BB ∷ [])) any ∷
-    -- LB21a
     never (is_pair (HL ∷ []) (BA ∷ HY ∷ [])) any ∷
+    []
+LB21a V17_0 =
+    never (is (BB ∷ [])) any ∷
+    never (is_pair (HL ∷ []) (HY ∷ HH ∷ [])) (is_not (HL ∷ [])) ∷
+    []
+
+abbrev LB21b_to_LB24 : List Row
+LB21b_to_LB24 =
     -- LB21b
     never (is (SY ∷ [])) (is (HL ∷ [])) ∷
     -- LB22
@@ -156,16 +268,31 @@ rows_before_numbers =
     never (is letters) (is (PO ∷ PR ∷ [])) ∷
     []
 
--- LB25 as rules on pairs of bases
-unfoldable pub rows_of_numbers : List Row
-rows_of_numbers =
+unfoldable pub rows_before_numbers : Version → List Row
+rows_before_numbers v =
+    LB3_to_LB12 ++ (LB12a v ++ (LB13 v ++ (LB14 ++ (LB15 v ++ (LB16_to_LB18
+    ++ (LB19 v ++ (LB20 ++ (LB20a v ++ (LB21 v ++ (LB21a v ++ LB21b_to_LB24))))))))))
+
+-- ---- LB25. For 15.0, these are rules on pairs of bases.
+
+unfoldable pub rows_of_numbers : Version → List Row
+rows_of_numbers V15_0 =
     never (is (CL ∷ CP ∷ NU ∷ [])) (is (PO ∷ PR ∷ [])) ∷
     never (is (PO ∷ PR ∷ [])) (is (OP ∷ NU ∷ [])) ∷
     never (is (HY ∷ IS ∷ NU ∷ SY ∷ [])) (is (NU ∷ [])) ∷
     []
+rows_of_numbers V17_0 =
+    never (followed (is (CL ∷ CP ∷ [])) ends_in_number) (is (PO ∷ PR ∷ [])) ∷
+    never ends_in_number (is (NU ∷ PO ∷ PR ∷ [])) ∷
+    never (is (PO ∷ PR ∷ [])) (followed (is (OP ∷ [])) (is (NU ∷ []))) ∷
+    never (is (PO ∷ PR ∷ [])) (followed (is (OP ∷ [])) (followed (is (IS ∷ [])) (is (NU ∷ [])))) ∷
+    never (is (HY ∷ IS ∷ PO ∷ PR ∷ [])) (is (NU ∷ [])) ∷
+    []
 
-unfoldable pub rows_after_numbers : List Row
-rows_after_numbers =
+-- ---- LB26 to LB30b
+
+abbrev LB26_to_LB28 : List Row
+LB26_to_LB28 =
     -- LB26
     never (is (JL ∷ [])) (is (H2 ∷ H3 ∷ JL ∷ JV ∷ [])) ∷
     never (is (H2 ∷ JV ∷ [])) (is (JT ∷ JV ∷ [])) ∷
@@ -175,6 +302,19 @@ rows_after_numbers =
     never (is (PR ∷ [])) (is syllables) ∷
     -- LB28
     never (is letters) (is letters) ∷
+    []
+
+abbrev LB28a : Version → List Row
+LB28a V15_0 = []
+LB28a V17_0 =
+    never (is (AP ∷ [])) (is_aksara (AK ∷ AS ∷ [])) ∷
+    never (is_aksara (AK ∷ AS ∷ [])) (is (VF ∷ VI ∷ [])) ∷
+    never (followed (is (VI ∷ [])) (is_aksara (AK ∷ AS ∷ []))) (is_aksara (AK ∷ [])) ∷
+    never (is_aksara (AK ∷ AS ∷ [])) (followed (is_aksara (AK ∷ AS ∷ [])) (is (VF ∷ []))) ∷
+    []
+
+abbrev LB29_to_LB30b : List Row
+LB29_to_LB30b =
     -- LB29
     never (is (IS ∷ [])) (is letters) ∷
     -- LB30
@@ -187,13 +327,17 @@ rows_after_numbers =
     never is_future_pictograph (is (EM ∷ [])) ∷
     []
 
--- LB25: one rule on whole numbers, or the rows on pairs of bases
-abbrev pub numbers : Bool → List Rule
-numbers true = record { holds = is_in_number; mark = Never } ∷ []
-numbers false = map rule_of rows_of_numbers
+unfoldable pub rows_after_numbers : Version → List Row
+rows_after_numbers v = LB26_to_LB28 ++ (LB28a v ++ LB29_to_LB30b)
 
-unfoldable pub rules : Bool → List Rule
-rules whole_numbers = map rule_of rows_before_numbers ++ (numbers whole_numbers ++ map rule_of rows_after_numbers)
+-- LB25: one rule on whole numbers, or the rows. In 17.0, the rows themselves are on whole numbers.
+abbrev pub numbers : Version → Bool → List Rule
+numbers V15_0 true = record { holds = is_in_number; mark = Never } ∷ []
+numbers V15_0 false = map rule_of (rows_of_numbers V15_0)
+numbers V17_0 whole_numbers = map rule_of (rows_of_numbers V17_0)
+
+unfoldable pub rules : Version → Bool → List Rule
+rules v whole_numbers = map rule_of (rows_before_numbers v) ++ (numbers v whole_numbers ++ map rule_of (rows_after_numbers v))
 
 -- the mark of the first rule that applies, or `May` if none does (LB31)
 abbrev pub mark_by : List Rule → List Base → List Base → Mark

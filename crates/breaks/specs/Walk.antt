@@ -1,10 +1,11 @@
--- The state of the single pass over the characters: what the rules need to know about the bases before a
+-- The state of the single pass over the characters with the rules of Unicode 15.0: what the rules need to know about the bases before a
 -- position. A state belongs to all bases that the rules cannot distinguish from its example bases
 -- (`bases_at`). Only the code depends on states. The contract of `marks` refers to Marks.antt instead.
 use Rattle.std.specs.Prelude.{◌≡◌, ℕ, ◌*◌, ◌<◌, Bool, true, false, not, ◌||◌, ◌&&◌, ◌==◌, ◌++◌, List, [], ◌∷◌, map, MatchBool, get_or, if◌then◌else◌}
 use Rattle.ucd.specs.declared.line_class.LineClass.{LineClass}
 use Rattle.ucd.specs.declared.line_class.LineClass.TheVariants as class
 use Rattle.ucd.specs.declared.properties.Properties.{Properties}
+use Rattle.ucd.specs.declared.version.Version.TheVariants.{V15_0}
 use Rattle.breaks.specs.Bases.{Base, Character, alone, bases_of, class_of, end_of, stays_with}
 use Rattle.breaks.specs.Classes.{is_same, is_one_of}
 use Rattle.breaks.specs.Numbers.{affix, closing, middle, opening}
@@ -20,10 +21,31 @@ use Rattle.breaks.specs.declared.symbol.TheConstants.{SYMBOL_COUNT}
 abbrev pub base : LineClass → Base
 base class = alone (narrow class)
 
+-- the example bases of states that both versions have, which are the last states of 15.0
+abbrev pub last_states : List (List Base)
+last_states =
+    (base class.NU ∷ []) ∷
+    (base class.AL ∷ []) ∷
+    (base class.HL ∷ []) ∷
+    (base class.PR ∷ []) ∷
+    (base class.PO ∷ []) ∷
+    (base class.ID ∷ []) ∷
+    (base class.EB ∷ []) ∷
+    (base class.JL ∷ []) ∷
+    (base class.JV ∷ []) ∷
+    (base class.JT ∷ []) ∷
+    (base class.RI ∷ []) ∷
+    (base class.EX ∷ []) ∷
+    (base class.IS ∷ base class.NU ∷ []) ∷
+    (base class.SY ∷ base class.NU ∷ []) ∷
+    (base class.CL ∷ base class.NU ∷ []) ∷
+    (base class.CP ∷ base class.NU ∷ []) ∷
+    []
+
 -- Example bases for each state, in the order of the states. The nearest base comes first.
 abbrev pub states : List (List Base)
 states =
-    (base class.BK ∷ []) ∷
+    ((base class.BK ∷ []) ∷
     (base class.CR ∷ []) ∷
     (base class.LF ∷ []) ∷
     (base class.ZW ∷ []) ∷
@@ -48,23 +70,8 @@ states =
     (base class.BA ∷ base class.HL ∷ []) ∷
     (base class.HY ∷ base class.HL ∷ []) ∷
     (base class.BB ∷ []) ∷
-    (base class.NU ∷ []) ∷
-    (base class.AL ∷ []) ∷
-    (base class.HL ∷ []) ∷
-    (base class.PR ∷ []) ∷
-    (base class.PO ∷ []) ∷
-    (base class.ID ∷ []) ∷
-    (base class.EB ∷ []) ∷
-    (base class.JL ∷ []) ∷
-    (base class.JV ∷ []) ∷
-    (base class.JT ∷ []) ∷
-    (base class.RI ∷ []) ∷
-    (base class.EX ∷ []) ∷
-    (base class.IS ∷ base class.NU ∷ []) ∷
-    (base class.SY ∷ base class.NU ∷ []) ∷
-    (base class.CL ∷ base class.NU ∷ []) ∷
-    (base class.CP ∷ base class.NU ∷ []) ∷
-    []
+    [])
+    ++ last_states
 
 abbrev pub bases_at : ℕ → List Base
 bases_at number = get_or states number []
@@ -77,7 +84,7 @@ decided_at outcome is_joined is_pictograph = if is_joined || ((outcome == UNLESS
 -- whether a character is neither a ZWJ nor a future pictograph, so that LB8a and LB30b for pictographs say nothing about the position
 -- after it
 abbrev pub is_ordinary : Properties → Bool
-is_ordinary p = not (is_same (character_by p).class class.ZWJ) && not p.is_future_pictograph
+is_ordinary p = not (is_same (character_by V15_0 p).class class.ZWJ) && not p.is_future_pictograph
 
 -- whether the characters before a position are ordinary, as far as the rules look back
 pub record FollowsOrdinary (walk : Walk) : Type 0 where
@@ -127,11 +134,11 @@ number_rows true =
     never ends_in_digits (is goes_on_after_digits) ∷
     never ends_in_closed_digits (is affix) ∷
     []
-number_rows false = rows_of_numbers
+number_rows false = rows_of_numbers V15_0
 
 -- all rules as rows, with or without whole numbers
 unfoldable pub rows : Bool → List Row
-rows whole_numbers = rows_before_numbers ++ (number_rows whole_numbers ++ rows_after_numbers)
+rows whole_numbers = rows_before_numbers V15_0 ++ (number_rows whole_numbers ++ rows_after_numbers V15_0)
 
 -- the bases, with the nearest one changed so that LB8a and LB30b for pictographs do not apply to it
 abbrev pub plain : List Base → List Base
@@ -175,5 +182,5 @@ Passes whole_numbers after last others c decided =
     MatchBool (stays_with (end_of last) c)
     (((before_digit : Bool) → mark_of whole_numbers decided before_digit ≡ Never) × Stands whole_numbers after (with_attached last c) others)
     (((text : List Character) →
-    mark_of whole_numbers decided (is_before_digit text) ≡ mark_by (rules whole_numbers) (last ∷ others) (bases_of (c ∷ text)))
+    mark_of whole_numbers decided (is_before_digit text) ≡ mark_by (rules V15_0 whole_numbers) (last ∷ others) (bases_of (c ∷ text)))
     × Stands whole_numbers after (alone c) (last ∷ others))

@@ -14,9 +14,17 @@
 
 mod characters;
 mod entries;
+mod entries_17;
 mod mark;
+mod mark_17;
+mod questions;
 mod symbol;
+mod symbol_17;
 mod table;
+mod table_17;
 mod walk;
+mod walk_17;
 
-pub use mark::{Mark, marks, marks_are_as_many, marks_into, paragraphs_end_at_must};
+pub use mark::{
+    Mark, marks, marks_are_as_many, marks_into, numbers_are_whole, paragraphs_end_at_must,
+};

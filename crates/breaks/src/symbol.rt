@@ -2,6 +2,7 @@
 //! break rules need to know nothing else about the character.
 ghost use Rattle.std.specs.Prelude.{◌≡◌, ◌<◌, slice_index};
 ghost use Rattle.ucd.specs.declared.properties.TheConstants.{LINE_INDEX_COUNT};
+ghost use Rattle.ucd.specs.declared.version.Version.TheVariants.{V15_0};
 ghost use Rattle.breaks.specs.Symbols.{character_by, shown, told};
 ghost use Rattle.breaks.specs.declared.symbol.TheConstants.{SYMBOL_COUNT};
 
@@ -68,7 +69,7 @@ pub const ATTACHED: u8 = Symbol::CM as u8;
 
 /// Returns the symbol number of a character with these properties.
 pub fn symbol_of(properties: Properties) -> u8
-    ensures shown { shown result ≡ told (character_by properties) }
+    ensures shown { shown result ≡ told (character_by V15_0 properties) }
     ensures below { result < SYMBOL_COUNT }
 {
     symbol_at(properties.line_index())
@@ -98,8 +99,9 @@ macro_rules! symbols {
     };
 }
 
-// The symbol for each value of `Properties::line_index`: four for each class, in the order of `LineClass`,
-// and four for each of the 21 numbers that no class has.
+// The symbol for each value of `Properties::line_index`: four for each class, in the order of `LineClass`, four for
+// each class with a detail, and four for each of the 8 numbers that mean nothing. Tables of Unicode 15.0 have none of
+// the last six classes, and no details.
 static SYMBOLS: [u8; LINE_INDEX_COUNT] = symbols! {
     BK BK BK BK; CM CM CM CM; CR CR CR CR; GL GL GL GL; LF LF LF LF; NL NL NL NL; SP SP SP SP;
     WJ WJ WJ WJ; ZW ZW ZW ZW; ZWJ ZWJ ZWJ ZWJ; B2 B2 B2 B2; BA BA BA BA; BB BB BB BB; CB CB CB CB;
@@ -112,7 +114,9 @@ static SYMBOLS: [u8; LINE_INDEX_COUNT] = symbols! {
     ID ID ID ID; JL JL JL JL; JT JT JT JT; JV JV JV JV; RI RI RI RI;
     AL CM AL CM;
     AL AL AL AL; AL AL AL AL;
+    AL AL AL AL; AL AL AL AL; AL AL AL AL; AL AL AL AL; AL AL AL AL; AL AL AL AL;
+    QU QU QU QU; QU QU QU QU; AL AL AL AL; AL AL AL AL; AL AL AL AL; AL AL AL AL;
+    AL CM AL CM;
     AL AL AL AL; AL AL AL AL; AL AL AL AL; AL AL AL AL; AL AL AL AL; AL AL AL AL; AL AL AL AL;
-    AL AL AL AL; AL AL AL AL; AL AL AL AL; AL AL AL AL; AL AL AL AL; AL AL AL AL; AL AL AL AL;
-    AL AL AL AL; AL AL AL AL; AL AL AL AL; AL AL AL AL; AL AL AL AL; AL AL AL AL; AL AL AL AL;
+    AL AL AL AL;
 };

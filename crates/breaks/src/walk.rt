@@ -1,6 +1,7 @@
 //! The single pass over the characters of a paragraph.
 ghost use Rattle.std.specs.Prelude.{◌≡◌, ◌<◌, ◌≤◌, ◌==◌, Bool, true, get_or, if◌then◌else◌, List, []};
 ghost use Rattle.breaks.specs.Bases.{Base, alone};
+ghost use Rattle.ucd.specs.declared.version.Version.TheVariants.{V15_0};
 ghost use Rattle.breaks.specs.Symbols.{character_by};
 ghost use Rattle.breaks.specs.declared.mark.Mark.TheVariants.{Never};
 ghost use Rattle.breaks.specs.declared.table.TheConstants.{LAST_ROW};
@@ -26,7 +27,7 @@ impl Walk {
     /// Returns the state after the first character of a text.
     pub fn start(first: Properties) -> Walk
         ensures stands { (whole_numbers : Bool)
-            → Stands whole_numbers result (alone (character_by first)) [] }
+            → Stands whole_numbers result (alone (character_by V15_0 first)) [] }
         ensures ordinary { is_ordinary first ≡ true → FollowsOrdinary result }
         ensures within { result.row ≤ LAST_ROW }
     {
@@ -43,7 +44,7 @@ impl Walk {
         requires { self.old.row ≤ LAST_ROW }
         ensures passes { (whole_numbers : Bool) (last : Base) (others : List Base)
             → Stands whole_numbers self.old last others
-            → Passes whole_numbers self.new last others (character_by next) result }
+            → Passes whole_numbers self.new last others (character_by V15_0 next) result }
         ensures within { self.new.row ≤ LAST_ROW }
         ensures below { result < 8 }
     {
@@ -64,7 +65,7 @@ impl Walk {
         requires next { is_ordinary next ≡ true }
         ensures passes { (whole_numbers : Bool) (last : Base) (others : List Base)
             → Stands whole_numbers self.old last others
-            → Passes whole_numbers self.new last others (character_by next) result }
+            → Passes whole_numbers self.new last others (character_by V15_0 next) result }
         ensures before { FollowsOrdinary self.new }
         ensures within { self.new.row ≤ LAST_ROW }
         ensures below { result < 8 }

@@ -1,6 +1,9 @@
 -- The command line as it is described to `clap`, and the settings that its arguments give.
-use Rattle.std.specs.Prelude.{◌≡◌, ◌≤◌, ◌==◌, ◌||◌, ◌⊎◌, not, ℕ, pos, Bool, true, false, List, [], ◌∷◌, ◌++◌, length, map, fold, codes, Option, Some, None, is_some, option_map, unwrap_or}
+use Rattle.std.specs.Prelude.{◌≡◌, ◌≤◌, ◌==◌, ◌||◌, ◌⊎◌, not, ℕ, pos, Bool, true, false, List, [], ◌∷◌, ◌++◌, length, map, fold, codes, Option, Some, None, is_some, option_map, unwrap_or, if◌then◌else◌}
+use Rattle.std.specs.Str.{bytes_eq}
 use Rattle.std.specs.Str.Parse.{IsNumeral, digits_value, without_leading_plus}
+use Rattle.ucd.specs.declared.version.Version.{Version}
+use Rattle.ucd.specs.declared.version.Version.TheVariants.{V15_0, V17_0}
 use Rattle.bidi.specs.declared.base.Base.{Base}
 use Rattle.bidi.specs.declared.base.Base.TheVariants as base
 use Rattle.clap.specs.Words.{App, IsAmong, Row, Rule, Text, all_of, fault_of, first_of, found_of, kind_of, matches_of, new_app, new_rule, one_of, rows_of, with_rule}
@@ -10,7 +13,7 @@ use Rattle.clap.specs.declared.builder.action.ArgAction.TheVariants.{Append, Set
 use Rattle.clap.specs.declared.builder.value_parser.ValueParser.TheVariants.{Signed}
 use Rattle.clap.specs.declared.parser.matches.ArgMatches.{ArgMatches}
 use Rattle.command_line.specs.declared.options.LineFault.{LineFault}
-use Rattle.command_line.specs.declared.options.LineFault.TheVariants.{Words, Directions, ScriptFiles, Queries, NoMemory}
+use Rattle.command_line.specs.declared.options.LineFault.TheVariants.{Words, Directions, Unicode, ScriptFiles, Queries, NoMemory}
 use Rattle.command_line.specs.declared.options.Settings.{Settings}
 
 -- an option with a long name and no value
@@ -39,6 +42,10 @@ tabs_rule = record (new_rule (codes "tabs")) {
   parser = Some (Signed (pos 1) (pos 255));
 }
 
+-- the option `unicode`: the name of a version
+abbrev pub unicode_rule : Rule
+unicode_rule = record (new_rule (codes "unicode")) { long = Some (codes "unicode"); value_names = 1; action = Some Set }
+
 -- the option `script`: the file of an edit script
 abbrev pub script_rule : Rule
 script_rule = record (new_rule (codes "script")) { long = Some (codes "script"); value_names = 1; action = Some Set }
@@ -54,7 +61,7 @@ files_rule = record (new_rule (codes "files")) { value_names = 1; action = Some 
 -- the layout options, and the print options
 abbrev pub layout_rules : List Rule
 layout_rules =
-    ucd_rule ∷ width_rule ∷ tabs_rule
+    ucd_rule ∷ width_rule ∷ tabs_rule ∷ unicode_rule
     ∷ map flag_rule (
     codes "rtl" ∷ codes "ltr" ∷ codes "wrtl" ∷ codes "wltr" ∷ codes "nobreak" ∷ codes "reordernsm" ∷ codes "whole-numbers"
     ∷ codes "reorder-clusters" ∷ codes "show-spaces" ∷ []
@@ -87,6 +94,17 @@ abbrev pub base_of : List Row → Option Base
 base_of rows =
     base_by (is_given (codes "rtl") rows) (is_given (codes "ltr") rows) (is_given (codes "wrtl") rows) (is_given (codes "wltr") rows)
 
+-- the Unicode version: the one with the given name, or 15.0 without the option
+abbrev pub version_named : Text → Option Version
+version_named name = if bytes_eq name (codes "15.0") then Some V15_0 else if bytes_eq name (codes "17.0") then Some V17_0 else None
+
+abbrev pub version_by : Option Text → Option Version
+version_by None = Some V15_0
+version_by (Some name) = version_named name
+
+abbrev pub version_of : List Row → Option Version
+version_of rows = version_by (first_of (codes "unicode") rows)
+
 -- a script needs exactly one text
 abbrev pub fits_script : Bool → ℕ → Bool
 fits_script has_script texts = not has_script || texts == 1
@@ -116,6 +134,7 @@ tab_width_of rows = unwrap_or (option_map number_of (first_of (codes "tabs") row
 pub record AreSettings (words : List Text) (settings : Settings) : Type 0 where
   pub taken : fault_of program words ≡ []
   pub ucd : first_of (codes "ucd") (matches_of program words) ≡ Some settings.ucd.now
+  pub unicode : version_of (matches_of program words) ≡ Some settings.unicode
   pub base : base_of (matches_of program words) ≡ Some settings.options.base
   pub width : option_map number_of (first_of (codes "width") (matches_of program words)) ≡ Some settings.width
   pub wide : (1 ≤ settings.width) × (settings.width ≤ 65535)
@@ -160,19 +179,22 @@ pub record AreMatches (words : List Text) (matches : ArgMatches) : Type 0 where
   pub tabs : HasTabs (rows_of (found_of matches))
 
 -- Either `clap` refuses the arguments with this kind of error, or it accepts them and one of these faults
--- applies. The faults are tested in this order. More than one base direction is set. A script has no text, or
--- more than one. There are queries without a script.
+-- applies. The faults are tested in this order. More than one base direction is set. There is no such Unicode
+-- version. A script has no text, or more than one. There are queries without a script.
 abbrev pub IsLineFault : List Text → LineFault → Type 0
 IsLineFault words (Words error) = IsAmong (kind_of error) (fault_of program words)
 IsLineFault words Directions = (fault_of program words ≡ []) × (base_of (matches_of program words) ≡ None)
+IsLineFault words Unicode =
+    (fault_of program words ≡ []) × (is_some (base_of (matches_of program words)) ≡ true) × (version_of (matches_of program words) ≡ None)
 IsLineFault words ScriptFiles =
-    (fault_of program words ≡ []) × (is_some (base_of (matches_of program words)) ≡ true) × (script_fits (matches_of program words) ≡ false)
+    (fault_of program words ≡ []) × (is_some (base_of (matches_of program words)) ≡ true) × (is_some (version_of (matches_of program words)) ≡ true)
+    × (script_fits (matches_of program words) ≡ false)
 IsLineFault words Queries =
-    (fault_of program words ≡ []) × (is_some (base_of (matches_of program words)) ≡ true) × (script_fits (matches_of program words) ≡ true)
-    × (queries_fit (matches_of program words) ≡ false)
+    (fault_of program words ≡ []) × (is_some (base_of (matches_of program words)) ≡ true) × (is_some (version_of (matches_of program words)) ≡ true)
+    × (script_fits (matches_of program words) ≡ true) × (queries_fit (matches_of program words) ≡ false)
 IsLineFault words NoMemory = Unit {0}
 
 -- an allocation failure is reported only if the accepted arguments have no other fault
 abbrev pub HidesNothing : List Row → LineFault → Type 0
-HidesNothing rows NoMemory = (is_some (base_of rows) ≡ true) × (script_fits rows ≡ true) × (queries_fit rows ≡ true)
+HidesNothing rows NoMemory = (is_some (base_of rows) ≡ true) × (is_some (version_of rows) ≡ true) × (script_fits rows ≡ true) × (queries_fit rows ≡ true)
 HidesNothing rows fault = Unit {0}

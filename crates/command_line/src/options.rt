@@ -4,12 +4,15 @@ ghost use Rattle.std.specs.Prelude.{◌≡◌};
 use clap::error::ErrorKind;
 use lines::{Options, Print};
 use thiserror::Error;
+use ucd::Version;
 
 /// The settings that the arguments specify.
 #[derive(Debug, Drop)]
 pub struct Settings<'a> {
     /// The folder of the table files.
     pub ucd: &'a str,
+    /// The Unicode version of the tables.
+    pub unicode: Version,
     /// The width of lines in columns, from 1 to 65,535.
     pub width: u16,
     /// How texts are laid out.
@@ -33,6 +36,8 @@ pub enum LineFault {
     Words(clap::Error),
     #[error("fribidi: more than one base direction")]
     Directions,
+    #[error("fribidi: --unicode takes 15.0 or 17.0")]
+    Unicode,
     #[error("fribidi: --script takes one file")]
     ScriptFiles,
     #[error("fribidi: --queries needs --script")]
@@ -52,6 +57,7 @@ impl LineFault {
             LineFault::Words(error) => { if error.use_stderr() { 2 } else { 0 } }
             LineFault::NoMemory => 1,
             LineFault::Directions => 2,
+            LineFault::Unicode => 2,
             LineFault::ScriptFiles => 2,
             LineFault::Queries => 2,
         }

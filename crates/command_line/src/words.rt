@@ -3,10 +3,10 @@ ghost use Rattle.std.specs.Prelude.{◌≡◌, List, codes, fold, map, not, opti
 ghost use Rattle.std.specs.Prelude.{IfOk, IfErr, IfSome};
 ghost use Rattle.clap.specs.Words.{Text, app_of, found_of, rows_of, rule_of, with_rule};
 ghost use Rattle.clap.specs.Takes.{is_given};
-ghost use Rattle.command_line.specs.CommandLine.{program, ucd_rule, width_rule, tabs_rule, script_rule};
+ghost use Rattle.command_line.specs.CommandLine.{program, ucd_rule, width_rule, tabs_rule, unicode_rule, script_rule};
 ghost use Rattle.command_line.specs.CommandLine.{files_rule, flag_rule};
 ghost use Rattle.command_line.specs.CommandLine.{AreMatches, AreSettings, HidesNothing, IsLineFault};
-ghost use Rattle.command_line.specs.CommandLine.{base_by, base_of, fits_queries, fits_script};
+ghost use Rattle.command_line.specs.CommandLine.{base_by, base_of, fits_queries, fits_script, version_by};
 ghost use Rattle.command_line.specs.CommandLine.{layout_rules, print_rules, tab_width_of, HasTabs};
 
 use crate::options::{LineFault, Settings};
@@ -17,7 +17,7 @@ use clap::parser::ValueSource;
 use clap::{Arg, ArgAction, ArgMatches, Command, value_parser};
 use lines::{Options, Print};
 use std::alloc::{AllocError, Global};
-use ucd::UNICODE_VERSION;
+use ucd::{UNICODE_VERSION, Version};
 
 // Returns the command with all options and the texts.
 fn command<'a>(alloc: Global) -> Result<Command<'a>, AllocError>
@@ -45,7 +45,7 @@ fn with_layout<'a>(alloc: Global, command: Command<'a>) -> Result<Command<'a>, A
     ensures { IfOk result (λ new. app_of new ≡ fold with_rule (app_of command.entry) layout_rules) }
 {
     let command = command.arg(ucd(alloc))?.arg(width(alloc))?;
-    let command = command.arg(tabs(alloc))?;
+    let command = command.arg(tabs(alloc))?.arg(unicode(alloc))?;
     with_flags(
         alloc,
         command,
@@ -179,6 +179,17 @@ fn tabs<'a>(alloc: Global) -> Arg<'a>
         .help("Set a tab stop every N columns, from 1 to 255")
 }
 
+fn unicode<'a>(alloc: Global) -> Arg<'a>
+    ensures rule { rule_of result ≡ unicode_rule }
+    ensures local { result.global ≡ false }
+{
+    Arg::new(alloc, "unicode")
+        .long("unicode")
+        .value_name("VERSION")
+        .action(ArgAction::Set)
+        .help("Follow Unicode VERSION, 15.0 or 17.0 [default: 15.0]")
+}
+
 fn script<'a>(alloc: Global) -> Arg<'a>
     ensures rule { rule_of result ≡ script_rule }
     ensures local { result.global ≡ false }
@@ -231,6 +242,18 @@ fn base_of(rtl: bool, ltr: bool, weak_rtl: bool, weak_ltr: bool) -> Option<Base>
     }
 }
 
+// Returns the Unicode version with this name, that of no name, or `None` if there is none.
+fn version_by(name: Option<&str>) -> Option<Version>
+    ensures { result ≡ version_by (option_map (λ name. name.now) name.entry) }
+{
+    match name {
+        None => Some(Version::V15_0),
+        Some(name) if name == "15.0" => Some(Version::V15_0),
+        Some(name) if name == "17.0" => Some(Version::V17_0),
+        Some(_) => None,
+    }
+}
+
 // Returns whether the number of texts is allowed. A script requires exactly one text.
 fn fits_script(script: Option<&str>, texts: usize) -> bool
     ensures { result ≡ fits_script (is_some script.entry) texts }
@@ -274,7 +297,7 @@ pub fn settings<'a>(alloc: Global, words: &'a [&'a str]) -> Result<Settings<'a>,
 
 /// Returns the settings that parsed arguments specify.
 ///
-/// Fails with the first of `Directions`, `ScriptFiles` and `Queries` that applies. Fails with `NoMemory` only
+/// Fails with the first of `Directions`, `Unicode`, `ScriptFiles` and `Queries` that applies. Fails with `NoMemory` only
 /// if none of them applies.
 pub fn settings_of<'a>(alloc: Global, matches: &ArgMatches<'a>) -> Result<Settings<'a>, LineFault>
     requires { (words : List Text) × AreMatches words matches.now }
@@ -284,6 +307,9 @@ pub fn settings_of<'a>(alloc: Global, matches: &ArgMatches<'a>) -> Result<Settin
 {
     let Some(options) = options_of(matches) else {
         return Err(LineFault::Directions);
+    };
+    let Some(unicode) = version_by(matches.get_str("unicode")) else {
+        return Err(LineFault::Unicode);
     };
     let Some(ucd) = matches.get_str("ucd") else {
         unreachable!()
@@ -305,6 +331,7 @@ pub fn settings_of<'a>(alloc: Global, matches: &ArgMatches<'a>) -> Result<Settin
     };
     Ok(Settings {
         ucd,
+        unicode,
         width,
         options,
         print: print_of(matches),

@@ -1,11 +1,12 @@
 //! Prints properties of paragraphs. Each line of standard input is a paragraph, given by the hexadecimal code
-//! points of its characters. UCD is the folder of the table files.
+//! points of its characters. UCD is the folder of the table files, and VERSION is their Unicode version, 15.0
+//! (the default) or 17.0.
 //!
-//! - `conformance marks-of UCD` prints the break marks of each paragraph.
-//! - `conformance lines-of UCD DIRECTION` lays out each as a single line, and prints its base level, its
-//!   levels and its order.
-//! - `conformance levels-of UCD DIRECTION` prints the levels of each, as they are before L1.
-//! - `conformance starts-of UCD WIDTH` fills each again at a width, and prints where its lines start.
+//! - `conformance marks-of UCD [VERSION]` prints the break marks of each paragraph.
+//! - `conformance lines-of UCD DIRECTION [VERSION]` lays out each as a single line, and prints its base level,
+//!   its levels and its order.
+//! - `conformance levels-of UCD DIRECTION [VERSION]` prints the levels of each, as they are before L1.
+//! - `conformance starts-of UCD WIDTH [VERSION]` fills each again at a width, and prints where its lines start.
 //!
 //! Without arguments it prints its usage. The first two are for Unicode's conformance tests
 //! (`tests/conformance/run`). The others make calls that the command never makes, so that
@@ -23,11 +24,11 @@ use lines::{Engine, Laid, Options, PARAGRAPH_LIMIT};
 use std::alloc::Global;
 use std::io::{BufRead, BufReader, BufWriter, Write};
 use std::{env, io};
-use tables::in_folder;
-use ucd::Tables;
+use tables::in_folder_as;
+use ucd::{Tables, Version};
 
-const USAGE: &str = "conformance marks-of UCD, or conformance lines-of UCD ltr|rtl|wltr|wrtl,
-or conformance levels-of UCD ltr|rtl|wltr|wrtl, or conformance starts-of UCD WIDTH";
+const USAGE: &str = "conformance marks-of UCD [15.0|17.0], or conformance lines-of UCD ltr|rtl|wltr|wrtl [15.0|17.0],
+or conformance levels-of UCD ltr|rtl|wltr|wrtl [15.0|17.0], or conformance starts-of UCD WIDTH [15.0|17.0]";
 
 fn main(rt: HostRuntime) -> Result<()> {
     let words: Vec<String> = env::args(&rt)?.collect(rt.alloc())?;
@@ -37,16 +38,24 @@ fn main(rt: HostRuntime) -> Result<()> {
 fn run(rt: &HostRuntime, words: &[String]) -> Result<()> {
     let (subject, folder, choice) = (word(words, 1), word(words, 2), word(words, 3));
     if subject == "marks-of" {
-        return tell_by_tables(rt, folder, Subject::Marks);
+        let source = Source {
+            folder,
+            version: version(choice)?,
+        };
+        return tell_by_tables(rt, source, Subject::Marks);
     }
+    let source = Source {
+        folder,
+        version: version(word(words, 4))?,
+    };
     if subject == "levels-of" {
-        return tell_by_tables(rt, folder, Subject::Levels(base(choice)?));
+        return tell_by_tables(rt, source, Subject::Levels(base(choice)?));
     }
     if subject == "lines-of" {
-        return tell_by_engine(rt, folder, in_one_line(base(choice)?), None);
+        return tell_by_engine(rt, source, in_one_line(base(choice)?), None);
     }
     if subject == "starts-of" {
-        return tell_by_engine(rt, folder, Options::default(), Some(width(choice)?));
+        return tell_by_engine(rt, source, Options::default(), Some(width(choice)?));
     }
     println!(rt; "{USAGE}")?;
     Ok(())
@@ -77,6 +86,22 @@ fn base(direction: &str) -> Result<Base> {
     bail!("in which direction?")
 }
 
+// The folder of the table files, and their version.
+#[derive(Clone, Copy)]
+struct Source<'a> {
+    folder: &'a str,
+    version: Version,
+}
+
+// Returns the version with this name, or 15.0 for an empty name.
+fn version(name: &str) -> Result<Version> {
+    match name {
+        "" | "15.0" => Ok(Version::V15_0),
+        "17.0" => Ok(Version::V17_0),
+        _ => bail!("which version?"),
+    }
+}
+
 fn width(digits: &str) -> Result<u16> {
     Ok(u16::from_str_radix(digits, 10)?)
 }
@@ -97,14 +122,14 @@ enum Subject {
     Levels(Base),
 }
 
-fn tell_by_tables(rt: &HostRuntime, folder: &str, subject: Subject) -> Result<()> {
-    let tables = copied(rt, folder)?;
+fn tell_by_tables(rt: &HostRuntime, source: Source<'_>, subject: Subject) -> Result<()> {
+    let tables = copied(rt, source)?;
     write_by_tables(rt, &tables, subject)
 }
 
-// Reads the tables of a folder, and returns a copy.
-fn copied(rt: &HostRuntime, folder: &str) -> Result<Tables> {
-    Ok(in_folder(rt, folder)?.copy(rt.alloc())?)
+// Reads the tables, and returns a copy.
+fn copied(rt: &HostRuntime, source: Source<'_>) -> Result<Tables> {
+    Ok(in_folder_as(rt, source.version, source.folder)?.copy(rt.alloc())?)
 }
 
 fn write_by_tables(rt: &HostRuntime, tables: &Tables, subject: Subject) -> Result<()> {
@@ -157,11 +182,12 @@ fn sign(mark: Mark) -> char {
 // Lays out paragraphs, and prints each as one line or, if a width is given, prints where its lines start.
 fn tell_by_engine(
     rt: &HostRuntime,
-    folder: &str,
+    source: Source<'_>,
     options: Options,
     width: Option<u16>,
 ) -> Result<()> {
-    let mut engine = Engine::new(in_folder(rt, folder)?, options);
+    let tables = in_folder_as(rt, source.version, source.folder)?;
+    let mut engine = Engine::new(tables, options);
     let answer = write_by_engine(rt, &mut engine, width);
     let_go(engine);
     answer

@@ -1,8 +1,8 @@
 -- How the functions on handles of tables change these handles.
-use Rattle.std.specs.Prelude.{◌≡◌, ℕ, ◌-◌, ◌⊎◌, List, Option, Some, None}
+use Rattle.std.specs.Prelude.{◌≡◌, ℕ, ◌-◌, ◌⊎◌, ◌==◌, List, Option, Some, None, if◌then◌else◌}
 use Rattle.ucd.specs.Imaged.{IsImageOf}
-use Rattle.ucd.specs.Images.{IsImageFault}
-use Rattle.ucd.specs.Tables.{AreTablesOf, IsFaultOf}
+use Rattle.ucd.specs.Images.{IsImageFault, version_number}
+use Rattle.ucd.specs.Tables.{AreTablesAs, IsFaultAs}
 use Rattle.ucd.specs.declared.fault.Cause.{Cause}
 use Rattle.ucd.specs.declared.fault.Cause.TheVariants as cause
 use Rattle.ucd.specs.declared.fault.TableFault.{TableFault}
@@ -10,9 +10,15 @@ use Rattle.ucd.specs.declared.image_fault.ImageFault.{ImageFault}
 use Rattle.ucd.specs.declared.image_fault.ImageFault.TheVariants as image
 use Rattle.ucd.specs.declared.tables.Tables.{Tables}
 use Rattle.ucd.specs.declared.tables.UcdFiles.{UcdFiles}
+use Rattle.ucd.specs.declared.version.Version.{Version}
+use Rattle.ucd.specs.declared.version.Version.TheVariants.{V15_0, V17_0}
 use Rattle.hordguli_c.specs.declared.table_calls.TableFaultOut.{TableFaultOut}
 use Rattle.hordguli_c.specs.declared.status.Status.{Status}
 use Rattle.hordguli_c.specs.declared.status.Status.TheVariants as is
+
+-- the version of Unicode with this number, which is the number in images, or `None` if no version has it
+abbrev pub version_of : ℕ → Option Version
+version_of number = if number == 0x000F_0000 then Some V15_0 else if number == 0x0011_0000 then Some V17_0 else None
 
 abbrev pub cause_number : Cause → ℕ
 cause_number cause.NotAscii = 1
@@ -32,16 +38,26 @@ abbrev pub TellsFault : Cause → TableFault → Status → TableFaultOut → Ta
 TellsFault cause.Memory fault status old new = (status ≡ is.NoMemory) × (new ≡ old)
 TellsFault why fault status old new = (status ≡ is.TableFault) × (new ≡ fault_out fault)
 
--- the handle has the tables of the files, or an allocation failed, or the files have a fault
-abbrev pub Reads : UcdFiles → Status → Option Tables → TableFaultOut → TableFaultOut → Type 0
-Reads files status (Some tables) old new = (status ≡ is.Ok) × AreTablesOf files tables × (new ≡ old)
-Reads files status None old new =
-    ((status ≡ is.NoMemory) × (new ≡ old)) ⊎ ((fault : TableFault) × IsFaultOf files fault × TellsFault fault.cause fault status old new)
+-- the handle has the tables of the files of a version, or an allocation failed, or the files have a fault
+abbrev pub Reads : Version → UcdFiles → Status → Option Tables → TableFaultOut → TableFaultOut → Type 0
+Reads version files status (Some tables) old new = (status ≡ is.Ok) × AreTablesAs version files tables × (new ≡ old)
+Reads version files status None old new =
+    ((status ≡ is.NoMemory) × (new ≡ old))
+    ⊎ ((fault : TableFault) × IsFaultAs version files fault × TellsFault fault.cause fault status old new)
 
 -- tables are read into a closed handle; an open handle is unchanged
-abbrev pub ReadsTables : UcdFiles → Status → Option Tables → Option Tables → TableFaultOut → TableFaultOut → Type 0
-ReadsTables files status None after old new = Reads files status after old new
-ReadsTables files status (Some tables) after old new = (status ≡ is.AlreadyOpen) × (after ≡ Some tables) × (new ≡ old)
+abbrev pub ReadsTables : Version → UcdFiles → Status → Option Tables → Option Tables → TableFaultOut → TableFaultOut → Type 0
+ReadsTables version files status None after old new = Reads version files status after old new
+ReadsTables version files status (Some tables) after old new = (status ≡ is.AlreadyOpen) × (after ≡ Some tables) × (new ≡ old)
+
+-- tables of the version with a number are read; if no version has this number, nothing changes
+abbrev pub ReadsTablesBy : Option Version → UcdFiles → Status → Option Tables → Option Tables → TableFaultOut → TableFaultOut → Type 0
+ReadsTablesBy None files status before after old new = (status ≡ is.UnknownOption) × (after ≡ before) × (new ≡ old)
+ReadsTablesBy (Some version) files status before after old new = ReadsTables version files status before after old new
+
+-- the number of the tables' version is stored
+abbrev pub TellsVersion : Status → Tables → ℕ → ℕ → Type 0
+TellsVersion status tables old new = (status ≡ is.Ok) × (new ≡ version_number tables.version)
 
 -- the causes of an image
 abbrev pub image_cause_number : ImageFault → ℕ

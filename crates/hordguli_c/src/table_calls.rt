@@ -1,17 +1,20 @@
 //! Functions that open and close a handle of tables.
 ghost use Rattle.std.specs.Prelude.{◌≡◌, IfErr, IfOk, None};
 ghost use Rattle.ucd.specs.Imaged.{IsImageOf};
-ghost use Rattle.ucd.specs.Images.{IsImageFault};
+ghost use Rattle.ucd.specs.Images.{IsImageFault, version_number};
 ghost use Rattle.ucd.specs.declared.tables.UcdFiles.{UcdFiles};
+ghost use Rattle.hordguli_c.specs.Calls.{Asks};
 ghost use Rattle.hordguli_c.specs.Statuses.{Returns};
-ghost use Rattle.hordguli_c.specs.Tables.{cause_number, fault_out, ReadsTables, TellsFault};
+ghost use Rattle.hordguli_c.specs.Tables.{cause_number, fault_out, ReadsTables, ReadsTablesBy};
+ghost use Rattle.hordguli_c.specs.Tables.{TellsFault, TellsVersion, version_of};
 ghost use Rattle.hordguli_c.specs.Tables.{image_cause_number, OpensImage, TellsImageFault};
 
+use crate::calls::with_object;
 use crate::status::{Status, number_of};
 use crate::tables_handle::TablesHandle;
 use crate::tables_object::TablesObject;
 use std::alloc::{AllocError, Global};
-use ucd::{Cause, FILE_NAMES, ImageFault, TableFault, Tables, UcdFiles};
+use ucd::{Cause, FILE_NAMES, ImageFault, TableFault, Tables, UcdFiles, Version};
 
 /// The first malformed line, or the first fault of an image (`hordguli_table_fault` in C).
 #[repr(C)]
@@ -20,6 +23,30 @@ pub struct TableFaultOut {
     pub file: usize,
     pub line: usize,
     pub cause: usize,
+}
+
+// The versions of Unicode in include/hordguli.h. The numbers are those in images.
+const UNICODE_15_0: u32 = 0x000F_0000;
+
+const UNICODE_17_0: u32 = 0x0011_0000;
+
+fn version_of(number: u32) -> Option<Version>
+    ensures { result ≡ version_of number }
+{
+    match number {
+        UNICODE_15_0 => Some(Version::V15_0),
+        UNICODE_17_0 => Some(Version::V17_0),
+        _ => None,
+    }
+}
+
+fn version_number(version: Version) -> u32
+    ensures { result ≡ version_number version }
+{
+    match version {
+        Version::V15_0 => UNICODE_15_0,
+        Version::V17_0 => UNICODE_17_0,
+    }
 }
 
 fn cause_number(cause: Cause) -> usize
@@ -92,11 +119,38 @@ fn boxed(alloc: Global, tables: Tables) -> Result<Box<TablesObject>, AllocError>
     Ok(Box::new(alloc, TablesObject::new(alloc, tables)?)?)
 }
 
-/// Opens tables from the contents of the files, each in its own slice.
-#[unsafe(no_mangle)]
-pub extern "C" fn hordguli_core_tables_read(
+fn read_into(
     alloc: Global,
     tables: &mut TablesHandle,
+    version: Version,
+    files: &UcdFiles<'_>,
+    fault: &mut TableFaultOut,
+) -> Status
+    ensures { ReadsTables version files.now result tables.old.held tables.new.held fault.old
+        fault.new }
+{
+    if let Some(object) = tables.swap(alloc, None) {
+        tables.swap(alloc, Some(object));
+        return Status::AlreadyOpen;
+    }
+    match Tables::read_as(alloc, version, files) {
+        Ok(read) => match boxed(alloc, read) {
+            Ok(object) => {
+                tables.swap(alloc, Some(object));
+                Status::Ok
+            }
+            Err(_) => Status::NoMemory,
+        },
+        Err(refused) => tell(refused, fault),
+    }
+}
+
+/// Opens tables of a version from the contents of its files, each in its own slice.
+#[unsafe(no_mangle)]
+pub extern "C" fn hordguli_core_tables_read_version(
+    alloc: Global,
+    tables: &mut TablesHandle,
+    version: u32,
     bidi_class: &[u8],
     bidi_brackets: &[u8],
     bidi_mirroring: &[u8],
@@ -106,7 +160,7 @@ pub extern "C" fn hordguli_core_tables_read(
     emoji_data: &[u8],
     fault: &mut TableFaultOut,
 ) -> u32
-    ensures { Returns (λ status. ReadsTables (record {
+    ensures { Returns (λ status. ReadsTablesBy (version_of version) (record {
       bidi_class = bidi_class.entry;
       bidi_brackets = bidi_brackets.entry;
       bidi_mirroring = bidi_mirroring.entry;
@@ -116,10 +170,9 @@ pub extern "C" fn hordguli_core_tables_read(
       emoji_data = emoji_data.entry;
     }) status tables.old.held tables.new.held fault.old fault.new) result }
 {
-    if let Some(object) = tables.swap(alloc, None) {
-        tables.swap(alloc, Some(object));
-        return number_of(Status::AlreadyOpen);
-    }
+    let Some(version) = version_of(version) else {
+        return number_of(Status::UnknownOption);
+    };
     let files = UcdFiles {
         bidi_class,
         bidi_brackets,
@@ -129,16 +182,7 @@ pub extern "C" fn hordguli_core_tables_read(
         east_asian_width,
         emoji_data,
     };
-    match Tables::read(alloc, &files) {
-        Ok(read) => match boxed(alloc, read) {
-            Ok(object) => {
-                tables.swap(alloc, Some(object));
-                number_of(Status::Ok)
-            }
-            Err(_) => number_of(Status::NoMemory),
-        },
-        Err(refused) => number_of(tell(refused, fault)),
-    }
+    number_of(read_into(alloc, tables, version, &files, fault))
 }
 
 // Decodes an image, and makes the object of its handle.
@@ -175,6 +219,32 @@ pub extern "C" fn hordguli_core_tables_open_image(
         }
         Err(refused) => number_of(tell_image_fault(refused, fault)),
     }
+}
+
+fn tell_version(tables: &Tables, version: &mut u32) -> Status
+    ensures { TellsVersion result tables.now version.old version.new }
+{
+    *version = version_number(tables.version());
+    Status::Ok
+}
+
+/// Stores the number of the tables' version.
+#[unsafe(no_mangle)]
+pub extern "C" fn hordguli_core_tables_version(
+    alloc: Global,
+    tables: &mut TablesHandle,
+    version: &mut u32,
+) -> u32
+    ensures unchanged { tables.new.held ≡ tables.old.held }
+    ensures version { Returns (λ status. Asks TellsVersion status tables.old.held version.old
+        version.new) result }
+{
+    with_object!(
+        tables,
+        alloc,
+        object,
+        tell_version(object.tables(), version)
+    )
 }
 
 /// Closes a handle of tables. Frees the tables once no open session uses them.

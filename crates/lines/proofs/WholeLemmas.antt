@@ -6,11 +6,14 @@ use Rattle.std.proofs.lemmas.Bool.{and_left, and_parts, both_ways, cases_Bool, c
 use Rattle.std.proofs.lemmas.List.{append-nil, get_or-map, get_or-take, get_or_default, length-map, length-take-le, take_all}
 use Rattle.std.proofs.lemmas.List.Sums.{AllPass-from_list_all, list_all-from_AllPass, suffix_len_is}
 use Rattle.ucd.specs.Properties.{properties_of}
-use Rattle.ucd.specs.Tables.{class_of}
-use Rattle.ucd.specs.declared.line_class.LineClass.TheVariants.{BK, CR, LF, NL}
+use Rattle.ucd.specs.Tables.{class_of, is_mark_in, line_class_of}
+use Rattle.ucd.specs.declared.line_class.LineClass.{LineClass}
+use Rattle.ucd.specs.declared.line_class.LineClass.TheVariants.{AK, AP, AS, BK, CR, HH, LF, NL, SA, VF, VI}
+use Rattle.ucd.specs.declared.version.Version.{Version}
+use Rattle.ucd.specs.declared.version.Version.TheVariants.{V15_0, V17_0}
 use Rattle.ucd.specs.declared.properties.Properties.{Properties}
 use Rattle.ucd.specs.declared.tables.Tables.{Tables}
-use Rattle.breaks.specs.Bases.{Base, Character, alone, base_class, bases_of, character, class_of as base_class_of, joined, stays_with}
+use Rattle.breaks.specs.Bases.{Base, Character, alone, base_class, bases_of, character, class_of as base_class_of, joined, known, resolved, stays_with}
 use Rattle.breaks.specs.Classes.{is_one_of}
 use Rattle.breaks.specs.Marks.{marks_after, marks_of}
 use Rattle.breaks.specs.Rules.{Rule, mark_by, rules, rows_before_numbers, rows_of_numbers, rows_after_numbers}
@@ -71,9 +74,9 @@ tame_quiet (rule ∷ rules) before after is =
 abbrev ends_no_line : Base → Type 0
 ends_no_line b = (is_one_of (BK ∷ []) (base_class_of b) ≡ false) × (is_one_of (CR ∷ LF ∷ NL ∷ []) (base_class_of b) ≡ false)
 
-quiet_rules : (whole_numbers : Bool) (before after : List Base) (b a : Base) → ends_no_line b → Quiet (rules whole_numbers) (b ∷ before) (a ∷ after)
+quiet_rules : (v : Version) (whole_numbers : Bool) (before after : List Base) (b a : Base) → ends_no_line b → Quiet (rules v whole_numbers) (b ∷ before) (a ∷ after)
 unfolding Quiet rules rows_before_numbers rows_of_numbers rows_after_numbers
-quiet_rules true before after b a ends = (
+quiet_rules V15_0 true before after b a ends = (
   inr refl,
   (
     inr (and_left (is_one_of (BK ∷ []) (base_class_of b)) true ends.0),
@@ -81,12 +84,12 @@ quiet_rules true before after b a ends = (
       inl refl,
       (
         inr (and_left (is_one_of (CR ∷ LF ∷ NL ∷ []) (base_class_of b)) true ends.1),
-        tame_quiet (drop 4 (rules true)) (b ∷ before) (a ∷ after) refl,
+        tame_quiet (drop 4 (rules V15_0 true)) (b ∷ before) (a ∷ after) refl,
       ),
     ),
   ),
 )
-quiet_rules false before after b a ends = (
+quiet_rules V15_0 false before after b a ends = (
   inr refl,
   (
     inr (and_left (is_one_of (BK ∷ []) (base_class_of b)) true ends.0),
@@ -94,7 +97,33 @@ quiet_rules false before after b a ends = (
       inl refl,
       (
         inr (and_left (is_one_of (CR ∷ LF ∷ NL ∷ []) (base_class_of b)) true ends.1),
-        tame_quiet (drop 4 (rules false)) (b ∷ before) (a ∷ after) refl,
+        tame_quiet (drop 4 (rules V15_0 false)) (b ∷ before) (a ∷ after) refl,
+      ),
+    ),
+  ),
+)
+quiet_rules V17_0 true before after b a ends = (
+  inr refl,
+  (
+    inr (and_left (is_one_of (BK ∷ []) (base_class_of b)) true ends.0),
+    (
+      inl refl,
+      (
+        inr (and_left (is_one_of (CR ∷ LF ∷ NL ∷ []) (base_class_of b)) true ends.1),
+        tame_quiet (drop 4 (rules V17_0 true)) (b ∷ before) (a ∷ after) refl,
+      ),
+    ),
+  ),
+)
+quiet_rules V17_0 false before after b a ends = (
+  inr refl,
+  (
+    inr (and_left (is_one_of (BK ∷ []) (base_class_of b)) true ends.0),
+    (
+      inl refl,
+      (
+        inr (and_left (is_one_of (CR ∷ LF ∷ NL ∷ []) (base_class_of b)) true ends.1),
+        tame_quiet (drop 4 (rules V17_0 false)) (b ∷ before) (a ∷ after) refl,
       ),
     ),
   ),
@@ -123,15 +152,15 @@ tame_inside : (attached : List Character) (marks : List Mark) → Tame marks →
 tame_inside [] marks rest = rest
 tame_inside (c ∷ attached) marks rest = tame_before Never (map (λ _. Never) attached ++ marks) refl (tame_inside attached marks rest)
 
-tame_marks : (whole_numbers : Bool) (before bases : List Base) → QuietBases bases → Tame (marks_after whole_numbers before bases)
+tame_marks : (v : Version) (whole_numbers : Bool) (before bases : List Base) → QuietBases bases → Tame (marks_after (rules v whole_numbers) before bases)
 unfolding Tame QuietBases
-tame_marks whole_numbers before [] quiet = tt
-tame_marks whole_numbers before (b ∷ []) quiet = tame_inside b.attached (mark_by (rules whole_numbers) (b ∷ before) [] ∷ []) tt
-tame_marks whole_numbers before (b ∷ a ∷ bases) quiet =
-    tame_inside b.attached (mark_by (rules whole_numbers) (b ∷ before) (a ∷ bases) ∷ marks_after whole_numbers (b ∷ before) (a ∷ bases))
-    (tame_before (mark_by (rules whole_numbers) (b ∷ before) (a ∷ bases)) (marks_after whole_numbers (b ∷ before) (a ∷ bases))
-    (quiet_mark (rules whole_numbers) (b ∷ before) (a ∷ bases) (quiet_rules whole_numbers before bases b a quiet.0))
-    (tame_marks whole_numbers (b ∷ before) (a ∷ bases) quiet.1))
+tame_marks v whole_numbers before [] quiet = tt
+tame_marks v whole_numbers before (b ∷ []) quiet = tame_inside b.attached (mark_by (rules v whole_numbers) (b ∷ before) [] ∷ []) tt
+tame_marks v whole_numbers before (b ∷ a ∷ bases) quiet =
+    tame_inside b.attached (mark_by (rules v whole_numbers) (b ∷ before) (a ∷ bases) ∷ marks_after (rules v whole_numbers) (b ∷ before) (a ∷ bases))
+    (tame_before (mark_by (rules v whole_numbers) (b ∷ before) (a ∷ bases)) (marks_after (rules v whole_numbers) (b ∷ before) (a ∷ bases))
+    (quiet_mark (rules v whole_numbers) (b ∷ before) (a ∷ bases) (quiet_rules v whole_numbers before bases b a quiet.0))
+    (tame_marks v whole_numbers (b ∷ before) (a ∷ bases) quiet.1))
 
 -- ---- the bases of characters after which a line need not end
 
@@ -185,7 +214,7 @@ bases_quiet (c ∷ d ∷ text) quiet =
 
 pub quiet_marks : (t : Tables) (whole_numbers : Bool) (text : List ℕ) → IsWhole t text → Tame (marks_of t whole_numbers text)
 unfolding marks_of
-quiet_marks t whole_numbers text is = tame_marks whole_numbers [] (bases_of (map (character t) text)) (bases_quiet (map (character t) text) (whole_quiet t text is))
+quiet_marks t whole_numbers text is = tame_marks t.version whole_numbers [] (bases_of (map (character t) text)) (bases_quiet (map (character t) text) (whole_quiet t text is))
 
 -- ---- only the last `CharInfo` has a mandatory break
 
@@ -313,6 +342,18 @@ looked_up t text properties k p are below is =
 
 -- ---- a test of the looked-up properties
 
+-- the classes that a version does not know end no line
+known_ends : (v : Version) (class : LineClass) (is_mark : Bool) → ends_line (resolved (known v class) is_mark) ≡ ends_line (resolved class is_mark)
+known_ends V17_0 class is_mark = refl
+known_ends V15_0 AK is_mark = refl
+known_ends V15_0 AP is_mark = refl
+known_ends V15_0 AS is_mark = refl
+known_ends V15_0 HH is_mark = refl
+known_ends V15_0 VF is_mark = refl
+known_ends V15_0 VI is_mark = refl
+known_ends V15_0 SA is_mark = refl
+known_ends V15_0 class is_mark = refl
+
 module _ (t : Tables) (text : List ℕ) where
   -- the properties of all characters but the last
   abbrev pub tested : List Properties
@@ -328,11 +369,15 @@ module _ (t : Tables) (text : List ℕ) where
   pub whole_by : list_all may_go_on tested ≡ true → IsWhole t text
   whole_by all j below =
       let passes = AllPass-from_list_all may_go_on tested all j (properties_of t 0) (omega (arith, size_tested, below)) in
-      not-true (ends_line (character t (get_or text j 0)).class) (ap may_go_on (sym (at_place j below)) ∙ passes)
+      let c : ℕ = get_or text j 0 in
+      not-true (ends_line (character t (get_or text j 0)).class)
+      (ap not (known_ends t.version (line_class_of t c) (is_mark_in t c)) ∙ ap may_go_on (sym (at_place j below)) ∙ passes)
 
   pub not_whole : list_all may_go_on tested ≡ false → ¬ (IsWhole t text)
   not_whole fails whole =
       both_ways (list_all may_go_on tested) fails
       (list_all-from_AllPass may_go_on tested (λ j d inside.
       let below : j + 1 < length text = omega (arith, size_tested, inside) in
-      ap may_go_on (get_or_default tested j d (properties_of t 0) inside ∙ at_place j below) ∙ ap not (whole j below)))
+      let c : ℕ = get_or text j 0 in
+      ap may_go_on (get_or_default tested j d (properties_of t 0) inside ∙ at_place j below)
+      ∙ ap not (sym (known_ends t.version (line_class_of t c) (is_mark_in t c))) ∙ ap not (whole j below)))

@@ -1,30 +1,52 @@
-//! The installed table files: `../share/hordguli/ucd`, relative to the program's folder.
+//! The installed table files: `../share/hordguli/ucd`, relative to the program's folder, and `ucd-17.0` beside it.
 use std::alloc::AllocError;
 use std::env::VarError;
 use std::io::ErrorKind;
 use std::path::{Path, PathBuf};
 use std::{env, io};
+use ucd::Version;
 
-const FOLDER: &str = "../share/hordguli/ucd";
-
-// The folders of usual prefixes, for a program that cannot tell where it is.
-const USUAL_FOLDERS: [&str; 2] = ["/usr/local/share/hordguli/ucd", "/usr/share/hordguli/ucd"];
-
-/// Returns the folder of the installed table files, if there is one. If `/proc` is not mounted, looks for the
-/// program by the name that it was started with, then for the folder in `/usr/local` and `/usr`.
-pub fn installed_folder(rt: &HostRuntime) -> Result<Option<PathBuf>, AllocError> {
-    match env::current_exe(rt) {
-        Ok(program) => folder_beside(rt, program.as_path()),
-        Err(error) if error.kind() == ErrorKind::OutOfMemory => Err(AllocError),
-        Err(_) => folder_without_proc(rt),
+// The folder of each version.
+fn folder_of(version: Version) -> &'static str {
+    match version {
+        Version::V15_0 => "../share/hordguli/ucd",
+        Version::V17_0 => "../share/hordguli/ucd-17.0",
     }
 }
 
-fn folder_beside(rt: &HostRuntime, program: Path<'_>) -> Result<Option<PathBuf>, AllocError> {
+// The folders of usual prefixes, for a program that cannot tell where it is.
+fn usual_folders(version: Version) -> [&'static str; 2] {
+    match version {
+        Version::V15_0 => ["/usr/local/share/hordguli/ucd", "/usr/share/hordguli/ucd"],
+        Version::V17_0 => [
+            "/usr/local/share/hordguli/ucd-17.0",
+            "/usr/share/hordguli/ucd-17.0",
+        ],
+    }
+}
+
+/// Returns the folder of the installed table files of a version, if there is one. If `/proc` is not mounted, looks for the
+/// program by the name that it was started with, then for the folder in `/usr/local` and `/usr`.
+pub fn installed_folder(
+    rt: &HostRuntime,
+    version: Version,
+) -> Result<Option<PathBuf>, AllocError> {
+    match env::current_exe(rt) {
+        Ok(program) => folder_beside(rt, version, program.as_path()),
+        Err(error) if error.kind() == ErrorKind::OutOfMemory => Err(AllocError),
+        Err(_) => folder_without_proc(rt, version),
+    }
+}
+
+fn folder_beside(
+    rt: &HostRuntime,
+    version: Version,
+    program: Path<'_>,
+) -> Result<Option<PathBuf>, AllocError> {
     let Some(beside) = program.parent() else {
         return Ok(None);
     };
-    let folder = beside.join(rt.alloc(), FOLDER)?;
+    let folder = beside.join(rt.alloc(), folder_of(version))?;
     if folder.is_dir(rt) {
         Ok(Some(folder))
     } else {
@@ -32,28 +54,38 @@ fn folder_beside(rt: &HostRuntime, program: Path<'_>) -> Result<Option<PathBuf>,
     }
 }
 
-fn folder_without_proc(rt: &HostRuntime) -> Result<Option<PathBuf>, AllocError> {
-    match folder_by_arguments(rt)? {
+fn folder_without_proc(
+    rt: &HostRuntime,
+    version: Version,
+) -> Result<Option<PathBuf>, AllocError> {
+    match folder_by_arguments(rt, version)? {
         Some(folder) => Ok(Some(folder)),
-        None => usual_folder(rt),
+        None => usual_folder(rt, version),
     }
 }
 
-fn folder_by_arguments(rt: &HostRuntime) -> Result<Option<PathBuf>, AllocError> {
+fn folder_by_arguments(
+    rt: &HostRuntime,
+    version: Version,
+) -> Result<Option<PathBuf>, AllocError> {
     let mut words = match env::args(rt) {
         Ok(words) => words,
         Err(error) => return none_or_memory(&error),
     };
     match words.next() {
-        Some(name) if name.contains('/') => folder_beside_link(rt, Path::new(&name)),
-        Some(name) => folder_by_search(rt, &name),
+        Some(name) if name.contains('/') => folder_beside_link(rt, version, Path::new(&name)),
+        Some(name) => folder_by_search(rt, version, &name),
         None => Ok(None),
     }
 }
 
 // Looks for the program in the folders of `PATH`, as the shell did that started it. An empty part of `PATH`
 // is the current folder, as POSIX says.
-fn folder_by_search(rt: &HostRuntime, name: &str) -> Result<Option<PathBuf>, AllocError> {
+fn folder_by_search(
+    rt: &HostRuntime,
+    version: Version,
+    name: &str,
+) -> Result<Option<PathBuf>, AllocError> {
     let folders = match env::var(rt, "PATH") {
         Ok(folders) => folders,
         Err(VarError::OutOfMemory) => return Err(AllocError),
@@ -61,7 +93,7 @@ fn folder_by_search(rt: &HostRuntime, name: &str) -> Result<Option<PathBuf>, All
     };
     for folder in env::split_paths(&folders) {
         let program = folder.join(rt.alloc(), name)?;
-        if let Some(found) = folder_beside_link(rt, program.as_path())? {
+        if let Some(found) = folder_beside_link(rt, version, program.as_path())? {
             return Ok(Some(found));
         }
     }
@@ -69,9 +101,13 @@ fn folder_by_search(rt: &HostRuntime, name: &str) -> Result<Option<PathBuf>, All
 }
 
 // Returns the folder of the tables for a path of the program, which may be a symbolic link.
-fn folder_beside_link(rt: &HostRuntime, program: Path<'_>) -> Result<Option<PathBuf>, AllocError> {
+fn folder_beside_link(
+    rt: &HostRuntime,
+    version: Version,
+    program: Path<'_>,
+) -> Result<Option<PathBuf>, AllocError> {
     match program.canonicalize(rt) {
-        Ok(program) => folder_beside(rt, program.as_path()),
+        Ok(program) => folder_beside(rt, version, program.as_path()),
         Err(error) => none_or_memory(&error),
     }
 }
@@ -84,8 +120,11 @@ fn none_or_memory(error: &io::Error) -> Result<Option<PathBuf>, AllocError> {
     }
 }
 
-fn usual_folder(rt: &HostRuntime) -> Result<Option<PathBuf>, AllocError> {
-    for folder in USUAL_FOLDERS {
+fn usual_folder(
+    rt: &HostRuntime,
+    version: Version,
+) -> Result<Option<PathBuf>, AllocError> {
+    for folder in usual_folders(version) {
         let folder = Path::new(folder);
         if folder.is_dir(rt) {
             return Ok(Some(folder.to_path_buf(rt.alloc())?));

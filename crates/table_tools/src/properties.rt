@@ -4,13 +4,14 @@ use anyhow::Result;
 use std::alloc::Global;
 use std::io;
 use std::io::{BufWriter, Write};
-use tables::in_folder;
-use ucd::{BidiClass, Tables};
+use tables::in_folder_as;
+use ucd::{BidiClass, LineDetail, Tables, Version};
 
-/// Prints the properties of characters in the table files of a folder. Each line is one property of a
-/// character: a bidi class other than L, a bracket and whether it is an opening one, or a mirror.
-pub fn print_properties(rt: &HostRuntime, folder: &str) -> Result<()> {
-    let tables = in_folder(rt, folder)?;
+/// Prints the properties of characters in the table files of a version in a folder. Each line is one property
+/// of a character: a bidi class other than L, a bracket and whether it is an opening one, a mirror, or a line
+/// breaking class with its detail, if the character has a detail.
+pub fn print_properties(rt: &HostRuntime, version: Version, folder: &str) -> Result<()> {
+    let tables = in_folder_as(rt, version, folder)?;
     write_buffered(rt, &tables)
 }
 
@@ -42,6 +43,11 @@ fn write_properties<W: Write>(tables: &Tables, c: char, output: &mut W) -> Resul
     }
     if let Some(mirror) = tables.mirror(c) {
         writeln!(output, "{:x} mirror {:x}", c as u32, mirror as u32)?;
+    }
+    let detail = tables.line_detail(c);
+    if detail != LineDetail::Plain {
+        let class = tables.line_class(c);
+        writeln!(output, "{:x} line {:?} {:?}", c as u32, class, detail)?;
     }
     Ok(())
 }

@@ -1,11 +1,14 @@
 -- The tables of a folder, by what it holds: its files by their index in `FILE_NAMES`, and maybe an image.
-use Rattle.std.specs.Prelude.{◌≡◌, ℕ, ◌<◌, ◌⊎◌, List, codes, ⊤}
+use Rattle.std.specs.Prelude.{◌≡◌, ◌≢◌, ℕ, ◌<◌, ◌⊎◌, List, codes, ⊤}
 use Rattle.ucd.specs.FileNames.{file_name}
 use Rattle.ucd.specs.Imaged.{IsImageOf}
-use Rattle.ucd.specs.Images.{IsFirstFault, MayAllocate}
-use Rattle.ucd.specs.Tables.{AreTablesOf, IsFaultOf}
+use Rattle.ucd.specs.Images.{image_version, IsFirstFault, IsImage, MayAllocate}
+use Rattle.ucd.specs.Tables.{AreTablesAs, IsFaultAs}
+use Rattle.ucd.specs.declared.image_fault.ImageFault.TheVariants as image
 use Rattle.ucd.specs.declared.tables.Tables.{Tables}
 use Rattle.ucd.specs.declared.tables.UcdFiles.{UcdFiles}
+use Rattle.ucd.specs.declared.version.Version.{Version}
+use Rattle.ucd.specs.declared.version.Version.TheVariants.{V15_0}
 use Rattle.tables.specs.declared.fault.FolderFault.{FolderFault}
 use Rattle.tables.specs.declared.fault.FolderFault.TheVariants.{Unread, Table, Image, Memory}
 
@@ -24,10 +27,16 @@ IsUnusable bytes (Image why) = IsFirstFault bytes why
 IsUnusable bytes Memory = MayAllocate bytes
 IsUnusable bytes other = ⊥
 
--- the first fault of the files
-abbrev pub IsFaultFor : UcdFiles → FolderFault → Type 0
-IsFaultFor files (Table fault) = IsFaultOf files fault
-IsFaultFor files other = ⊥
+-- the same for an image that must be of a version
+abbrev pub IsUnusableAs : Version → List ℕ → FolderFault → Type 0
+IsUnusableAs version bytes (Image why) = IsFirstFault bytes why ⊎ ((why ≡ image.Version) × IsImage bytes × (image_version bytes ≢ version))
+IsUnusableAs version bytes Memory = MayAllocate bytes
+IsUnusableAs version bytes other = ⊥
+
+-- the first fault of the files of a version
+abbrev pub IsFaultFor : Version → UcdFiles → FolderFault → Type 0
+IsFaultFor version files (Table fault) = IsFaultAs version files fault
+IsFaultFor version files other = ⊥
 
 -- a folder that has files with certain bytes, and other files that cannot be read
 module _ (has_file : ℕ → List ℕ → Type 0) (cannot_read : ℕ → Type 0) where
@@ -42,8 +51,11 @@ module _ (has_file : ℕ → List ℕ → Type 0) (cannot_read : ℕ → Type 0)
     pub emoji_data : has_file 6 files.emoji_data.now
 
   -- the tables are those of the files
+  abbrev pub AreFromFilesAs : Version → Tables → Type 0
+  AreFromFilesAs version tables = (files : UcdFiles) × AreFiles files × AreTablesAs version files tables
+
   abbrev pub AreFromFiles : Tables → Type 0
-  AreFromFiles tables = (files : UcdFiles) × AreFiles files × AreTablesOf files tables
+  AreFromFiles = AreFromFilesAs V15_0
 
   -- the first file that cannot be read, or an allocation failed
   pub record IsFirstUnread (why : FolderFault) (index : ℕ) : Type 0 where
@@ -52,19 +64,29 @@ module _ (has_file : ℕ → List ℕ → Type 0) (cannot_read : ℕ → Type 0)
     pub unread : IsUnread (cannot_read index) (file_name index) why
 
   -- a file cannot be read, or this is the first fault of the files
+  abbrev pub IsFileFaultAs : Version → FolderFault → Type 0
+  IsFileFaultAs version why = ((index : ℕ) × IsFirstUnread why index) ⊎ ((files : UcdFiles) × AreFiles files × IsFaultFor version files why)
+
   abbrev pub IsFileFault : FolderFault → Type 0
-  IsFileFault why = ((index : ℕ) × IsFirstUnread why index) ⊎ ((files : UcdFiles) × AreFiles files × IsFaultFor files why)
+  IsFileFault = IsFileFaultAs V15_0
 
   -- a folder that has an image with certain bytes, or has none, or has one that cannot be read
   module _ (has_image : List ℕ → Type 0) (has_no_image cannot_read_image : Type 0) where
-    -- the tables are those of the image, or there is none and they are those of the files
+    -- the tables are those of the image, which is of the version, or there is none and they are those of the files
+    abbrev pub AreInstalledAs : Version → Tables → Type 0
+    AreInstalledAs version tables =
+        ((bytes : List ℕ) × has_image bytes × IsImageOf bytes tables × (tables.version ≡ version)) ⊎ (has_no_image × AreFromFilesAs version tables)
+
     abbrev pub AreInstalled : Tables → Type 0
-    AreInstalled tables = ((bytes : List ℕ) × has_image bytes × IsImageOf bytes tables) ⊎ (has_no_image × AreFromFiles tables)
+    AreInstalled = AreInstalledAs V15_0
 
     -- the image cannot be read, or this is its first fault, or there is none and this is the fault of the files
+    abbrev pub IsInstalledFaultAs : Version → FolderFault → Type 0
+    IsInstalledFaultAs version why =
+        IsUnread cannot_read_image image_name why ⊎ (((bytes : List ℕ) × has_image bytes × IsUnusableAs version bytes why) ⊎ (has_no_image × IsFileFaultAs version why))
+
     abbrev pub IsInstalledFault : FolderFault → Type 0
-    IsInstalledFault why =
-        IsUnread cannot_read_image image_name why ⊎ (((bytes : List ℕ) × has_image bytes × IsUnusable bytes why) ⊎ (has_no_image × IsFileFault why))
+    IsInstalledFault = IsInstalledFaultAs V15_0
 
 -- What the file system holds: no definition says, so each file and the image may have any bytes, and reading may fail.
 abbrev pub any_bytes : ℕ → List ℕ → Type 0

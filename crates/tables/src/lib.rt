@@ -1,12 +1,16 @@
 //! Reads the tables from a folder, for programs: from seven files, or from a compiled image.
+//!
+//! Functions without a version are for Unicode 15.0.
 #![tactic(auto)]
 
-ghost use Rattle.std.specs.Prelude.{ℕ, List, IfOk, IfErr, ⊤};
+ghost use Rattle.std.specs.Prelude.{◌≡◌, ℕ, List, IfOk, IfErr, ⊤};
 ghost use Rattle.ucd.specs.Imaged.{IsImageOf};
 ghost use Rattle.ucd.specs.Images.{IsImageFault};
-ghost use Rattle.ucd.specs.Tables.{AreTablesOf};
-ghost use Rattle.tables.specs.Folders.{any_bytes, any_image, may_fail, AreFromFiles, AreInstalled};
-ghost use Rattle.tables.specs.Folders.{IsFaultFor, IsFileFault, IsInstalledFault, IsUnusable};
+ghost use Rattle.ucd.specs.Tables.{AreTablesAs};
+ghost use Rattle.tables.specs.Folders.{any_bytes, any_image, may_fail, AreFromFiles, AreFromFilesAs};
+ghost use Rattle.tables.specs.Folders.{AreInstalled, AreInstalledAs, IsFaultFor, IsFileFault};
+ghost use Rattle.tables.specs.Folders.{IsFileFaultAs, IsInstalledFault, IsInstalledFaultAs, IsUnusable};
+ghost use Rattle.tables.specs.Folders.{IsUnusableAs};
 
 mod fault;
 mod folder;
@@ -14,14 +18,22 @@ mod folder;
 pub use fault::FolderFault;
 pub use folder::{DiskFolder, IMAGE_NAME, TableFolder};
 use std::alloc::Global;
-use ucd::{ImageFault, Tables, UcdFiles};
+use ucd::{ImageFault, Tables, UcdFiles, Version};
 
 /// Reads the tables from the seven files of a folder, as `from_files`.
 pub fn in_folder(rt: &HostRuntime, folder: &str) -> Result<Tables, FolderFault>
     ensures ok { IfOk result (AreFromFiles any_bytes may_fail) }
     ensures err { IfErr result (IsFileFault any_bytes may_fail) }
 {
-    from_files(rt.alloc(), &DiskFolder::new(rt, folder))
+    in_folder_as(rt, Version::V15_0, folder)
+}
+
+/// Reads tables of a version from the seven files of a folder, as `from_files_as`.
+pub fn in_folder_as(rt: &HostRuntime, version: Version, folder: &str) -> Result<Tables, FolderFault>
+    ensures ok { IfOk result (AreFromFilesAs any_bytes may_fail version) }
+    ensures err { IfErr result (IsFileFaultAs any_bytes may_fail version) }
+{
+    from_files_as(rt.alloc(), version, &DiskFolder::new(rt, folder))
 }
 
 /// Reads the tables of an installed folder, as `from_installed`.
@@ -29,13 +41,33 @@ pub fn installed(rt: &HostRuntime, folder: &str) -> Result<Tables, FolderFault>
     ensures ok { IfOk result (AreInstalled any_bytes may_fail any_image ⊤ ⊤) }
     ensures err { IfErr result (IsInstalledFault any_bytes may_fail any_image ⊤ ⊤) }
 {
-    from_installed(rt.alloc(), &DiskFolder::new(rt, folder))
+    installed_as(rt, Version::V15_0, folder)
+}
+
+/// Reads tables of a version from an installed folder, as `from_installed_as`.
+pub fn installed_as(rt: &HostRuntime, version: Version, folder: &str) -> Result<Tables, FolderFault>
+    ensures ok { IfOk result (AreInstalledAs any_bytes may_fail any_image ⊤ ⊤ version) }
+    ensures err { IfErr result (IsInstalledFaultAs any_bytes may_fail any_image ⊤ ⊤ version) }
+{
+    from_installed_as(rt.alloc(), version, &DiskFolder::new(rt, folder))
 }
 
 /// Reads the tables from the seven files, and reads no image. Reads all files before it parses the first.
 pub fn from_files<F: TableFolder>(alloc: Global, folder: &F) -> Result<Tables, FolderFault>
     ensures ok { IfOk result (AreFromFiles (F.has_file folder.now) (F.cannot_read folder.now)) }
     ensures err { IfErr result (IsFileFault (F.has_file folder.now) (F.cannot_read folder.now)) }
+{
+    from_files_as(alloc, Version::V15_0, folder)
+}
+
+/// Reads tables of a version from the seven files, as `from_files`.
+pub fn from_files_as<F: TableFolder>(
+    alloc: Global,
+    version: Version,
+    folder: &F,
+) -> Result<Tables, FolderFault>
+    ensures ok { IfOk result (AreFromFilesAs (F.has_file folder.now) (F.cannot_read folder.now) version) }
+    ensures err { IfErr result (IsFileFaultAs (F.has_file folder.now) (F.cannot_read folder.now) version) }
 {
     let bidi_class = folder.file(alloc, 0)?;
     let bidi_brackets = folder.file(alloc, 1)?;
@@ -46,6 +78,7 @@ pub fn from_files<F: TableFolder>(alloc: Global, folder: &F) -> Result<Tables, F
     let emoji_data = folder.file(alloc, 6)?;
     of_files(
         alloc,
+        version,
         &UcdFiles {
             bidi_class: &bidi_class,
             bidi_brackets: &bidi_brackets,
@@ -66,13 +99,41 @@ pub fn from_installed<F: TableFolder>(alloc: Global, folder: &F) -> Result<Table
     ensures err { IfErr result (IsInstalledFault (F.has_file folder.now) (F.cannot_read folder.now)
         (F.has_image folder.now) (F.has_no_image folder.now) (F.cannot_read_image folder.now)) }
 {
+    from_installed_as(alloc, Version::V15_0, folder)
+}
+
+/// Reads tables of a version, as `from_installed`. An image of another version has the fault `Version`.
+pub fn from_installed_as<F: TableFolder>(
+    alloc: Global,
+    version: Version,
+    folder: &F,
+) -> Result<Tables, FolderFault>
+    ensures ok { IfOk result (AreInstalledAs (F.has_file folder.now) (F.cannot_read folder.now)
+        (F.has_image folder.now) (F.has_no_image folder.now) (F.cannot_read_image folder.now) version) }
+    ensures err { IfErr result (IsInstalledFaultAs (F.has_file folder.now) (F.cannot_read folder.now)
+        (F.has_image folder.now) (F.has_no_image folder.now) (F.cannot_read_image folder.now) version) }
+{
     match folder.image(alloc)? {
-        Some(bytes) => of_image(alloc, &bytes),
-        None => from_files(alloc, folder),
+        Some(bytes) => of_image_as(alloc, version, &bytes),
+        None => from_files_as(alloc, version, folder),
     }
 }
 
-/// Decodes an image.
+/// Decodes an image of a version. An image of another version has the fault `Version`.
+pub fn of_image_as(alloc: Global, version: Version, bytes: &[u8]) -> Result<Tables, FolderFault>
+    ensures ok { IfOk result (IsImageOf bytes.now) }
+    ensures version { IfOk result (λ tables. tables.version ≡ version) }
+    ensures err { IfErr result (IsUnusableAs version bytes.now) }
+{
+    let tables = of_image(alloc, bytes)?;
+    if tables.version() == version {
+        Ok(tables)
+    } else {
+        Err(FolderFault::Image(ImageFault::Version))
+    }
+}
+
+/// Decodes an image of any version.
 pub fn of_image(alloc: Global, bytes: &[u8]) -> Result<Tables, FolderFault>
     ensures ok { IfOk result (IsImageOf bytes.now) }
     ensures err { IfErr result (IsUnusable bytes.now) }
@@ -93,11 +154,11 @@ fn image_fault(fault: ImageFault) -> FolderFault
 }
 
 // Reads the tables from the contents of the files.
-fn of_files(alloc: Global, files: &UcdFiles<'_>) -> Result<Tables, FolderFault>
-    ensures ok { IfOk result (AreTablesOf files.now) }
-    ensures err { IfErr result (IsFaultFor files.now) }
+fn of_files(alloc: Global, version: Version, files: &UcdFiles<'_>) -> Result<Tables, FolderFault>
+    ensures ok { IfOk result (AreTablesAs version files.now) }
+    ensures err { IfErr result (IsFaultFor version files.now) }
 {
-    match Tables::read(alloc, files) {
+    match Tables::read_as(alloc, version, files) {
         Ok(tables) => Ok(tables),
         Err(fault) => Err(FolderFault::Table(fault)),
     }

@@ -17,3 +17,5 @@ mod streams;
 mod surface;
 #[cfg(test)]
 mod tables;
+#[cfg(test)]
+mod versions;

@@ -105,8 +105,8 @@ fn bidi_classes_are_23(rt: HostRuntime) {
 }
 
 #[test]
-fn line_classes_are_43(rt: HostRuntime) {
-    let classes: [ucd::LineClass; 43] = [
+fn line_classes_are_49(rt: HostRuntime) {
+    let classes: [ucd::LineClass; 49] = [
         ucd::LineClass::AI,
         ucd::LineClass::AL,
         ucd::LineClass::B2,
@@ -150,8 +150,15 @@ fn line_classes_are_43(rt: HostRuntime) {
         ucd::LineClass::XX,
         ucd::LineClass::ZW,
         ucd::LineClass::ZWJ,
+        ucd::LineClass::AK,
+        ucd::LineClass::AP,
+        ucd::LineClass::AS,
+        ucd::LineClass::HH,
+        ucd::LineClass::VF,
+        ucd::LineClass::VI,
     ];
     assert!(rt; classes[40] as u8 == 42);
+    assert!(rt; classes[48] as u8 == 48);
 }
 
 #[test]

@@ -1,6 +1,6 @@
 -- The cause of the first condition that an image does not meet, by condition.
 use Rattle.std.proofs.Common.{◌≡◌, ℕ, ◌+◌, ◌/◌, ◌≤◌, List, length, take, codes, refl, inl, inr}
-use Rattle.ucd.specs.Images.{u32_at, u64_at, checksum, checksum_at, IsFramed, IsFirstFault, ArePagesKnown, AreEntries, AreBrackets, AreMirrors, AreBracketFlags, AreMirrorFlags}
+use Rattle.ucd.specs.Images.{image_version, version_number, u32_at, u64_at, checksum, checksum_at, IsFramed, IsFirstFault, ArePagesKnown, AreEntries, AreBrackets, AreMirrors, AreBracketFlags, AreMirrorFlags}
 use Rattle.ucd.specs.declared.image_fault.ImageFault.TheVariants as fault
 
 module _ (bytes : List ℕ) where
@@ -18,11 +18,11 @@ module _ (bytes : List ℕ) where
 
   -- the conditions on the header
   module _ (header : 32 ≤ length bytes) (magic : take 12 bytes ≡ codes "hordguli-ucd") (format : u32_at bytes 12 ≡ 1) where
-    pub other_version : ¬ (u32_at bytes 16 ≡ 983040) → IsFirstFault bytes fault.Version
+    pub other_version : ¬ (u32_at bytes 16 ≡ version_number (image_version bytes)) → IsFirstFault bytes fault.Version
     unfolding IsFirstFault
     other_version isnt = inr (header, inr (magic, inr (format, inl (isnt, refl))))
 
-    module _ (version : u32_at bytes 16 ≡ 983040) where
+    module _ (version : u32_at bytes 16 ≡ version_number (image_version bytes)) where
       pub too_short : ¬ (checksum_at bytes + 8 ≤ length bytes) → IsFirstFault bytes fault.Truncated
       unfolding IsFirstFault
       too_short isnt = inr (header, inr (magic, inr (format, inr (version, inl (isnt, refl)))))

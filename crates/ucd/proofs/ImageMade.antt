@@ -12,16 +12,17 @@ use Rattle.ucd.specs.Pages.{answers_at}
 use Rattle.ucd.specs.Tables.{mirror_by}
 use Rattle.ucd.specs.declared.bracket.Bracket.{Bracket}
 use Rattle.ucd.specs.declared.bracket.Mirror.{Mirror}
+use Rattle.ucd.specs.declared.version.Version.{Version}
 use Rattle.ucd.proofs.ImageParts.{u16_shown, points_shown, found_shown, shows_at}
 use Rattle.ucd.proofs.PagedLemmas.{bracket_is, mirror_is, properties_are, below_limit}
 
 -- distinct pages as bytes
-module _ (answers : ℕ → PropertyAnswers) (points : List PropertyAnswers) (index : List ℕ) (entries : List PropertyAnswers) (numbers bytes : List ℕ)
+module _ (version : Version) (answers : ℕ → PropertyAnswers) (points : List PropertyAnswers) (index : List ℕ) (entries : List PropertyAnswers) (numbers bytes : List ℕ)
     (same : (c : ℕ) → c < 1114112 → get_or points c unnamed ≡ answers c) (holds : HoldsPages (λ c. get_or points c unnamed) index entries 4352) (distinct : AreDistinct entries)
     (numbers_len : length numbers ≡ 2 * length index) (numbers_are : (k : ℕ) → k < length index → u16_at numbers (2 * k) ≡ get_or index k 0)
-    (bytes_len : length bytes ≡ 2 * length entries) (valid : (k : ℕ) → k < length entries → IsTrue (is_entry (u16_at bytes (2 * k))))
+    (bytes_len : length bytes ≡ 2 * length entries) (valid : (k : ℕ) → k < length entries → IsTrue (is_entry version (u16_at bytes (2 * k))))
     (each : (k : ℕ) → k < length entries → answers_in (u16_at bytes (2 * k)) ≡ get_or entries k unnamed) where
-  pub are_pages : ArePages answers numbers bytes
+  pub are_pages : ArePages version answers numbers bytes
   are_pages = record {
     places = omega (arith, numbers_len, holds.places);
     whole = omega (arith, bytes_len, holds.whole);
@@ -37,13 +38,13 @@ module _ (answers : ℕ → PropertyAnswers) (points : List PropertyAnswers) (in
         sym (each (p * 256 + k) (omega (arith, bytes_len))) ∙ ap answers_in (all k k_lt) ∙ each (q * 256 + k) (omega (arith, bytes_len)));
   }
 
-module _ (index : List ℕ) (entries : List PropertyAnswers) (brackets : BTreeMap ℕ Bracket) (mirrors : BTreeMap ℕ Mirror) (sound : AreSound index entries brackets mirrors)
-    (numbers pages bracket_bytes mirror_bytes bytes : List ℕ) (are : ArePages (answers_at index entries) numbers pages)
+module _ (version : Version) (index : List ℕ) (entries : List PropertyAnswers) (brackets : BTreeMap ℕ Bracket) (mirrors : BTreeMap ℕ Mirror) (sound : AreSound version index entries brackets mirrors)
+    (numbers pages bracket_bytes mirror_bytes bytes : List ℕ) (are : ArePages version (answers_at index entries) numbers pages)
     (brackets_are : ArePoints bracket_in bracket_bytes 0 (length bracket_bytes / 8))
     (brackets_have : (c : ℕ) → c < 1114112 → found bracket_in bracket_bytes 0 (length bracket_bytes / 8) c ≡ get nat_cmp brackets c)
     (mirrors_are : ArePoints mirror_in mirror_bytes 0 (length mirror_bytes / 8))
     (mirrors_have : (c : ℕ) → c < 1114112 → found mirror_in mirror_bytes 0 (length mirror_bytes / 8) c ≡ get nat_cmp mirrors c)
-    (joins : Joins bytes numbers pages bracket_bytes mirror_bytes) where
+    (joins : Joins version bytes numbers pages bracket_bytes mirror_bytes) where
   number_is : (block : ℕ) → block < 4352 → page_number bytes block ≡ u16_at numbers (2 * block)
   number_is block lt = u16_shown bytes 32 numbers 0 8704 joins.index_shown (32 + 2 * block) (2 * block) (omega arith) (omega arith) (omega arith)
 
@@ -54,7 +55,7 @@ module _ (index : List ℕ) (entries : List PropertyAnswers) (brackets : BTreeMa
   known block lt = omega (arith, number_is block lt, are.within block lt, joins.page_count)
 
   valid : AreEntries bytes
-  valid k lt = rw (entry_is k (omega (arith, joins.page_count))) (are.valid k (omega (arith, joins.page_count)))
+  valid k lt = rw (joins.of_version, entry_is k (omega (arith, joins.page_count))) (are.valid k (omega (arith, joins.page_count)))
 
   answers_are : (c : ℕ) → c < 1114112 → answers_in (bits_at bytes c) ≡ answers_at index entries c
   answers_are c lt =
@@ -83,7 +84,7 @@ module _ (index : List ℕ) (entries : List PropertyAnswers) (brackets : BTreeMa
   mirror_has c lt = found_shown mirror_in bytes (mirrors_at bytes) mirror_bytes 0 (mirror_count bytes) mirror_shows c
       ∙ subst (λ n. found mirror_in mirror_bytes 0 n c ≡ get nat_cmp mirrors c) mirror_total (mirrors_have c lt)
 
-  pub is_image : IsImageOf bytes (contents_in index entries brackets mirrors)
+  pub is_image : IsImageOf bytes (contents_in version index entries brackets mirrors)
   is_image = record {
     image = record {
       framed = joins.framed;
@@ -94,12 +95,13 @@ module _ (index : List ℕ) (entries : List PropertyAnswers) (brackets : BTreeMa
       bracket_flags = λ c lt. ap (λ a. a.has_bracket) (answers_are c lt) ∙ sound.bracket c lt ∙ ap is_some (sym (bracket_has c lt));
       mirror_flags = λ c lt. ap (λ a. a.has_mirror) (answers_are c lt) ∙ sound.mirror c lt ∙ ap is_some (sym (mirror_has c lt));
     };
+    version = sym joins.of_version;
     say = λ c is.
         let lt : c < 1114112 = below_limit c is in
         record {
-          properties = sym (properties_are index entries brackets mirrors c lt sound) ∙ sym (answers_are c lt);
-          bracket = bracket_is index entries brackets mirrors c lt ∙ sym (bracket_has c lt);
-          mirror = mirror_is index entries brackets mirrors c lt ∙ ap mirror_by (sym (mirror_has c lt));
+          properties = sym (properties_are version index entries brackets mirrors c lt sound) ∙ sym (answers_are c lt);
+          bracket = bracket_is version index entries brackets mirrors c lt ∙ sym (bracket_has c lt);
+          mirror = mirror_is version index entries brackets mirrors c lt ∙ ap mirror_by (sym (mirror_has c lt));
         };
   }
 

@@ -1,9 +1,11 @@
 -- Numbers in bytes that show a part.
-use Rattle.std.proofs.Common.{◌≡◌, ℕ, codes, zero, suc, ◌+◌, ◌-◌, ◌*◌, ◌/◌, ◌%◌, ◌<◌, ◌≤◌, nat_lt, List, [], ◌∷◌, ◌++◌, Option, Some, None, MatchOption, length, take, get_or, below_more, if◌then◌else◌, refl, sym, ◌∙◌, ap, subst, inl, inr, arith}
+use Rattle.std.proofs.Common.{◌==◌, ◌≡◌, ℕ, codes, zero, suc, ◌+◌, ◌-◌, ◌*◌, ◌/◌, ◌%◌, ◌<◌, ◌≤◌, nat_lt, List, [], ◌∷◌, ◌++◌, Option, Some, None, MatchOption, length, take, get_or, below_more, if◌then◌else◌, refl, sym, ◌∙◌, ap, subst, inl, inr, arith}
 use Rattle.std.proofs.lemmas.Bool.{cases_eq}
 use Rattle.std.proofs.lemmas.Bool.Decides.{nat_tests}
 use Rattle.std.proofs.lemmas.List.{length-append, length-take, get_or-take, ext_get_or, get_or_append_left, get_or-append_right, get_or_push, length_push}
-use Rattle.ucd.specs.Images.{u16_at, u32_at, u64_at, checksum, page_count, bracket_count, mirror_count, brackets_at, mirrors_at, checksum_at, point_at, point_value, found, ArePoints}
+use Rattle.ucd.specs.declared.version.Version.{Version}
+use Rattle.ucd.specs.declared.version.Version.TheVariants.{V15_0, V17_0}
+use Rattle.ucd.specs.Images.{image_version, version_number, u16_at, u32_at, u64_at, checksum, page_count, bracket_count, mirror_count, brackets_at, mirrors_at, checksum_at, point_at, point_value, found, ArePoints}
 use Rattle.ucd.specs.ImageParts.{Shows, Adds16, Adds32, AddsPoint, AddsChecksum, Joins}
 use Rattle.ucd.proofs.ImagePoints.{found_more, point_more}
 
@@ -236,9 +238,14 @@ adds_checksum old mid new sum is low high =
       here = rw (first, second) (whole ∙ is);
     }
 
+-- the version with a number
+number_version : (version : Version) → (if version_number version == 0x0011_0000 then V17_0 else V15_0) ≡ version
+number_version V15_0 = refl
+number_version V17_0 = refl
+
 -- the parts one after another
-module _ (head index pages brackets mirrors bytes : List ℕ)
-    (is : IsHeader (codes "hordguli-ucd") head 1 983040 (length pages / 512) (length brackets / 8) (length mirrors / 8))
+module _ (version : Version) (head index pages brackets mirrors bytes : List ℕ)
+    (is : IsHeader (codes "hordguli-ucd") head 1 (version_number version) (length pages / 512) (length brackets / 8) (length mirrors / 8))
     (index_len : length index ≡ 8704) (pages_whole : length pages % 512 ≡ 0) (brackets_whole : length brackets % 8 ≡ 0) (mirrors_whole : length mirrors % 8 ≡ 0)
     (adds : AddsChecksum ((((head ++ index) ++ pages) ++ brackets) ++ mirrors) bytes) where
   abbrev b1 : List ℕ
@@ -306,17 +313,21 @@ module _ (head index pages brackets mirrors bytes : List ℕ)
   checksum_is : checksum bytes (length b4 / 8) ≡ checksum b4 (length b4 / 8)
   checksum_is = checksum_shown bytes b4 (length b4 / 8) (shows_less bytes 0 b4 0 (length b4) adds.kept (8 * (length b4 / 8)) (omega arith))
 
-  pub joins : Joins bytes index pages brackets mirrors
+  version_is : image_version bytes ≡ version
+  version_is = rw (from_head 16 (version_number version) (omega arith) is.b_is) (number_version version)
+
+  pub joins : Joins version bytes index pages brackets mirrors
   joins = record {
     framed = record {
       header = omega (arith, adds.len, l4);
       magic = magic_shown ∙ is.magic_is;
       format = from_head 12 1 (omega arith) is.a_is;
-      version = from_head 16 983040 (omega arith) is.b_is;
+      version = from_head 16 (version_number version) (omega arith) is.b_is ∙ ap version_number (sym version_is);
       room = omega (arith, adds.len, checksum_place);
       end = omega (arith, adds.len, checksum_place);
       checksum = subst (λ n. u64_at bytes n ≡ checksum bytes (n / 8)) checksum_place (adds.here ∙ sym checksum_is);
     };
+    of_version = version_is;
     page_count = omega (arith, pages_is, pages_whole);
     bracket_count = omega (arith, brackets_is, brackets_whole);
     mirror_count = omega (arith, mirrors_is, mirrors_whole);

@@ -15,3 +15,5 @@ pub mod ImageMade
 pub mod SaidLemmas
 pub mod RisingLemmas
 pub mod NameLemmas
+pub mod FileClasses
+pub mod VersionLemmas

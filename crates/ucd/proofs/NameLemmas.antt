@@ -1,18 +1,8 @@
--- The class with the name of a class is that class.
+-- The bidi class with the name of a class is that class.
 use Rattle.std.proofs.Common.{◌≡◌, ℕ, List, Some, refl, sym, ◌∙◌, ap}
 use Rattle.ucd.specs.declared.bidi_class.BidiClass.{BidiClass}
 use Rattle.ucd.specs.declared.bidi_class.BidiClass.TheVariants.{L}
-use Rattle.ucd.specs.declared.line_class.LineClass.{LineClass}
-use Rattle.ucd.specs.declared.line_class.LineClass.TheVariants.{BK}
 use Rattle.ucd.specs.BidiClasses as bidi
-use Rattle.ucd.specs.LineClasses.{name_of, class_named}
-
-named_itself : (class : LineClass) → Some class ≡ class_named (name_of class)
-named_itself BK = refl
-named_itself class = refl
-
-pub named : (class : LineClass) (name : List ℕ) → name ≡ name_of class → Some class ≡ class_named name
-named class name is = named_itself class ∙ ap class_named (sym is)
 
 bidi_named_itself : (class : BidiClass) → Some class ≡ bidi.class_named (bidi.name_of class)
 bidi_named_itself L = refl

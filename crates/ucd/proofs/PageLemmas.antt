@@ -4,7 +4,9 @@ use Rattle.std.proofs.lemmas.Bool.{cases_lt, cond-true, cond-false}
 use Rattle.std.proofs.lemmas.Bool.Decides.{nat_tests}
 use Rattle.std.proofs.lemmas.List.{length-append, length-take, get_or-take, get_or-drop, get_or-append-add, get_or_append_left, get_or-append_right, get_or_past, get_or_push}
 use Rattle.ucd.specs.Answers.{PropertyAnswers, unnamed}
-use Rattle.ucd.specs.DistinctPages.{AreMarksApart, AreDistinct, IsPage, HoldsPages}
+use Rattle.ucd.specs.declared.version.Version.{Version}
+use Rattle.ucd.specs.declared.version.Version.TheVariants.{V15_0, V17_0}
+use Rattle.ucd.specs.DistinctPages.{AreEntriesOf, IsEntryOf, AreDistinct, IsPage, HoldsPages}
 use Rattle.ucd.specs.Pages.{answers_at, HasPage}
 
 -- if the last page equals `page`, the entries have `page` under the number of the last page
@@ -135,16 +137,27 @@ distinct_next entries page whole len none distinct p q lt within same =
           ∙ ap (λ i. get_or (entries ++ page) (i + k) unnamed) end ∙ get_or-append-add entries page k unnamed)
     ]
 
--- entries stay apart if entries that are apart are appended
-pub apart_next : (entries page : List PropertyAnswers) → AreMarksApart entries → AreMarksApart page → AreMarksApart (entries ++ page)
-apart_next entries page old new i = elim (cases_lt i (length entries)) [
+-- entries stay valid if valid entries are appended
+pub valid_next : (version : Version) (entries page : List PropertyAnswers) → AreEntriesOf version entries → AreEntriesOf version page → AreEntriesOf version (entries ++ page)
+valid_next version entries page old new i = elim (cases_lt i (length entries)) [
   | inl below ↦ rw (get_or_append_left entries page unnamed i below) (old i)
   | inr from ↦ rw (get_or-append_right entries page (length entries) i unnamed refl from) (new (i - length entries))
 ]
 
--- a part of entries that are apart is apart
-pub apart_part : (entries : List PropertyAnswers) (start len : ℕ) → AreMarksApart entries → AreMarksApart (take len (drop start entries))
-apart_part entries start len apart i = elim (cases_lt i len) [
-  | inl below ↦ rw (get_or-take len (drop start entries) i unnamed below, get_or-drop start entries i unnamed) (apart (start + i))
-  | inr from ↦ rw (get_or_past (take len (drop start entries)) i unnamed (omega (arith, length-take len (drop start entries)))) refl
+-- a part of valid entries is valid
+unnamed_valid : (version : Version) → IsEntryOf version unnamed
+unnamed_valid V15_0 = record { apart = refl; number = omega arith }
+unnamed_valid V17_0 = record { apart = refl; number = omega arith }
+
+pub valid_points : (version : Version) (points : List PropertyAnswers) (answers : ℕ → PropertyAnswers) → length points ≡ 1114112
+    → ((c : ℕ) → c < 1114112 → get_or points c unnamed ≡ answers c) → ((c : ℕ) → c < 1114112 → IsEntryOf version (answers c)) → AreEntriesOf version points
+valid_points version points answers len same all i = elim (cases_lt i 1114112) [
+  | inl below ↦ rw (same i below) (all i below)
+  | inr from ↦ rw (get_or_past points i unnamed (omega arith)) (unnamed_valid version)
+]
+
+pub valid_part : (version : Version) (entries : List PropertyAnswers) (start len : ℕ) → AreEntriesOf version entries → AreEntriesOf version (take len (drop start entries))
+valid_part version entries start len valid i = elim (cases_lt i len) [
+  | inl below ↦ rw (get_or-take len (drop start entries) i unnamed below, get_or-drop start entries i unnamed) (valid (start + i))
+  | inr from ↦ rw (get_or_past (take len (drop start entries)) i unnamed (omega (arith, length-take len (drop start entries)))) (unnamed_valid version)
 ]

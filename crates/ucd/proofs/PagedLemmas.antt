@@ -10,11 +10,12 @@ use Rattle.ucd.specs.Entries.{value_at}
 use Rattle.ucd.specs.Pages.{answers_at, single, singles, category_in, width_in, pictograph_in}
 use Rattle.ucd.specs.Paged.{contents_in, AreSound}
 use Rattle.ucd.specs.Properties.{properties_of}
-use Rattle.ucd.specs.Tables.{mirror_by, is_wide_by, is_mark_by, is_unassigned_by, category_of, class_of, bracket_of, mirror_of, line_class_of, is_wide_in, is_mark_in, is_future_pictograph_in}
+use Rattle.ucd.specs.Tables.{mirror_by, is_wide_by, is_mark_by, is_unassigned_by, category_of, class_of, bracket_of, mirror_of, line_class_of, line_detail_of, is_wide_in, is_mark_in, is_future_pictograph_in}
 use Rattle.ucd.specs.declared.bracket.Bracket.{Bracket}
 use Rattle.ucd.specs.declared.bracket.Mirror.{Mirror}
 use Rattle.ucd.specs.declared.category.Category.TheVariants as category
 use Rattle.ucd.specs.declared.emoji.Pictograph.{Pictograph}
+use Rattle.ucd.specs.declared.version.Version.{Version}
 use Rattle.ucd.specs.declared.width.Width.TheVariants as width
 use Rattle.ucd.specs.declared.grammar.Entry.{Entry}
 use Rattle.ucd.specs.declared.tables.Tables.{Tables}
@@ -95,9 +96,9 @@ some_mirror : (m : Option Mirror) → is_some (mirror_by m) ≡ is_some m
 some_mirror None = refl
 some_mirror (Some m) = refl
 
-module _ (index : List ℕ) (entries : List PropertyAnswers) (brackets : BTreeMap ℕ Bracket) (mirrors : BTreeMap ℕ Mirror) (c : ℕ) (lt : c < 1114112) where
+module _ (version : Version) (index : List ℕ) (entries : List PropertyAnswers) (brackets : BTreeMap ℕ Bracket) (mirrors : BTreeMap ℕ Mirror) (c : ℕ) (lt : c < 1114112) where
   abbrev tables : Tables
-  tables = contents_in index entries brackets mirrors
+  tables = contents_in version index entries brackets mirrors
 
   abbrev answers : PropertyAnswers
   answers = answers_at index entries c
@@ -118,6 +119,10 @@ module _ (index : List ℕ) (entries : List PropertyAnswers) (brackets : BTreeMa
   unfolding line_class_of
   line_class_is = rw (value_singles (λ k. Some (answers_at index entries k).line_class) 1114112 c lt) refl
 
+  pub line_detail_is : line_detail_of tables c ≡ answers.line_detail
+  unfolding line_detail_of
+  line_detail_is = rw (value_singles (λ k. Some (answers_at index entries k).line_detail) 1114112 c lt) refl
+
   pub wide_is : is_wide_in tables c ≡ answers.is_wide
   unfolding is_wide_in
   wide_is = ap is_wide_by (value_singles (λ k. Some (width_in (answers_at index entries k))) 1114112 c lt) ∙ wide_by answers.is_wide
@@ -135,8 +140,8 @@ module _ (index : List ℕ) (entries : List PropertyAnswers) (brackets : BTreeMa
       let pictograph = value_singles (λ k. pictograph_in (answers_at index entries k)) 1114112 c lt in
       rw (pictograph, category_is) (future_by answers.is_mark answers.is_future_pictograph)
 
-  pub properties_are : AreSound index entries brackets mirrors → answers ≡ properties_of tables c
+  pub properties_are : AreSound version index entries brackets mirrors → answers ≡ properties_of tables c
   properties_are sound =
       let bracket : is_some (bracket_of tables c) ≡ answers.has_bracket = ap is_some bracket_is ∙ sym (sound.bracket c lt) in
       let mirror : is_some (mirror_of tables c) ≡ answers.has_mirror = ap is_some mirror_is ∙ some_mirror (get nat_cmp mirrors c) ∙ sym (sound.mirror c lt) in
-      rw (class_is, line_class_is, wide_is, mark_is (sound.apart c lt), future_is, bracket, mirror) refl
+      rw (class_is, line_class_is, line_detail_is, wide_is, mark_is ((sound.entry c lt).apart), future_is, bracket, mirror) refl

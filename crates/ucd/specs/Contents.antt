@@ -1,4 +1,4 @@
--- The contents of tables: the entries of each file.
+-- The contents of tables: their version, the entries of each file, and the details of characters.
 use Rattle.std.specs.Prelude.{List}
 use Rattle.ucd.specs.declared.bidi_class.BidiClass.{BidiClass}
 use Rattle.ucd.specs.declared.bracket.Bracket.{Bracket}
@@ -7,9 +7,12 @@ use Rattle.ucd.specs.declared.category.Category.{Category}
 use Rattle.ucd.specs.declared.emoji.Pictograph.{Pictograph}
 use Rattle.ucd.specs.declared.grammar.Entry.{Entry}
 use Rattle.ucd.specs.declared.line_class.LineClass.{LineClass}
+use Rattle.ucd.specs.declared.line_detail.LineDetail.{LineDetail}
+use Rattle.ucd.specs.declared.version.Version.{Version}
 use Rattle.ucd.specs.declared.width.Width.{Width}
 
 pub record TableContents : Type 0 where
+  pub version : Version
   pub bidi_classes : List (Entry BidiClass)
   pub brackets : List (Entry Bracket)
   pub mirrors : List (Entry Mirror)
@@ -17,3 +20,4 @@ pub record TableContents : Type 0 where
   pub categories : List (Entry Category)
   pub widths : List (Entry Width)
   pub pictographs : List (Entry Pictograph)
+  pub line_details : List (Entry LineDetail)

@@ -2,10 +2,16 @@
 use Rattle.std.specs.Prelude.{◌≡◌, ℕ, ◌+◌, ◌*◌, ◌%◌, ◌<◌, ◌≤◌, ◌&&◌, false, List, length, slice_index, slice_index_or}
 use Rattle.ucd.specs.Answers.{PropertyAnswers, unnamed}
 use Rattle.ucd.specs.Pages.{answers_at}
+use Rattle.ucd.specs.Versions.{IsOfVersion}
+use Rattle.ucd.specs.declared.version.Version.{Version}
 
--- no mark is a future pictograph
-abbrev pub AreMarksApart : List PropertyAnswers → Type 0
-AreMarksApart entries = (i : ℕ) → ((slice_index_or entries i unnamed).is_mark && (slice_index_or entries i unnamed).is_future_pictograph) ≡ false
+-- an image of tables of this version can have an entry for the properties
+pub record IsEntryOf (version : Version) (a : PropertyAnswers) : Type 0 where
+  pub apart : (a.is_mark && a.is_future_pictograph) ≡ false
+  pub number : IsOfVersion version a
+
+abbrev pub AreEntriesOf : Version → List PropertyAnswers → Type 0
+AreEntriesOf version entries = (i : ℕ) → IsEntryOf version (slice_index_or entries i unnamed)
 
 -- the page with number p equals `page`
 abbrev pub IsPage : List PropertyAnswers → ℕ → List PropertyAnswers → Type 0

@@ -1,7 +1,8 @@
 -- Bytes that are appended to an image.
 use Rattle.std.specs.Prelude.{◌≡◌, ℕ, ◌+◌, ◌*◌, ◌/◌, ◌%◌, ◌<◌, ◌≤◌, List, length, slice_index, Option, Some, IsTrue}
 use Rattle.ucd.specs.Answers.{PropertyAnswers, answers_in}
-use Rattle.ucd.specs.Images.{u16_at, u32_at, u64_at, checksum, page_count, bracket_count, mirror_count, brackets_at, mirrors_at, is_entry, IsFramed}
+use Rattle.ucd.specs.declared.version.Version.{Version}
+use Rattle.ucd.specs.Images.{u16_at, u32_at, u64_at, checksum, image_version, page_count, bracket_count, mirror_count, brackets_at, mirrors_at, is_entry, IsFramed}
 
 -- the `count` bytes of `bytes` from `at` are those of `part` from `from`
 pub record Shows (bytes : List ℕ) (at : ℕ) (part : List ℕ) (from count : ℕ) : Type 0 where
@@ -31,9 +32,10 @@ pub record AddsChecksum (old new : List ℕ) : Type 0 where
   pub len : length new ≡ length old + 8
   pub here : u64_at new (length old) ≡ checksum old (length old / 8)
 
--- a framed image with these pages, brackets and mirrors
-pub record Joins (bytes index pages brackets mirrors : List ℕ) : Type 0 where
+-- a framed image with this version and these pages, brackets and mirrors
+pub record Joins (version : Version) (bytes index pages brackets mirrors : List ℕ) : Type 0 where
   pub framed : IsFramed bytes
+  pub of_version : image_version bytes ≡ version
   pub page_count : 512 * page_count bytes ≡ length pages
   pub bracket_count : 8 * bracket_count bytes ≡ length brackets
   pub mirror_count : 8 * mirror_count bytes ≡ length mirrors
@@ -43,12 +45,12 @@ pub record Joins (bytes index pages brackets mirrors : List ℕ) : Type 0 where
   pub mirrors_shown : Shows bytes (mirrors_at bytes) mirrors 0 (length mirrors)
 
 -- page numbers and pages as bytes, which give each code point its properties
-pub record ArePages (answers : ℕ → PropertyAnswers) (index pages : List ℕ) : Type 0 where
+pub record ArePages (version : Version) (answers : ℕ → PropertyAnswers) (index pages : List ℕ) : Type 0 where
   pub places : length index ≡ 8704
   pub whole : length pages % 512 ≡ 0
   pub room : length pages ≤ 2228224
   pub within : (block : ℕ) → block < 4352 → 512 * u16_at index (2 * block) + 512 ≤ length pages
-  pub valid : (k : ℕ) → 2 * k < length pages → IsTrue (is_entry (u16_at pages (2 * k)))
+  pub valid : (k : ℕ) → 2 * k < length pages → IsTrue (is_entry version (u16_at pages (2 * k)))
   pub same : (c : ℕ) → c < 1114112 → answers_in (u16_at pages (2 * (u16_at index (2 * (c / 256)) * 256 + c % 256))) ≡ answers c
   pub distinct : (p q : ℕ) → p < q → 512 * q + 512 ≤ length pages
       → ¬ ((k : ℕ) → k < 256 → u16_at pages (2 * (p * 256 + k)) ≡ u16_at pages (2 * (q * 256 + k)))

@@ -2,7 +2,7 @@
 use Rattle.std.specs.Prelude.{◌≡◌, ℕ, ◌+◌, ◌*◌, ◌<◌, List}
 use Rattle.std.specs.Char.{IsScalar}
 use Rattle.ucd.specs.Answers.{answers_in}
-use Rattle.ucd.specs.Images.{page_count, entry_at, bits_at, bracket_at, mirror_at, IsImage}
+use Rattle.ucd.specs.Images.{image_version, page_count, entry_at, bits_at, bracket_at, mirror_at, IsImage}
 use Rattle.ucd.specs.Properties.{properties_of}
 use Rattle.ucd.specs.Tables.{bracket_of, mirror_of, mirror_by}
 use Rattle.ucd.specs.declared.tables.Tables.{Tables}
@@ -16,6 +16,7 @@ pub record SaysImage (bytes : List ℕ) (t : Tables) (c : ℕ) : Type 0 where
 -- the bytes are an image of the tables
 pub record IsImageOf (bytes : List ℕ) (t : Tables) : Type 0 where
   pub image : IsImage bytes
+  pub version : t.version ≡ image_version bytes
   pub say : (c : ℕ) → IsScalar c → SaysImage bytes t c
 
 -- no two pages of the image are equal

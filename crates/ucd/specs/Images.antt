@@ -3,7 +3,7 @@
 -- All numbers are unsigned and little-endian. The parts of an image are, by their first byte:
 --      0   the 12 bytes `hordguli-ucd`
 --     12   u32: the version of the format, which is 1
---     16   u32: the version of Unicode, 65536 times the first number plus 256 times the second
+--     16   u32: the version of Unicode, 65536 times the first number plus 256 times the second: 15.0 or 17.0
 --     20   three u32: the numbers of pages, brackets and mirrors
 --     32   4352 u16: for each block of 256 code points, the number of its page
 --   8736   256 u16 for each page: the properties of a code point (Answers.antt says which bits)
@@ -18,6 +18,9 @@ use Rattle.ucd.specs.declared.bracket.Bracket.{Bracket}
 use Rattle.ucd.specs.declared.bracket.Mirror.{Mirror}
 use Rattle.ucd.specs.declared.image_fault.ImageFault.{ImageFault}
 use Rattle.ucd.specs.declared.image_fault.ImageFault.TheVariants as fault
+use Rattle.ucd.specs.declared.version.Version.{Version}
+use Rattle.ucd.specs.declared.version.Version.TheVariants.{V15_0, V17_0}
+use Rattle.ucd.specs.Versions.{number_count}
 
 -- the number in the two, four or eight bytes from byte i
 unfoldable pub u16_at : List ℕ → ℕ → ℕ
@@ -33,6 +36,14 @@ u64_at bytes i = u32_at bytes i + 4294967296 * u32_at bytes (i + 4)
 unfoldable pub checksum : List ℕ → ℕ → ℕ
 checksum bytes zero = 0
 checksum bytes (suc k) = (checksum bytes k * 11400714819323198485 % 2 ^ 64 + u64_at bytes (8 * k)) % 2 ^ 64
+
+-- the version of Unicode, and its number
+abbrev pub version_number : Version → ℕ
+version_number V15_0 = 0x000F_0000
+version_number V17_0 = 0x0011_0000
+
+abbrev pub image_version : List ℕ → Version
+image_version bytes = if u32_at bytes 16 == 0x0011_0000 then V17_0 else V15_0
 
 -- the numbers of pages, brackets and mirrors, and where the parts after the pages begin
 abbrev pub page_count : List ℕ → ℕ
@@ -63,9 +74,9 @@ entry_at bytes i = u16_at bytes (8736 + 2 * i)
 abbrev pub bits_at : List ℕ → ℕ → ℕ
 bits_at bytes c = entry_at bytes (page_number bytes (c / 256) * 256 + c % 256)
 
--- the bits encode properties: both classes are in range, and no mark is a future pictograph
-abbrev pub is_entry : ℕ → Bool
-is_entry bits = nat_lt (bits % 32) 23 && (nat_lt (bits / 1024) 43 && not (bits / 128 % 4 == 3))
+-- the bits encode properties: the bidi class and the line number are in range, and no mark is a future pictograph
+abbrev pub is_entry : Version → ℕ → Bool
+is_entry version bits = nat_lt (bits % 32) 23 && (nat_lt (bits / 1024) (number_count version) && not (bits / 128 % 4 == 3))
 
 -- the bracket and the mirror that a number encodes
 abbrev pub bracket_in : ℕ → Option Bracket
@@ -113,7 +124,7 @@ pub record IsFramed (bytes : List ℕ) : Type 0 where
   pub header : 32 ≤ length bytes
   pub magic : take 12 bytes ≡ codes "hordguli-ucd"
   pub format : u32_at bytes 12 ≡ 1
-  pub version : u32_at bytes 16 ≡ 983040
+  pub version : u32_at bytes 16 ≡ version_number (image_version bytes)
   pub room : checksum_at bytes + 8 ≤ length bytes
   pub end : length bytes ≤ checksum_at bytes + 8
   pub checksum : u64_at bytes (checksum_at bytes) ≡ checksum bytes (checksum_at bytes / 8)
@@ -123,7 +134,7 @@ abbrev pub ArePagesKnown : List ℕ → Type 0
 ArePagesKnown bytes = (block : ℕ) → block < 4352 → page_number bytes block < page_count bytes
 
 abbrev pub AreEntries : List ℕ → Type 0
-AreEntries bytes = (i : ℕ) → i < 256 * page_count bytes → IsTrue (is_entry (entry_at bytes i))
+AreEntries bytes = (i : ℕ) → i < 256 * page_count bytes → IsTrue (is_entry (image_version bytes) (entry_at bytes i))
 
 abbrev pub AreBrackets : List ℕ → Type 0
 AreBrackets bytes = ArePoints bracket_in bytes (brackets_at bytes) (bracket_count bytes)
@@ -156,7 +167,7 @@ IsFirstFault bytes =
     Fails (32 ≤ length bytes) fault.Truncated (
     Fails (take 12 bytes ≡ codes "hordguli-ucd") fault.Magic (
     Fails (u32_at bytes 12 ≡ 1) fault.Format (
-    Fails (u32_at bytes 16 ≡ 983040) fault.Version (
+    Fails (u32_at bytes 16 ≡ version_number (image_version bytes)) fault.Version (
     Fails (checksum_at bytes + 8 ≤ length bytes) fault.Truncated (
     Fails (length bytes ≤ checksum_at bytes + 8) fault.Excess (
     Fails (u64_at bytes (checksum_at bytes) ≡ checksum bytes (checksum_at bytes / 8)) fault.Checksum (

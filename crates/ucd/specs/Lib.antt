@@ -6,6 +6,7 @@ pub mod Brackets
 pub mod Categories
 pub mod Classes
 pub mod Contents
+pub mod Defaults
 pub mod DistinctPages
 pub mod Emoji
 pub mod Entries
@@ -17,7 +18,9 @@ pub mod ImagePages
 pub mod ImageParts
 pub mod Images
 pub mod Least
+pub mod Layers
 pub mod LineClasses
+pub mod LineNumbers
 pub mod Paged
 pub mod Pages
 pub mod PlainLines
@@ -28,5 +31,6 @@ pub mod Runs
 pub mod Said
 pub mod Separators
 pub mod Tables
+pub mod Versions
 pub mod Widths
 pub mod Within

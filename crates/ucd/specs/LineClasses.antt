@@ -1,12 +1,15 @@
 -- The line breaking classes by name (UAX #14, section 5.1, table 1).
-use Rattle.std.specs.Prelude.{ℕ, List, [], ◌∷◌, codes, true, false, Option, Some, option_map, find}
+use Rattle.std.specs.Prelude.{ℕ, List, [], ◌∷◌, codes, Option, find}
 use Rattle.std.specs.Str.{bytes_eq}
-use Rattle.ucd.specs.Grammar.{Form}
 use Rattle.ucd.specs.declared.line_class.LineClass.{LineClass}
-use Rattle.ucd.specs.declared.line_class.LineClass.TheVariants.{BK, CM, CR, GL, LF, NL, SP, WJ, ZW, ZWJ, B2, BA, BB, CB, HY, CL, CP, EX, IN, NS, OP, QU, IS, NU, PO, PR, SY, AI, AL, CJ, EB, EM, H2, H3, HL, ID, JL, JT, JV, RI, SA, SG, XX}
+use Rattle.ucd.specs.declared.line_class.LineClass.TheVariants.{BK, CM, CR, GL, LF, NL, SP, WJ, ZW, ZWJ, B2, BA, BB, CB, HY, CL, CP, EX, IN, NS, OP, QU, IS, NU, PO, PR, SY, AI, AL, CJ, EB, EM, H2, H3, HL, ID, JL, JT, JV, RI, SA, SG, XX, AK, AP, AS, HH, VF, VI}
 
+-- the classes of Unicode 15.0 come first
 abbrev pub all_classes : List LineClass
-all_classes = BK ∷ CM ∷ CR ∷ GL ∷ LF ∷ NL ∷ SP ∷ WJ ∷ ZW ∷ ZWJ ∷ B2 ∷ BA ∷ BB ∷ CB ∷ HY ∷ CL ∷ CP ∷ EX ∷ IN ∷ NS ∷ OP ∷ QU ∷ IS ∷ NU ∷ PO ∷ PR ∷ SY ∷ AI ∷ AL ∷ CJ ∷ EB ∷ EM ∷ H2 ∷ H3 ∷ HL ∷ ID ∷ JL ∷ JT ∷ JV ∷ RI ∷ SA ∷ SG ∷ XX ∷ []
+all_classes = BK ∷ CM ∷ CR ∷ GL ∷ LF ∷ NL ∷ SP ∷ WJ ∷ ZW ∷ ZWJ ∷ B2 ∷ BA ∷ BB ∷ CB ∷ HY ∷ CL ∷ CP ∷ EX ∷ IN ∷ NS ∷ OP ∷ QU ∷ IS ∷ NU ∷ PO ∷ PR ∷ SY ∷ AI ∷ AL ∷ CJ ∷ EB ∷ EM ∷ H2 ∷ H3 ∷ HL ∷ ID ∷ JL ∷ JT ∷ JV ∷ RI ∷ SA ∷ SG ∷ XX ∷ AK ∷ AP ∷ AS ∷ HH ∷ VF ∷ VI ∷ []
+
+abbrev pub classes_15 : List LineClass
+classes_15 = BK ∷ CM ∷ CR ∷ GL ∷ LF ∷ NL ∷ SP ∷ WJ ∷ ZW ∷ ZWJ ∷ B2 ∷ BA ∷ BB ∷ CB ∷ HY ∷ CL ∷ CP ∷ EX ∷ IN ∷ NS ∷ OP ∷ QU ∷ IS ∷ NU ∷ PO ∷ PR ∷ SY ∷ AI ∷ AL ∷ CJ ∷ EB ∷ EM ∷ H2 ∷ H3 ∷ HL ∷ ID ∷ JL ∷ JT ∷ JV ∷ RI ∷ SA ∷ SG ∷ XX ∷ []
 
 -- the short name of a class
 abbrev pub name_of : LineClass → List ℕ
@@ -53,11 +56,16 @@ name_of RI = codes "RI"
 name_of SA = codes "SA"
 name_of SG = codes "SG"
 name_of XX = codes "XX"
+name_of AK = codes "AK"
+name_of AP = codes "AP"
+name_of AS = codes "AS"
+name_of HH = codes "HH"
+name_of VF = codes "VF"
+name_of VI = codes "VI"
 
 -- the class with this short name
 abbrev pub class_named : List ℕ → Option LineClass
 class_named name = find (λ c. bytes_eq (name_of c) name) all_classes
 
--- LineBreak.txt: a code point or a range, and the name of a class
-abbrev pub line_class_form : Form LineClass
-line_class_form = record { has_ranges = true; has_third = false; value = λ name _. option_map Some (class_named name) }
+abbrev pub class_named_15 : List ℕ → Option LineClass
+class_named_15 name = find (λ c. bytes_eq (name_of c) name) classes_15

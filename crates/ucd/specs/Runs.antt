@@ -1,6 +1,6 @@
 -- Runs of code points with the same properties, by the entries that are left.
 use Rattle.std.specs.Prelude.{⊤, ◌≡◌, ℕ, ◌<◌, ◌≤◌, List, [], ◌∷◌}
-use Rattle.ucd.specs.Contents.{TableContents}
+use Rattle.ucd.specs.Layers.{Layers}
 use Rattle.ucd.specs.Said.{said}
 use Rattle.ucd.specs.declared.grammar.Entry.{Entry}
 use Rattle.ucd.specs.declared.runs.Left.{Left}
@@ -11,33 +11,38 @@ abbrev pub EndsFrom : {V : Type 0} → ℕ → List (Entry V) → Type 0
 EndsFrom point [] = ⊤
 EndsFrom point (e ∷ es) = point ≤ e.last
 
--- the entries that are left of each file
-abbrev pub contents_left : Left → TableContents
-contents_left l = record {
+-- the entries that are left
+abbrev pub layers_left : Left → Layers
+layers_left l = record {
+  version = l.version;
+  default_classes = l.default_classes;
   bidi_classes = l.bidi_classes;
   brackets = l.brackets;
   mirrors = l.mirrors;
   line_classes = l.line_classes;
-  categories = l.categories;
+  circles = l.circles;
   widths = l.widths;
   pictographs = l.pictographs;
+  categories = l.categories;
 }
 
--- no file's first entry ends before the code point
-pub record AllEndFrom (point : ℕ) (k : TableContents) : Type 0 where
+-- no first entry ends before the code point
+pub record AllEndFrom (point : ℕ) (k : Layers) : Type 0 where
+  pub default_classes : EndsFrom point k.default_classes
   pub bidi_classes : EndsFrom point k.bidi_classes
   pub brackets : EndsFrom point k.brackets
   pub mirrors : EndsFrom point k.mirrors
   pub line_classes : EndsFrom point k.line_classes
-  pub categories : EndsFrom point k.categories
+  pub circles : EndsFrom point k.circles
   pub widths : EndsFrom point k.widths
   pub pictographs : EndsFrom point k.pictographs
+  pub categories : EndsFrom point k.categories
 
 -- The run contains the code points before `point`, or ends there. Its code points have its properties, and the
 -- entries that are left give the properties of those after it.
-pub record ReachesTo (k : TableContents) (runs : Runs) (point : ℕ) : Type 0 where
+pub record ReachesTo (k : Layers) (runs : Runs) (point : ℕ) : Type 0 where
   pub from : runs.run.start ≤ point
   pub to : point ≤ runs.run.end
   pub within : runs.run.end ≤ 1114112
   pub run : (c : ℕ) → runs.run.start ≤ c → c < runs.run.end → said k c ≡ runs.run.properties
-  pub later : (c : ℕ) → runs.run.end ≤ c → said (contents_left runs.left) c ≡ said k c
+  pub later : (c : ℕ) → runs.run.end ≤ c → said (layers_left runs.left) c ≡ said k c

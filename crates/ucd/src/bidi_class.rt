@@ -5,8 +5,9 @@ ghost use Rattle.ucd.specs.declared.bidi_class.BidiClass.TheVariants.{L};
 ghost use Rattle.ucd.specs.declared.bidi_class.TheConstants.{BIDI_CLASS_COUNT};
 ghost use Rattle.ucd.specs.Puts.{put_bidi_class};
 
-use crate::grammar::Property;
+use crate::grammar::{Layer, Property};
 use crate::properties::Properties;
+use crate::version::Version;
 use std::fmt;
 
 /// A bidi class. The variants have the short names of the Unicode Character Database.
@@ -136,23 +137,25 @@ impl fmt::Debug for BidiClass {
 }
 
 impl Property for BidiClass {
-    ghost form = { bidi_class_form };
+    ghost form = { λ _. bidi_class_form };
 
-    ghost put = { put_bidi_class };
-
-    fn has_ranges() -> bool {
+    fn has_ranges(_version: Version) -> bool {
         true
     }
 
-    fn has_third() -> bool {
+    fn has_third(_version: Version) -> bool {
         false
     }
 
-    fn read_value(second: &[u8], _third: &[u8]) -> Option<Option<BidiClass>> {
+    fn read_value(_version: Version, second: &[u8], _third: &[u8]) -> Option<Option<BidiClass>> {
         BidiClass::from_name(second).map(Some)
     }
+}
 
-    fn put(self, properties: Properties) -> Properties {
+impl Layer for BidiClass {
+    ghost put = { λ _. put_bidi_class };
+
+    fn put(self, _version: Version, properties: Properties) -> Properties {
         properties.with_bidi_class(self)
     }
 }

@@ -5,9 +5,10 @@ ghost use Rattle.ucd.specs.Brackets.{character_of, opens_of, bracket_form, mirro
 ghost use Rattle.ucd.specs.Images.{bracket_in, mirror_in};
 ghost use Rattle.ucd.specs.Puts.{put_bracket, put_mirror};
 
-use crate::grammar::{Property, code_point};
+use crate::grammar::{Layer, Property, code_point};
 use crate::image_points::Point;
 use crate::properties::Properties;
+use crate::version::Version;
 
 /// A bracket: the other bracket of its pair, and whether it is an opening bracket (UAX #9, BD14 and BD15).
 #[derive(Clone, Copy, Debug, PartialEq, Eq)]
@@ -39,48 +40,52 @@ fn opens(kind: &[u8]) -> Option<bool>
 }
 
 impl Property for Bracket {
-    ghost form = { bracket_form };
+    ghost form = { λ _. bracket_form };
 
-    ghost put = { put_bracket };
-
-    fn has_ranges() -> bool {
+    fn has_ranges(_version: Version) -> bool {
         false
     }
 
-    fn has_third() -> bool {
+    fn has_third(_version: Version) -> bool {
         true
     }
 
-    fn read_value(second: &[u8], third: &[u8]) -> Option<Option<Bracket>> {
+    fn read_value(_version: Version, second: &[u8], third: &[u8]) -> Option<Option<Bracket>> {
         let pair = character(second)?;
         let opens = opens(third)?;
         Some(Some(Bracket { pair, opens }))
     }
+}
 
-    fn put(self, properties: Properties) -> Properties {
+impl Layer for Bracket {
+    ghost put = { λ _. put_bracket };
+
+    fn put(self, _version: Version, properties: Properties) -> Properties {
         properties.with_bracket()
     }
 }
 
 impl Property for Mirror {
-    ghost form = { mirror_form };
+    ghost form = { λ _. mirror_form };
 
-    ghost put = { put_mirror };
-
-    fn has_ranges() -> bool {
+    fn has_ranges(_version: Version) -> bool {
         false
     }
 
-    fn has_third() -> bool {
+    fn has_third(_version: Version) -> bool {
         false
     }
 
-    fn read_value(second: &[u8], _third: &[u8]) -> Option<Option<Mirror>> {
+    fn read_value(_version: Version, second: &[u8], _third: &[u8]) -> Option<Option<Mirror>> {
         let mirror = character(second)?;
         Some(Some(Mirror(mirror)))
     }
+}
 
-    fn put(self, properties: Properties) -> Properties {
+impl Layer for Mirror {
+    ghost put = { λ _. put_mirror };
+
+    fn put(self, _version: Version, properties: Properties) -> Properties {
         properties.with_mirror()
     }
 }

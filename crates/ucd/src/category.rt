@@ -4,14 +4,17 @@ ghost use Rattle.std.specs.Prelude.{◌≡◌, codes};
 ghost use Rattle.ucd.specs.Categories.{category_named, category_form};
 ghost use Rattle.ucd.specs.Puts.{put_category};
 
-use crate::grammar::Property;
+use crate::grammar::{Layer, Property};
 use crate::properties::Properties;
+use crate::version::Version;
 
-/// A general category: Mn or Mc, Cn, or any other.
+/// A general category: Mn or Mc, Cn, Pi, Pf, or any other.
 #[derive(Clone, Copy)]
 pub enum Category {
     Mark,
     Unassigned,
+    InitialQuote,
+    FinalQuote,
     Other,
 }
 
@@ -22,32 +25,46 @@ fn category_named(name: &[u8]) -> Category
         Category::Mark
     } else if b"Cn".as_slice() == name {
         Category::Unassigned
+    } else if b"Pi".as_slice() == name {
+        Category::InitialQuote
+    } else if b"Pf".as_slice() == name {
+        Category::FinalQuote
     } else {
         Category::Other
     }
 }
 
 impl Property for Category {
-    ghost form = { category_form };
+    ghost form = { λ _. category_form };
 
-    ghost put = { put_category };
-
-    fn has_ranges() -> bool {
+    fn has_ranges(_version: Version) -> bool {
         true
     }
 
-    fn has_third() -> bool {
+    fn has_third(_version: Version) -> bool {
         false
     }
 
-    fn read_value(second: &[u8], _third: &[u8]) -> Option<Option<Category>> {
+    fn read_value(_version: Version, second: &[u8], _third: &[u8]) -> Option<Option<Category>> {
         Some(Some(category_named(second)))
     }
+}
 
-    fn put(self, properties: Properties) -> Properties {
+impl Layer for Category {
+    ghost put = { put_category };
+
+    fn put(self, version: Version, properties: Properties) -> Properties {
         match self {
             Category::Mark => properties.with_mark(),
             Category::Unassigned => properties,
+            Category::InitialQuote => match version {
+                Version::V15_0 => properties.with_assignment(),
+                Version::V17_0 => properties.with_assignment().with_initial_quote(),
+            },
+            Category::FinalQuote => match version {
+                Version::V15_0 => properties.with_assignment(),
+                Version::V17_0 => properties.with_assignment().with_final_quote(),
+            },
             Category::Other => properties.with_assignment(),
         }
     }

@@ -2,8 +2,9 @@
 ghost use Rattle.std.specs.Prelude.{◌≡◌, ℕ, ◌+◌, ◌*◌, ◌%◌, ◌<◌, ◌≤◌, ◌++◌, ◌⊎◌};
 ghost use Rattle.std.specs.Prelude.{true, false, length, slice_index_or, IfOk, OnOk, MatchOption};
 ghost use Rattle.ucd.specs.Answers.{unnamed};
-ghost use Rattle.ucd.specs.DistinctPages.{AreMarksApart, AreDistinct, IsPage, HoldsPages};
+ghost use Rattle.ucd.specs.DistinctPages.{AreEntriesOf, AreDistinct, IsPage, HoldsPages};
 ghost use Rattle.ucd.specs.Pages.{HasPage};
+ghost use Rattle.ucd.specs.declared.version.Version.{Version};
 
 use crate::pages::{PAGE, PLACES, are_equal};
 use crate::properties::Properties;
@@ -19,11 +20,11 @@ pub struct DistinctPages {
 /// Returns distinct pages of the properties of all code points.
 pub fn distinct_pages(alloc: Global, points: &[Properties]) -> Result<DistinctPages, AllocError>
     requires points { length points.now ≡ 1114112 }
-    requires apart { AreMarksApart points.now }
     ensures pages { IfOk result (λ pages.
         HoldsPages (λ c. slice_index_or points.now c unnamed) pages.index.items pages.entries.items 4352) }
     ensures distinct { IfOk result (λ pages. AreDistinct pages.entries.items) }
-    ensures apart { IfOk result (λ pages. AreMarksApart pages.entries.items) }
+    ensures valid { IfOk result (λ pages. (version : Version)
+        → AreEntriesOf version points.now → AreEntriesOf version pages.entries.items) }
 {
     let mut index = Vec::with_capacity(alloc, PLACES)?;
     let mut entries = Vec::new(alloc);

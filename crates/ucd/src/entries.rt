@@ -6,9 +6,9 @@ ghost use Rattle.ucd.specs.BidiClasses.{bidi_class_form};
 ghost use Rattle.ucd.specs.Brackets.{bracket_form, mirror_form};
 ghost use Rattle.ucd.specs.Categories.{category_form};
 ghost use Rattle.ucd.specs.Emoji.{emoji_form};
-ghost use Rattle.ucd.specs.LineClasses.{line_class_form};
+ghost use Rattle.ucd.specs.Versions.{line_class_form};
 ghost use Rattle.ucd.specs.Widths.{width_form};
-ghost use Rattle.ucd.specs.Tables.{IsBidiFaultOf, IsBreakFaultOf, IsFaultIn, IsFaultOf};
+ghost use Rattle.ucd.specs.Tables.{IsBidiFaultOf, IsBreakFaultAs, IsFaultIn, IsFaultAs};
 
 use crate::bidi_class::BidiClass;
 use crate::bracket::{Bracket, Mirror};
@@ -21,32 +21,34 @@ use crate::line_class::LineClass;
 use crate::range_table::RangeTable;
 use crate::rising::RisingEntries;
 use crate::tables::UcdFiles;
+use crate::version::Version;
 use crate::width::Width;
 use std::alloc::Global;
 
 // Parses one file. `number` is its number in `FILE_NAMES`, starting at 1.
 fn read_table<V: Property>(
     alloc: Global,
+    version: Version,
     number: usize,
     file: &[u8],
 ) -> Result<RisingEntries<V>, TableFault>
-    ensures ok { IfOk result (HoldsFile V.form (lines_of file.now)) }
-    ensures err { IfErr result (IsFaultIn number V.form (lines_of file.now)) }
+    ensures ok { IfOk result (HoldsFile (V.form version) (lines_of file.now)) }
+    ensures err { IfErr result (IsFaultIn number (V.form version) (lines_of file.now)) }
 {
-    match RisingEntries::of_file(alloc, file) {
+    match RisingEntries::of_file(alloc, version, file) {
         Some(entries) => Ok(entries),
-        None => Err(fault_of::<V>(alloc, number, file)),
+        None => Err(fault_of::<V>(alloc, version, number, file)),
     }
 }
 
 // Returns the first fault of a file whose entries cannot be read. If no line is faulty, memory ran out.
-fn fault_of<V: Property>(alloc: Global, number: usize, file: &[u8]) -> TableFault
-    ensures { IsFaultIn number V.form (lines_of file.now) result }
+fn fault_of<V: Property>(alloc: Global, version: Version, number: usize, file: &[u8]) -> TableFault
+    ensures { IsFaultIn number (V.form version) (lines_of file.now) result }
 {
     let Ok(table) = RangeTable::new(alloc) else {
         return TableFault::memory();
     };
-    let read: Result<RangeTable<V>, FileFault> = read_file(table, file);
+    let read: Result<RangeTable<V>, FileFault> = read_file(version, table, file);
     match read {
         Ok(_) => TableFault::memory(),
         Err(fault) => TableFault::in_file(number, fault),
@@ -71,7 +73,11 @@ pub struct BreakEntries {
 }
 
 // Parses the three files for bidirectional text.
-fn read_bidi(alloc: Global, files: &UcdFiles<'_>) -> Result<BidiEntries, TableFault>
+fn read_bidi(
+    alloc: Global,
+    version: Version,
+    files: &UcdFiles<'_>,
+) -> Result<BidiEntries, TableFault>
     ensures classes { IfOk result (λ e.
         HoldsFile bidi_class_form (lines_of files.now.bidi_class.now) e.classes) }
     ensures brackets { IfOk result (λ e.
@@ -81,29 +87,33 @@ fn read_bidi(alloc: Global, files: &UcdFiles<'_>) -> Result<BidiEntries, TableFa
     ensures err { IfErr result (IsBidiFaultOf files.now) }
 {
     Ok(BidiEntries {
-        classes: read_table(alloc, 1, files.bidi_class)?,
-        brackets: read_table(alloc, 2, files.bidi_brackets)?,
-        mirrors: read_table(alloc, 3, files.bidi_mirroring)?,
+        classes: read_table(alloc, version, 1, files.bidi_class)?,
+        brackets: read_table(alloc, version, 2, files.bidi_brackets)?,
+        mirrors: read_table(alloc, version, 3, files.bidi_mirroring)?,
     })
 }
 
 // Parses the four files for line breaking.
-fn read_breaks(alloc: Global, files: &UcdFiles<'_>) -> Result<BreakEntries, TableFault>
+fn read_breaks(
+    alloc: Global,
+    version: Version,
+    files: &UcdFiles<'_>,
+) -> Result<BreakEntries, TableFault>
     ensures classes { IfOk result (λ e.
-        HoldsFile line_class_form (lines_of files.now.line_break.now) e.classes) }
+        HoldsFile (line_class_form version) (lines_of files.now.line_break.now) e.classes) }
     ensures categories { IfOk result (λ e.
         HoldsFile category_form (lines_of files.now.general_category.now) e.categories) }
     ensures widths { IfOk result (λ e.
         HoldsFile width_form (lines_of files.now.east_asian_width.now) e.widths) }
     ensures pictographs { IfOk result (λ e.
         HoldsFile emoji_form (lines_of files.now.emoji_data.now) e.pictographs) }
-    ensures err { IfErr result (IsBreakFaultOf files.now) }
+    ensures err { IfErr result (IsBreakFaultAs version files.now) }
 {
     Ok(BreakEntries {
-        classes: read_table(alloc, 4, files.line_break)?,
-        categories: read_table(alloc, 5, files.general_category)?,
-        widths: read_table(alloc, 6, files.east_asian_width)?,
-        pictographs: read_table(alloc, 7, files.emoji_data)?,
+        classes: read_table(alloc, version, 4, files.line_break)?,
+        categories: read_table(alloc, version, 5, files.general_category)?,
+        widths: read_table(alloc, version, 6, files.east_asian_width)?,
+        pictographs: read_table(alloc, version, 7, files.emoji_data)?,
     })
 }
 
@@ -119,7 +129,11 @@ pub fn drop_entries(_entries: Entries) {}
 
 impl Entries {
     /// Parses the files.
-    pub fn read(alloc: Global, files: &UcdFiles<'_>) -> Result<Entries, TableFault>
+    pub fn read(
+        alloc: Global,
+        version: Version,
+        files: &UcdFiles<'_>,
+    ) -> Result<Entries, TableFault>
         ensures bidi_classes { IfOk result (λ e.
             HoldsFile bidi_class_form (lines_of files.now.bidi_class.now) e.bidi.classes) }
         ensures brackets { IfOk result (λ e.
@@ -127,17 +141,17 @@ impl Entries {
         ensures mirrors { IfOk result (λ e.
             HoldsFile mirror_form (lines_of files.now.bidi_mirroring.now) e.bidi.mirrors) }
         ensures line_classes { IfOk result (λ e.
-            HoldsFile line_class_form (lines_of files.now.line_break.now) e.breaks.classes) }
+            HoldsFile (line_class_form version) (lines_of files.now.line_break.now) e.breaks.classes) }
         ensures categories { IfOk result (λ e.
             HoldsFile category_form (lines_of files.now.general_category.now) e.breaks.categories) }
         ensures widths { IfOk result (λ e.
             HoldsFile width_form (lines_of files.now.east_asian_width.now) e.breaks.widths) }
         ensures pictographs { IfOk result (λ e.
             HoldsFile emoji_form (lines_of files.now.emoji_data.now) e.breaks.pictographs) }
-        ensures err { IfErr result (IsFaultOf files.now) }
+        ensures err { IfErr result (IsFaultAs version files.now) }
     {
-        let bidi = read_bidi(alloc, files)?;
-        let breaks = read_breaks(alloc, files)?;
+        let bidi = read_bidi(alloc, version, files)?;
+        let breaks = read_breaks(alloc, version, files)?;
         Ok(Entries { bidi, breaks })
     }
 }

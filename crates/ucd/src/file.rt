@@ -6,6 +6,7 @@ ghost use Rattle.ucd.specs.Files.{AddsLine, IsLineCause, HoldsFile, IsFaultInFil
 use crate::fault::Cause;
 use crate::grammar::{Property, cut, read_line};
 use crate::range_table::RangeTable;
+use crate::version::Version;
 
 /// A faulty line and its cause, or the line at which memory ran out. Lines are numbered from 1.
 #[derive(Clone, Copy)]
@@ -15,21 +16,29 @@ pub struct FileFault {
 }
 
 // Parses one line, and adds its entry if it has one.
-fn add_line<V: Property>(table: &mut RangeTable<V>, line: &[u8]) -> Result<(), Cause>
-    ensures ok { OnOk result (AddsLine V.form table.old table.new line.now) }
-    ensures err { IfErr result (IsLineCause V.form table.old line.now) }
+fn add_line<V: Property>(
+    version: Version,
+    table: &mut RangeTable<V>,
+    line: &[u8],
+) -> Result<(), Cause>
+    ensures ok { OnOk result (AddsLine (V.form version) table.old table.new line.now) }
+    ensures err { IfErr result (IsLineCause (V.form version) table.old line.now) }
 {
-    match read_line::<V>(line)? {
+    match read_line::<V>(version, line)? {
         None => Ok(()),
         Some(entry) => table.add(entry),
     }
 }
 
 /// Adds the entries of a file to an empty table. Fails at the first faulty line.
-pub fn read_file<V: Property>(table: RangeTable<V>, file: &[u8]) -> Result<RangeTable<V>, FileFault>
+pub fn read_file<V: Property>(
+    version: Version,
+    table: RangeTable<V>,
+    file: &[u8],
+) -> Result<RangeTable<V>, FileFault>
     requires { table ≡ [] }
-    ensures ok { IfOk result (HoldsFile V.form (lines_of file.now)) }
-    ensures err { IfErr result (IsFaultInFile V.form (lines_of file.now)) }
+    ensures ok { IfOk result (HoldsFile (V.form version) (lines_of file.now)) }
+    ensures err { IfErr result (IsFaultInFile (V.form version) (lines_of file.now)) }
 {
     let mut table = table;
     let mut line = 0;
@@ -37,7 +46,7 @@ pub fn read_file<V: Property>(table: RangeTable<V>, file: &[u8]) -> Result<Range
     while let Some(text) = rest {
         let (front, after) = cut(text, b'\n');
         line += 1;
-        if let Err(cause) = add_line(&mut table, front) {
+        if let Err(cause) = add_line(version, &mut table, front) {
             return Err(FileFault { line, cause });
         }
         rest = after;

@@ -9,6 +9,7 @@ use crate::digits::digit_of;
 use crate::fault::Cause;
 use crate::plain::plain_line;
 use crate::properties::Properties;
+use crate::version::Version;
 use memchr::memchr;
 use std::alloc::AllocError;
 
@@ -28,30 +29,36 @@ impl<V: Copy> Clone for Entry<V> {
 
 /// A property that a file assigns to characters, and how the file's lines express it.
 pub trait Property: Copy + Drop {
-    ghost use Rattle.ucd.specs.Answers.{PropertyAnswers};
     ghost use Rattle.ucd.specs.Grammar.{Form};
+    ghost use Rattle.ucd.specs.declared.version.Version.{Version};
 
-    ghost form: { Form Self };
-
-    /// The properties of a character after a value of the file has been applied.
-    ghost put: { Self → PropertyAnswers → PropertyAnswers };
+    ghost form: { Version → Form Self };
 
     /// Returns whether the first field may be a range.
-    fn has_ranges() -> bool
-        ensures { result ≡ form.has_ranges };
+    fn has_ranges(version: Version) -> bool
+        ensures { result ≡ (form version).has_ranges };
 
     /// Returns whether a line has a third field.
-    fn has_third() -> bool
-        ensures { result ≡ form.has_third };
+    fn has_third(version: Version) -> bool
+        ensures { result ≡ (form version).has_third };
 
     /// Parses the value in the second and third fields. Returns `None` if the file does not allow this value,
     /// and `Some(None)` if the line gives no character a value.
-    fn read_value(second: &[u8], third: &[u8]) -> Option<Option<Self>>
-        ensures { result ≡ form.value second.now third.now };
+    fn read_value(version: Version, second: &[u8], third: &[u8]) -> Option<Option<Self>>
+        ensures { result ≡ (form version).value second.now third.now };
+}
+
+/// A value that is applied to the properties of characters.
+pub trait Layer: Copy + Drop {
+    ghost use Rattle.ucd.specs.Answers.{PropertyAnswers};
+    ghost use Rattle.ucd.specs.declared.version.Version.{Version};
+
+    /// The properties of a character after the value has been applied.
+    ghost put: { Version → Self → PropertyAnswers → PropertyAnswers };
 
     /// Returns the properties with this value applied.
-    fn put(self, properties: Properties) -> Properties
-        ensures { result ≡ put self properties };
+    fn put(self, version: Version, properties: Properties) -> Properties
+        ensures { result ≡ put version self properties };
 }
 
 /// Returns the bytes before the first `mark`, and the bytes after it if there is one.
@@ -150,10 +157,11 @@ fn points(field: &[u8], has_ranges: bool) -> Option<(u32, u32)>
 }
 
 fn entry_of<V: Property>(
+    _version: Version,
     points: Option<(u32, u32)>,
     value: Option<Option<V>>,
 ) -> Result<Option<Entry<V>>, Cause>
-    ensures { result ≡ by_points V.form points value }
+    ensures { result ≡ by_points (V.form _version) points value }
 {
     let Some((first, last)) = points else {
         return Err(Cause::CodePoint);
@@ -169,8 +177,8 @@ fn entry_of<V: Property>(
 }
 
 // Parses a line that has more than a comment.
-fn read_fields<V: Property>(content: &[u8]) -> Result<Option<Entry<V>>, Cause>
-    ensures { result ≡ by_fields V.form (fields_of content.now) }
+fn read_fields<V: Property>(version: Version, content: &[u8]) -> Result<Option<Entry<V>>, Cause>
+    ensures { result ≡ by_fields (V.form version) (fields_of content.now) }
 {
     let (field, rest) = cut_near(content, b';');
     let Some(rest) = rest else {
@@ -178,8 +186,8 @@ fn read_fields<V: Property>(content: &[u8]) -> Result<Option<Entry<V>>, Cause>
     };
     let (second, rest) = cut_near(rest, b';');
     let third = match rest {
-        None if !V::has_third() => b"".as_slice(),
-        Some(rest) if V::has_third() => {
+        None if !V::has_third(version) => b"".as_slice(),
+        Some(rest) if V::has_third(version) => {
             let (third, more) = cut_near(rest, b';');
             if more.is_some() {
                 return Err(Cause::FieldCount);
@@ -189,8 +197,8 @@ fn read_fields<V: Property>(content: &[u8]) -> Result<Option<Entry<V>>, Cause>
         _ => return Err(Cause::FieldCount),
     };
     let field = trimmed(field, SPACES);
-    let value = V::read_value(trimmed(second, SPACES), trimmed(third, SPACES));
-    entry_of(points(field, V::has_ranges()), value)
+    let value = V::read_value(version, trimmed(second, SPACES), trimmed(third, SPACES));
+    entry_of(version, points(field, V::has_ranges(version)), value)
 }
 
 const SPACES: &[u8] = b" \t";
@@ -199,21 +207,21 @@ const BLANKS: &[u8] = b" \t\r";
 
 /// Parses one line. Returns `None` if the line has no entry.
 #[inline(always)]
-pub fn read_line<V: Property>(line: &[u8]) -> Result<Option<Entry<V>>, Cause>
-    ensures { result ≡ reading_of V.form line.now }
+pub fn read_line<V: Property>(version: Version, line: &[u8]) -> Result<Option<Entry<V>>, Cause>
+    ensures { result ≡ reading_of (V.form version) line.now }
 {
-    if V::has_ranges() && !V::has_third() {
+    if V::has_ranges(version) && !V::has_third(version) {
         if let Some(plain) = plain_line(line) {
-            let value = V::read_value(plain.name, b"");
-            return entry_of(Some((plain.first, plain.last)), value);
+            let value = V::read_value(version, plain.name, b"");
+            return entry_of(version, Some((plain.first, plain.last)), value);
         }
     }
-    read_any_line(line)
+    read_any_line(version, line)
 }
 
 // Parses a line of any form.
-fn read_any_line<V: Property>(line: &[u8]) -> Result<Option<Entry<V>>, Cause>
-    ensures { result ≡ reading_of V.form line.now }
+fn read_any_line<V: Property>(version: Version, line: &[u8]) -> Result<Option<Entry<V>>, Cause>
+    ensures { result ≡ reading_of (V.form version) line.now }
 {
     let (line, _) = cut(line, b'#');
     if !line.is_ascii() {
@@ -223,5 +231,5 @@ fn read_any_line<V: Property>(line: &[u8]) -> Result<Option<Entry<V>>, Cause>
     if content.is_empty() {
         return Ok(None);
     }
-    read_fields(content)
+    read_fields(version, content)
 }

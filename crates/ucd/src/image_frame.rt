@@ -2,10 +2,11 @@
 ghost use Rattle.std.specs.Prelude.{◌≡◌, ◌+◌, ◌*◌, ◌^◌, ◌<◌, ◌≤◌, true, false};
 ghost use Rattle.std.specs.Prelude.{length, take, codes, IfErr, OnOk};
 ghost use Rattle.ucd.specs.Images.{page_count, bracket_count, mirror_count, brackets_at, mirrors_at};
-ghost use Rattle.ucd.specs.Images.{checksum_at, IsFramed, IsImageFault};
+ghost use Rattle.ucd.specs.Images.{checksum_at, image_version, IsFramed, IsImageFault};
 
 use crate::image_bytes::{checksum, u32_at, u64_at};
 use crate::image_fault::ImageFault;
+use crate::version::Version;
 
 /// The first bytes of an image.
 pub const MAGIC: &[u8] = b"hordguli-ucd";
@@ -13,14 +14,23 @@ pub const MAGIC: &[u8] = b"hordguli-ucd";
 /// The version of the format.
 pub const FORMAT: u32 = 1;
 
-/// The version of Unicode, 15.0.
-pub const VERSION: u32 = 0x000F_0000;
-
 /// The number of bytes of the header.
 pub const HEADER: usize = 32;
 
 /// The first byte of the pages.
 pub const PAGES_AT: usize = 8736;
+
+/// Returns the version of Unicode, if the number in the header is that of a version.
+pub fn image_version(bytes: &[u8]) -> Version
+    requires { 32 ≤ length bytes.now }
+    ensures { result ≡ image_version bytes.now }
+{
+    if u32_at(bytes, 16) == 0x0011_0000 {
+        Version::V17_0
+    } else {
+        Version::V15_0
+    }
+}
 
 /// Returns the number of pages.
 pub fn page_count(bytes: &[u8]) -> usize
@@ -99,7 +109,8 @@ pub fn check_frame(bytes: &[u8]) -> Result<(), ImageFault>
     if u32_at(bytes, 12) != FORMAT {
         return Err(ImageFault::Format);
     }
-    if u32_at(bytes, 16) != VERSION {
+    let version = image_version(bytes);
+    if u32_at(bytes, 16) != version.number() {
         return Err(ImageFault::Version);
     }
     let end = checksum_at(bytes);

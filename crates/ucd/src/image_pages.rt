@@ -3,12 +3,12 @@ ghost use Rattle.std.specs.Prelude.{◌≡◌, ◌≢◌, ℕ, ◌+◌, ◌*◌,
 ghost use Rattle.std.specs.Prelude.{length, slice_index, slice_index_or, IfOk, IsTrue};
 ghost use Rattle.ucd.specs.Answers.{unnamed, answers_in};
 ghost use Rattle.ucd.specs.ImagePages.{IsQuiet};
-ghost use Rattle.ucd.specs.Images.{page_number, entry_at, is_entry};
+ghost use Rattle.ucd.specs.Images.{image_version, page_number, entry_at, is_entry};
 ghost use Rattle.ucd.specs.Pages.{answers_at};
 ghost use Rattle.ucd.specs.Separators.{may_separate, IsUsual};
 
 use crate::image_bytes::u16_at;
-use crate::image_frame::{HEADER, PAGES_AT};
+use crate::image_frame::{HEADER, PAGES_AT, image_version};
 use crate::pages::{PAGE, PLACES, Pages};
 use crate::properties::Properties;
 use std::alloc::{AllocError, Global};
@@ -29,13 +29,16 @@ pub fn are_pages_known(bytes: &[u8], pages: usize) -> bool
 /// Returns whether the first `count` numbers of the pages encode properties.
 pub fn are_entries(bytes: &[u8], count: usize) -> bool
     requires { 8736 + 2 * count ≤ length bytes.now }
-    ensures yes { result ≡ true → (i : ℕ) → i < count → IsTrue (is_entry (entry_at bytes.now i)) }
+    ensures yes { result ≡ true → (i : ℕ) → i < count
+        → IsTrue (is_entry (image_version bytes.now) (entry_at bytes.now i)) }
     ensures no { result ≡ false
-        → ¬ ((i : ℕ) → i < count → IsTrue (is_entry (entry_at bytes.now i))) }
+        → ¬ ((i : ℕ) → i < count
+        → IsTrue (is_entry (image_version bytes.now) (entry_at bytes.now i))) }
 {
+    let version = image_version(bytes);
     let mut valid = true;
     for i in 0..count {
-        valid &= Properties::are_bits(u16_at(bytes, PAGES_AT + 2 * i));
+        valid &= Properties::are_bits(version, u16_at(bytes, PAGES_AT + 2 * i));
     }
     valid
 }
@@ -57,7 +60,8 @@ pub fn index_in(alloc: Global, bytes: &[u8]) -> Result<Vec<u16>, AllocError>
 /// Returns the properties that the first `count` numbers of the pages encode.
 pub fn entries_in(alloc: Global, bytes: &[u8], count: usize) -> Result<Vec<Properties>, AllocError>
     requires room { 8736 + 2 * count ≤ length bytes.now }
-    requires valid { (i : ℕ) → i < count → IsTrue (is_entry (entry_at bytes.now i)) }
+    requires valid { (i : ℕ) → i < count
+        → IsTrue (is_entry (image_version bytes.now) (entry_at bytes.now i)) }
     ensures len { IfOk result (λ entries. length entries.items ≡ count) }
     ensures each { IfOk result (λ entries. (i : ℕ) → i < count
         → slice_index_or entries.items i unnamed ≡ answers_in (entry_at bytes.now i)) }

@@ -5,14 +5,16 @@ ghost use Rattle.std.specs.Prelude.{Some, MatchOption, IfOk, OnOk, IsTrue};
 ghost use Rattle.std.specs.BTreeMap.{get};
 ghost use Rattle.std.specs.Ordering.{nat_cmp};
 ghost use Rattle.ucd.specs.Answers.{answers_in, unnamed};
-ghost use Rattle.ucd.specs.DistinctPages.{AreMarksApart};
+ghost use Rattle.ucd.specs.DistinctPages.{AreEntriesOf};
+ghost use Rattle.ucd.specs.declared.version.Version.{Version};
 ghost use Rattle.ucd.specs.ImageParts.{Adds16, Adds32, AddsPoint};
-ghost use Rattle.ucd.specs.Images.{u16_at, u32_at, is_entry, found, ArePoints};
+ghost use Rattle.ucd.specs.Images.{u16_at, u32_at, is_entry, version_number, found, ArePoints};
 
-use crate::image_frame::{FORMAT, MAGIC, VERSION};
+use crate::image_frame::{FORMAT, MAGIC};
 use crate::image_points::Point;
 use crate::properties::Properties;
 use crate::range_table::CODE_POINTS;
+use crate::version::Version;
 use std::alloc::{AllocError, Global};
 use std::collections::BTreeMap;
 
@@ -34,19 +36,25 @@ pub fn push_u32(bytes: &mut Vec<u8>, number: u32) -> Result<(), AllocError>
     Ok(())
 }
 
-/// Returns the header of an image with these numbers of pages, brackets and mirrors.
-pub fn header(alloc: Global, pages: u32, brackets: u32, mirrors: u32) -> Result<Vec<u8>, AllocError>
+/// Returns the header of an image with this version and these numbers of pages, brackets and mirrors.
+pub fn header(
+    alloc: Global,
+    version: Version,
+    pages: u32,
+    brackets: u32,
+    mirrors: u32,
+) -> Result<Vec<u8>, AllocError>
     ensures len { IfOk result (λ bytes. length bytes.items ≡ 32) }
     ensures magic { IfOk result (λ bytes. take 12 bytes.items ≡ codes "hordguli-ucd") }
     ensures format { IfOk result (λ bytes. u32_at bytes.items 12 ≡ 1) }
-    ensures version { IfOk result (λ bytes. u32_at bytes.items 16 ≡ 983040) }
+    ensures version { IfOk result (λ bytes. u32_at bytes.items 16 ≡ version_number version) }
     ensures pages { IfOk result (λ bytes. u32_at bytes.items 20 ≡ pages) }
     ensures brackets { IfOk result (λ bytes. u32_at bytes.items 24 ≡ brackets) }
     ensures mirrors { IfOk result (λ bytes. u32_at bytes.items 28 ≡ mirrors) }
 {
     let mut bytes = Vec::from_slice(alloc, MAGIC)?;
     push_u32(&mut bytes, FORMAT)?;
-    push_u32(&mut bytes, VERSION)?;
+    push_u32(&mut bytes, version.number())?;
     push_u32(&mut bytes, pages)?;
     push_u32(&mut bytes, brackets)?;
     push_u32(&mut bytes, mirrors)?;
@@ -69,10 +77,10 @@ pub fn index_bytes(alloc: Global, index: &[u16]) -> Result<Vec<u8>, AllocError>
 
 /// Returns the entries of the pages as bytes.
 pub fn entry_bytes(alloc: Global, entries: &[Properties]) -> Result<Vec<u8>, AllocError>
-    requires apart { AreMarksApart entries.now }
     ensures len { IfOk result (λ bytes. length bytes.items ≡ 2 * length entries.now) }
-    ensures valid { IfOk result (λ bytes. (k : ℕ) → k < length entries.now
-        → IsTrue (is_entry (u16_at bytes.items (2 * k)))) }
+    ensures valid { IfOk result (λ bytes. (version : Version) → AreEntriesOf version entries.now
+        → (k : ℕ) → k < length entries.now
+        → IsTrue (is_entry version (u16_at bytes.items (2 * k)))) }
     ensures each { IfOk result (λ bytes. (k : ℕ) → k < length entries.now
         → answers_in (u16_at bytes.items (2 * k)) ≡ slice_index_or entries.now k unnamed) }
 {

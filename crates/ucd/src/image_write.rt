@@ -1,7 +1,9 @@
 //! Encodes tables as an image.
-ghost use Rattle.std.specs.Prelude.{◌≡◌, ℕ, ◌*◌, ◌/◌, ◌%◌, ◌<◌, ◌≤◌, ◌&&◌, false};
+ghost use Rattle.std.specs.Prelude.{◌≡◌, ℕ, ◌*◌, ◌/◌, ◌%◌, ◌<◌, ◌≤◌};
 ghost use Rattle.std.specs.Prelude.{length, slice_index_or, IfOk, OnOk};
 ghost use Rattle.ucd.specs.Answers.{unnamed};
+ghost use Rattle.ucd.specs.DistinctPages.{IsEntryOf};
+ghost use Rattle.ucd.specs.declared.version.Version.{Version};
 ghost use Rattle.ucd.specs.ImageParts.{AddsChecksum, ArePages, Joins};
 ghost use Rattle.ucd.specs.Images.{checksum};
 ghost use Rattle.ucd.specs.Pages.{answers_at};
@@ -12,11 +14,13 @@ use crate::image_parts::{entry_bytes, header, index_bytes, push_u32};
 use crate::pages::Pages;
 use crate::properties::Properties;
 use crate::range_table::CODE_POINTS;
+use crate::version::Version;
 use std::alloc::{AllocError, Global};
 
 /// Returns the image that has these parts.
 pub fn joined(
     alloc: Global,
+    version: Version,
     index: &[u8],
     pages: &[u8],
     brackets: &[u8],
@@ -26,10 +30,11 @@ pub fn joined(
     requires pages { (length pages.now % 512 ≡ 0) × (length pages.now ≤ 512 * 4352) }
     requires brackets { (length brackets.now % 8 ≡ 0) × (length brackets.now ≤ 8 * 1114112) }
     requires mirrors { (length mirrors.now % 8 ≡ 0) × (length mirrors.now ≤ 8 * 1114112) }
-    ensures { IfOk result (λ image. Joins image.items index.now pages.now brackets.now mirrors.now) }
+    ensures { IfOk result (λ image. Joins version image.items index.now pages.now brackets.now mirrors.now) }
 {
     let mut bytes = header(
         alloc,
+        version,
         (pages.len() / 512) as u32,
         (brackets.len() / 8) as u32,
         (mirrors.len() / 8) as u32,
@@ -69,10 +74,10 @@ pub struct PageBytes {
 
 /// Returns the page numbers of all blocks, and pages of which no two are equal.
 pub fn page_bytes(alloc: Global, pages: &Pages) -> Result<PageBytes, AllocError>
-    requires { (c : ℕ) → c < 1114112
-        → ((answers_at pages.now.index.items pages.now.entries.items c).is_mark
-        && (answers_at pages.now.index.items pages.now.entries.items c).is_future_pictograph) ≡ false }
-    ensures { IfOk result (λ bytes. ArePages (answers_at pages.now.index.items pages.now.entries.items)
+    ensures { IfOk result (λ bytes. (version : Version)
+        → ((c : ℕ) → c < 1114112
+        → IsEntryOf version (answers_at pages.now.index.items pages.now.entries.items c))
+        → ArePages version (answers_at pages.now.index.items pages.now.entries.items)
         bytes.index.items bytes.entries.items) }
 {
     let points = points_of_pages(alloc, pages)?;

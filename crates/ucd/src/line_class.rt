@@ -1,15 +1,19 @@
 //! The line breaking classes (UAX #14, section 5.1, table 1), and how LineBreak.txt names them.
-ghost use Rattle.std.specs.Prelude.{◌≡◌, ◌<◌, IfSome, codes, slice_index_or};
-ghost use Rattle.ucd.specs.LineClasses.{name_of, class_named, all_classes, line_class_form};
+ghost use Rattle.std.specs.Prelude.{◌≡◌, ◌<◌, IfSome, Some, codes, slice_index_or};
+ghost use Rattle.ucd.specs.LineClasses.{name_of, class_named, class_named_15};
+ghost use Rattle.ucd.specs.LineNumbers.{numbered_classes};
 ghost use Rattle.ucd.specs.declared.line_class.LineClass.TheVariants.{BK};
-ghost use Rattle.ucd.specs.declared.line_class.TheConstants.{LINE_CLASS_COUNT};
+ghost use Rattle.ucd.specs.declared.line_class.TheConstants.{LINE_NUMBER_COUNT};
 ghost use Rattle.ucd.specs.Puts.{put_line_class};
+ghost use Rattle.ucd.specs.Versions.{line_class_form, line_class_in};
 
-use crate::grammar::Property;
+use crate::grammar::{Layer, Property};
 use crate::properties::Properties;
+use crate::version::Version;
 use std::fmt;
 
-/// A line breaking class. The variants have the short names of the Unicode Character Database.
+/// A line breaking class. The variants have the short names of the Unicode Character Database. The last six
+/// are not in Unicode 15.0.
 #[derive(Clone, Copy, PartialEq, Eq)]
 pub enum LineClass {
     BK,
@@ -55,17 +59,49 @@ pub enum LineClass {
     SA,
     SG,
     XX,
+    AK,
+    AP,
+    AS,
+    HH,
+    VF,
+    VI,
 }
 
 /// The number of classes.
-pub(crate) const LINE_CLASS_COUNT: usize = 43;
+pub(crate) const LINE_CLASS_COUNT: usize = 49;
+
+/// The number of classes of Unicode 15.0, which are the first ones.
+pub(crate) const LINE_CLASS_COUNT_15: usize = 43;
+
+/// The number of line numbers. A line number encodes a class and a detail (specs/LineNumbers.antt).
+pub(crate) const LINE_NUMBER_COUNT: usize = 56;
 
 // The classes in the order of the enum, from which the lists of variants and names are made.
 macro_rules! classes {
     ($list:ident) => {
         $list! {
             BK CM CR GL LF NL SP WJ ZW ZWJ B2 BA BB CB HY CL CP EX IN NS OP QU IS NU PO PR SY AI AL CJ EB
+            EM H2 H3 HL ID JL JT JV RI SA SG XX AK AP AS HH VF VI
+        }
+    };
+}
+
+// The classes of Unicode 15.0.
+macro_rules! classes_15 {
+    ($list:ident) => {
+        $list! {
+            BK CM CR GL LF NL SP WJ ZW ZWJ B2 BA BB CB HY CL CP EX IN NS OP QU IS NU PO PR SY AI AL CJ EB
             EM H2 H3 HL ID JL JT JV RI SA SG XX
+        }
+    };
+}
+
+// The class in each line number.
+macro_rules! numbered {
+    ($list:ident) => {
+        $list! {
+            BK CM CR GL LF NL SP WJ ZW ZWJ B2 BA BB CB HY CL CP EX IN NS OP QU IS NU PO PR SY AI AL CJ EB
+            EM H2 H3 HL ID JL JT JV RI SA SG XX AK AP AS HH VF VI QU QU AL AI SG XX SA
         }
     };
 }
@@ -79,6 +115,10 @@ macro_rules! names {
 }
 
 static ALL: [LineClass; LINE_CLASS_COUNT] = classes!(values);
+
+static ALL_15: [LineClass; LINE_CLASS_COUNT_15] = classes_15!(values);
+
+static NUMBERED: [LineClass; LINE_NUMBER_COUNT] = numbered!(values);
 
 // The short name of each class.
 static NAMES: [&str; LINE_CLASS_COUNT] = classes!(names);
@@ -94,12 +134,32 @@ impl LineClass {
         ALL.iter().copied().find(|class| class.name() == name)
     }
 
-    /// Returns the class at an index in the order of the enum.
-    pub(crate) fn at(place: usize) -> LineClass
-        requires { place < LINE_CLASS_COUNT }
-        ensures { result ≡ slice_index_or all_classes place BK }
+    /// Returns the class of Unicode 15.0 with this short name, or `None` if there is none.
+    pub(crate) fn from_name_15(name: &[u8]) -> Option<LineClass>
+        ensures { result ≡ class_named_15 name.now }
     {
-        ALL[place]
+        if let Some(class) = frequent(name) {
+            return Some(class);
+        }
+        ALL_15.iter().copied().find(|class| class.name() == name)
+    }
+
+    /// Returns the class in a line number.
+    pub(crate) fn in_number(number: usize) -> LineClass
+        requires { number < LINE_NUMBER_COUNT }
+        ensures { result ≡ slice_index_or numbered_classes number BK }
+    {
+        NUMBERED[number]
+    }
+
+    // Returns the class itself if the version has it, or else XX. A file of the version has no other classes.
+    fn in_version(self, version: Version) -> LineClass
+        ensures { result ≡ line_class_in version self }
+    {
+        match version {
+            Version::V15_0 if self as usize >= LINE_CLASS_COUNT_15 => LineClass::XX,
+            _ => self,
+        }
     }
 
     fn name(self) -> &'static [u8]
@@ -111,7 +171,8 @@ impl LineClass {
 
 // Returns the class with this short name, if it is one of those that nearly all lines of LineBreak.txt name.
 fn frequent(name: &[u8]) -> Option<LineClass>
-    ensures { IfSome result (λ class. name.now ≡ name_of class) }
+    ensures all { IfSome result (λ class. Some class ≡ class_named name.now) }
+    ensures first { IfSome result (λ class. Some class ≡ class_named_15 name.now) }
 {
     match name {
         b"AI" => Some(LineClass::AI),
@@ -139,21 +200,26 @@ impl fmt::Debug for LineClass {
 impl Property for LineClass {
     ghost form = { line_class_form };
 
-    ghost put = { put_line_class };
-
-    fn has_ranges() -> bool {
+    fn has_ranges(_version: Version) -> bool {
         true
     }
 
-    fn has_third() -> bool {
+    fn has_third(_version: Version) -> bool {
         false
     }
 
-    fn read_value(second: &[u8], _third: &[u8]) -> Option<Option<LineClass>> {
-        LineClass::from_name(second).map(Some)
+    fn read_value(version: Version, second: &[u8], _third: &[u8]) -> Option<Option<LineClass>> {
+        match version {
+            Version::V15_0 => LineClass::from_name_15(second).map(Some),
+            Version::V17_0 => LineClass::from_name(second).map(Some),
+        }
     }
+}
 
-    fn put(self, properties: Properties) -> Properties {
-        properties.with_line_class(self)
+impl Layer for LineClass {
+    ghost put = { put_line_class };
+
+    fn put(self, version: Version, properties: Properties) -> Properties {
+        properties.with_line_class(self.in_version(version))
     }
 }

@@ -8,12 +8,13 @@ use crate::bracket::{Bracket, Mirror};
 use crate::entries::Entries;
 use crate::image::{check_flags, decode_brackets, decode_mirrors, decode_pages};
 use crate::image_fault::ImageFault;
-use crate::image_frame::check_frame;
+use crate::image_frame::{check_frame, image_version};
 use crate::image_parts::point_bytes;
 use crate::image_write::{joined, page_bytes};
 use crate::pages::{Pages, entry_of, pages_of};
 use crate::points::points_of;
 use crate::properties::Properties;
+use crate::version::Version;
 use std::alloc::{AllocError, Global};
 use std::collections::BTreeMap;
 use std::marker::Model;
@@ -21,6 +22,7 @@ use std::marker::Model;
 /// The properties of each character, in pages, and maps of the brackets and mirrors.
 #[derive(Debug)]
 pub struct PagedTables {
+    version: Version,
     pages: Pages,
     brackets: BTreeMap<u32, Bracket>,
     mirrors: BTreeMap<u32, Mirror>,
@@ -29,6 +31,7 @@ pub struct PagedTables {
 impl Drop for PagedTables {
     fn drop(self) {
         let PagedTables {
+            version: _,
             pages: _,
             brackets: _,
             mirrors: _,
@@ -42,9 +45,9 @@ impl Model for PagedTables {
 
     ghost Value = { TableContents };
 
-    ghost view = { λ t. contents_in t.pages.index.items t.pages.entries.items t.brackets t.mirrors };
+    ghost view = { λ t. contents_in t.version t.pages.index.items t.pages.entries.items t.brackets t.mirrors };
 
-    ghost invariant = { λ t. AreSound t.pages.index.items t.pages.entries.items t.brackets t.mirrors };
+    ghost invariant = { λ t. AreSound t.version t.pages.index.items t.pages.entries.items t.brackets t.mirrors };
 }
 
 impl PagedTables {
@@ -52,16 +55,20 @@ impl PagedTables {
     ghost use Rattle.ucd.specs.Imaged.{IsImageOf, AreImagePagesDistinct};
     ghost use Rattle.ucd.specs.Images.{IsImageFault};
     ghost use Rattle.ucd.specs.Properties.{properties_of};
-    ghost use Rattle.ucd.specs.Said.{contents_of};
+    ghost use Rattle.ucd.specs.Versions.{IsOfVersion};
+    ghost use Rattle.ucd.specs.Said.{contents_of, AreKnown};
 
     /// Stores the entries of the files in pages.
-    pub fn of(alloc: Global, entries: &Entries) -> Result<PagedTables, AllocError>
-        ensures { IfOk result (λ tables. SayAlike tables (contents_of entries.now)) }
+    pub fn of(alloc: Global, version: Version, entries: &Entries) -> Result<PagedTables, AllocError>
+        requires { AreKnown version entries.now }
+        ensures version { IfOk result (λ tables. tables.version ≡ version) }
+        ensures say { IfOk result (λ tables. SayAlike tables (contents_of version entries.now)) }
     {
-        let pages = pages_of(alloc, entries)?;
+        let pages = pages_of(alloc, version, entries)?;
         let brackets = points_of(alloc, entries.bidi.brackets.as_slice())?;
         let mirrors = points_of(alloc, entries.bidi.mirrors.as_slice())?;
         Ok(PagedTables {
+            version,
             pages,
             brackets,
             mirrors,
@@ -80,6 +87,7 @@ impl PagedTables {
         let mirrors = decode_mirrors(alloc, bytes)?;
         check_flags(&pages, &brackets, &mirrors, bytes)?;
         Ok(PagedTables {
+            version: image_version(bytes),
             pages: pages.into_pages(),
             brackets,
             mirrors,
@@ -94,8 +102,29 @@ impl PagedTables {
         let pages = page_bytes(alloc, &self.pages)?;
         let brackets = point_bytes(alloc, &self.brackets)?;
         let mirrors = point_bytes(alloc, &self.mirrors)?;
-        let image = joined(alloc, &pages.index, &pages.entries, &brackets, &mirrors)?;
+        let image = joined(
+            alloc,
+            self.version,
+            &pages.index,
+            &pages.entries,
+            &brackets,
+            &mirrors,
+        )?;
         Ok(image)
+    }
+
+    /// Returns the version of Unicode.
+    pub fn version(&self) -> Version
+        ensures { result ≡ self.now.version }
+    {
+        self.version
+    }
+
+    /// States that the version has the line breaking class and the detail of each character.
+    pub fn properties_fit_version(&self)
+        ensures { (c : ℕ) → c < 1114112 → IsOfVersion self.now.version (properties_of self.now c) }
+    {
+        let _version = self.version;
     }
 
     /// Returns whether each character of class B is U+0085, U+2029 or below U+0020.

@@ -4,16 +4,17 @@ ghost use Rattle.std.specs.Prelude.{◌≡◌, ◌≢◌, ℕ, ◌+◌, ◌*◌,
 ghost use Rattle.std.specs.Prelude.{length, slice_index, slice_index_or};
 ghost use Rattle.std.specs.Prelude.{nat_le, nat_lt, ◌&&◌, false, true, if◌then◌else◌, IfOk, IsTrue};
 ghost use Rattle.ucd.specs.Answers.{unnamed};
-ghost use Rattle.ucd.specs.Contents.{TableContents};
+ghost use Rattle.ucd.specs.Layers.{Layers};
 ghost use Rattle.ucd.specs.Pages.{answers_at, EndsWithPage, HasPage};
 ghost use Rattle.ucd.specs.Runs.{ReachesTo};
-ghost use Rattle.ucd.specs.Said.{said, contents_of};
+ghost use Rattle.ucd.specs.Said.{said, layers_of};
 ghost use Rattle.ucd.specs.Separators.{may_separate, IsUsual};
 ghost use Rattle.ucd.specs.declared.bidi_class.BidiClass.TheVariants.{B};
 
 use crate::entries::Entries;
 use crate::properties::Properties;
 use crate::runs::Runs;
+use crate::version::Version;
 use std::alloc::{AllocError, Global};
 
 /// The number of code points in a page.
@@ -69,14 +70,14 @@ pub fn entry_of(index: &[u16], entries: &[Properties], c: char) -> Properties
 
 /// Returns the pages of all code points. Blocks inside one run are not looked at: they have the page of the
 /// block before.
-pub fn pages_of(alloc: Global, entries: &Entries) -> Result<Pages, AllocError>
+pub fn pages_of(alloc: Global, version: Version, entries: &Entries) -> Result<Pages, AllocError>
     ensures { IfOk result (λ pages. (c : ℕ) → c < 1114112
-        → answers_at pages.index.items pages.entries.items c ≡ said (contents_of entries.now) c) }
+        → answers_at pages.index.items pages.entries.items c ≡ said (layers_of version entries.now) c) }
 {
     let mut index = Vec::with_capacity(alloc, PLACES)?;
     let mut pages = Vec::new(alloc);
     let mut page = unnamed_points(alloc, PAGE)?;
-    let mut runs = Runs::of(entries);
+    let mut runs = Runs::of(version, entries);
     for place in 0..PLACES {
         let start = place * PAGE;
         let run = runs.run();
@@ -109,8 +110,8 @@ fn fill<'a>(runs: Runs<'a>, start: usize, page: &mut [Properties]) -> Runs<'a>
     requires page { length page.old ≡ 256 }
     requires start { start + 256 ≤ 1114112 }
     requires run { (runs.run.start ≤ start) × (start ≤ runs.run.end) × (runs.run.end ≤ 1114112) }
-    ensures reaches { (k : TableContents) → ReachesTo k runs.entry start → ReachesTo k result (start + 256) }
-    ensures page { (k : TableContents) → ReachesTo k runs.entry start
+    ensures reaches { (k : Layers) → ReachesTo k runs.entry start → ReachesTo k result (start + 256) }
+    ensures page { (k : Layers) → ReachesTo k runs.entry start
         → (i : ℕ) → i < 256 → slice_index_or page.new i unnamed ≡ said k (start + i) }
 {
     let mut runs = runs;

@@ -1,21 +1,24 @@
 //! The properties of one character in 16 bits, from a single lookup.
 ghost use Rattle.std.specs.Prelude.{◌≡◌, ◌≢◌, ◌<◌, ◌&&◌, true, false, IsTrue};
-ghost use Rattle.ucd.specs.declared.properties.TheConstants.{LINE_INDEX_COUNT};
 ghost use Rattle.ucd.specs.declared.bidi_class.BidiClass.TheVariants.{B};
+ghost use Rattle.ucd.specs.declared.line_detail.LineDetail.TheVariants.{Plain};
 
 use crate::bidi_class::BidiClass;
 use crate::line_class::LineClass;
+use crate::line_detail::LineDetail;
+use crate::version::Version;
 use std::marker::Model;
 
-/// The number of values of `Properties::line_index`: 8 for each line breaking class that six bits can encode.
+/// The number of values of `Properties::line_index`: 8 for each value of six bits.
 pub const LINE_INDEX_COUNT: usize = 512;
 
 /// The properties of one character, except the other bracket of its pair and its mirror.
 ///
-/// From the lowest bit: five bits for the bidi class, five flags, and six bits for the line breaking class.
-/// The flags say, in order, whether the character is a bracket, has a mirror, is a future pictograph, is a
-/// mark, and is wide. There can be up to 32 bidi classes and 64 line breaking classes. All 16 bits are used.
-/// Another property would require a `u32`, and so pages of twice the size.
+/// From the lowest bit: five bits for the bidi class, five flags, and six bits for the line number, which
+/// encodes the line breaking class and its detail. The flags say, in order, whether the character is a
+/// bracket, has a mirror, is a future pictograph, is a mark, and is wide. There can be up to 32 bidi classes
+/// and 64 line numbers. All 16 bits are used. Another property would require a `u32`, and so pages of twice
+/// the size.
 #[derive(Clone, Copy, Debug)]
 pub struct Properties {
     bits: u16,
@@ -38,9 +41,14 @@ impl Model for Properties {
 }
 
 impl Properties {
-    ghost use Rattle.ucd.specs.Answers.{answers_in, line_index, unnamed};
+    ghost use Rattle.ucd.specs.Answers.{AreBits, answers_in, line_answers, line_answers_at, line_class_at};
+    ghost use Rattle.ucd.specs.Answers.{line_detail_at, line_index, unnamed};
+    ghost use Rattle.ucd.specs.DistinctPages.{IsEntryOf};
     ghost use Rattle.ucd.specs.ImagePages.{IsQuiet};
     ghost use Rattle.ucd.specs.Images.{is_entry};
+    ghost use Rattle.ucd.specs.Versions.{circle_by, quote_by};
+    ghost use Rattle.ucd.specs.declared.category.Category.TheVariants.{InitialQuote, FinalQuote};
+    ghost use Rattle.ucd.specs.declared.version.Version.{Version};
 
     /// Returns the properties of a character that no line names: bidi class `L`, line breaking class `XX`,
     /// and no flags.
@@ -77,10 +85,56 @@ impl Properties {
     }
 
     pub(crate) fn with_line_class(self, class: LineClass) -> Properties
-        ensures { result ≡ record self { line_class = class } }
+        ensures { result ≡ record self { line_class = class; line_detail = Plain } }
     {
         Properties {
             bits: class as u16 * 1024 + self.bits % 1024,
+        }
+    }
+
+    // Returns the properties with another line number.
+    fn with_number(self, number: u16) -> Properties
+        requires { number < 56 }
+        ensures { result ≡ record self { line_class = line_class_at number; line_detail = line_detail_at number } }
+    {
+        Properties {
+            bits: number * 1024 + self.bits % 1024,
+        }
+    }
+
+    /// Returns the properties of an initial quotation mark, if the line breaking class is QU.
+    pub(crate) fn with_initial_quote(self) -> Properties
+        ensures { result ≡ record self { line_detail = quote_by InitialQuote self.line_class self.line_detail } }
+    {
+        if self.line_class() == LineClass::QU {
+            self.with_number(49)
+        } else {
+            self
+        }
+    }
+
+    /// Returns the properties of a final quotation mark, if the line breaking class is QU.
+    pub(crate) fn with_final_quote(self) -> Properties
+        ensures { result ≡ record self { line_detail = quote_by FinalQuote self.line_class self.line_detail } }
+    {
+        if self.line_class() == LineClass::QU {
+            self.with_number(50)
+        } else {
+            self
+        }
+    }
+
+    /// Returns the properties of a dotted circle, if LB1 resolves the line breaking class to AL.
+    pub(crate) fn with_circle(self) -> Properties
+        ensures { result ≡ record self { line_detail = circle_by self.line_class self.line_detail } }
+    {
+        match self.line_class() {
+            LineClass::AL => self.with_number(51),
+            LineClass::AI => self.with_number(52),
+            LineClass::SG => self.with_number(53),
+            LineClass::XX => self.with_number(54),
+            LineClass::SA => self.with_number(55),
+            _ => self,
         }
     }
 
@@ -120,17 +174,17 @@ impl Properties {
         }
     }
 
-    /// Returns whether the bits encode properties: both classes are in range, and no mark is a future
-    /// pictograph.
-    pub(crate) fn are_bits(bits: u16) -> bool
-        ensures { result ≡ is_entry bits }
+    /// Returns whether the bits encode properties: the bidi class and the line number are in range, and no
+    /// mark is a future pictograph.
+    pub(crate) fn are_bits(version: Version, bits: u16) -> bool
+        ensures { result ≡ is_entry version bits }
     {
-        (bits % 32 < 23) & (bits / 1024 < 43) & (bits / 128 % 4 != 3)
+        (bits % 32 < 23) & (bits / 1024 < version.number_count()) & (bits / 128 % 4 != 3)
     }
 
     /// Returns the properties that the bits encode.
     pub(crate) fn from_bits(bits: u16) -> Properties
-        requires { IsTrue (is_entry bits) }
+        requires { AreBits bits }
         ensures { result ≡ answers_in bits }
     {
         Properties { bits }
@@ -139,7 +193,7 @@ impl Properties {
     /// Returns the bits that encode the properties.
     pub(crate) fn bits(self) -> u16
         ensures answers { answers_in result ≡ self }
-        ensures valid { (self.is_mark && self.is_future_pictograph) ≡ false → IsTrue (is_entry result) }
+        ensures valid { (version : Version) → IsEntryOf version self → IsTrue (is_entry version result) }
     {
         self.bits
     }
@@ -178,7 +232,14 @@ impl Properties {
     pub fn line_class(self) -> LineClass
         ensures { result ≡ self.line_class }
     {
-        LineClass::at((self.bits / 1024) as usize)
+        LineClass::in_number((self.bits / 1024) as usize)
+    }
+
+    /// Returns what the rules of Unicode 17.0 need to know beside the line breaking class.
+    pub fn line_detail(self) -> LineDetail
+        ensures { result ≡ self.line_detail }
+    {
+        LineDetail::in_number((self.bits / 1024) as usize)
     }
 
     /// Returns whether the East Asian width is F, W or H.
@@ -216,12 +277,13 @@ impl Properties {
         self.bits / 64 % 2 == 1
     }
 
-    /// Returns all that line breaking needs as one number: 8 times the index of the line breaking class in
-    /// `LineClass`, plus three flags. The flags are 4 for a wide character, 2 for a mark and 1 for a future
-    /// pictograph.
+    /// Returns all that line breaking needs as one number: 8 times the line number, plus three flags. The
+    /// flags are 4 for a wide character, 2 for a mark and 1 for a future pictograph. The line number of a
+    /// character without a detail is the index of its line breaking class in `LineClass`.
     pub fn line_index(self) -> usize
         ensures index { result ≡ line_index self }
-        ensures within { result < LINE_INDEX_COUNT }
+        ensures answers { line_answers self ≡ line_answers_at result }
+        ensures within { result < 448 }
     {
         (self.bits / 128) as usize
     }

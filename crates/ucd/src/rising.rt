@@ -13,6 +13,7 @@ ghost use Rattle.ucd.specs.Rising.{AreRisingFrom, if_any, characters_of, entries
 use crate::fault::Cause;
 use crate::grammar::{Entry, Property, cut, read_line};
 use crate::range_table::{FIRST_SURROGATE, LAST_CHARACTER, LAST_SURROGATE};
+use crate::version::Version;
 use std::alloc::{AllocError, Global};
 use std::marker::Model;
 
@@ -42,10 +43,10 @@ impl<V: Copy> RisingEntries<V> {
 
 impl<V: Property> RisingEntries<V> {
     /// Parses a file. Returns `None` if a line is faulty or memory runs out.
-    pub fn of_file(alloc: Global, file: &[u8]) -> Option<RisingEntries<V>>
-        ensures { IfSome result (HoldsFile V.form (lines_of file.now)) }
+    pub fn of_file(alloc: Global, version: Version, file: &[u8]) -> Option<RisingEntries<V>>
+        ensures { IfSome result (HoldsFile (V.form version) (lines_of file.now)) }
     {
-        let Ok(mut entries) = collect(alloc, file) else {
+        let Ok(mut entries) = collect(alloc, version, file) else {
             return None;
         };
         // A file has few runs of rising lines, which a stable sort merges.
@@ -75,27 +76,35 @@ fn are_rising<V: Copy>(entries: &[Entry<V>]) -> bool
 }
 
 // Returns the entries of all lines, in the order of the lines. Different lines may name the same character.
-fn collect<V: Property>(alloc: Global, file: &[u8]) -> Result<Vec<Entry<V>>, Cause>
-    ensures entries { IfOk result (λ entries. entries.items ≡ entries_in V.form (lines_of file.now)) }
-    ensures read { IsOk result → AreRead V.form (lines_of file.now) }
+fn collect<V: Property>(
+    alloc: Global,
+    version: Version,
+    file: &[u8],
+) -> Result<Vec<Entry<V>>, Cause>
+    ensures entries { IfOk result (λ entries. entries.items ≡ entries_in (V.form version) (lines_of file.now)) }
+    ensures read { IsOk result → AreRead (V.form version) (lines_of file.now) }
 {
     let mut entries = Vec::new(alloc);
     let mut rest = Some(file);
     while let Some(text) = rest {
         let (line, after) = cut(text, b'\n');
-        collect_line(&mut entries, line)?;
+        collect_line(version, &mut entries, line)?;
         rest = after;
     }
     Ok(entries)
 }
 
 // Parses one line, and appends its entry if it has one.
-fn collect_line<V: Property>(entries: &mut Vec<Entry<V>>, line: &[u8]) -> Result<(), Cause>
+fn collect_line<V: Property>(
+    version: Version,
+    entries: &mut Vec<Entry<V>>,
+    line: &[u8],
+) -> Result<(), Cause>
     ensures entries { OnOk result (entries.new.items
-        ≡ entries.old.items ++ entries_by (reading_of V.form line.now)) }
-    ensures read { OnOk result (IsOk (reading_of V.form line.now)) }
+        ≡ entries.old.items ++ entries_by (reading_of (V.form version) line.now)) }
+    ensures read { OnOk result (IsOk (reading_of (V.form version) line.now)) }
 {
-    let Some(entry) = read_line::<V>(line)? else {
+    let Some(entry) = read_line::<V>(version, line)? else {
         return Ok(());
     };
     match push_characters(entries, entry) {

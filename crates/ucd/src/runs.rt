@@ -1,7 +1,7 @@
 //! Runs of code points with the same properties.
 //!
-//! The entries of all files are passed once, side by side. A run ends where an entry of a file begins or
-//! ends.
+//! The entries of all files, and those that a version adds, are passed once, side by side. A run ends where an
+//! entry begins or ends.
 ghost use Rattle.std.specs.Prelude.{◌≡◌, ℕ, ◌<◌, ◌≤◌, List};
 ghost use Rattle.ucd.specs.declared.grammar.Entry.{Entry};
 ghost use Rattle.ucd.specs.Entries.{value_at};
@@ -11,13 +11,16 @@ ghost use Rattle.ucd.specs.Rising.{AreRisingFrom};
 use crate::bidi_class::BidiClass;
 use crate::bracket::{Bracket, Mirror};
 use crate::category::Category;
+use crate::default_classes::default_classes;
+use crate::dotted_circle::{Circle, circles};
 use crate::emoji::Pictograph;
 use crate::entries::Entries;
-use crate::grammar::{Entry, Property};
+use crate::grammar::{Entry, Layer};
 use crate::line_class::LineClass;
 use crate::properties::Properties;
 use crate::range_table::CODE_POINTS;
 use crate::rising::RisingEntries;
+use crate::version::Version;
 use crate::width::Width;
 use std::marker::Model;
 
@@ -43,7 +46,7 @@ impl<'a, V> Model for Cursor<'a, V> {
     ghost invariant = { λ c. AreRisingFrom 0 c.entries.now };
 }
 
-impl<'a, V: Property> Cursor<'a, V> {
+impl<'a, V: Layer> Cursor<'a, V> {
     ghost use Rattle.ucd.specs.Runs.{EndsFrom};
 
     fn new(entries: &'a RisingEntries<V>) -> Cursor<'a, V>
@@ -52,6 +55,13 @@ impl<'a, V: Property> Cursor<'a, V> {
         Cursor {
             entries: entries.as_slice(),
         }
+    }
+
+    fn of(entries: &'a [Entry<V>]) -> Cursor<'a, V>
+        requires { AreRisingFrom 0 entries.now }
+        ensures { result ≡ entries.now }
+    {
+        Cursor { entries }
     }
 
     // Passes the entries that end before `point`.
@@ -70,14 +80,14 @@ impl<'a, V: Property> Cursor<'a, V> {
         Cursor { entries }
     }
 
-    // Applies the value at the run's start, and ends the run where the file gives another value.
-    fn applied(&self, run: Run) -> Run
+    // Applies the value at the run's start, and ends the run where the entries give another value.
+    fn applied(&self, version: Version, run: Run) -> Run
         requires ends { EndsFrom run.start self.now }
         requires run { run.start < run.end }
         ensures start { result.start ≡ run.start }
         ensures end { (run.start < result.end) × (result.end ≤ run.end) }
         ensures put { result.properties
-            ≡ put_by V.put (value_at self.now run.start) run.properties }
+            ≡ put_by (V.put version) (value_at self.now run.start) run.properties }
         ensures same { (c : ℕ) → run.start ≤ c → c < result.end
             → value_at self.now c ≡ value_at self.now run.start }
     {
@@ -93,82 +103,94 @@ impl<'a, V: Property> Cursor<'a, V> {
         }
         Run {
             end: run.end.min(end),
-            properties: first.value.put(run.properties),
+            properties: first.value.put(version, run.properties),
             ..run
         }
     }
 }
 
-/// The entries of all files that have not been passed.
+/// The entries that have not been passed.
 #[derive(Drop)]
 pub struct Left<'a> {
+    version: Version,
+    default_classes: Cursor<'a, BidiClass>,
     bidi_classes: Cursor<'a, BidiClass>,
     brackets: Cursor<'a, Bracket>,
     mirrors: Cursor<'a, Mirror>,
     line_classes: Cursor<'a, LineClass>,
-    categories: Cursor<'a, Category>,
+    circles: Cursor<'a, Circle>,
     widths: Cursor<'a, Width>,
     pictographs: Cursor<'a, Pictograph>,
+    categories: Cursor<'a, Category>,
 }
 
 impl<'a> Left<'a> {
-    ghost use Rattle.ucd.specs.Runs.{contents_left, AllEndFrom};
-    ghost use Rattle.ucd.specs.Said.{said, contents_of};
+    ghost use Rattle.ucd.specs.Runs.{layers_left, AllEndFrom};
+    ghost use Rattle.ucd.specs.Said.{said, layers_of};
 
-    fn of(entries: &'a Entries) -> Left<'a>
-        ensures { contents_left result ≡ contents_of entries.now }
+    fn of(version: Version, entries: &'a Entries) -> Left<'a>
+        ensures { layers_left result ≡ layers_of version entries.now }
     {
         Left {
+            version,
+            default_classes: Cursor::of(default_classes(version)),
             bidi_classes: Cursor::new(&entries.bidi.classes),
             brackets: Cursor::new(&entries.bidi.brackets),
             mirrors: Cursor::new(&entries.bidi.mirrors),
             line_classes: Cursor::new(&entries.breaks.classes),
-            categories: Cursor::new(&entries.breaks.categories),
+            circles: Cursor::of(circles(version)),
             widths: Cursor::new(&entries.breaks.widths),
             pictographs: Cursor::new(&entries.breaks.pictographs),
+            categories: Cursor::new(&entries.breaks.categories),
         }
     }
 
     // Passes the entries that end before `point`.
     fn passed(&self, point: usize) -> Left<'a>
         ensures said { (c : ℕ) → point ≤ c
-            → said (contents_left result) c ≡ said (contents_left self.now) c }
-        ensures ends { AllEndFrom point (contents_left result) }
+            → said (layers_left result) c ≡ said (layers_left self.now) c }
+        ensures ends { AllEndFrom point (layers_left result) }
     {
         Left {
+            version: self.version,
+            default_classes: self.default_classes.passed(point),
             bidi_classes: self.bidi_classes.passed(point),
             brackets: self.brackets.passed(point),
             mirrors: self.mirrors.passed(point),
             line_classes: self.line_classes.passed(point),
-            categories: self.categories.passed(point),
+            circles: self.circles.passed(point),
             widths: self.widths.passed(point),
             pictographs: self.pictographs.passed(point),
+            categories: self.categories.passed(point),
         }
     }
 
     // Returns the run that starts at `start`.
     fn run_at(&self, start: usize) -> Run
-        requires ends { AllEndFrom start (contents_left self.now) }
+        requires ends { AllEndFrom start (layers_left self.now) }
         requires start { start < 1114112 }
         ensures start { result.start ≡ start }
         ensures end { (start < result.end) × (result.end ≤ 1114112) }
         ensures said { (c : ℕ) → start ≤ c → c < result.end
-            → said (contents_left self.now) c ≡ result.properties }
+            → said (layers_left self.now) c ≡ result.properties }
     {
         let run = Run {
             start,
             end: CODE_POINTS,
             properties: Properties::unnamed(),
         };
-        let run = self.bidi_classes.applied(run);
-        let run = self.brackets.applied(run);
-        let run = self.mirrors.applied(run);
-        let run = self.line_classes.applied(run);
-        let run = self.widths.applied(run);
+        let version = self.version;
+        let run = self.default_classes.applied(version, run);
+        let run = self.bidi_classes.applied(version, run);
+        let run = self.brackets.applied(version, run);
+        let run = self.mirrors.applied(version, run);
+        let run = self.line_classes.applied(version, run);
+        let run = self.circles.applied(version, run);
+        let run = self.widths.applied(version, run);
         // Categories are applied after pictographs, because a pictograph counts as unassigned until its
         // category says otherwise.
-        let run = self.pictographs.applied(run);
-        self.categories.applied(run)
+        let run = self.pictographs.applied(version, run);
+        self.categories.applied(version, run)
     }
 }
 
@@ -180,13 +202,13 @@ pub struct Runs<'a> {
 }
 
 impl<'a> Runs<'a> {
-    ghost use Rattle.ucd.specs.Contents.{TableContents};
+    ghost use Rattle.ucd.specs.Layers.{Layers};
     ghost use Rattle.ucd.specs.Runs.{ReachesTo};
-    ghost use Rattle.ucd.specs.Said.{contents_of};
+    ghost use Rattle.ucd.specs.Said.{layers_of};
 
     /// Returns an empty run before the first code point.
-    pub fn of(entries: &'a Entries) -> Runs<'a>
-        ensures { ReachesTo (contents_of entries.now) result 0 }
+    pub fn of(version: Version, entries: &'a Entries) -> Runs<'a>
+        ensures { ReachesTo (layers_of version entries.now) result 0 }
     {
         let run = Run {
             start: 0,
@@ -194,7 +216,7 @@ impl<'a> Runs<'a> {
             properties: Properties::unnamed(),
         };
         Runs {
-            left: Left::of(entries),
+            left: Left::of(version, entries),
             run,
         }
     }
@@ -212,7 +234,7 @@ impl<'a> Runs<'a> {
         requires point { point < 1114112 }
         ensures start { result.run.start ≤ point }
         ensures end { (point < result.run.end) × (result.run.end ≤ 1114112) }
-        ensures reaches { (k : TableContents) → ReachesTo k self.entry point → ReachesTo k result point }
+        ensures reaches { (k : Layers) → ReachesTo k self.entry point → ReachesTo k result point }
     {
         if point < self.run.end {
             self
@@ -226,7 +248,7 @@ impl<'a> Runs<'a> {
         requires { self.now.run.end < 1114112 }
         ensures start { result.run.start ≡ self.now.run.end }
         ensures end { (self.now.run.end < result.run.end) × (result.run.end ≤ 1114112) }
-        ensures reaches { (k : TableContents) → ReachesTo k self.now self.now.run.end
+        ensures reaches { (k : Layers) → ReachesTo k self.now self.now.run.end
             → ReachesTo k result self.now.run.end }
     {
         let left = self.left.passed(self.run.end);

@@ -2,8 +2,12 @@
 ghost use Rattle.std.specs.Prelude.{◌≡◌, ◌≢◌, ◌<◌, ℕ, length, map, true, false, IfOk, IfErr};
 ghost use Rattle.ucd.specs.Separators.{may_separate};
 ghost use Rattle.ucd.specs.declared.bidi_class.BidiClass.TheVariants.{B};
-ghost use Rattle.ucd.specs.Tables.{AreTablesOf, IsFaultOf};
-ghost use Rattle.ucd.specs.Tables.{class_of, bracket_of, mirror_of, line_class_of};
+ghost use Rattle.ucd.specs.Tables.{AreTablesOf, IsFaultOf, AreTablesAs, IsFaultAs};
+ghost use Rattle.ucd.specs.Tables.{class_of, bracket_of, mirror_of, line_class_of, line_detail_of};
+ghost use Rattle.ucd.specs.Answers.{line_tag};
+ghost use Rattle.ucd.specs.declared.line_class.TheConstants.{LINE_CLASS_COUNT_15};
+ghost use Rattle.ucd.specs.declared.line_detail.LineDetail.TheVariants.{Plain};
+ghost use Rattle.ucd.specs.declared.version.Version.TheVariants.{V15_0};
 ghost use Rattle.ucd.specs.Tables.{is_wide_in, is_mark_in, is_future_pictograph_in};
 
 use crate::bidi_class::BidiClass;
@@ -12,8 +16,10 @@ use crate::entries::{Entries, drop_entries};
 use crate::fault::TableFault;
 use crate::image_fault::ImageFault;
 use crate::line_class::LineClass;
+use crate::line_detail::LineDetail;
 use crate::paged::PagedTables;
 use crate::properties::Properties;
+use crate::version::Version;
 use std::alloc::{AllocError, Global};
 use std::marker::Model;
 use std::sync::Arc;
@@ -51,16 +57,28 @@ impl Tables {
     ghost use Rattle.ucd.specs.Imaged.{IsImageOf, AreImagePagesDistinct};
     ghost use Rattle.ucd.specs.Images.{IsImageFault};
     ghost use Rattle.ucd.specs.Properties.{properties_of};
-    ghost use Rattle.ucd.specs.Said.{contents_of};
+    ghost use Rattle.ucd.specs.Said.{contents_of, AreKnown};
 
-    /// Reads the tables from the files. Fails at the first faulty line, in file order and then line order,
+    /// Reads tables of Unicode 15.0 from the files. Fails at the first faulty line, in file order and then line order,
     /// with the first cause that applies (docs/reference.md).
     pub fn read(alloc: Global, files: &UcdFiles<'_>) -> Result<Tables, TableFault>
         ensures ok { IfOk result (AreTablesOf files.now) }
         ensures err { IfErr result (IsFaultOf files.now) }
     {
-        let entries = Entries::read(alloc, files)?;
-        let tables = Tables::of(alloc, &entries);
+        Tables::read_as(alloc, Version::V15_0, files)
+    }
+
+    /// Reads tables of a version from its files, as `read`.
+    pub fn read_as(
+        alloc: Global,
+        version: Version,
+        files: &UcdFiles<'_>,
+    ) -> Result<Tables, TableFault>
+        ensures ok { IfOk result (AreTablesAs version files.now) }
+        ensures err { IfErr result (IsFaultAs version files.now) }
+    {
+        let entries = Entries::read(alloc, version, files)?;
+        let tables = Tables::of(alloc, version, &entries);
         drop_entries(entries);
         match tables {
             Ok(tables) => Ok(tables),
@@ -92,10 +110,12 @@ impl Tables {
     }
 
     // Stores the entries of the files in pages.
-    fn of(alloc: Global, entries: &Entries) -> Result<Tables, AllocError>
-        ensures { IfOk result (λ tables. SayAlike tables (contents_of entries.now)) }
+    fn of(alloc: Global, version: Version, entries: &Entries) -> Result<Tables, AllocError>
+        requires { AreKnown version entries.now }
+        ensures version { IfOk result (λ tables. tables.version ≡ version) }
+        ensures say { IfOk result (λ tables. SayAlike tables (contents_of version entries.now)) }
     {
-        let shared = Arc::new(alloc, PagedTables::of(alloc, entries)?)?;
+        let shared = Arc::new(alloc, PagedTables::of(alloc, version, entries)?)?;
         Ok(Tables { shared })
     }
 
@@ -108,7 +128,24 @@ impl Tables {
         Ok(Tables { shared })
     }
 
-    /// Returns the bidi class, which is `L` if no line names the character.
+    /// Returns the version of Unicode.
+    pub fn version(&self) -> Version
+        ensures { result ≡ self.now.version }
+    {
+        self.shared.version()
+    }
+
+    /// States that tables of Unicode 15.0 give no character a class or a detail of a later version.
+    pub fn classes_fit_version(&self)
+        ensures { self.now.version ≡ V15_0 → (c : ℕ) → c < 1114112
+            → (line_tag (line_class_of self.now c) < LINE_CLASS_COUNT_15)
+            × (line_detail_of self.now c ≡ Plain) }
+    {
+        self.shared.properties_fit_version();
+    }
+
+    /// Returns the bidi class. If no line names the character, it is `L`, or with tables of Unicode 17.0 the
+    /// class in an `@missing` line of the file.
     pub fn bidi_class(&self, c: char) -> BidiClass
         ensures { result ≡ class_of self.now c }
     {
@@ -144,6 +181,14 @@ impl Tables {
         ensures { result ≡ line_class_of self.now c }
     {
         self.properties(c).line_class()
+    }
+
+    /// Returns what the rules of Unicode 17.0 need to know beside the line breaking class. With tables of
+    /// Unicode 15.0, it is always `Plain`.
+    pub fn line_detail(&self, c: char) -> LineDetail
+        ensures { result ≡ line_detail_of self.now c }
+    {
+        self.properties(c).line_detail()
     }
 
     /// Returns whether the East Asian width is F, W or H.

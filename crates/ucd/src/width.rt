@@ -3,8 +3,9 @@ ghost use Rattle.std.specs.Prelude.{◌≡◌, codes};
 ghost use Rattle.ucd.specs.Widths.{width_named, width_form};
 ghost use Rattle.ucd.specs.Puts.{put_width};
 
-use crate::grammar::Property;
+use crate::grammar::{Layer, Property};
 use crate::properties::Properties;
+use crate::version::Version;
 
 /// An East Asian width: F, W or H, or any other.
 #[derive(Clone, Copy)]
@@ -23,23 +24,25 @@ fn width_named(name: &[u8]) -> Width
 }
 
 impl Property for Width {
-    ghost form = { width_form };
+    ghost form = { λ _. width_form };
 
-    ghost put = { put_width };
-
-    fn has_ranges() -> bool {
+    fn has_ranges(_version: Version) -> bool {
         true
     }
 
-    fn has_third() -> bool {
+    fn has_third(_version: Version) -> bool {
         false
     }
 
-    fn read_value(second: &[u8], _third: &[u8]) -> Option<Option<Width>> {
+    fn read_value(_version: Version, second: &[u8], _third: &[u8]) -> Option<Option<Width>> {
         Some(Some(width_named(second)))
     }
+}
 
-    fn put(self, properties: Properties) -> Properties {
+impl Layer for Width {
+    ghost put = { λ _. put_width };
+
+    fn put(self, _version: Version, properties: Properties) -> Properties {
         match self {
             Width::Wide => properties.with_wide(),
             Width::Other => properties,

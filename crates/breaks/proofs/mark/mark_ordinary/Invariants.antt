@@ -1,4 +1,5 @@
 use Rattle.std.proofs.Common.{◌≡◌, ◌+◌, ◌≤◌, true, length, map, take, drop}
+use Rattle.ucd.specs.declared.version.Version.TheVariants.{V15_0}
 use Rattle.std.specs.List.{list_all}
 use Rattle.breaks.specs.Marks.{marks_of}
 use Rattle.breaks.specs.Walk.{FollowsOrdinary, is_ordinary}
@@ -10,7 +11,7 @@ use Rattle.breaks.specs.declared.table.TheConstants.{LAST_ROW}
 -- the marks so far, followed by those that the recursion gives for the rest, are the marks of the text
 abbrev pub invariant-loop-i : goal.invariant-loop-i
 invariant-loop-i g l = record {
-  walks : Walks l.whole_numbers l.walk (take l.i l.marks) (map character_by (drop l.i (g.C.Characters.all l.rest))) (marks_of l.tables l.whole_numbers l.text);
+  walks : Walks l.whole_numbers l.walk (take l.i l.marks) (map (character_by V15_0) (drop l.i (g.C.Characters.all l.rest))) (marks_of l.tables l.whole_numbers l.text);
   len : length l.marks ≡ length (g.C.Characters.all l.rest) + 1;
   within : l.walk.row ≤ LAST_ROW;
   before : FollowsOrdinary l.walk;

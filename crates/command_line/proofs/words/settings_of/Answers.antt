@@ -4,7 +4,7 @@ use Rattle.clap.specs.declared.parser.matches.Found.{Found}
 use Rattle.clap.specs.Takes.{is_given}
 use Rattle.clap.proofs.WalkLemmas.{first_value-rows, one_text-rows, raw_values-rows}
 use Rattle.std.specs.Str.Parse.{ParsesUnsigned, ExplainsUnsignedError, HasUnsignedDigitsIfOk}
-use Rattle.command_line.specs.CommandLine.{HasNumber, base_of, fits_queries, fits_script, number_of, program, queries_fit, script_fits, tab_width_of, texts_of}
+use Rattle.command_line.specs.CommandLine.{HasNumber, base_of, fits_queries, fits_script, number_of, program, queries_fit, script_fits, tab_width_of, texts_of, version_by, version_of}
 use Rattle.std.proofs.lemmas.List.{length-map}
 use Rattle.command_line.proofs.DefaultLemmas.{number_read}
 use Rattle.command_line.proofs.TabLemmas.{stops_in}
@@ -66,10 +66,12 @@ returns-clause-ok c = λ words m.
     let fits : c.fits_script.result ≡ true = search rules in
     let asks : c.fits_queries.result ≡ true = search rules in
     let print = c.print_of.ensures in
+    let versioned = c.version_by.ensures ∙ ap version_by (c.get_str.ensures ∙ first_value-rows found (codes "unicode")) in
     let tabs = c.in-Some.ensures.tab_width ∙ ap tab_width_of m.rows in
     record {
       taken = m.taken;
       ucd = sym (c.in-Some-get_str.ensures ∙ first_value-rows found (codes "ucd") ∙ ap (first_of (codes "ucd")) m.rows);
+      unicode = sym (versioned ∙ ap version_of m.rows);
       base = sym (c.in-Some.ensures.base ∙ ap base_of m.rows);
       width = ap (λ rows. option_map number_of (first_of (codes "width") rows)) (sym m.rows) ∙ width;
       wide = (omega (arith, is_width, m.width.allowed.1), omega (arith, is_width, m.width.allowed.2));
@@ -107,6 +109,7 @@ returns-then-not-fits_script-clause-err c = λ words m.
     let isnt : c.fits_script.result ≡ false = search rules in (
       m.taken,
       ap is_some (sym (c.in-Some.ensures.base ∙ ap base_of m.rows)),
+      ap is_some (sym (c.version_by.ensures ∙ ap version_by (c.get_str.ensures ∙ first_value-rows found (codes "unicode")) ∙ ap version_of m.rows)),
       script_one c.get_str-script.result
           (length c.unwrap_or-texts.result.now) (matches_of program _) script
           (omega (arith, ap length texts, length-map c.unwrap_or-texts.result.now (λ (s : Bor Text). s.now)))
@@ -124,6 +127,7 @@ returns-then-not-fits_queries-clause-err c = λ words m.
     let isnt : c.fits_queries.result ≡ false = search rules in (
       m.taken,
       ap is_some (sym (c.in-Some.ensures.base ∙ ap base_of m.rows)),
+      ap is_some (sym (c.version_by.ensures ∙ ap version_by (c.get_str.ensures ∙ first_value-rows found (codes "unicode")) ∙ ap version_of m.rows)),
       script_one c.get_str-script.result (length c.unwrap_or-texts.result.now) (matches_of program _) script
           (omega (arith, ap length texts, length-map c.unwrap_or-texts.result.now (λ (s : Bor Text). s.now)))
           ∙ sym c.fits_script.ensures ∙ fits,
@@ -141,6 +145,7 @@ returns-in_default-from_slice-clause-memory c =
     let fits : c.fits_script.result ≡ true = search rules in
     let asks : c.fits_queries.result ≡ true = search rules in (
       ap is_some (sym c.in-Some.ensures.base),
+      ap is_some (sym (c.version_by.ensures ∙ ap version_by (c.get_str.ensures ∙ first_value-rows found (codes "unicode")))),
       script_one c.get_str-script.result (length c.unwrap_or-texts.result.now) (rows_of found) script
           (omega (arith, ap length texts, length-map c.unwrap_or-texts.result.now (λ (s : Bor Text). s.now)))
           ∙ sym c.fits_script.ensures ∙ fits,

@@ -6,7 +6,7 @@ use Rattle.ucd.proofs.file.read_file.Given as goal
 -- the entries have the values of the first `line` lines, and `rest` is the text after these lines
 abbrev pub invariant-loop-rest : goal.invariant-loop-rest
 invariant-loop-rest g l = record {
-  held : HoldsLines g.V.Property.form (lines_of l.file) l.line l.table;
+  held : HoldsLines (g.V.Property.form l.version) (lines_of l.file) l.line l.table;
   left : drop l.line (lines_of l.file) ≡ lines_left (option_map (λ rest. rest.now) l.rest);
   count : l.line + size_left (option_map (λ rest. rest.now) l.rest) ≤ length l.file + 1;
 }

@@ -19,10 +19,10 @@ reads form line front content is low trim = rw (trim, is) (let all : list_all is
 
 pub returns-then-is_empty : goal.returns-then-is_empty
 returns-then-is_empty g c =
-    let is = reads g.V.Property.form c.args.line.now _ _ c.cut.ensures.front c.if-not-is_ascii.ensures.cases c.trimmed-content.ensures in
+    let is = reads (g.V.Property.form c.args.version) c.args.line.now _ _ c.cut.ensures.front c.if-not-is_ascii.ensures.cases c.trimmed-content.ensures in
     rw (is, ← c.if-is_empty.ensures) refl
 
 pub returns : goal.returns
 returns g c =
-    let is = reads g.V.Property.form c.args.line.now _ _ c.cut.ensures.front c.if-not-is_ascii.ensures.cases c.trimmed-content.ensures in
+    let is = reads (g.V.Property.form c.args.version) c.args.line.now _ _ c.cut.ensures.front c.if-not-is_ascii.ensures.cases c.trimmed-content.ensures in
     rw (is, ← c.if-is_empty.ensures) c.read_fields.ensures

@@ -1,6 +1,7 @@
-use Rattle.std.proofs.Common.{◌≡◌, ◌∙◌, ◌&&◌, get_or, below_more, sym, ap}
+use Rattle.std.proofs.Common.{◌≡◌, ◌∙◌, get_or, below_more, sym, subst}
 use Rattle.std.proofs.lemmas.List.{get_or_default}
 use Rattle.ucd.specs.Answers.{unnamed}
+use Rattle.ucd.specs.DistinctPages.{IsEntryOf}
 use Rattle.ucd.proofs.ImageParts.{more_16}
 use Rattle.ucd.proofs.image_parts.entry_bytes.Goals as goal
 
@@ -11,8 +12,8 @@ loop-k-preserved c =
     get_or_default c.args.entries.now c.loop-k.k unnamed c.index-entries-k.result c.loop-k-test.true ∙ sym c.index-entries-k.is in
     record {
       len = more.len;
-      valid = below_more _ _ (λ j lt. rw (more.before j lt) (c.loop-k.invariant.valid j lt))
-          (rw more.here (c.bits.ensures.valid (ap (λ a. a.is_mark && a.is_future_pictograph) (sym entry) ∙ c.requires.apart c.loop-k.k)));
+      valid = λ version all. below_more _ _ (λ j lt. rw (more.before j lt) (c.loop-k.invariant.valid version all j lt))
+          (rw more.here (c.bits.ensures.valid version (subst (IsEntryOf version) entry (all c.loop-k.k))));
       each = below_more _ _ (λ j lt. rw (more.before j lt) (c.loop-k.invariant.each j lt))
           (rw more.here (c.bits.ensures.answers ∙ sym entry));
     }

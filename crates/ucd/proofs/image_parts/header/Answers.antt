@@ -18,7 +18,7 @@ pub returns-clause-version : goal.returns-clause-version
 returns-clause-version c =
     let is = header_is c.in_ok-bytes.bytes.items _ _ _ _ _ _ _ _ _ _ (ap length c.in_ok-bytes.ensures.items) c.in_ok-push_u32.ensures
     c.in_ok-push_u32-2.ensures c.in_ok-push_u32-3.ensures c.in_ok-push_u32-4.ensures c.in_ok-push_u32-5.ensures in
-    is.b_is
+    is.b_is ∙ c.number.ensures
 
 pub returns-clause-pages : goal.returns-clause-pages
 returns-clause-pages c =

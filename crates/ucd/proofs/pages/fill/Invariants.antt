@@ -1,6 +1,6 @@
 use Rattle.std.proofs.Common.{◌≡◌, ℕ, ◌+◌, ◌-◌, ◌<◌, ◌≤◌, length, get_or}
 use Rattle.ucd.specs.Answers.{unnamed}
-use Rattle.ucd.specs.Contents.{TableContents}
+use Rattle.ucd.specs.Layers.{Layers}
 use Rattle.ucd.specs.Runs.{ReachesTo}
 use Rattle.ucd.specs.Said.{said}
 use Rattle.ucd.proofs.pages.fill.Given as goal
@@ -12,8 +12,8 @@ invariant-loop-point l = record {
   from : l.start ≤ l.point;
   to : l.point ≤ l.start + 256;
   run : (l.runs.run.start ≤ l.point) × (l.point ≤ l.runs.run.end) × (l.runs.run.end ≤ 1114112);
-  reaches : (k : TableContents) → ReachesTo k l.fn.runs l.start → ReachesTo k l.runs l.point;
-  filled : (k : TableContents) → ReachesTo k l.fn.runs l.start → (i : ℕ) → i < l.point - l.start → get_or l.page i unnamed ≡ said k (l.start + i);
+  reaches : (k : Layers) → ReachesTo k l.fn.runs l.start → ReachesTo k l.runs l.point;
+  filled : (k : Layers) → ReachesTo k l.fn.runs l.start → (i : ℕ) → i < l.point - l.start → get_or l.page i unnamed ≡ said k (l.start + i);
 }
 
 abbrev pub decreases-loop-point : goal.decreases-loop-point

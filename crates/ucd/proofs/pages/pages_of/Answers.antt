@@ -1,7 +1,7 @@
 use Rattle.std.proofs.Common.{◌≡◌, ◌+◌, ◌-◌, ◌*◌, ◌++◌, length, take, drop, get_or, sym, ◌∙◌, ap, subst, arith}
 use Rattle.std.proofs.lemmas.List.{append-nil, take_all, drop_all, get_or_default}
 use Rattle.ucd.specs.Runs.{ReachesTo}
-use Rattle.ucd.specs.Said.{said, contents_of}
+use Rattle.ucd.specs.Said.{said, layers_of}
 use Rattle.ucd.proofs.PageLemmas.{pages_more, pages_again}
 use Rattle.ucd.proofs.pages.pages_of.Goals as goal
 
@@ -14,7 +14,7 @@ loop-place-preserved-then-start-run c =
     let number : c.index-number.result.now ≡ get_or c.loop-place.index.items (c.loop-place.place - 1) 0 =
     c.index-number.ensures ∙ get_or_default c.loop-place.index.items (c.loop-place.place - 1) c.index-number.result.now 0 (omega (arith, begin, before.pages.places)) in
     record {
-      pages = rw c.in_ok-push.ensures.items (pages_again (said (contents_of c.args.entries.now)) c.loop-place.pages.items c.loop-place.index.items
+      pages = rw c.in_ok-push.ensures.items (pages_again (said (layers_of c.args.version c.args.entries.now)) c.loop-place.pages.items c.loop-place.index.items
           c.loop-place.place _ before.pages (omega (arith, begin)) number
           (λ k lt. before.reaches.run (start - 256 + k) (omega (arith, begin)) (omega (arith, end)) ∙ sym (before.reaches.run (start + k) (omega (arith, begin)) (omega (arith, end)))));
       reaches = record { from = omega (arith, begin); to = omega (arith, end); within = before.reaches.within; run = before.reaches.run; later = before.reaches.later };
@@ -24,7 +24,7 @@ loop-place-preserved-then-start-run c =
 pub loop-place-preserved : goal.loop-place-preserved
 loop-place-preserved c =
     let before = c.loop-place.invariant in
-    let k = contents_of c.args.entries.now in
+    let k = layers_of c.args.version c.args.entries.now in
     let start = c.loop-place.place * 256 in
     let page = c.fill-runs.new.page in
     let items = c.loop-place.page.items in

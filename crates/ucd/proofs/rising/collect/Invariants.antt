@@ -7,8 +7,8 @@ use Rattle.ucd.proofs.rising.collect.Given as goal
 -- the entries of the lines that are left follow those collected, and only these lines may be faulty
 abbrev pub invariant-loop-rest : goal.invariant-loop-rest
 invariant-loop-rest g l = record {
-  entries : l.entries.items ++ entries_in g.V.Property.form (lines_left (option_map (λ rest. rest.now) l.rest)) ≡ entries_in g.V.Property.form (lines_of l.file);
-  read : AreRead g.V.Property.form (lines_left (option_map (λ rest. rest.now) l.rest)) → AreRead g.V.Property.form (lines_of l.file);
+  entries : l.entries.items ++ entries_in (g.V.Property.form l.version) (lines_left (option_map (λ rest. rest.now) l.rest)) ≡ entries_in (g.V.Property.form l.version) (lines_of l.file);
+  read : AreRead (g.V.Property.form l.version) (lines_left (option_map (λ rest. rest.now) l.rest)) → AreRead (g.V.Property.form l.version) (lines_of l.file);
 }
 
 abbrev pub decreases-loop-rest : goal.decreases-loop-rest

@@ -1,4 +1,5 @@
 use Rattle.std.proofs.Common.{◌+◌, ◌<◌, arith, sym}
+use Rattle.ucd.specs.declared.version.Version.TheVariants.{V15_0}
 use Rattle.breaks.specs.Symbols.{character_by}
 use Rattle.breaks.proofs.PassLemmas.{passes_as, row_within}
 use Rattle.breaks.proofs.walk.Walk.pass.Goals as goal
@@ -6,7 +7,7 @@ use Rattle.breaks.specs.declared.table.TheConstants.{ENTRY_COUNT}
 
 pub returns-clause-passes : goal.returns-clause-passes
 returns-clause-passes c =
-    passes_as c.args.self.now _ _ _ (character_by c.args.next) _ _ c.symbol_of-symbol.ensures.below c.symbol_of-symbol.ensures.shown c.next_row-self.ensures c.outcome-outcome.ensures.outcome
+    passes_as c.args.self.now _ _ _ (character_by V15_0 c.args.next) _ _ c.symbol_of-symbol.ensures.below c.symbol_of-symbol.ensures.shown c.next_row-self.ensures c.outcome-outcome.ensures.outcome
     (sym (rw c.is_future_pictograph-is_pictograph.ensures at c.is_now_pictograph-self.ensures)) c.decide-decided.ensures.decided
 
 pub returns-clause-within : goal.returns-clause-within

@@ -7,11 +7,11 @@ use Rattle.ucd.proofs.paged.PagedTables.has_usual_separators.Goals as goal
 pub returns-clause-yes : goal.returns-clause-yes
 returns-clause-yes c = λ is x lt other separates.
     c.self.inside.pages.usual is x lt other
-    (sym (class_is c.self.inside.pages.index.items c.self.inside.pages.entries.items c.self.inside.brackets c.self.inside.mirrors x lt)
+    (sym (class_is c.self.inside.version c.self.inside.pages.index.items c.self.inside.pages.entries.items c.self.inside.brackets c.self.inside.mirrors x lt)
     ∙ ap (λ t. class_of t x) c.self.view_is ∙ separates)
 
 pub returns-clause-no : goal.returns-clause-no
 returns-clause-no c = λ isnt all.
     c.self.inside.pages.unusual isnt (λ x lt other separates. all x lt other
     (sym (ap (λ t. class_of t x) c.self.view_is)
-    ∙ class_is c.self.inside.pages.index.items c.self.inside.pages.entries.items c.self.inside.brackets c.self.inside.mirrors x lt ∙ separates))
+    ∙ class_is c.self.inside.version c.self.inside.pages.index.items c.self.inside.pages.entries.items c.self.inside.brackets c.self.inside.mirrors x lt ∙ separates))

@@ -14,7 +14,7 @@ loop-k-preserved c =
     let found = c.entry_of.result in
     let is : found ≡ properties_of c.args.self.now one =
     rw (← c.self.view_is) (c.entry_of.ensures.answers ∙ ap (λ xs. answers_at xs c.as_slice-entries.result.now one) c.as_slice-index.ensures.value
-    ∙ ap (λ xs. answers_at c.self.inside.pages.index.items xs one) c.as_slice-entries.ensures.value ∙ properties_are _ _ _ _ one c.entry_of.ensures.point c.self.invariant) in
+    ∙ ap (λ xs. answers_at c.self.inside.pages.index.items xs one) c.as_slice-entries.ensures.value ∙ properties_are _ _ _ _ _ one c.entry_of.ensures.point c.self.invariant) in
     take_more_set c.loop-k.properties k found (omega (arith, c.loop-k-test.true, c.loop-k.auto.properties, c.requires))
     ∙ ap (λ (xs : List Properties). xs ++ found ∷ []) c.loop-k.invariant
     ∙ ap (λ x. map (properties_of c.args.self.now) (take k text) ++ x ∷ []) (is ∙ ap (properties_of c.args.self.now) c.index-text-k.is)

@@ -8,7 +8,7 @@ use Rattle.ucd.proofs.runs.Cursor.applied.Goals as goal
 pub returns-then-run-begin-clause-put : goal.returns-then-run-begin-clause-put
 returns-then-run-begin-clause-put g c =
     let none : value_at c.args.self.now c.args.run.start ≡ None = rw c.self.view_is at (value_none c.self.inside.entries.now c.in-Some.first.now c.args.run.start (sym c.in-Some.ensures.value) c.self.invariant (omega arith)) in
-    sym (ap (λ o. put_by g.V.Property.put o c.args.run.properties) none)
+    sym (ap (λ o. put_by (g.V.Layer.put c.args.version) o c.args.run.properties) none)
 
 pub returns-then-run-begin-clause-same : goal.returns-then-run-begin-clause-same
 returns-then-run-begin-clause-same g c = λ k from to.

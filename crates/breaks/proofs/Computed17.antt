@@ -1,0 +1,241 @@
+-- Each entry of the break table of Unicode 17.0 agrees with the rules, which is checked by computation.
+use Rattle.std.proofs.Common.{◌≡◌, ℕ, ◌+◌, ◌*◌, ◌/◌, ◌==◌, nat_lt, nat_le, Bool, true, false, not, ◌&&◌, ◌||◌, List, [], ◌∷◌, map, get_or, refl, if◌then◌else◌}
+use Rattle.ucd.specs.Answers.{line_answers_at}
+use Rattle.ucd.specs.declared.line_class.LineClass.{LineClass}
+use Rattle.ucd.specs.declared.line_class.LineClass.TheVariants.{AK, AL, AS, CM, CP, IS, NU, OP, QU, SP, VF, ZWJ}
+use Rattle.ucd.specs.declared.version.Version.TheVariants.{V17_0}
+use Rattle.breaks.specs.Bases.{Base, Character, alone, class_of, is_east_asian}
+use Rattle.breaks.specs.Classes.{is_same, is_one_of}
+use Rattle.breaks.specs.Rules.{rows_before_numbers, rows_of_numbers, rows_after_numbers, after_final, is, is_dotted_circle}
+use Rattle.breaks.specs.Symbols.{character_in, shown_17, told_17, wide}
+use Rattle.breaks.specs.Walk.{base, unattached}
+use Rattle.breaks.specs.Walk17.{Bits, answered_17, answers_17, bases_at_17, by_width, carried_17, decided_17, mark_of_17, marks_17, rows_17}
+use Rattle.breaks.specs.declared.mark.Mark.{Mark}
+use Rattle.breaks.specs.declared.mark.Mark.TheVariants.{Never, May}
+use Rattle.breaks.specs.declared.symbol_17.TheConstants.{ATTACHED, JOINER, SYMBOLS, SYMBOL_COUNT}
+use Rattle.breaks.specs.declared.entries_17.TheConstants.{ANSWERS, NEXT_ROWS, OUTCOMES}
+use Rattle.breaks.specs.declared.table_17.TheConstants.{ENTRY_COUNT, LAST_ROW, LB15B, LB25_IS, OUTCOME_COUNT, QUESTION_COUNT, STATE_COUNT, STAYS}
+use Rattle.breaks.proofs.BoolLemmas.{same, all_same, all_below}
+use Rattle.breaks.proofs.Computed.{is_character, is_mark}
+
+-- The mark of the first row whose conditions before and after both hold, or `May` (LB31) if there is none. The rows
+-- after that row are not computed.
+abbrev pub decide_17 : List Mark → List Bool → List Bool → Mark
+decide_17 (mark ∷ marks) (before ∷ befores) (after ∷ afters) =
+    elim (before && after) as (λ _. Mark) [ true ↦ mark | false ↦ decide_17 marks befores afters ]
+decide_17 _ _ _ = May
+
+abbrev pub marks_by_row_17 : List Mark
+marks_by_row_17 = map (λ row. row.mark) rows_17
+
+-- the results of all conditions on the bases after a position: a base that begins with c, and others
+abbrev pub answers_after_17 : Character → List Base → List Bool
+answers_after_17 c rest = map (λ row. row.after (alone c ∷ rest)) rows_17
+
+-- Examples of the bases after the next one: none, and one of each kind that the rules distinguish, narrow and wide.
+-- The kinds are NU, IS before NU, other bases of LB15b, VF, and all others.
+abbrev rests : List (List Base)
+rests =
+    [] ∷
+    (base NU ∷ []) ∷ (base IS ∷ base NU ∷ []) ∷ (base SP ∷ []) ∷ (base VF ∷ []) ∷ (base AL ∷ []) ∷
+    (alone (wide NU) ∷ []) ∷ (alone (wide IS) ∷ base NU ∷ []) ∷ (alone (wide SP) ∷ []) ∷ (alone (wide VF) ∷ []) ∷ (alone (wide AL) ∷ []) ∷
+    []
+
+abbrev pub rest_at : ℕ → List Base
+rest_at kind = get_or rests kind []
+
+abbrev class_kind : Bool → LineClass → ℕ
+class_kind before_digit NU = 1
+class_kind true IS = 2
+class_kind before_digit VF = 4
+class_kind before_digit class = if is_one_of after_final class then 3 else 5
+
+abbrev pub kind_of : Bool → Bool → LineClass → ℕ
+kind_of is_wide before_digit class = (if is_wide then 5 else 0) + class_kind before_digit class
+
+abbrev pub kind : List Base → ℕ
+kind [] = 0
+kind (b ∷ bases) = kind_of (is_east_asian b) (is (NU ∷ []) bases) (class_of b)
+
+-- whether a rule may ask what follows a base that begins with this character
+abbrev pub asks : Character → Bool
+asks c = is_one_of (AK ∷ AS ∷ IS ∷ OP ∷ QU ∷ []) c.class || is_dotted_circle (alone c)
+
+abbrev pub kinds_after : Character → ℕ
+kinds_after c = if asks c then 11 else 1
+
+-- all values of the bits of a walk, and the index of a value
+abbrev pub bits : Bool → Bool → Bool → Bool → Bits
+bits is_joined is_pictograph is_wide was_wide = record { is_joined = is_joined; is_pictograph = is_pictograph; is_wide = is_wide; was_wide = was_wide }
+
+abbrev pub all_bits : List Bits
+all_bits =
+    bits false false false false ∷ bits false false false true ∷ bits false false true false ∷ bits false false true true ∷
+    bits false true false false ∷ bits false true false true ∷ bits false true true false ∷ bits false true true true ∷
+    bits true false false false ∷ bits true false false true ∷ bits true false true false ∷ bits true false true true ∷
+    bits true true false false ∷ bits true true false true ∷ bits true true true false ∷ bits true true true true ∷
+    []
+
+abbrev pub bits_at : ℕ → Bits
+bits_at index = get_or all_bits index (bits false false false false)
+
+abbrev flag : ℕ → Bool → ℕ
+flag value b = if b then value else 0
+
+abbrev pub index_of : Bits → ℕ
+index_of b = flag 8 b.is_joined + flag 4 b.is_pictograph + flag 2 b.is_wide + flag 1 b.was_wide
+
+-- a character with another width; only the widths of CP and OP are part of their symbols
+abbrev pub with_width : Character → Bool → Character
+with_width c is_wide = record c { is_wide = is_wide }
+
+abbrev pub may_have : Character → Bool → Bool
+may_have c is_wide = not (is_one_of (CP ∷ OP ∷ []) c.class) || same c.is_wide is_wide
+
+-- whether two lists of bases have the same `answers_17` and the same `carried_17`
+abbrev pub is_as_17 : List Base → List Base → Bool
+is_as_17 bases others = all_same (answers_17 bases) (answers_17 others) && all_same (carried_17 bases) (carried_17 others)
+
+-- Whether the outcome of an entry gives the same mark as the rules. `befores` are the results of the conditions on the
+-- bases before the position, for each value of the bits. A character can be a ZWJ that joins the last base only if
+-- characters may join that.
+module _ (befores : List (List Bool)) (outcome : ℕ) (is_unattached asked : Bool) (c_is_wide : Bool) where
+  abbrev pub gives_bits : List Bool → List Mark → ℕ → Bool
+  gives_bits after marks index =
+      let decided : ℕ = decided_17 outcome (bits_at index) c_is_wide in
+      (is_unattached && (bits_at index).is_joined)
+      || ((asked || nat_lt decided 4)
+      && is_mark (get_or marks decided Never) (decide_17 marks_by_row_17 (get_or befores index []) after))
+
+  abbrev pub gives_rest : List Bool → List Mark → Bool
+  gives_rest after marks = all_below 16 (gives_bits after marks)
+
+  abbrev pub gives_wide : Character → Bool
+  gives_wide c = all_below (kinds_after c) (λ kind. gives_rest (answers_after_17 (with_width c c_is_wide) (rest_at kind)) (marks_17 (rest_at kind)))
+
+abbrev pub gives_17 : List (List Bool) → ℕ → Bool → Character → Bool
+gives_17 befores outcome is_unattached c =
+    (not (may_have c false) || gives_wide befores outcome is_unattached (asks c) false c)
+    && (not (may_have c true) || gives_wide befores outcome is_unattached (asks c) true c)
+
+-- the results of the conditions on the example bases of a state, for each value of the bits
+abbrev pub befores_at : ℕ → List (List Bool)
+befores_at state = map (λ b. answered_17 b (answers_17 (bases_at_17 state))) all_bits
+
+-- whether the character of a symbol joins the last base of a state (LB9)
+abbrev pub stays_17 : ℕ → ℕ → Bool
+stays_17 state symbol = is_one_of (CM ∷ ZWJ ∷ []) (shown_17 symbol).class && not (is unattached (bases_at_17 state))
+
+abbrev pub leads_17 : Bool → List (List Bool) → ℕ → ℕ → ℕ → ℕ → Bool
+leads_17 true befores state symbol outcome next = (outcome == STAYS) && (next == state)
+leads_17 false befores state symbol outcome next =
+    not (outcome == STAYS)
+    && (is_as_17 (alone (shown_17 symbol) ∷ bases_at_17 state) (bases_at_17 next)
+    && (same (is_one_of unattached (shown_17 symbol).class) (is unattached (bases_at_17 next))
+    && gives_17 befores outcome (is unattached (bases_at_17 state)) (shown_17 symbol)))
+
+-- whether the start of the next row and the outcome are right for a state and a symbol
+abbrev pub row_leads_17 : List (List Bool) → ℕ → ℕ → ℕ → ℕ → ℕ → Bool
+row_leads_17 befores state symbol row outcome next =
+    (row == next * SYMBOL_COUNT)
+    && (nat_lt next STATE_COUNT && leads_17 (stays_17 state symbol) befores state symbol outcome next)
+
+abbrev pub is_right_17 : List (List Bool) → ℕ → ℕ → ℕ → ℕ → Bool
+is_right_17 befores state symbol row outcome = row_leads_17 befores state symbol row outcome (row / SYMBOL_COUNT)
+
+abbrev pub is_right_at_17 : List (List Bool) → ℕ → ℕ → ℕ → Bool
+is_right_at_17 befores state symbol place = is_right_17 befores state symbol (get_or NEXT_ROWS place 0) (get_or OUTCOMES place 0)
+
+abbrev pub row_right_17 : List (List Bool) → ℕ → Bool
+row_right_17 befores state = all_below SYMBOL_COUNT (λ symbol. is_right_at_17 befores state symbol (state * SYMBOL_COUNT + symbol))
+
+abbrev pub all_right_17 : ℕ → Bool
+all_right_17 state = row_right_17 (befores_at state) state
+
+abbrev Holds : Bool → Type 0
+Holds true = Unit {0}
+Holds false = ⊥
+
+holds : (b : Bool) → Holds b → b ≡ true
+holds true h = refl
+holds false h = absurd h
+
+-- The table in parts, since the computation of each is limited.
+abbrev pub part : ℕ → Bool
+part k = all_below 7 (λ i. all_right_17 (7 * k + i))
+
+pub part_0 : part 0 ≡ true
+unfolding rows_17 rows_before_numbers rows_of_numbers rows_after_numbers
+part_0 = holds (part 0) tt
+
+pub part_1 : part 1 ≡ true
+unfolding rows_17 rows_before_numbers rows_of_numbers rows_after_numbers
+part_1 = holds (part 1) tt
+
+pub part_2 : part 2 ≡ true
+unfolding rows_17 rows_before_numbers rows_of_numbers rows_after_numbers
+part_2 = holds (part 2) tt
+
+pub part_3 : part 3 ≡ true
+unfolding rows_17 rows_before_numbers rows_of_numbers rows_after_numbers
+part_3 = holds (part 3) tt
+
+pub part_4 : part 4 ≡ true
+unfolding rows_17 rows_before_numbers rows_of_numbers rows_after_numbers
+part_4 = holds (part 4) tt
+
+pub part_5 : part 5 ≡ true
+unfolding rows_17 rows_before_numbers rows_of_numbers rows_after_numbers
+part_5 = holds (part 5) tt
+
+pub part_6 : part 6 ≡ true
+unfolding rows_17 rows_before_numbers rows_of_numbers rows_after_numbers
+part_6 = holds (part 6) tt
+
+pub rows_are_within_17 : all_below ENTRY_COUNT (λ place. nat_le (get_or NEXT_ROWS place 0) LAST_ROW) ≡ true
+rows_are_within_17 = refl
+
+pub outcomes_are_within_17 : all_below ENTRY_COUNT (λ place. nat_lt (get_or OUTCOMES place 0) OUTCOME_COUNT) ≡ true
+outcomes_are_within_17 = refl
+
+pub symbols_are_right_17 : all_below 448 (λ index. is_character (shown_17 (get_or SYMBOLS index 0)) (told_17 (character_in V17_0 (line_answers_at index)))) ≡ true
+symbols_are_right_17 = refl
+
+pub symbols_are_within_17 : all_below 448 (λ place. nat_lt (get_or SYMBOLS place 0) SYMBOL_COUNT) ≡ true
+symbols_are_within_17 = refl
+
+pub joiner_is_one_17 : all_below SYMBOL_COUNT (λ symbol. same (symbol == JOINER) (is_same (shown_17 symbol).class ZWJ)) ≡ true
+joiner_is_one_17 = refl
+
+pub attached_are_last_17 : all_below SYMBOL_COUNT (λ symbol. same (nat_lt symbol ATTACHED) (not (is_one_of (CM ∷ ZWJ ∷ []) (shown_17 symbol).class))) ≡ true
+attached_are_last_17 = refl
+
+-- ---- the answers
+
+-- a base of class NU, or nothing
+abbrev pub digit_or_none : Bool → List Base
+digit_or_none true = base NU ∷ []
+digit_or_none false = []
+
+abbrev pub answers_by : ℕ → Character → ℕ → Bool → Bool
+answers_by question c answer before_digit =
+    is_mark (mark_of_17 question (alone c ∷ digit_or_none before_digit)) (mark_of_17 answer (digit_or_none before_digit))
+
+-- whether an answer is a mark, or the question `LB25_IS` after a base to which marks can be attached
+abbrev pub is_answer : Character → ℕ → Bool
+is_answer c answer = nat_lt answer 4 || (not (is_one_of unattached c.class) && (answer == LB25_IS))
+
+abbrev pub answer_right : ℕ → Character → ℕ → Bool
+answer_right question c answer = is_answer c answer && (answers_by question c answer false && answers_by question c answer true)
+
+abbrev pub answer_right_by : ℕ → Character → ℕ → Bool → Bool
+answer_right_by question c answer is_wide = not (may_have c is_wide) || answer_right question (with_width c is_wide) (by_width answer is_wide)
+
+abbrev pub answer_right_at : ℕ → ℕ → Bool
+answer_right_at index symbol =
+    not (nat_lt symbol ATTACHED)
+    || (answer_right_by (index + LB15B) (shown_17 symbol) (get_or ANSWERS (index * SYMBOL_COUNT + symbol) 0) false
+    && answer_right_by (index + LB15B) (shown_17 symbol) (get_or ANSWERS (index * SYMBOL_COUNT + symbol) 0) true)
+
+pub answers_are_right : all_below QUESTION_COUNT (λ index. all_below SYMBOL_COUNT (answer_right_at index)) ≡ true
+answers_are_right = refl

@@ -1,0 +1,183 @@
+-- The state of the single pass over the characters with the rules of Unicode 17.0, as Walk.antt has it for 15.0. In
+-- addition, the walk knows whether the last two bases are wide (LB19a). The outcome of an entry is a mark or a
+-- question about the bases after the next one.
+use Rattle.std.specs.Prelude.{◌≡◌, ℕ, ◌*◌, ◌<◌, ◌==◌, Bool, false, not, ◌||◌, ◌&&◌, ◌++◌, List, [], ◌∷◌, map, MatchBool, get_or, set, if◌then◌else◌}
+use Rattle.ucd.specs.declared.line_class.LineClass.TheVariants as class
+use Rattle.ucd.specs.declared.line_detail.LineDetail.TheVariants.{Final, Initial}
+use Rattle.ucd.specs.declared.version.Version.TheVariants.{V17_0}
+use Rattle.breaks.specs.Bases.{Base, Character, alone, bases_of, end_of, is_east_asian, stays_with}
+use Rattle.breaks.specs.Classes.{is_same, is_one_of}
+use Rattle.breaks.specs.Rules.{Row, rules, rows_before_numbers, rows_of_numbers, rows_after_numbers, mark_by, after_final, before_initial, before_word, begins_quotation, ends_in_number, ends_in_odd_run, followed, is, is_aksara, is_not_east_asian, is_spaced, or_edge, spaced}
+use Rattle.breaks.specs.Symbols.{dotted_circle, quote}
+use Rattle.breaks.specs.Walk.{base, last_states, unattached, with_attached}
+use Rattle.breaks.specs.declared.mark.Mark.{Mark}
+use Rattle.breaks.specs.declared.mark.Mark.TheVariants.{Never, May, Must}
+use Rattle.breaks.specs.declared.table_17.TheConstants.{FINAL, FINAL_INITIAL, FINAL_UNLESS, INITIAL, LB19A, MAY, NEVER, STATE_COUNT, UNLESS}
+use Rattle.breaks.specs.declared.walk_17.Walk17.{Walk17}
+use Rattle.breaks.specs.declared.symbol_17.TheConstants.{SYMBOL_COUNT}
+
+-- Example bases for each state, in the order of the states. The nearest base comes first.
+abbrev pub states_17 : List (List Base)
+states_17 =
+    ((base class.BK ∷ []) ∷
+    (base class.CR ∷ []) ∷
+    (base class.LF ∷ []) ∷
+    (base class.ZW ∷ []) ∷
+    (base class.SP ∷ []) ∷
+    (base class.SP ∷ base class.ZW ∷ []) ∷
+    (base class.SP ∷ base class.OP ∷ []) ∷
+    (base class.SP ∷ alone (quote Initial) ∷ []) ∷
+    (base class.SP ∷ base class.CL ∷ []) ∷
+    (base class.SP ∷ base class.B2 ∷ []) ∷
+    (base class.WJ ∷ []) ∷
+    (base class.GL ∷ []) ∷
+    (base class.CL ∷ []) ∷
+    (base class.CP ∷ []) ∷
+    (base class.IS ∷ []) ∷
+    (base class.SY ∷ []) ∷
+    (base class.OP ∷ []) ∷
+    (base class.QU ∷ []) ∷
+    (alone (quote Initial) ∷ []) ∷
+    (alone (quote Final) ∷ []) ∷
+    (base class.B2 ∷ []) ∷
+    (base class.CB ∷ []) ∷
+    (base class.BA ∷ []) ∷
+    (base class.HY ∷ base class.AL ∷ []) ∷
+    (base class.HY ∷ []) ∷
+    (base class.HH ∷ []) ∷
+    (base class.HY ∷ base class.HL ∷ []) ∷
+    (base class.HH ∷ base class.HL ∷ []) ∷
+    (base class.BB ∷ []) ∷
+    [])
+    ++ (last_states
+    ++ ((alone dotted_circle ∷ []) ∷
+    (base class.AP ∷ []) ∷
+    (base class.AK ∷ []) ∷
+    (base class.VI ∷ base class.AK ∷ []) ∷
+    []))
+
+abbrev pub bases_at_17 : ℕ → List Base
+bases_at_17 number = get_or states_17 number []
+
+-- what a walk knows about the last bases beside its state: whether the last character is a ZWJ, whether the last base
+-- is a future pictograph, and whether the last base and the base before it are wide
+pub record Bits : Type 0 where
+  pub is_joined : Bool
+  pub is_pictograph : Bool
+  pub is_wide : Bool
+  pub was_wide : Bool
+
+-- whether there is a nearest base, and it is wide
+abbrev pub is_wide_base : List Base → Bool
+is_wide_base [] = false
+is_wide_base (b ∷ bases) = is_east_asian b
+
+abbrev pub bits_of : Base → List Base → Bits
+bits_of last others = record {
+  is_joined = is_same (end_of last).class class.ZWJ;
+  is_pictograph = last.first.is_future_pictograph;
+  is_wide = is_east_asian last;
+  was_wide = is_wide_base others;
+}
+
+-- the mark or the question of an outcome, given the bits of the walk and whether the next base is wide
+abbrev pub decided_17 : ℕ → Bits → Bool → ℕ
+decided_17 outcome bits next_is_wide =
+    if bits.is_joined then NEVER
+    else if outcome == UNLESS then (if bits.is_pictograph then NEVER else MAY)
+    else if outcome == INITIAL then (if bits.is_wide then LB19A else NEVER)
+    else if outcome == FINAL then (if bits.was_wide && next_is_wide then MAY else NEVER)
+    else if outcome == FINAL_UNLESS then (if (bits.was_wide && next_is_wide) && not bits.is_pictograph then MAY else NEVER)
+    else if outcome == FINAL_INITIAL then (if (bits.was_wide && next_is_wide) && bits.is_wide then LB19A else NEVER)
+    else outcome
+
+-- whether the nearest bases are IS and NU
+abbrev pub is_stop_digit : List Base → Bool
+is_stop_digit = followed (is (class.IS ∷ [])) (is (class.NU ∷ []))
+
+-- The mark of an outcome, given the bases after the next one: first the outcomes that are marks (the first is that of
+-- LB9), and then the questions of LB15b, LB15c, LB19a, LB25 (after `OP`, and after `OP IS`) and LB28a.
+abbrev pub marks_17 : List Base → List Mark
+marks_17 rest =
+    Never ∷ Never ∷ May ∷ Must ∷
+    (if or_edge (is after_final) rest then Never else May) ∷
+    (if is (class.NU ∷ []) rest then May else Never) ∷
+    (if or_edge is_not_east_asian rest then Never else May) ∷
+    (if is (class.NU ∷ []) rest || is_stop_digit rest then Never else May) ∷
+    (if is (class.NU ∷ []) rest then Never else May) ∷
+    (if is (class.VF ∷ []) rest then Never else May) ∷
+    []
+
+abbrev pub mark_of_17 : ℕ → List Base → Mark
+mark_of_17 decided rest = get_or (marks_17 rest) decided Never
+
+-- an answer of the table, given the width of the base before which a question is asked
+abbrev pub by_width : ℕ → Bool → ℕ
+by_width answer is_wide = if answer == LB19A then (if is_wide then MAY else NEVER) else answer
+
+-- the bases in these characters, without the first ones that join the base before them
+abbrev pub bases_after : List Character → List Base
+bases_after [] = []
+bases_after (c ∷ text) = if is_one_of (class.CM ∷ class.ZWJ ∷ []) c.class then bases_after text else bases_of (c ∷ text)
+
+-- all rules as rows
+unfoldable pub rows_17 : List Row
+rows_17 = rows_before_numbers V17_0 ++ (rows_of_numbers V17_0 ++ rows_after_numbers V17_0)
+
+-- The result of each rule's condition on these bases. Those that depend on the bits of a walk count as false: LB8a,
+-- the first and the last rule of LB19a, and LB30b for pictographs. The last rule of LB19a counts as if the base before
+-- the last one were narrow.
+abbrev pub LB8a_row : ℕ
+LB8a_row = 7
+
+abbrev pub LB19a_first_row : ℕ
+LB19a_first_row = 23
+
+abbrev pub LB19a_last_row : ℕ
+LB19a_last_row = 26
+
+abbrev pub LB30b_row : ℕ
+LB30b_row = 61
+
+abbrev pub answers_17 : List Base → List Bool
+answers_17 bases =
+    set (set (set (set (map (λ row. row.before bases) rows_17) LB8a_row false) LB19a_first_row false) LB19a_last_row (is (class.QU ∷ []) bases))
+    LB30b_row false
+
+-- the same with the bits of a walk
+abbrev pub answered_17 : Bits → List Bool → List Bool
+answered_17 bits answers =
+    set (set (set (set answers LB8a_row bits.is_joined) LB19a_first_row (not bits.is_wide))
+    LB19a_last_row (get_or answers LB19a_last_row false && not bits.was_wide))
+    LB30b_row bits.is_pictograph
+
+-- the results that a rule may need after one more base
+abbrev pub carried_17 : List Base → List Bool
+carried_17 bases =
+    is (class.HL ∷ []) bases
+    ∷ is_spaced (class.ZW ∷ []) bases ∷ is_spaced (class.OP ∷ []) bases ∷ spaced begins_quotation bases
+    ∷ is_spaced (class.CL ∷ class.CP ∷ []) bases ∷ is_spaced (class.B2 ∷ []) bases
+    ∷ ends_in_odd_run bases ∷ ends_in_number bases
+    ∷ or_edge (is before_initial) bases ∷ or_edge (is before_word) bases ∷ is_aksara (class.AK ∷ class.AS ∷ []) bases ∷ []
+
+abbrev pub bits_in : Walk17 → Bits
+bits_in walk = record { is_joined = walk.is_joined; is_pictograph = walk.is_pictograph; is_wide = walk.is_wide; was_wide = walk.was_wide }
+
+-- The state `walk` belongs to the bases `last` and `others`, the nearest first. A character may still join `last`.
+pub record Stands17 (walk : Walk17) (last : Base) (others : List Base) : Type 0 where
+  pub state : ℕ
+  pub below : state < STATE_COUNT
+  pub row : walk.row ≡ state * SYMBOL_COUNT
+  pub answered : answers_17 (last ∷ others) ≡ answers_17 (bases_at_17 state)
+  pub carries : carried_17 (last ∷ others) ≡ carried_17 (bases_at_17 state)
+  pub attaches : is_one_of unattached (end_of last).class ≡ is unattached (bases_at_17 state)
+  pub bits : bits_in walk ≡ bits_of last others
+
+-- the outcome before the character c gives the mark of the rules, and the new state belongs to the bases that include c
+abbrev pub Passes17 : Walk17 → Base → List Base → Character → ℕ → Type 0
+Passes17 after last others c decided =
+    MatchBool (stays_with (end_of last) c)
+    (((rest : List Base) → mark_of_17 decided rest ≡ Never) × Stands17 after (with_attached last c) others)
+    (((whole_numbers : Bool) (text : List Character) →
+    mark_of_17 decided (bases_after text) ≡ mark_by (rules V17_0 whole_numbers) (last ∷ others) (bases_of (c ∷ text)))
+    × Stands17 after (alone c) (last ∷ others))

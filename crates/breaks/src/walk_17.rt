@@ -1,0 +1,109 @@
+//! The single pass over the characters of a paragraph, with the rules of Unicode 17.0.
+ghost use Rattle.std.specs.Prelude.{◌≡◌, ◌<◌, ◌≤◌, ◌==◌, if◌then◌else◌, List, []};
+ghost use Rattle.ucd.specs.declared.version.Version.TheVariants.{V17_0};
+ghost use Rattle.breaks.specs.Bases.{Base, alone, is_east_asian};
+ghost use Rattle.breaks.specs.Symbols.{character_by, shown_17, told_17};
+ghost use Rattle.breaks.specs.declared.symbol_17.TheConstants.{SYMBOL_COUNT};
+ghost use Rattle.breaks.specs.declared.table_17.TheConstants.{DECIDED_COUNT, LAST_ROW, OUTCOME_COUNT};
+ghost use Rattle.breaks.specs.Walk17.{Stands17, Passes17, bits_in, decided_17};
+
+use crate::symbol_17::{ATTACHED, JOINER, symbol_17};
+use crate::table_17::{
+    FINAL, FINAL_INITIAL, FINAL_UNLESS, INITIAL, LB19A, MAY, NEVER, START, STAYS, UNLESS, next_row,
+    outcome,
+};
+use ucd::Properties;
+
+/// The state of the pass: what the rules need to know about the bases before a position.
+#[derive(Clone, Copy)]
+pub struct Walk17 {
+    // The start of the state's row in the table.
+    row: usize,
+    // LB8a: whether the last character is a ZWJ.
+    is_joined: bool,
+    // LB30b: whether the last base is a future pictograph.
+    is_pictograph: bool,
+    // LB19a: whether the last base is wide.
+    is_wide: bool,
+    // LB19a: whether the base before the last one is wide.
+    was_wide: bool,
+}
+
+impl Walk17 {
+    /// Returns the state after the first character of a text.
+    pub fn start(first: Properties) -> Walk17
+        ensures stands { Stands17 result (alone (character_by V17_0 first)) [] }
+        ensures within { result.row ≤ LAST_ROW }
+    {
+        let symbol = symbol_17(first);
+        Walk17 {
+            row: next_row(START, symbol),
+            is_joined: symbol == JOINER,
+            is_pictograph: first.is_future_pictograph(),
+            is_wide: is_wide(symbol, first),
+            was_wide: false,
+        }
+    }
+
+    /// Returns the mark before the next character, or the question that decides it, and moves past that character.
+    pub fn pass(&mut self, next: Properties) -> u8
+        requires { self.old.row ≤ LAST_ROW }
+        ensures passes { (last : Base) (others : List Base)
+            → Stands17 self.old last others
+            → Passes17 self.new last others (character_by V17_0 next) result }
+        ensures within { self.new.row ≤ LAST_ROW }
+        ensures below { result < DECIDED_COUNT }
+    {
+        let symbol = symbol_17(next);
+        let outcome = outcome(self.row, symbol);
+        let row = next_row(self.row, symbol);
+        let is_joined = symbol == JOINER;
+        if outcome == STAYS {
+            self.row = row;
+            self.is_joined = is_joined;
+            return NEVER;
+        }
+        let next_is_wide = is_wide(symbol, next);
+        let decided = self.decide(outcome, next_is_wide);
+        *self = Walk17 {
+            row,
+            is_joined,
+            is_pictograph: next.is_future_pictograph(),
+            is_wide: next_is_wide,
+            was_wide: self.is_wide,
+        };
+        decided
+    }
+
+    // Returns the mark or the question of an outcome: `NEVER` if the last character is a ZWJ (LB8a).
+    fn decide(&self, outcome: u8, next_is_wide: bool) -> u8
+        requires { outcome < OUTCOME_COUNT }
+        ensures decided { result ≡ decided_17 outcome (bits_in self.now) next_is_wide }
+        ensures below { result < DECIDED_COUNT }
+    {
+        if self.is_joined {
+            return NEVER;
+        }
+        if outcome < UNLESS {
+            return outcome;
+        }
+        let is_between = self.was_wide & next_is_wide;
+        let (is_open, open) = match outcome {
+            UNLESS => (!self.is_pictograph, MAY),
+            INITIAL => (self.is_wide, LB19A),
+            FINAL => (is_between, MAY),
+            FINAL_UNLESS => (is_between & !self.is_pictograph, MAY),
+            _ => (is_between & self.is_wide, LB19A),
+        };
+        if is_open { open } else { NEVER }
+    }
+}
+
+// Returns whether a base that begins with this character is wide. A CM or ZWJ is then an AL that is not wide (LB10).
+fn is_wide(symbol: u8, first: Properties) -> bool
+    requires below { symbol < SYMBOL_COUNT }
+    requires shown { shown_17 symbol ≡ told_17 (character_by V17_0 first) }
+    ensures { result ≡ is_east_asian (alone (character_by V17_0 first)) }
+{
+    first.is_wide() & (symbol < ATTACHED)
+}
