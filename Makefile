@@ -217,3 +217,4 @@ bench: bench-program c fribidi ucd parallel
 	bench/many
 	bench/callers
 	bench/hostile
+	bench/versions

@@ -1,6 +1,7 @@
 /* Prints break marks or lines, as computed by the C library, in the format of the program `conformance`.
- * tests/conformance/run can run it instead of that program. Usage: conformance marks-of FOLDER, or conformance
- * lines-of FOLDER DIRECTION. Each line of standard input is a paragraph.
+ * tests/conformance/run can run it instead of that program. Usage: conformance marks-of FOLDER VERSION, or conformance
+ * lines-of FOLDER DIRECTION VERSION. The folder has the table files of this version of Unicode, 15.0 or 17.0. Each line
+ * of standard input is a paragraph.
  *
  * Each paragraph is laid out in a session, as a single line. In some tests a paragraph contains a separator, at which
  * a session would split it. For these, hordguli_levels finds the levels, and this program applies L1 and L2. */
@@ -121,10 +122,11 @@ static void lines_of(hordguli_tables *tables, uint32_t direction) {
 
 int main(int count, char **words) {
     hordguli_tables tables = HORDGULI_TABLES_INIT;
-    if (count < 3) fail("what, and by which tables?");
-    check(hordguli_tables_open_folder(&tables, words[2], NULL));
+    int is_17 = strcmp(words[count - 1], "17.0") == 0;
+    if (count < 4) fail("what, by which tables, and of which version?");
+    check(hordguli_tables_open_folder_version(&tables, is_17 ? HORDGULI_UNICODE_17_0 : HORDGULI_UNICODE_15_0, words[2], NULL));
     if (strcmp(words[1], "marks-of") == 0) marks_of(&tables);
-    else lines_of(&tables, option(count > 3 ? words[3] : ""));
+    else lines_of(&tables, option(words[3]));
     hordguli_tables_close(&tables);
     if (fflush(stdout) != 0) fail("cannot write");
     return 0;

@@ -66,7 +66,7 @@ returns-clause-ok c = λ words m.
     let fits : c.fits_script.result ≡ true = search rules in
     let asks : c.fits_queries.result ≡ true = search rules in
     let print = c.print_of.ensures in
-    let versioned = c.version_by.ensures ∙ ap version_by (c.get_str.ensures ∙ first_value-rows found (codes "unicode")) in
+    let versioned = c.in-Some-version_by.ensures ∙ ap version_by (c.get_str.ensures ∙ first_value-rows found (codes "unicode")) in
     let tabs = c.in-Some.ensures.tab_width ∙ ap tab_width_of m.rows in
     record {
       taken = m.taken;
@@ -99,6 +99,14 @@ returns-clause-ok c = λ words m.
           ∙ sym c.fits_script.ensures ∙ fits;
     }
 
+pub returns-in_default-version_by-clause-err : goal.returns-in_default-version_by-clause-err
+returns-in_default-version_by-clause-err c = λ words m.
+    let found = found_of c.args.matches.now in (
+      m.taken,
+      ap is_some (sym (c.in-Some.ensures.base ∙ ap base_of m.rows)),
+      sym (c.in_default-version_by.ensures ∙ ap version_by (c.get_str.ensures ∙ first_value-rows found (codes "unicode")) ∙ ap version_of m.rows),
+    )
+
 pub returns-then-not-fits_script-clause-err : goal.returns-then-not-fits_script-clause-err
 returns-then-not-fits_script-clause-err c = λ words m.
     let found = found_of c.args.matches.now in
@@ -109,7 +117,7 @@ returns-then-not-fits_script-clause-err c = λ words m.
     let isnt : c.fits_script.result ≡ false = search rules in (
       m.taken,
       ap is_some (sym (c.in-Some.ensures.base ∙ ap base_of m.rows)),
-      ap is_some (sym (c.version_by.ensures ∙ ap version_by (c.get_str.ensures ∙ first_value-rows found (codes "unicode")) ∙ ap version_of m.rows)),
+      ap is_some (sym (c.in-Some-version_by.ensures ∙ ap version_by (c.get_str.ensures ∙ first_value-rows found (codes "unicode")) ∙ ap version_of m.rows)),
       script_one c.get_str-script.result
           (length c.unwrap_or-texts.result.now) (matches_of program _) script
           (omega (arith, ap length texts, length-map c.unwrap_or-texts.result.now (λ (s : Bor Text). s.now)))
@@ -127,7 +135,7 @@ returns-then-not-fits_queries-clause-err c = λ words m.
     let isnt : c.fits_queries.result ≡ false = search rules in (
       m.taken,
       ap is_some (sym (c.in-Some.ensures.base ∙ ap base_of m.rows)),
-      ap is_some (sym (c.version_by.ensures ∙ ap version_by (c.get_str.ensures ∙ first_value-rows found (codes "unicode")) ∙ ap version_of m.rows)),
+      ap is_some (sym (c.in-Some-version_by.ensures ∙ ap version_by (c.get_str.ensures ∙ first_value-rows found (codes "unicode")) ∙ ap version_of m.rows)),
       script_one c.get_str-script.result (length c.unwrap_or-texts.result.now) (matches_of program _) script
           (omega (arith, ap length texts, length-map c.unwrap_or-texts.result.now (λ (s : Bor Text). s.now)))
           ∙ sym c.fits_script.ensures ∙ fits,
@@ -145,7 +153,7 @@ returns-in_default-from_slice-clause-memory c =
     let fits : c.fits_script.result ≡ true = search rules in
     let asks : c.fits_queries.result ≡ true = search rules in (
       ap is_some (sym c.in-Some.ensures.base),
-      ap is_some (sym (c.version_by.ensures ∙ ap version_by (c.get_str.ensures ∙ first_value-rows found (codes "unicode")))),
+      ap is_some (sym (c.in-Some-version_by.ensures ∙ ap version_by (c.get_str.ensures ∙ first_value-rows found (codes "unicode")))),
       script_one c.get_str-script.result (length c.unwrap_or-texts.result.now) (rows_of found) script
           (omega (arith, ap length texts, length-map c.unwrap_or-texts.result.now (λ (s : Bor Text). s.now)))
           ∙ sym c.fits_script.ensures ∙ fits,
