@@ -1,6 +1,7 @@
 pub mod BoolLemmas
 pub mod Computed
 pub mod Computed17
+pub mod NarrowLemmas
 pub mod NumberLemmas
 pub mod OrdinaryLemmas
 pub mod PassLemmas

@@ -81,8 +81,8 @@ one_of_all p all i d within passes is =
       | inr failed ↦ absurd (both_ways (list_all p all) (list_all_at p all i d within (ap p (sym is) ∙ failed)) passes)
     ]
 
-pub head_ordinary : (all rest : List Properties) (first : Properties) → list_all is_ordinary all ≡ true → all ≡ first ∷ rest → is_ordinary first ≡ true
-head_ordinary all rest first passes is = (parts_both (is_ordinary first) (list_all is_ordinary rest) (ap (list_all is_ordinary) (sym is) ∙ passes)).0
+pub head_passes : (p : Properties → Bool) (all rest : List Properties) (first : Properties) → list_all p all ≡ true → all ≡ first ∷ rest → p first ≡ true
+head_passes p all rest first passes is = (parts_both (p first) (list_all p rest) (ap (list_all p) (sym is) ∙ passes)).0
 
-pub tail_ordinary : (all rest : List Properties) (first : Properties) → list_all is_ordinary all ≡ true → all ≡ first ∷ rest → list_all is_ordinary rest ≡ true
-tail_ordinary all rest first passes is = (parts_both (is_ordinary first) (list_all is_ordinary rest) (ap (list_all is_ordinary) (sym is) ∙ passes)).1
+pub tail_passes : (p : Properties → Bool) (all rest : List Properties) (first : Properties) → list_all p all ≡ true → all ≡ first ∷ rest → list_all p rest ≡ true
+tail_passes p all rest first passes is = (parts_both (p first) (list_all p rest) (ap (list_all p) (sym is) ∙ passes)).1

@@ -4,15 +4,16 @@
 use Rattle.std.specs.Prelude.{◌≡◌, ℕ, ◌*◌, ◌<◌, ◌==◌, Bool, false, not, ◌||◌, ◌&&◌, ◌++◌, List, [], ◌∷◌, map, MatchBool, get_or, set, if◌then◌else◌}
 use Rattle.ucd.specs.declared.line_class.LineClass.TheVariants as class
 use Rattle.ucd.specs.declared.line_detail.LineDetail.TheVariants.{Final, Initial}
+use Rattle.ucd.specs.declared.properties.Properties.{Properties}
 use Rattle.ucd.specs.declared.version.Version.TheVariants.{V17_0}
 use Rattle.breaks.specs.Bases.{Base, Character, alone, bases_of, end_of, is_east_asian, stays_with}
 use Rattle.breaks.specs.Classes.{is_same, is_one_of}
 use Rattle.breaks.specs.Rules.{Row, rules, rows_before_numbers, rows_of_numbers, rows_after_numbers, mark_by, after_final, before_initial, before_word, begins_quotation, ends_in_number, ends_in_odd_run, followed, is, is_aksara, is_not_east_asian, is_spaced, or_edge, spaced}
-use Rattle.breaks.specs.Symbols.{dotted_circle, quote}
+use Rattle.breaks.specs.Symbols.{character_by, dotted_circle, quote}
 use Rattle.breaks.specs.Walk.{base, last_states, unattached, with_attached}
 use Rattle.breaks.specs.declared.mark.Mark.{Mark}
 use Rattle.breaks.specs.declared.mark.Mark.TheVariants.{Never, May, Must}
-use Rattle.breaks.specs.declared.table_17.TheConstants.{FINAL, FINAL_INITIAL, FINAL_UNLESS, INITIAL, LB19A, MAY, NEVER, STATE_COUNT, UNLESS}
+use Rattle.breaks.specs.declared.table_17.TheConstants.{FINAL, FINAL_INITIAL, FINAL_UNLESS, INITIAL, LB19A, MAY, NEVER, STATE_COUNT, STAYS, UNLESS}
 use Rattle.breaks.specs.declared.walk_17.Walk17.{Walk17}
 use Rattle.breaks.specs.declared.symbol_17.TheConstants.{SYMBOL_COUNT}
 
@@ -162,6 +163,21 @@ carried_17 bases =
 
 abbrev pub bits_in : Walk17 → Bits
 bits_in walk = record { is_joined = walk.is_joined; is_pictograph = walk.is_pictograph; is_wide = walk.is_wide; was_wide = walk.was_wide }
+
+-- whether a character is neither wide nor a ZWJ nor a future pictograph, so that no bit of a walk says anything about it
+abbrev pub is_narrow_17 : Properties → Bool
+is_narrow_17 p = not (is_same (character_by V17_0 p).class class.ZWJ) && (not p.is_future_pictograph && not p.is_wide)
+
+abbrev pub narrow_bits : Bits
+narrow_bits = record { is_joined = false; is_pictograph = false; is_wide = false; was_wide = false }
+
+-- whether the characters before a position are narrow, as far as the rules look back
+abbrev pub FollowsNarrow : Walk17 → Type 0
+FollowsNarrow walk = bits_in walk ≡ narrow_bits
+
+-- the mark or the question of an outcome between narrow characters
+abbrev pub decided_narrow : ℕ → ℕ
+decided_narrow outcome = if outcome == STAYS then NEVER else decided_17 outcome narrow_bits false
 
 -- The state `walk` belongs to the bases `last` and `others`, the nearest first. A character may still join `last`.
 pub record Stands17 (walk : Walk17) (last : Base) (others : List Base) : Type 0 where

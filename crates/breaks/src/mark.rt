@@ -10,7 +10,7 @@ ghost use Rattle.breaks.specs.Walk.{is_before_digit, is_ordinary, mark_of};
 ghost use Rattle.breaks.specs.declared.mark.Mark.TheVariants.{Must};
 
 use crate::characters::{Characters, Known, LookedUp};
-use crate::mark_17::mark_all_17;
+use crate::mark_17::{mark_all_17, mark_known_17};
 use crate::symbol::{ATTACHED, DIGIT, symbol_of};
 use crate::table::WAITS;
 use crate::walk::{Walk, is_ordinary, mark_alone};
@@ -73,7 +73,7 @@ pub fn marks_into(
     let characters = Known { properties };
     match tables.version() {
         Version::V15_0 => mark_15(tables, text, characters, whole_numbers, marks),
-        Version::V17_0 => mark_all_17(tables, text, characters, marks),
+        Version::V17_0 => mark_known_17(tables, text, characters, marks),
     }
     Ok(())
 }

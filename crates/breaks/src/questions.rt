@@ -14,14 +14,27 @@ use crate::symbol_17::{ATTACHED, SYMBOL_COUNT, symbol_17};
 use crate::table_17::{LB15B, LB19A, MAY, NEVER};
 use ucd::Properties;
 
-/// Returns the mark before a character, given what the walk decided and the index after the character. If that is a
-/// question, reads on until it is answered: past the marks of one or two bases.
+/// Returns the mark before a character, given what the walk decided and the index after the character.
+#[inline(always)] // so that most characters need no call
 pub fn mark_before_17<C: Characters>(characters: C, after: usize, decided: u8) -> Mark
     requires place { after ≤ length (C.all characters) }
     requires below { decided < DECIDED_COUNT }
     ensures { result ≡ mark_of_17 decided (bases_after (map (character_by V17_0) (drop after (C.all characters)))) }
 {
-    let mut asked = decided;
+    if decided < LB15B {
+        mark_alone_17(decided)
+    } else {
+        mark_asked(characters, after, decided)
+    }
+}
+
+// Does the same for a question: reads on until it is answered, past the marks of one or two bases.
+fn mark_asked<C: Characters>(characters: C, after: usize, question: u8) -> Mark
+    requires place { after ≤ length (C.all characters) }
+    requires below { question < DECIDED_COUNT }
+    ensures { result ≡ mark_of_17 question (bases_after (map (character_by V17_0) (drop after (C.all characters)))) }
+{
+    let mut asked = question;
     for i in after..characters.len() {
         if asked < LB15B {
             return mark_alone_17(asked);

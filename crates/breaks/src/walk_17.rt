@@ -1,16 +1,16 @@
 //! The single pass over the characters of a paragraph, with the rules of Unicode 17.0.
-ghost use Rattle.std.specs.Prelude.{◌≡◌, ◌<◌, ◌≤◌, ◌==◌, if◌then◌else◌, List, []};
+ghost use Rattle.std.specs.Prelude.{◌≡◌, ◌<◌, ◌≤◌, true, ◌==◌, if◌then◌else◌, List, []};
 ghost use Rattle.ucd.specs.declared.version.Version.TheVariants.{V17_0};
 ghost use Rattle.breaks.specs.Bases.{Base, alone, is_east_asian};
 ghost use Rattle.breaks.specs.Symbols.{character_by, shown_17, told_17};
 ghost use Rattle.breaks.specs.declared.symbol_17.TheConstants.{SYMBOL_COUNT};
 ghost use Rattle.breaks.specs.declared.table_17.TheConstants.{DECIDED_COUNT, LAST_ROW, OUTCOME_COUNT};
-ghost use Rattle.breaks.specs.Walk17.{Stands17, Passes17, bits_in, decided_17};
+ghost use Rattle.breaks.specs.Walk17.{Stands17, Passes17, FollowsNarrow, bits_in, decided_17, decided_narrow, is_narrow_17};
 
 use crate::symbol_17::{ATTACHED, JOINER, symbol_17};
 use crate::table_17::{
-    FINAL, FINAL_INITIAL, FINAL_UNLESS, INITIAL, LB19A, MAY, NEVER, START, STAYS, UNLESS, next_row,
-    outcome,
+    FINAL, FINAL_INITIAL, FINAL_UNLESS, INITIAL, LB15B, LB15C, LB19A, LB25, LB25_IS, LB28A, MAY,
+    MUST, NEVER, START, STAYS, UNLESS, next_row, outcome,
 };
 use ucd::Properties;
 
@@ -33,6 +33,7 @@ impl Walk17 {
     /// Returns the state after the first character of a text.
     pub fn start(first: Properties) -> Walk17
         ensures stands { Stands17 result (alone (character_by V17_0 first)) [] }
+        ensures narrow { is_narrow_17 first ≡ true → FollowsNarrow result }
         ensures within { result.row ≤ LAST_ROW }
     {
         let symbol = symbol_17(first);
@@ -75,6 +76,24 @@ impl Walk17 {
         decided
     }
 
+    /// Does the same as `pass` between narrow characters, for which the table decides alone.
+    pub fn pass_narrow(&mut self, next: Properties) -> u8
+        requires row { self.old.row ≤ LAST_ROW }
+        requires before { FollowsNarrow self.old }
+        requires next { is_narrow_17 next ≡ true }
+        ensures passes { (last : Base) (others : List Base)
+            → Stands17 self.old last others
+            → Passes17 self.new last others (character_by V17_0 next) result }
+        ensures before { FollowsNarrow self.new }
+        ensures within { self.new.row ≤ LAST_ROW }
+        ensures below { result < DECIDED_COUNT }
+    {
+        let symbol = symbol_17(next);
+        let row = self.row;
+        self.row = next_row(row, symbol);
+        decided_narrow(outcome(row, symbol))
+    }
+
     // Returns the mark or the question of an outcome: `NEVER` if the last character is a ZWJ (LB8a).
     fn decide(&self, outcome: u8, next_is_wide: bool) -> u8
         requires { outcome < OUTCOME_COUNT }
@@ -98,6 +117,28 @@ impl Walk17 {
         if is_open { open } else { NEVER }
     }
 }
+
+/// Returns whether a character is neither wide nor a ZWJ nor a future pictograph.
+pub fn is_narrow(one: Properties) -> bool
+    ensures { result ≡ is_narrow_17 one }
+{
+    (symbol_17(one) != JOINER) & (!one.is_future_pictograph() & !one.is_wide())
+}
+
+// Returns the mark or the question of an outcome between narrow characters.
+fn decided_narrow(outcome: u8) -> u8
+    requires { outcome < OUTCOME_COUNT }
+    ensures decided { result ≡ decided_narrow outcome }
+    ensures below { result < DECIDED_COUNT }
+{
+    NARROW[outcome as usize]
+}
+
+// What each outcome means if all bits of the walk are false.
+static NARROW: [u8; 15] = [
+    NEVER, NEVER, MAY, MUST, LB15B, LB15C, LB19A, LB25, LB25_IS, LB28A, MAY, NEVER, NEVER, NEVER,
+    NEVER,
+];
 
 // Returns whether a base that begins with this character is wide. A CM or ZWJ is then an AL that is not wide (LB10).
 fn is_wide(symbol: u8, first: Properties) -> bool

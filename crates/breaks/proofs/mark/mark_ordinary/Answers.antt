@@ -4,7 +4,7 @@ use Rattle.std.proofs.lemmas.List.{length-map, length-set, take_more_set}
 use Rattle.breaks.specs.Symbols.{character_by}
 use Rattle.breaks.proofs.WalkLemmas.{none_at_all, no_text, begins_read, one_longer, steps, ends}
 use Rattle.breaks.specs.Walk.{is_ordinary}
-use Rattle.breaks.proofs.OrdinaryLemmas.{head_ordinary, one_of_all, tail_ordinary}
+use Rattle.breaks.proofs.OrdinaryLemmas.{head_passes, one_of_all, tail_passes}
 use Rattle.breaks.proofs.mark.mark_ordinary.Goals as goal
 
 -- the text is empty
@@ -17,8 +17,8 @@ loop-i-init g c = record {
   walks = (_, [], c.start-walk.ensures.stands c.args.whole_numbers, begins_read _ _ _ _ _ _ _ c.requires.version c.requires.characters c.in-Some.ensures.cases);
   len = one_longer _ _ _ _ (c.requires.len ∙ sym (length-map _ _) ∙ sym (ap length c.requires.characters)) c.in-Some.ensures.cases;
   within = c.start-walk.ensures.within;
-  before = c.start-walk.ensures.ordinary (head_ordinary _ _ _ c.requires.ordinary c.in-Some.ensures.cases);
-  ordinary = tail_ordinary _ _ _ c.requires.ordinary c.in-Some.ensures.cases;
+  before = c.start-walk.ensures.ordinary (head_passes is_ordinary _ _ _ c.requires.ordinary c.in-Some.ensures.cases);
+  ordinary = tail_passes is_ordinary _ _ _ c.requires.ordinary c.in-Some.ensures.cases;
 }
 
 -- the loop invariant still holds after the next character

@@ -2,6 +2,7 @@ use Rattle.std.proofs.Common.{◌+◌, ◌<◌, arith}
 use Rattle.ucd.specs.declared.version.Version.TheVariants.{V17_0}
 use Rattle.breaks.specs.Symbols.{character_by}
 use Rattle.breaks.specs.declared.table_17.TheConstants.{ENTRY_COUNT}
+use Rattle.breaks.proofs.NarrowLemmas.{starts_narrow}
 use Rattle.breaks.proofs.PassLemmas17.{starts_17, row_within_17}
 use Rattle.breaks.proofs.walk_17.Walk17.start.Goals as goal
 
@@ -14,3 +15,8 @@ pub returns-clause-within : goal.returns-clause-within
 returns-clause-within c =
     let below : 0 + c.symbol_17-symbol.result < ENTRY_COUNT = omega arith in
     row_within_17 _ _ below c.next_row.ensures
+
+pub returns-clause-narrow : goal.returns-clause-narrow
+returns-clause-narrow c =
+    λ narrow. starts_narrow c.symbol_17-symbol.result c.next_row.result c.args.first _ _ c.symbol_17-symbol.ensures.below c.symbol_17-symbol.ensures.shown c.is_future_pictograph.ensures
+    c.is_wide.ensures narrow
