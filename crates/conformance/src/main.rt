@@ -27,7 +27,8 @@ use std::{env, io};
 use tables::in_folder_as;
 use ucd::{Tables, Version};
 
-const USAGE: &str = "conformance marks-of UCD [15.0|17.0], or conformance lines-of UCD ltr|rtl|wltr|wrtl [15.0|17.0],
+const USAGE: &str =
+    "conformance marks-of UCD [15.0|17.0], or conformance lines-of UCD ltr|rtl|wltr|wrtl [15.0|17.0],
 or conformance levels-of UCD ltr|rtl|wltr|wrtl [15.0|17.0], or conformance starts-of UCD WIDTH [15.0|17.0]";
 
 fn main(rt: HostRuntime) -> Result<()> {

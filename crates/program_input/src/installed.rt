@@ -27,10 +27,7 @@ fn usual_folders(version: Version) -> [&'static str; 2] {
 
 /// Returns the folder of the installed table files of a version, if there is one. If `/proc` is not mounted, looks for the
 /// program by the name that it was started with, then for the folder in `/usr/local` and `/usr`.
-pub fn installed_folder(
-    rt: &HostRuntime,
-    version: Version,
-) -> Result<Option<PathBuf>, AllocError> {
+pub fn installed_folder(rt: &HostRuntime, version: Version) -> Result<Option<PathBuf>, AllocError> {
     match env::current_exe(rt) {
         Ok(program) => folder_beside(rt, version, program.as_path()),
         Err(error) if error.kind() == ErrorKind::OutOfMemory => Err(AllocError),
@@ -54,20 +51,14 @@ fn folder_beside(
     }
 }
 
-fn folder_without_proc(
-    rt: &HostRuntime,
-    version: Version,
-) -> Result<Option<PathBuf>, AllocError> {
+fn folder_without_proc(rt: &HostRuntime, version: Version) -> Result<Option<PathBuf>, AllocError> {
     match folder_by_arguments(rt, version)? {
         Some(folder) => Ok(Some(folder)),
         None => usual_folder(rt, version),
     }
 }
 
-fn folder_by_arguments(
-    rt: &HostRuntime,
-    version: Version,
-) -> Result<Option<PathBuf>, AllocError> {
+fn folder_by_arguments(rt: &HostRuntime, version: Version) -> Result<Option<PathBuf>, AllocError> {
     let mut words = match env::args(rt) {
         Ok(words) => words,
         Err(error) => return none_or_memory(&error),
@@ -120,10 +111,7 @@ fn none_or_memory(error: &io::Error) -> Result<Option<PathBuf>, AllocError> {
     }
 }
 
-fn usual_folder(
-    rt: &HostRuntime,
-    version: Version,
-) -> Result<Option<PathBuf>, AllocError> {
+fn usual_folder(rt: &HostRuntime, version: Version) -> Result<Option<PathBuf>, AllocError> {
     for folder in usual_folders(version) {
         let folder = Path::new(folder);
         if folder.is_dir(rt) {
