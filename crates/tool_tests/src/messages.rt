@@ -200,6 +200,7 @@ fn line_faults_have_their_texts(rt: HostRuntime) {
             LineFault::Directions,
             "fribidi: more than one base direction",
         ),
+        (LineFault::Unicode, "fribidi: --unicode takes 15.0 or 17.0"),
         (LineFault::ScriptFiles, "fribidi: --script takes one file"),
         (LineFault::Queries, "fribidi: --queries needs --script"),
         (LineFault::NoMemory, "fribidi: out of memory"),
@@ -239,29 +240,30 @@ Arguments:
   [FILE]...  Files to lay out, each as a separate text [default: standard input]
 
 Options:
-      --ucd <DIR>         Read the Unicode table files from DIR [default: the installed files, if any]
-      --width <N>         Wrap lines at N columns, from 1 to 65535 [default: 80]
-      --tabs <N>          Set a tab stop every N columns, from 1 to 255
-      --rtl               Lay out every paragraph right-to-left
-      --ltr               Lay out every paragraph left-to-right
-      --wrtl              Lay out paragraphs without a strong character right-to-left
-      --wltr              Lay out paragraphs without a strong character left-to-right (default)
-      --nobreak           Break lines at mandatory breaks only
-      --reordernsm        Reorder nonspacing marks to follow their base in right-to-left text
-      --whole-numbers     Do not break lines inside numbers such as $1,234.56
-      --reorder-clusters  Keep the characters of grapheme clusters in order in right-to-left text
-      --show-spaces       Show spaces at the end of lines, up to the width
-      --nopad             Do not right-align lines of right-to-left paragraphs
-      --nomirror          Do not mirror brackets and other paired characters
-      --novisual          Do not print the visual lines
-      --basedir           Print LTR or RTL after the first line of each paragraph
-      --ltov              Print the logical-to-visual position map of each line
-      --vtol              Print the visual-to-logical position map of each line
-      --levels            Print the embedding level of each character
-      --script <FILE>     Run an edit script on one text file
-      --queries           Allow queries in the edit script
-  -h, --help              Print help
-  -V, --version           Print version
+      --ucd <DIR>          Read the Unicode table files from DIR [default: the installed files, if any]
+      --width <N>          Wrap lines at N columns, from 1 to 65535 [default: 80]
+      --tabs <N>           Set a tab stop every N columns, from 1 to 255
+      --unicode <VERSION>  Follow Unicode VERSION, 15.0 or 17.0 [default: 15.0]
+      --rtl                Lay out every paragraph right-to-left
+      --ltr                Lay out every paragraph left-to-right
+      --wrtl               Lay out paragraphs without a strong character right-to-left
+      --wltr               Lay out paragraphs without a strong character left-to-right (default)
+      --nobreak            Break lines at mandatory breaks only
+      --reordernsm         Reorder nonspacing marks to follow their base in right-to-left text
+      --whole-numbers      Do not break lines inside numbers such as $1,234.56
+      --reorder-clusters   Keep the characters of grapheme clusters in order in right-to-left text
+      --show-spaces        Show spaces at the end of lines, up to the width
+      --nopad              Do not right-align lines of right-to-left paragraphs
+      --nomirror           Do not mirror brackets and other paired characters
+      --novisual           Do not print the visual lines
+      --basedir            Print LTR or RTL after the first line of each paragraph
+      --ltov               Print the logical-to-visual position map of each line
+      --vtol               Print the visual-to-logical position map of each line
+      --levels             Print the embedding level of each character
+      --script <FILE>      Run an edit script on one text file
+      --queries            Allow queries in the edit script
+  -h, --help               Print help
+  -V, --version            Print version
 
 Unicode 15.0
 ";
