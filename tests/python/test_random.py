@@ -1,6 +1,7 @@
 """Properties, on random input."""
 
 import hordguli
+import pytest
 from conftest import state_of
 from hordguli import Options, Print
 from hypothesis import given, settings
@@ -8,7 +9,10 @@ from hypothesis import strategies as st
 
 # Letters of both directions, digits, brackets, marks, spaces, separators, isolates, wide and supplementary characters.
 ALPHABET = "ab\u05d0\u05d1\u0627\u06281\u0661()[]+,.$ \t\u05b0\u0301\u200d\u2067\u2068\u2069\u202b\u202c\u4e00\U0001d11e\U0001f1e9\n\r\u2028\u2029\u0085"
+# Characters that Unicode 17.0 breaks otherwise than 15.0: quotation marks, hyphens, maqaf, a slash, Javanese letters.
+CHANGED = "\u201c\u201d\u00ab\u00bb\u2019-\u2010\u05be/%\ua9a7\ua9b1\u25cc"
 texts = st.text(st.sampled_from(ALPHABET), max_size=40)
+changed_texts = st.text(st.sampled_from(ALPHABET + CHANGED), max_size=40)
 any_texts = st.text(st.characters(blacklist_categories=["Cs"]), max_size=20)
 options = st.builds(
     lambda direction, others: direction | others,
@@ -16,14 +20,15 @@ options = st.builds(
     st.integers(0, 31).map(lambda bits: Options(4 * bits)),
 )
 widths = st.integers(1, 20)
-edits = st.lists(st.tuples(st.integers(0, 60), st.integers(0, 10), texts, st.none() | widths), max_size=8)
+edits = st.lists(st.tuples(st.integers(0, 60), st.integers(0, 10), changed_texts, st.none() | widths), max_size=8)
 
 
+@pytest.mark.parametrize("version", ["15.0", "17.0"])
 @settings(max_examples=600)
-@given(texts, widths, options, edits)
-def test_edits_equal_a_fresh_session(start, width, option, edits):
-    model = start
-    with hordguli.Session(start, width, option) as text:
+@given(changed_texts, widths, options, edits)
+def test_edits_equal_a_fresh_session(version, start, width, option, edits):
+    model, tables = start, hordguli.default_tables(version)
+    with hordguli.Session(start, width, option, tables=tables) as text:
         for pos, count, inserted, new_width in edits:
             pos = min(pos, len(model))
             count = min(count, len(model) - pos)
@@ -38,7 +43,7 @@ def test_edits_equal_a_fresh_session(start, width, option, edits):
                 text.replace(pos, count, inserted)
             if new_width is None:
                 model = model[:pos] + inserted + model[pos + count :]
-            with hordguli.Session(model, width, option) as fresh:
+            with hordguli.Session(model, width, option, tables=tables) as fresh:
                 assert text.text() == model and state_of(text) == state_of(fresh)
                 assert text.lines() == fresh.lines()
 
