@@ -1,5 +1,6 @@
 //! The break marks of a paragraph.
-ghost use Rattle.std.specs.Prelude.{◌≡◌, ◌+◌, ◌-◌, ◌<◌, ◌≤◌, ℕ, Bool, List, Some, false, true, drop, length, map};
+ghost use Rattle.std.specs.Prelude.{◌≡◌, ◌+◌, ◌-◌, ◌<◌, ◌≤◌, ℕ, Bool, false, true};
+ghost use Rattle.std.specs.Prelude.{List, Some, drop, length, map};
 ghost use Rattle.std.specs.List.{list_all};
 ghost use Rattle.std.specs.Prelude.{slice_get, slice_index_or, vec_capacity, IfOk, OnErr, OnOk};
 ghost use Rattle.ucd.specs.Properties.{properties_of};

@@ -1,5 +1,5 @@
-//! The answers to questions about the bases after the next one (Unicode 17.0): those of LB15b, LB15c, LB19a, LB25 and
-//! LB28a.
+//! The answers to questions about the bases after the next one (Unicode 17.0): those of LB15b, LB15c, LB19a,
+//! LB25 and LB28a.
 ghost use Rattle.std.specs.Prelude.{◌≡◌, ◌<◌, ◌≤◌, [], ◌∷◌, List, drop, length, map, slice_index};
 ghost use Rattle.ucd.specs.declared.version.Version.TheVariants.{V17_0};
 ghost use Rattle.breaks.specs.Bases.{Base, Character};
@@ -19,7 +19,8 @@ use ucd::Properties;
 pub fn mark_before_17<C: Characters>(characters: C, after: usize, decided: u8) -> Mark
     requires place { after ≤ length (C.all characters) }
     requires below { decided < DECIDED_COUNT }
-    ensures { result ≡ mark_of_17 decided (bases_after (map (character_by V17_0) (drop after (C.all characters)))) }
+    ensures { result
+        ≡ mark_of_17 decided (bases_after (map (character_by V17_0) (drop after (C.all characters)))) }
 {
     if decided < LB15B {
         mark_alone_17(decided)
@@ -32,7 +33,8 @@ pub fn mark_before_17<C: Characters>(characters: C, after: usize, decided: u8) -
 fn mark_asked<C: Characters>(characters: C, after: usize, question: u8) -> Mark
     requires place { after ≤ length (C.all characters) }
     requires below { question < DECIDED_COUNT }
-    ensures { result ≡ mark_of_17 question (bases_after (map (character_by V17_0) (drop after (C.all characters)))) }
+    ensures { result
+        ≡ mark_of_17 question (bases_after (map (character_by V17_0) (drop after (C.all characters)))) }
 {
     let mut asked = question;
     for i in after..characters.len() {
@@ -44,10 +46,12 @@ fn mark_asked<C: Characters>(characters: C, after: usize, question: u8) -> Mark
     mark_at_end(asked)
 }
 
-// Returns the answer to a question, given the next character: a mark, or a question about the characters after it.
+// Returns the answer to a question, given the next character: a mark, or a question about the characters
+// after it.
 fn answer(question: u8, next: Properties) -> u8
     requires { (LB15B ≤ question) × (question < DECIDED_COUNT) }
-    ensures said { (text : List Character) → mark_of_17 question (bases_after (character_by V17_0 next ∷ text))
+    ensures said { (text : List Character)
+        → mark_of_17 question (bases_after (character_by V17_0 next ∷ text))
         ≡ mark_of_17 result (bases_after text) }
     ensures below { result < DECIDED_COUNT }
 {

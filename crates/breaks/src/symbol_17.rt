@@ -1,6 +1,6 @@
-//! The symbol of a character for the rules of Unicode 17.0: its class after LB1 and, for LB30, whether a parenthesis is
-//! wide. Quotation marks of the general categories Pi and Pf (LB15a, LB15b, LB19) and U+25CC (LB28a) have symbols of
-//! their own.
+//! The symbol of a character for the rules of Unicode 17.0: its class after LB1 and, for LB30, whether a
+//! parenthesis is wide. Quotation marks of the general categories Pi and Pf (LB15a, LB15b, LB19) and U+25CC
+//! (LB28a) have symbols of their own.
 ghost use Rattle.std.specs.Prelude.{◌≡◌, ◌<◌, slice_index};
 ghost use Rattle.ucd.specs.declared.properties.TheConstants.{LINE_INDEX_COUNT};
 ghost use Rattle.ucd.specs.declared.version.Version.TheVariants.{V17_0};
@@ -93,8 +93,9 @@ fn symbol_at(index: usize) -> u8
     SYMBOLS[index]
 }
 
-// The four symbols of each line number: for a narrow character, a narrow mark, a wide character and a wide mark.
-// Each symbol occurs twice, because a future pictograph has the same symbol as other characters of its class.
+// The four symbols of each line number: for a narrow character, a narrow mark, a wide character and a wide
+// mark. Each symbol occurs twice, because a future pictograph has the same symbol as other characters of its
+// class.
 macro_rules! symbols {
     ($($narrow:ident $narrow_mark:ident $wide:ident $wide_mark:ident;)*) => {
         [$(
@@ -110,8 +111,8 @@ macro_rules! symbols {
     };
 }
 
-// The symbol for each value of `Properties::line_index`: four for each class, in the order of `LineClass`, four
-// for each class with a detail, and four for each of the 8 numbers that mean nothing.
+// The symbol for each value of `Properties::line_index`: four for each class, in the order of `LineClass`,
+// four for each class with a detail, and four for each of the 8 numbers that mean nothing.
 static SYMBOLS: [u8; LINE_INDEX_COUNT] = symbols! {
     BK BK BK BK; CM CM CM CM; CR CR CR CR; GL GL GL GL; LF LF LF LF; NL NL NL NL; SP SP SP SP;
     WJ WJ WJ WJ; ZW ZW ZW ZW; ZWJ ZWJ ZWJ ZWJ; B2 B2 B2 B2; BA BA BA BA; BB BB BB BB; CB CB CB CB;

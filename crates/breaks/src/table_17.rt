@@ -1,6 +1,7 @@
-//! The break table of Unicode 17.0. For each state and each symbol of the next character, it has the outcome before
-//! that character and the next state. It implements LB4 to LB31, except for what the walk decides with one bit each:
-//! LB8a, the width in LB19a, and LB30b for future pictographs. The entries are in entries_17.rt.
+//! The break table of Unicode 17.0. For each state and each symbol of the next character, it has the outcome
+//! before that character and the next state. It implements LB4 to LB31, except for what the walk decides with
+//! one bit each: LB8a, the width in LB19a, and LB30b for future pictographs. The entries are in
+//! entries_17.rt.
 ghost use Rattle.std.specs.Prelude.{◌≡◌, ◌<◌, ◌≤◌, ◌+◌, slice_index};
 ghost use Rattle.breaks.specs.declared.table_17.TheConstants.{ENTRY_COUNT, OUTCOME_COUNT};
 
@@ -105,7 +106,8 @@ pub const MAY: u8 = 2;
 /// A line must end before the next character.
 pub const MUST: u8 = 3;
 
-/// LB15b: no line ends there if the base after the next one is one of those that the rule names, or if there is none.
+/// LB15b: no line ends there if the base after the next one is one of those that the rule names, or if there
+/// is none.
 pub const LB15B: u8 = 4;
 
 /// LB15c: a line may end there if the base after the next one is NU, and otherwise not.
@@ -144,8 +146,8 @@ pub const FINAL: u8 = 12;
 /// `FINAL`, and LB30b: `NEVER` also after a future pictograph.
 pub const FINAL_UNLESS: u8 = 13;
 
-/// LB19a between a QU of category Pf and one of category Pi: `LB19A` if both and the base before them are wide, and
-/// otherwise `NEVER`.
+/// LB19a between a QU of category Pf and one of category Pi: `LB19A` if both and the base before them are
+/// wide, and otherwise `NEVER`.
 pub const FINAL_INITIAL: u8 = 14;
 
 /// The number of outcomes.

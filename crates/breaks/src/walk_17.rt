@@ -5,7 +5,8 @@ ghost use Rattle.breaks.specs.Bases.{Base, alone, is_east_asian};
 ghost use Rattle.breaks.specs.Symbols.{character_by, shown_17, told_17};
 ghost use Rattle.breaks.specs.declared.symbol_17.TheConstants.{SYMBOL_COUNT};
 ghost use Rattle.breaks.specs.declared.table_17.TheConstants.{DECIDED_COUNT, LAST_ROW, OUTCOME_COUNT};
-ghost use Rattle.breaks.specs.Walk17.{Stands17, Passes17, FollowsNarrow, bits_in, decided_17, decided_narrow, is_narrow_17};
+ghost use Rattle.breaks.specs.Walk17.{Stands17, Passes17, FollowsNarrow, bits_in, decided_17};
+ghost use Rattle.breaks.specs.Walk17.{decided_narrow, is_narrow_17};
 
 use crate::symbol_17::{ATTACHED, JOINER, symbol_17};
 use crate::table_17::{
@@ -46,7 +47,8 @@ impl Walk17 {
         }
     }
 
-    /// Returns the mark before the next character, or the question that decides it, and moves past that character.
+    /// Returns the mark before the next character, or the question that decides it, and moves past that
+    /// character.
     pub fn pass(&mut self, next: Properties) -> u8
         requires { self.old.row ≤ LAST_ROW }
         ensures passes { (last : Base) (others : List Base)
@@ -140,7 +142,8 @@ static NARROW: [u8; 15] = [
     NEVER,
 ];
 
-// Returns whether a base that begins with this character is wide. A CM or ZWJ is then an AL that is not wide (LB10).
+// Returns whether a base that begins with this character is wide. A CM or ZWJ is then an AL that is not wide
+// (LB10).
 fn is_wide(symbol: u8, first: Properties) -> bool
     requires below { symbol < SYMBOL_COUNT }
     requires shown { shown_17 symbol ≡ told_17 (character_by V17_0 first) }

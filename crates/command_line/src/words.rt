@@ -3,7 +3,8 @@ ghost use Rattle.std.specs.Prelude.{◌≡◌, List, codes, fold, map, not, opti
 ghost use Rattle.std.specs.Prelude.{IfOk, IfErr, IfSome};
 ghost use Rattle.clap.specs.Words.{Text, app_of, found_of, rows_of, rule_of, with_rule};
 ghost use Rattle.clap.specs.Takes.{is_given};
-ghost use Rattle.command_line.specs.CommandLine.{program, ucd_rule, width_rule, tabs_rule, unicode_rule, script_rule};
+ghost use Rattle.command_line.specs.CommandLine.{program, ucd_rule, width_rule, tabs_rule};
+ghost use Rattle.command_line.specs.CommandLine.{unicode_rule, script_rule};
 ghost use Rattle.command_line.specs.CommandLine.{files_rule, flag_rule};
 ghost use Rattle.command_line.specs.CommandLine.{AreMatches, AreSettings, HidesNothing, IsLineFault};
 ghost use Rattle.command_line.specs.CommandLine.{base_by, base_of, fits_queries, fits_script, version_by};
@@ -297,8 +298,8 @@ pub fn settings<'a>(alloc: Global, words: &'a [&'a str]) -> Result<Settings<'a>,
 
 /// Returns the settings that parsed arguments specify.
 ///
-/// Fails with the first of `Directions`, `Unicode`, `ScriptFiles` and `Queries` that applies. Fails with `NoMemory` only
-/// if none of them applies.
+/// Fails with the first of `Directions`, `Unicode`, `ScriptFiles` and `Queries` that applies. Fails with
+/// `NoMemory` only if none of them applies.
 pub fn settings_of<'a>(alloc: Global, matches: &ArgMatches<'a>) -> Result<Settings<'a>, LineFault>
     requires { (words : List Text) × AreMatches words matches.now }
     ensures ok { (words : List Text) → AreMatches words matches.now → IfOk result (AreSettings words) }

@@ -3,10 +3,11 @@
 //! (the default) or 17.0.
 //!
 //! - `conformance marks-of UCD [VERSION]` prints the break marks of each paragraph.
-//! - `conformance lines-of UCD DIRECTION [VERSION]` lays out each as a single line, and prints its base level,
-//!   its levels and its order.
+//! - `conformance lines-of UCD DIRECTION [VERSION]` lays out each as a single line, and prints its base
+//!   level, its levels and its order.
 //! - `conformance levels-of UCD DIRECTION [VERSION]` prints the levels of each, as they are before L1.
-//! - `conformance starts-of UCD WIDTH [VERSION]` fills each again at a width, and prints where its lines start.
+//! - `conformance starts-of UCD WIDTH [VERSION]` fills each again at a width, and prints where its lines
+//!   start.
 //!
 //! Without arguments it prints its usage. The first two are for Unicode's conformance tests
 //! (`tests/conformance/run`). The others make calls that the command never makes, so that

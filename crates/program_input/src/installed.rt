@@ -1,4 +1,5 @@
-//! The installed table files: `../share/hordguli/ucd`, relative to the program's folder, and `ucd-17.0` beside it.
+//! The installed table files: `../share/hordguli/ucd`, relative to the program's folder, and `ucd-17.0`
+//! beside it.
 use std::alloc::AllocError;
 use std::env::VarError;
 use std::io::ErrorKind;
@@ -25,8 +26,9 @@ fn usual_folders(version: Version) -> [&'static str; 2] {
     }
 }
 
-/// Returns the folder of the installed table files of a version, if there is one. If `/proc` is not mounted, looks for the
-/// program by the name that it was started with, then for the folder in `/usr/local` and `/usr`.
+/// Returns the folder of the installed table files of a version, if there is one. If `/proc` is not mounted,
+/// looks for the program by the name that it was started with, then for the folder in `/usr/local` and
+/// `/usr`.
 pub fn installed_folder(rt: &HostRuntime, version: Version) -> Result<Option<PathBuf>, AllocError> {
     match env::current_exe(rt) {
         Ok(program) => folder_beside(rt, version, program.as_path()),

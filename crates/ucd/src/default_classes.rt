@@ -9,7 +9,8 @@ use crate::version::Version;
 
 static NONE: [Entry<BidiClass>; 0] = [];
 
-// The `@missing` lines of the file of Unicode 17.0, except the first one, which gives all other code points L.
+// The `@missing` lines of the file of Unicode 17.0, except the first one, which gives all other code points
+// L.
 #[rattlefmt::skip]
 static MISSING_17: [Entry<BidiClass>; 23] = [
     Entry { first: 0x0590, last: 0x05FF, value: BidiClass::R },

@@ -45,9 +45,11 @@ impl Model for PagedTables {
 
     ghost Value = { TableContents };
 
-    ghost view = { λ t. contents_in t.version t.pages.index.items t.pages.entries.items t.brackets t.mirrors };
+    ghost view = { λ t.
+        contents_in t.version t.pages.index.items t.pages.entries.items t.brackets t.mirrors };
 
-    ghost invariant = { λ t. AreSound t.version t.pages.index.items t.pages.entries.items t.brackets t.mirrors };
+    ghost invariant = { λ t.
+        AreSound t.version t.pages.index.items t.pages.entries.items t.brackets t.mirrors };
 }
 
 impl PagedTables {

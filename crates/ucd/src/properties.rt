@@ -95,7 +95,10 @@ impl Properties {
     // Returns the properties with another line number.
     fn with_number(self, number: u16) -> Properties
         requires { number < 56 }
-        ensures { result ≡ record self { line_class = line_class_at number; line_detail = line_detail_at number } }
+        ensures { result ≡ record self {
+          line_class = line_class_at number;
+          line_detail = line_detail_at number;
+        } }
     {
         Properties {
             bits: number * 1024 + self.bits % 1024,
@@ -104,7 +107,9 @@ impl Properties {
 
     /// Returns the properties of an initial quotation mark, if the line breaking class is QU.
     pub(crate) fn with_initial_quote(self) -> Properties
-        ensures { result ≡ record self { line_detail = quote_by InitialQuote self.line_class self.line_detail } }
+        ensures { result ≡ record self {
+          line_detail = quote_by InitialQuote self.line_class self.line_detail;
+        } }
     {
         if self.line_class() == LineClass::QU {
             self.with_number(49)
@@ -115,7 +120,9 @@ impl Properties {
 
     /// Returns the properties of a final quotation mark, if the line breaking class is QU.
     pub(crate) fn with_final_quote(self) -> Properties
-        ensures { result ≡ record self { line_detail = quote_by FinalQuote self.line_class self.line_detail } }
+        ensures { result ≡ record self {
+          line_detail = quote_by FinalQuote self.line_class self.line_detail;
+        } }
     {
         if self.line_class() == LineClass::QU {
             self.with_number(50)

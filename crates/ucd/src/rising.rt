@@ -81,7 +81,8 @@ fn collect<V: Property>(
     version: Version,
     file: &[u8],
 ) -> Result<Vec<Entry<V>>, Cause>
-    ensures entries { IfOk result (λ entries. entries.items ≡ entries_in (V.form version) (lines_of file.now)) }
+    ensures entries { IfOk result
+        (λ entries. entries.items ≡ entries_in (V.form version) (lines_of file.now)) }
     ensures read { IsOk result → AreRead (V.form version) (lines_of file.now) }
 {
     let mut entries = Vec::new(alloc);

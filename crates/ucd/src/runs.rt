@@ -1,7 +1,7 @@
 //! Runs of code points with the same properties.
 //!
-//! The entries of all files, and those that a version adds, are passed once, side by side. A run ends where an
-//! entry begins or ends.
+//! The entries of all files, and those that a version adds, are passed once, side by side. A run ends where
+//! an entry begins or ends.
 ghost use Rattle.std.specs.Prelude.{◌≡◌, ℕ, ◌<◌, ◌≤◌, List};
 ghost use Rattle.ucd.specs.declared.grammar.Entry.{Entry};
 ghost use Rattle.ucd.specs.Entries.{value_at};

@@ -59,8 +59,8 @@ impl Tables {
     ghost use Rattle.ucd.specs.Properties.{properties_of};
     ghost use Rattle.ucd.specs.Said.{contents_of, AreKnown};
 
-    /// Reads tables of Unicode 15.0 from the files. Fails at the first faulty line, in file order and then line order,
-    /// with the first cause that applies (docs/reference.md).
+    /// Reads tables of Unicode 15.0 from the files. Fails at the first faulty line, in file order and then
+    /// line order, with the first cause that applies (docs/reference.md).
     pub fn read(alloc: Global, files: &UcdFiles<'_>) -> Result<Tables, TableFault>
         ensures ok { IfOk result (AreTablesOf files.now) }
         ensures err { IfErr result (IsFaultOf files.now) }
