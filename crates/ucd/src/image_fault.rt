@@ -14,7 +14,7 @@ pub enum ImageFault {
     /// The format has another version.
     #[error("the image has another format")]
     Format,
-    /// The tables are of another version of Unicode.
+    /// The tables are of a version of Unicode other than 15.0 and 17.0.
     #[error("the image is of another version of Unicode")]
     Version,
     /// There are more bytes than the counts say.
@@ -26,7 +26,8 @@ pub enum ImageFault {
     /// A block has a page that the image does not have.
     #[error("a page number of the image is out of range")]
     PageNumber,
-    /// A bidi class or a line breaking class is out of range, or a mark is a future pictograph.
+    /// A bidi class is out of range, the version has no such line breaking class, or a mark is a future
+    /// pictograph.
     #[error("the image has invalid properties")]
     Entry,
     /// The code points of the brackets do not ascend or are out of range, or a pair is not a character.
