@@ -117,8 +117,8 @@ typedef int32_t hordguli_status;
 #define HORDGULI_CLOSED 9
 /* The handle to open is already open. */
 #define HORDGULI_ALREADY_OPEN 10
-/* The options or print flags have a bit that is unknown, or that the function does not accept, or no tables have the
- * Unicode version. */
+/* The options or print flags have a bit that is unknown, or that the function does not accept, or the Unicode version is
+ * unknown. */
 #define HORDGULI_UNKNOWN_OPTION 11
 /* The capacity is too small. */
 #define HORDGULI_NO_ROOM 12
@@ -142,7 +142,8 @@ const char *hordguli_status_text(hordguli_status status);
 /* Returns the version of the library, such as "0.5.0". */
 const char *hordguli_version(void);
 
-/* Returns "15.0", the Unicode version of tables that are opened without a version. */
+/* Returns "15.0", the Unicode version of tables that `hordguli_tables_open_builtin`, `hordguli_tables_open_folder` and
+ * `hordguli_tables_read` open. */
 const char *hordguli_unicode_version(void);
 
 /* ---- Session options ----
@@ -169,7 +170,7 @@ const char *hordguli_unicode_version(void);
  * terminal draws the mark on B. With this option, it is written as `B A mark`. */
 #define HORDGULI_REORDER_NSM UINT32_C(8)
 /* Does not break inside a number, such as `$(1,200)`. This replaces LB25 (UAX #14): there is no break inside a match of
- * `(PR|PO)? (OP|HY)? NU (NU|SY|IS)* (CL|CP)? (PR|PO)?`. */
+ * `(PR|PO)? (OP|HY)? NU (NU|SY|IS)* (CL|CP)? (PR|PO)?`. It changes nothing with tables of Unicode 17.0. */
 #define HORDGULI_WHOLE_NUMBERS UINT32_C(16)
 /* Keeps the characters of a grapheme cluster that follow each other at one odd level in logical order. By default they
  * are reversed, as is all RTL text. Use it if the terminal draws clusters as units, such as emoji families, skin tones,
@@ -235,8 +236,7 @@ typedef struct hordguli_session {
 /* ---- Tables ----
  *
  * Tables hold character properties from seven files of the Unicode Character Database, of Unicode 15.0 or 17.0. The
- * library contains the tables of both versions as compiled images. The version of its tables decides by which rules a
- * call finds levels and line breaks. */
+ * library contains the tables of both versions as compiled images. Line breaks follow the rules of the tables' version. */
 
 /* The versions: 65,536 times the major version plus 256 times the minor one, as in images. */
 #define HORDGULI_UNICODE_15_0 UINT32_C(0x000F0000)

@@ -21,7 +21,7 @@ Threads may share sessions and tables: a lock keeps each of them in one call at 
 `default_tables()`, so programs that lay out long texts in several threads should open `Tables` for each. After a fork, the child
 has its own copies. What another thread was using during the fork is closed in the child.
 
-`__version__` is the version of the C library, and `UNICODE_VERSION` the Unicode version of tables that are opened without one.
+`__version__` is the version of the C library, and `UNICODE_VERSION` the default Unicode version of tables.
 """
 
 from ._errors import Cause, ClosedError, TableError

@@ -116,9 +116,10 @@ _defaults: dict[str, Tables] = {}
 
 
 def default_tables(unicode: str = UNICODE_VERSION) -> Tables:
-    """Returns the tables that the library contains, by default those of Unicode 15.0, which are used if none are given.
+    """Returns the tables of a Unicode version that the library contains.
 
-    Tables of a version are opened when they are first needed, once per process. Raises `ValueError` for an unknown version.
+    Calls without `tables` use `default_tables()`. Tables of a version are opened when they are first needed, once per
+    process. Raises `ValueError` for an unknown version.
     """
     tables = _defaults.get(unicode)
     if tables is None or tables.closed:
