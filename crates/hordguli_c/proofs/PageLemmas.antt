@@ -15,7 +15,7 @@ not_refused : (reason : Option EditFault) (status : Status) (unchanged rest : Ty
 not_refused None status unchanged rest none done = done
 not_refused (Some fault) status unchanged rest none done = absurd (cc none)
 
-module _ (form : PageForm) (text : List ℕ) (tables : Tables) (rules : Rules) (rules_are : rules ≡ record { tables = tables; options = form.options })
+module _ (form : PageForm) (text : List ℕ) (tables : Tables) (rules : Rules) (rules_are : rules ≡ record { tables = tables; options = form.options; advances = None })
     (allowed : opening_refusal (cut_by rules) text form.width ≡ None) (status : Status) (old new : List ℕ × ℕ)
   where
     abbrev by_rules : Rules → Type 0

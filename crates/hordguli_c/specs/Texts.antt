@@ -26,7 +26,7 @@ UnlessRefused (Some fault) status unchanged rest = (status ≡ edit_status fault
 -- The printed lines of a text are stored. They are collected before they are copied.
 abbrev pub PutsPage : PageForm → List ℕ → Status → Tables → List ℕ × ℕ → List ℕ × ℕ → Type 0
 PutsPage form text status tables old new =
-    let rules : Rules = record { tables = tables; options = form.options } in
+    let rules : Rules = record { tables = tables; options = form.options; advances = None } in
     UnlessRefused (opening_refusal (cut_by rules) text form.width) status (new ≡ old)
     (OrNoMemory (0 < length text) status (new ≡ old) (PutsItems (text_page rules form.width form.print text) status old new))
 

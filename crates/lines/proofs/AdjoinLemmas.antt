@@ -1,7 +1,7 @@
 -- The characters of a level run are next to each other: the columns between two of them are those of the characters between.
 use Rattle.std.proofs.Common.{◌≡◌, ◌≢◌, ℕ, zero, suc, ◌+◌, ◌-◌, ◌<◌, ◌≤◌, ◌==◌, Bool, true, false, ◌&&◌, ◌||◌, not, List, [], ◌∷◌, ◌++◌, length, get_or, drop, take, if◌then◌else◌}
 use Rattle.std.proofs.Common.{refl, sym, ap, ◌∙◌, inl, inr, ◌⊎◌, arith}
-use Rattle.std.specs.Prelude.{slice_range, sum, sum_by, All}
+use Rattle.std.specs.Prelude.{slice_range, sum, sum_by, All, None, Option}
 use Rattle.std.proofs.lemmas.Bool.{and_parts, both_ways, cases_Bool, cases_eq, cases_lt, cond-true, cond-false, eq-eqb, eqb-true, ne_eqb}
 use Rattle.std.proofs.lemmas.List.{get_or-drop, get_or_past, length-drop, take_more}
 use Rattle.std.proofs.lemmas.List.Sums.{sum_by-cons, sum_by_more, sum_by_push}
@@ -17,6 +17,7 @@ use Rattle.lines.specs.Layouts.{Rules, layout_of, visuals}
 use Rattle.lines.specs.Ordered.{MarksStay, RunsAdjoin}
 use Rattle.lines.specs.Tabs.{is_tab}
 use Rattle.lines.specs.Visual.{Visual}
+use Rattle.lines.specs.Widths.{widths_of}
 use Rattle.lines.proofs.BesideLemmas.{even_places, odd_places}
 use Rattle.lines.proofs.ColumnLemmas.{left_more}
 use Rattle.lines.proofs.OrderedLemmas.{are_parts, IsPart}
@@ -281,17 +282,20 @@ module _ (line : Visual) (nsm : Bool) (classes : List BidiClass) (size : length 
 pub marks_still : (rules : Rules) (text : List ℕ) (line : Visual) (is : IsPart rules text line) → MarksStay rules text → Still rules.options.reordernsm is.classes line.levels (widths line)
 marks_still rules text line is (inl off) = inl off
 marks_still rules text line is (inr none) =
+    let unmeasured : line.advances ≡ None = is.unmeasured none.0 in
     inr (λ i has.
     let base = with_base is.classes line.levels i has in
     let char : get_or line.text i 0 ≡ get_or text (is.start + i) 0 = is.chars i base.1 in
     let mark : is_mark (class_of rules.tables (get_or line.text i 0)) ≡ true = ap is_mark (sym (is.class i base.1)) ∙ base.0 in
-    width_plain line.tab_width i line.text (omega (arith, is.size, base.1))
+    ap (λ (advances : Option (List ℕ)). get_or (widths_of line.tab_width advances line.text) i 0) unmeasured
+    ∙ width_plain line.tab_width i line.text (omega (arith, is.size, base.1))
     (ap (λ n. is_tab n (get_or line.text i 0)) is.tab_width ∙ mark_no_tab rules.tables rules.options (get_or line.text i 0) mark)
     ∙ ap columns_of char
-    ∙ none (is.start + i) 0 (omega (arith, is.inside, base.1)) (ap (λ c. is_mark (class_of rules.tables c)) (sym char) ∙ mark))
+    ∙ none.1 (is.start + i) 0 (omega (arith, is.inside, base.1)) (ap (λ c. is_mark (class_of rules.tables c)) (sym char) ∙ mark))
 
 pub all_adjoin : (rules : Rules) (width : ℕ) (text : List ℕ) → rules.options.reorder_clusters ≡ false → MarksStay rules text → All RunsAdjoin (visuals (layout_of rules width text))
 all_adjoin rules width text whole stay = λ k d within.
     let is = are_parts rules width text k d within in
-    adjoin _ rules.options.reordernsm is.classes (length-widths _ _ ∙ is.size) (is.vtol ∙ sym (marks_vtol rules.options is.classes is.ends _ whole))
+    let line : Visual = get_or (visuals (layout_of rules width text)) k d in
+    adjoin line rules.options.reordernsm is.classes (length-widths line ∙ is.size) (is.vtol ∙ sym (marks_vtol rules.options is.classes is.ends _ whole))
     (is.ltov ∙ sym (marks_ltov rules.options is.classes is.ends _ whole)) (marks_still rules text _ is stay)

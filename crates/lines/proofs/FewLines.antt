@@ -1,18 +1,15 @@
 -- A paragraph has at most as many lines as characters.
 use Rattle.std.proofs.Common.{◌≡◌, ℕ, zero, suc, ◌-◌, ◌≤◌, Bool, Option, List, [], ◌∷◌, length, refl, ap, arith}
 use Rattle.ucd.specs.declared.tables.Tables.{Tables}
-use Rattle.breaks.specs.declared.mark.Mark.{Mark}
 use Rattle.lines.specs.Filling.{line_len, line_starts_of, starts}
 use Rattle.lines.specs.Layouts.{Rules, base_of, lines_of}
-use Rattle.lines.specs.CharInfos.{infos, infos_of}
+use Rattle.lines.specs.CharInfos.{infos_of}
 use Rattle.lines.specs.ShownParts.{margin_of}
-use Rattle.lines.specs.Tabs.{tab_width_in}
 use Rattle.lines.specs.Visual.{lines_from}
 use Rattle.lines.specs.declared.options.Options.{Options}
 use Rattle.lines.specs.declared.char_info.CharInfo.{CharInfo}
 use Rattle.bidi.specs.Levels.{levels_of}
-use Rattle.breaks.specs.Marks.{marks_of}
-use Rattle.lines.specs.Clusters.{cluster_ends}
+use Rattle.lines.proofs.VisualLemmas.{few_infos}
 
 length-lines_from : (tables : Tables) (options : Options) (margin : Option ℕ) (base : ℕ) (text levels : List ℕ) (ps : List CharInfo) (ss : List ℕ) → length (lines_from tables options margin base text levels ps ss) ≡ length ss
 length-lines_from tables options margin base text levels ps [] = refl
@@ -25,27 +22,17 @@ few-starts nobreak width place (suc left) [] = omega arith
 few-starts nobreak width place zero (p ∷ rest) = omega (arith, few-starts nobreak width (suc place) (line_len nobreak width (p ∷ rest) - 1) rest)
 few-starts nobreak width place (suc left) (p ∷ rest) = omega (arith, few-starts nobreak width (suc place) left rest)
 
-few-infos : (t : Tables) (n : ℕ) (text : List ℕ) (marks : List Mark) (clusters : List Bool) → length (infos t n text marks clusters) ≤ length text
-few-infos t n [] marks clusters = omega arith
-few-infos t n (c ∷ text) [] clusters = omega arith
-few-infos t n (c ∷ text) (mark ∷ marks) [] = omega arith
-few-infos t n (c ∷ text) (mark ∷ marks) (ends ∷ clusters) = omega (arith, few-infos t n text marks clusters)
-
 few-line_starts : (nobreak : Bool) (width : ℕ) (ps : List CharInfo) → length (line_starts_of nobreak width ps) ≤ length ps
 unfolding line_starts_of
 few-line_starts nobreak width ps = few-starts nobreak width 0 0 ps
 
-few-infos_of : (t : Tables) (options : Options) (text : List ℕ) → length (infos_of t options text) ≤ length text
-unfolding infos_of
-few-infos_of t options text = few-infos t (tab_width_in t options) text (marks_of t options.whole_numbers text) (cluster_ends text)
-
 pub few_lines : (rules : Rules) (width : ℕ) (text : List ℕ) → length (lines_of rules width text) ≤ length text
 few_lines rules width text =
-    let ps = infos_of rules.tables rules.options text in
+    let ps = infos_of rules.tables rules.options rules.advances text in
     let ss = line_starts_of rules.options.nobreak width ps in
     omega (
       arith,
       length-lines_from rules.tables rules.options (margin_of rules.options width) (base_of rules text) text (levels_of rules.tables text rules.options.base) ps ss,
       few-line_starts rules.options.nobreak width ps,
-      few-infos_of rules.tables rules.options text,
+      few_infos rules text,
     )

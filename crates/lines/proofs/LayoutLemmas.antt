@@ -1,6 +1,6 @@
 -- Conditions under which a layout is a fresh layout: after it is built from its parts, or after its lines are
 -- exchanged.
-use Rattle.std.proofs.Common.{◌≡◌, ℕ, Bool, List, Result, Ok, Err, IfOk, length, refl, ap, ap₂, subst, sym, ◌∙◌}
+use Rattle.std.proofs.Common.{◌≡◌, ℕ, Bool, List, Option, Result, Ok, Err, IfOk, length, refl, ap, ap₂, subst, sym, ◌∙◌}
 use Rattle.bidi.specs.Levels.{levels_of}
 use Rattle.breaks.specs.declared.mark.Mark.{Mark}
 use Rattle.lines.specs.Extents.{extents_of, reflowed, LineExtents}
@@ -12,12 +12,12 @@ use Rattle.lines.specs.Visual.{Line}
 use Rattle.lines.specs.declared.char_info.CharInfo.{CharInfo}
 use Rattle.lines.proofs.WrittenLemmas.{shown_lines}
 
-pub same_layout : (rules : Rules) (width : ℕ) (text seen : List ℕ) (base tab_width : ℕ) (levels : List ℕ) (marks : List Mark) (ends : List Bool) (lines : List Line)
-    → seen ≡ text → base ≡ (layout_of rules width seen).base → tab_width ≡ (layout_of rules width seen).tab_width → levels ≡ (layout_of rules width seen).levels → marks ≡ (layout_of rules width seen).marks
+pub same_layout : (rules : Rules) (width : ℕ) (text seen : List ℕ) (advances : Option (List ℕ)) (base tab_width : ℕ) (levels : List ℕ) (marks : List Mark) (ends : List Bool) (lines : List Line)
+    → seen ≡ text → advances ≡ rules.advances → base ≡ (layout_of rules width seen).base → tab_width ≡ (layout_of rules width seen).tab_width → levels ≡ (layout_of rules width seen).levels → marks ≡ (layout_of rules width seen).marks
     → ends ≡ (layout_of rules width seen).ends
     → lines ≡ (layout_of rules width seen).lines
-    → record { text = text; base = base; tab_width = tab_width; levels = levels; marks = marks; ends = ends; lines = lines } ≡ layout_of rules width text
-same_layout rules width text seen base tab_width levels marks ends lines e b t l m n s = rw (b, t, l, m, n, s, e) refl
+    → record { text = text; advances = advances; base = base; tab_width = tab_width; levels = levels; marks = marks; ends = ends; lines = lines } ≡ layout_of rules width text
+same_layout rules width text seen advances base tab_width levels marks ends lines e a b t l m n s = rw (a, b, t, l, m, n, s, e) refl
 
 -- if `same` equals `rules`, a fresh layout by `rules` satisfies `IsLaidOut`, and its lines satisfy
 -- `AreLinesOf`
@@ -66,7 +66,7 @@ pub reflowed_by : (rules : Rules) (width : ℕ) (old : Layout) (extents : LineEx
     → reflowed rules old extents ≡ layout_of rules width old.text
 reflowed_by rules width old extents laid is =
     let text : List ℕ = old.text in
-    let infos : List CharInfo = infos_of rules.tables rules.options text in
+    let infos : List CharInfo = infos_of rules.tables rules.options rules.advances text in
     ap (reflowed rules old) is
     ∙ subst (λ (m : Layout). reflowed rules m (extents_of rules width m.text) ≡ layout_of rules width m.text) (sym laid.from_scratch)
     (ap (λ (lines : List Line). record (layout_of rules laid.width text) { lines = lines })

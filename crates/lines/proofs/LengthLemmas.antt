@@ -1,5 +1,5 @@
 -- The lengths of a paragraph's lines add up to its length.
-use Rattle.std.proofs.Common.{◌≡◌, ◌∙◌, ℕ, ◌+◌, ◌-◌, ◌<◌, ◌≤◌, List, [], ◌∷◌, length, map, drop, get_or, None, Some, refl, sym, ap, subst, inl, inr, arith}
+use Rattle.std.proofs.Common.{◌≡◌, ◌∙◌, ℕ, ◌+◌, ◌-◌, ◌<◌, ◌≤◌, List, [], ◌∷◌, length, map, drop, get_or, None, Some, Option, refl, sym, ap, subst, inl, inr, arith}
 use Rattle.std.specs.Prelude.{slice_get, sum_by}
 use Rattle.std.specs.List.{enumerate_from}
 use Rattle.std.proofs.lemmas.List.{drop_more, get_or-drop, length-drop}
@@ -14,9 +14,9 @@ use Rattle.lines.proofs.BeginningLemmas.{begin_in_order}
 use Rattle.lines.proofs.ShowLemmas.{end_last, end_next}
 use Rattle.lines.proofs.StayLemmas.{EndsAtMust}
 
-module _ (base tab_width : ℕ) (text : List ℕ) (all : List Line) where
+module _ (base tab_width : ℕ) (advances : Option (List ℕ)) (text : List ℕ) (all : List Line) where
   abbrev numbered : List (ℕ × Line) → List Visual
-  numbered nths = map (λ nth. visual_of base tab_width text all nth.0 nth.1) nths
+  numbered nths = map (λ nth. visual_of base tab_width advances text all nth.0 nth.1) nths
 
   abbrev total : List Visual → ℕ
   total lines = sum_by (λ (line : Visual). line.len) lines
@@ -46,7 +46,7 @@ module _ (base tab_width : ℕ) (text : List ℕ) (all : List Line) where
         end_next (length text) starts k more,
         are.rising k more,
         are.below (k + 1) more,
-        sum_by-cons (λ (line : Visual). line.len) (visual_of base tab_width text all k line) (numbered (enumerate_from (k + 1) (next ∷ rest))),
+        sum_by-cons (λ (line : Visual). line.len) (visual_of base tab_width advances text all k line) (numbered (enumerate_from (k + 1) (next ∷ rest))),
       )
 
   pub lengths-sum : BeginInOrder text all → total (numbered (enumerate_from 0 all)) ≡ length text
@@ -66,4 +66,4 @@ module _ (base tab_width : ℕ) (text : List ℕ) (all : List Line) where
           from_there begin.starts 0 line rest (ap (map start_of) is) ∙ omega (arith, zero_is)
 
 pub lengths_sum : EndsAtMust → (rules : Rules) (width : ℕ) (text : List ℕ) → sum_by (λ (line : Visual). line.len) (visuals (layout_of rules width text)) ≡ length text
-lengths_sum law rules width text = lengths-sum (base_of rules text) (tab_width_in rules.tables rules.options) text (lines_of rules width text) (begin_in_order law rules width text)
+lengths_sum law rules width text = lengths-sum (base_of rules text) (tab_width_in rules.tables rules.options) rules.advances text (lines_of rules width text) (begin_in_order law rules width text)

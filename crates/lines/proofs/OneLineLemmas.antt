@@ -8,7 +8,7 @@ use Rattle.breaks.specs.Marks.{marks_of}
 use Rattle.breaks.specs.declared.mark.Mark.{Mark}
 use Rattle.breaks.specs.declared.mark.Mark.TheVariants.{Must}
 use Rattle.ucd.specs.declared.tables.Tables.{Tables}
-use Rattle.lines.specs.CharInfos.{columns_of, infos, infos_of}
+use Rattle.lines.specs.CharInfos.{columns_of, infos, infos_of, size_in}
 use Rattle.lines.specs.Clusters.{cluster_ends}
 use Rattle.lines.specs.Extents.{shown_from}
 use Rattle.lines.specs.Filling.{before_tail, columns, line_len, line_starts_of, must_end, place_at, text_len}
@@ -26,7 +26,7 @@ use Rattle.lines.proofs.WholeLemmas.{one_start, quiet_marks, shown_is, stop_last
 use Rattle.lines.proofs.WidthLemmas.{same_columns}
 
 -- without tab stops, the widths are the columns of the characters
-plain_widths : (column : ℕ) (text : List ℕ) → widths_from 0 column text ≡ map columns_of text
+plain_widths : (column : ℕ) (text : List ℕ) → widths_from 0 column text (map (size_in 0) text) ≡ map columns_of text
 plain_widths column [] = refl
 plain_widths column (c ∷ text) = ap (λ (ws : List ℕ). columns_of c ∷ ws) (plain_widths (column + columns_of c) text)
 
@@ -55,7 +55,7 @@ module _ (t : Tables) (options : Options) (text : List ℕ) (len width : ℕ) (h
   abbrev pub all : List CharInfo
   all = infos t 0 text marks (cluster_ends text)
 
-  untabbed : infos_of t options text ≡ all
+  untabbed : infos_of t options None text ≡ all
   unfolding infos_of
   untabbed = ap (λ (k : ℕ). infos t k text marks (cluster_ends text)) (no_tabs t options tabs)
 
@@ -73,10 +73,10 @@ module _ (t : Tables) (options : Options) (text : List ℕ) (len width : ℕ) (h
   columns_are : columns (before_tail all) ≡ sum (map columns_of (take len text))
   unfolding widths_of
   columns_are =
-      ap (λ (k : ℕ). columns (take k all)) text_len_is ∙ same_columns t 0 text marks (cluster_ends text) 0 len many (length-cluster_ends text)
+      ap (λ (k : ℕ). columns (take k all)) text_len_is ∙ same_columns t 0 None text marks (cluster_ends text) 0 len many (length-cluster_ends text)
       ∙ ap (λ (ws : List ℕ). sum ws) (plain_widths 0 (take len text))
 
-  pub one_start_of : line_starts_of options.nobreak width (infos_of t options text) ≡ 0 ∷ []
+  pub one_start_of : line_starts_of options.nobreak width (infos_of t options None text) ≡ 0 ∷ []
   one_start_of =
       let last : length all - 1 ≡ n - 1 = omega (arith, size) in
       ap (line_starts_of options.nobreak width) untabbed
@@ -85,7 +85,7 @@ module _ (t : Tables) (options : Options) (text : List ℕ) (len width : ℕ) (h
       (ap (λ (k : ℕ). (place_at all k).mark) last ∙ mark_at t 0 text marks (cluster_ends text) (n - 1) Must ends (omega (arith, some)) (length-cluster_ends text))
       (omega (arith, columns_are, fit))
 
-  pub shown_of_one : shown_from (margin_of options width) n (infos_of t options text) (0 ∷ []) ≡ record { len = len; columns = sum (map columns_of (take len text)) } ∷ []
+  pub shown_of_one : shown_from (margin_of options width) n (infos_of t options None text) (0 ∷ []) ≡ record { len = len; columns = sum (map columns_of (take len text)) } ∷ []
   shown_of_one =
       ap₂ (λ (margin : Option ℕ) (is : List CharInfo). shown_from margin n is (0 ∷ [])) (cond-false options.show_spaces (Some width) None hidden) untabbed
       ∙ ap (λ (ps : List CharInfo). let part : Shown = record { len = length (before_tail ps); columns = columns (before_tail ps) } in part ∷ []) (whole_range all n (sym size))

@@ -1,6 +1,6 @@
 -- Each line of a layout has a level and a position for each shown character, and its position maps are inverse.
 use Rattle.std.proofs.Common.{◌≡◌, ℕ, suc, ◌+◌, ◌-◌, ◌<◌, ◌≤◌, ◌==◌, Bool, true, false, Option, List, [], ◌∷◌, length, get_or, map, drop, take, refl, sym, ap, ◌∙◌, arith}
-use Rattle.std.specs.Prelude.{slice_range, All}
+use Rattle.std.specs.Prelude.{slice_range, All, None, option_map}
 use Rattle.std.specs.List.{enumerate_from, position_or_len}
 use Rattle.std.proofs.lemmas.List.{get_or-drop, get_or-map, get_or-take, length-drop, length-take, length-take-le}
 use Rattle.std.proofs.lemmas.List.Elements.{All-cons, All-nil}
@@ -33,6 +33,7 @@ pub record IsPart (rules : Rules) (text : List ℕ) (line : Visual) : Type 0 whe
   pub start : ℕ
   pub classes : List BidiClass
   pub tab_width : line.tab_width ≡ tab_width_in rules.tables rules.options
+  pub unmeasured : rules.advances ≡ None → line.advances ≡ None
   pub size : length line.text ≡ length line.levels
   pub within : length line.levels ≤ line.len
   pub ends : List Bool
@@ -68,7 +69,7 @@ module _ (rules : Rules) (margin : Option ℕ) (base : ℕ) (text levels : List 
   abbrev line_of : ℕ → ℕ → Line
   line_of s e = line_between rules.tables rules.options margin base text levels infos s e
 
-  one_line : (n s e : ℕ) → s ≤ e → e ≤ length text → end_of (length text) (map start_of lines) n ≡ e → IsPart rules text (visual_of base (tab_width_in rules.tables rules.options) text lines n (line_of s e))
+  one_line : (n s e : ℕ) → s ≤ e → e ≤ length text → end_of (length text) (map start_of lines) n ≡ e → IsPart rules text (visual_of base (tab_width_in rules.tables rules.options) rules.advances text lines n (line_of s e))
   one_line n s e forward within ends =
       let piece : List CharInfo = slice_range infos s e in
       let line : List ℕ = slice_range text s e in
@@ -88,6 +89,7 @@ module _ (rules : Rules) (margin : Option ℕ) (base : ℕ) (text levels : List 
         start = s;
         classes = classes;
         tab_width = refl;
+        unmeasured = λ none. ap (option_map (λ a. slice_range a s (s + length found))) none;
         ends = slice_range (ends_by rules.options text) s e;
         end_at = λ k h.
             get_or-take (e - s) (drop s (ends_by rules.options text)) k false (omega (arith, h, few))
@@ -113,7 +115,7 @@ module _ (rules : Rules) (margin : Option ℕ) (base : ℕ) (text levels : List 
       }
 
   abbrev some_lines : ℕ → List ℕ → List Visual
-  some_lines k starts = map (λ nth. visual_of base (tab_width_in rules.tables rules.options) text lines nth.0 nth.1) (enumerate_from k (lines_from rules.tables rules.options margin base text levels infos starts))
+  some_lines k starts = map (λ nth. visual_of base (tab_width_in rules.tables rules.options) rules.advances text lines nth.0 nth.1) (enumerate_from k (lines_from rules.tables rules.options margin base text levels infos starts))
 
   each_line : (low k : ℕ) (starts : List ℕ) → Rise low (length text) starts
       → ((j : ℕ) → end_of (length text) (map start_of lines) (k + j) ≡ end_of (length text) starts j) → All (IsPart rules text) (some_lines k starts)
@@ -121,12 +123,12 @@ module _ (rules : Rules) (margin : Option ℕ) (base : ℕ) (text levels : List 
   each_line low k (s ∷ []) rise ends =
       let same : k + 0 ≡ k = omega arith in
       let here : end_of (length text) (map start_of lines) k ≡ length text = ap (end_of (length text) (map start_of lines)) (sym same) ∙ ends 0 in
-      All-cons (IsPart rules text) (visual_of base (tab_width_in rules.tables rules.options) text lines k (line_of s (length text))) []
+      All-cons (IsPart rules text) (visual_of base (tab_width_in rules.tables rules.options) rules.advances text lines k (line_of s (length text))) []
       (one_line k s (length text) (omega (arith, rise.1)) (omega arith) here) (All-nil (IsPart rules text))
   each_line low k (s ∷ e ∷ starts) rise ends =
       let same : k + 0 ≡ k = omega arith in
       let here : end_of (length text) (map start_of lines) k ≡ e = ap (end_of (length text) (map start_of lines)) (sym same) ∙ ends 0 in
-      All-cons (IsPart rules text) (visual_of base (tab_width_in rules.tables rules.options) text lines k (line_of s e)) (some_lines (k + 1) (e ∷ starts))
+      All-cons (IsPart rules text) (visual_of base (tab_width_in rules.tables rules.options) rules.advances text lines k (line_of s e)) (some_lines (k + 1) (e ∷ starts))
       (one_line k s e (omega (arith, rise.2.0)) (omega (arith, rise.2.1)) here)
       (each_line (suc s) (k + 1) (e ∷ starts) rise.2
       (λ j.
@@ -136,7 +138,7 @@ module _ (rules : Rules) (margin : Option ℕ) (base : ℕ) (text levels : List 
 -- each line of a layout is a part of its text, in the order of its levels
 pub are_parts : (rules : Rules) (width : ℕ) (text : List ℕ) → All (IsPart rules text) (visuals (layout_of rules width text))
 are_parts rules width text =
-    let infos : List CharInfo = infos_of rules.tables rules.options text in
+    let infos : List CharInfo = infos_of rules.tables rules.options rules.advances text in
     let levels : List ℕ = levels_of rules.tables text rules.options.base in
     let starts : List ℕ = line_starts_of rules.options.nobreak width infos in
     let are : map start_of (lines_of rules width text) ≡ starts = starts_from rules.tables rules.options (margin_of rules.options width) (base_of rules text) text levels infos starts in

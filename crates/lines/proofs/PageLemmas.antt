@@ -26,27 +26,27 @@ slice_get_numbered f k (x ∷ xs) zero = let same : k ≡ k + 0 = omega arith in
 slice_get_numbered f k (x ∷ xs) (suc i) = let same : k + 1 + i ≡ k + suc i = omega arith in slice_get_numbered f (k + 1) xs i ∙ ap (λ n. option_map (f n) (slice_get xs i)) same
 
 -- the n-th visual line of a layout shows its n-th line
-pub visual_at : (layout : Layout) (n : ℕ) → option_map (visual_of layout.base layout.tab_width layout.text layout.lines n) (slice_get layout.lines n) ≡ slice_get (visuals layout) n
+pub visual_at : (layout : Layout) (n : ℕ) → option_map (visual_of layout.base layout.tab_width layout.advances layout.text layout.lines n) (slice_get layout.lines n) ≡ slice_get (visuals layout) n
 visual_at layout n =
     let same : n ≡ 0 + n = omega arith in
-    ap (λ k. option_map (visual_of layout.base layout.tab_width layout.text layout.lines k) (slice_get layout.lines n)) same
-    ∙ sym (slice_get_numbered (visual_of layout.base layout.tab_width layout.text layout.lines) 0 layout.lines n)
+    ap (λ k. option_map (visual_of layout.base layout.tab_width layout.advances layout.text layout.lines k) (slice_get layout.lines n)) same
+    ∙ sym (slice_get_numbered (visual_of layout.base layout.tab_width layout.advances layout.text layout.lines) 0 layout.lines n)
 
 -- the printed bytes of a layout are those of its visual lines, in order
 pub layout_by_lines : (width : ℕ) (print : Print) (layout : Layout) → layout_bytes width print layout ≡ flat_map (line_bytes width print) (visuals layout)
 layout_by_lines width print layout =
-    sym (flat_map-map (line_bytes width print) (λ (nth : ℕ × Line). visual_of layout.base layout.tab_width layout.text layout.lines nth.0 nth.1) (enumerate_from 0 layout.lines))
+    sym (flat_map-map (line_bytes width print) (λ (nth : ℕ × Line). visual_of layout.base layout.tab_width layout.advances layout.text layout.lines nth.0 nth.1) (enumerate_from 0 layout.lines))
 
 -- the lines of a layout with what they share are its printed bytes
-pub laid_bytes : (width : ℕ) (print : Print) (base tab_width : ℕ) (text : List ℕ) (lines : List Line) (layout : Layout)
-    → base ≡ layout.base → tab_width ≡ layout.tab_width → text ≡ layout.text → lines ≡ layout.lines
-    → lines_bytes width print base tab_width text lines ≡ layout_bytes width print layout
-laid_bytes width print base tab_width text lines layout b t c s = rw (b, t, c, s) refl
+pub laid_bytes : (width : ℕ) (print : Print) (base tab_width : ℕ) (advances : Option (List ℕ)) (text : List ℕ) (lines : List Line) (layout : Layout)
+    → base ≡ layout.base → tab_width ≡ layout.tab_width → advances ≡ layout.advances → text ≡ layout.text → lines ≡ layout.lines
+    → lines_bytes width print base tab_width advances text lines ≡ layout_bytes width print layout
+laid_bytes width print base tab_width advances text lines layout b t a c s = rw (b, t, a, c, s) refl
 
-module _ (width : ℕ) (print : Print) (base tab_width : ℕ) (text : List ℕ) where
+module _ (width : ℕ) (print : Print) (base tab_width : ℕ) (advances : Option (List ℕ)) (text : List ℕ) where
   -- the printed bytes of a line, given with its number
   abbrev pub bytes_at : List Line → ℕ × Line → List ℕ
-  bytes_at lines nth = line_bytes width print (visual_of base tab_width text lines nth.0 nth.1)
+  bytes_at lines nth = line_bytes width print (visual_of base tab_width advances text lines nth.0 nth.1)
 
   -- the printed bytes of each line
   abbrev pub pieces : List Line → List (List ℕ)
@@ -56,7 +56,7 @@ module _ (width : ℕ) (print : Print) (base tab_width : ℕ) (text : List ℕ) 
   joined lines [] = refl
   joined lines (x ∷ xs) = ap (λ more. bytes_at lines x ++ more) (joined lines xs)
 
-  pub pieces_whole : (lines : List Line) → concat (pieces lines) ≡ lines_bytes width print base tab_width text lines
+  pub pieces_whole : (lines : List Line) → concat (pieces lines) ≡ lines_bytes width print base tab_width advances text lines
   pieces_whole lines = joined lines (enumerate_from 0 lines)
 
   pub length-pieces : (lines : List Line) → length (pieces lines) ≡ length lines
@@ -70,7 +70,7 @@ module _ (width : ℕ) (print : Print) (base tab_width : ℕ) (text : List ℕ) 
       get_or-map (bytes_at lines) (enumerate_from 0 lines) k (0, line) [] (rw (length-enumerate_from 0 lines) within) ∙ ap (bytes_at lines) (line_with lines k line within got)
 
   -- the k-th piece is the printed bytes of the k-th visual line
-  pub piece_at : (lines : List Line) (k : ℕ) (visual : Visual) → k < length lines → Some visual ≡ option_map (visual_of base tab_width text lines k) (slice_get lines k)
+  pub piece_at : (lines : List Line) (k : ℕ) (visual : Visual) → k < length lines → Some visual ≡ option_map (visual_of base tab_width advances text lines k) (slice_get lines k)
       → line_bytes width print visual ≡ get_or (pieces lines) k []
   piece_at lines k visual within shown = go (slice_get lines k) refl
     where
@@ -79,10 +79,10 @@ module _ (width : ℕ) (print : Print) (base tab_width : ℕ) (text : List ℕ) 
           let bad : Some visual ≡ None = rw none at shown in
           cc
       go (Some line) got =
-          let same : Some visual ≡ Some (visual_of base tab_width text lines k line) = rw got at shown in
-          let is : visual ≡ visual_of base tab_width text lines k line = cc in
+          let same : Some visual ≡ Some (visual_of base tab_width advances text lines k line) = rw got at shown in
+          let is : visual ≡ visual_of base tab_width advances text lines k line = cc in
           ap (line_bytes width print) is ∙ sym (piece_of lines k line within got)
 
   -- if there are at most k lines, the first k pieces are the bytes of all lines
-  pub pieces_all : (lines : List Line) (k : ℕ) → length lines ≤ k → concat (take k (pieces lines)) ≡ lines_bytes width print base tab_width text lines
+  pub pieces_all : (lines : List Line) (k : ℕ) → length lines ≤ k → concat (take k (pieces lines)) ≡ lines_bytes width print base tab_width advances text lines
   pieces_all lines k past = ap concat (take_all k (pieces lines) (rw (length-pieces lines) past)) ∙ pieces_whole lines

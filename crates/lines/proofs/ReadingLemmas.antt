@@ -185,7 +185,7 @@ module _ (line : Visual) (ordered : IsOrdered line) where
       ∙ left_more line p (omega (arith, ordered.vtol, ordered.inverse.ltov_within i short))
       ∙ ap (λ x. left_at i + get_or (widths line) x 0) (ordered.inverse.at_ltov i short) in
       let rest = steps j d (omega (arith, within)) (λ k from below. each k from (omega (arith, below))) in
-      omega (arith, more, rest, ap left_at e, ap (columns_between line j) e, between_more (widths line) j i (omega arith) (omega (arith, ordered.text, short, length-widths line.tab_width line.text)))
+      omega (arith, more, rest, ap left_at e, ap (columns_between line j) e, between_more (widths line) j i (omega arith) (omega (arith, ordered.text, short, length-widths line)))
 
   to_later : (j k : ℕ) → j ≤ k → k < length line.levels → ((i : ℕ) → j ≤ i → i < k → get_or line.ltov (suc i) 0 ≡ suc (get_or line.ltov i 0))
       → left_at k ≡ left_at j + columns_between line j k
@@ -198,7 +198,7 @@ module _ (line : Visual) (ordered : IsOrdered line) where
 
 module _ (rules : Rules) (width : ℕ) (text : List ℕ) (on : rules.options.reorder_clusters ≡ true) where
   abbrev infos : List CharInfo
-  infos = infos_of rules.tables rules.options text
+  infos = infos_of rules.tables rules.options rules.advances text
 
   abbrev levels : List ℕ
   levels = levels_of rules.tables text rules.options.base
@@ -258,7 +258,7 @@ module _ (rules : Rules) (width : ℕ) (text : List ℕ) (on : rules.options.reo
     }
 
   found_line : (n : ℕ) (line : Visual) → slice_get (visuals (layout_of rules width text)) n ≡ Some line
-      → (it : Line) → slice_get (lines_of rules width text) n ≡ Some it → visual_of (base_of rules text) (tab_width_in rules.tables rules.options) text (lines_of rules width text) n it ≡ line
+      → (it : Line) → slice_get (lines_of rules width text) n ≡ Some it → visual_of (base_of rules text) (tab_width_in rules.tables rules.options) rules.advances text (lines_of rules width text) n it ≡ line
       → ClustersAdjoin line (cluster_ends text) (get_or (map start_of (lines_of rules width text)) n 0)
   found_line n line is it read seen =
       let starts : List ℕ = line_starts_of rules.options.nobreak width infos in
@@ -292,6 +292,6 @@ pub all_clusters_adjoin : (rules : Rules) (width : ℕ) (text : List ℕ) → ru
     → (n : ℕ) (line : Visual) → slice_get (visuals (layout_of rules width text)) n ≡ Some line
     → ClustersAdjoin line (cluster_ends text) (get_or (map start_of (lines_of rules width text)) n 0)
 all_clusters_adjoin rules width text on n line is =
-    let found = read_line (slice_get (lines_of rules width text) n) (visual_of (base_of rules text) (tab_width_in rules.tables rules.options) text (lines_of rules width text) n) line
+    let found = read_line (slice_get (lines_of rules width text) n) (visual_of (base_of rules text) (tab_width_in rules.tables rules.options) rules.advances text (lines_of rules width text) n) line
     (visual_at (layout_of rules width text) n ∙ is) in
     found_line rules width text on n line is found.0 found.1 found.2

@@ -32,7 +32,7 @@ module _ (line : Visual) (size : length line.levels ≡ length line.text) where
   one_run : (run : Run) → IsMaximal line.levels run → sum_by (at (widths line)) (range_with_len run.start run.len) ≡ run_columns line run
   one_run run m =
       let n : run.start + run.len - run.start ≡ run.len = omega arith in
-      in_range (widths line) run.start run.len (omega (arith, size, m.within, length-widths line.tab_width line.text))
+      in_range (widths line) run.start run.len (omega (arith, size, m.within, length-widths line))
       ∙ ap (λ k. sum (take k (drop run.start (widths line)))) (sym n)
 
   each_run : (runs : List Run) → All (IsMaximal line.levels) runs
@@ -49,7 +49,7 @@ module _ (line : Visual) (size : length line.levels ≡ length line.text) where
 
   pub runs_add_up : (runs : List Run) → AreRuns line.levels runs → sum_by (run_columns line) runs ≡ sum (widths line)
   runs_add_up runs are =
-      let whole : length line.levels ≡ length (widths line) = size ∙ sym (length-widths line.tab_width line.text) in
+      let whole : length line.levels ≡ length (widths line) = size ∙ sym (length-widths line) in
       sym (each_run runs are.maximal)
       ∙ are.sums (at (widths line))
       ∙ ap (λ n. sum_by (at (widths line)) (range_with_len 0 n)) whole

@@ -1,6 +1,6 @@
 -- The columns that the selected characters of a line cover, as an iterator passes over them.
 use Rattle.std.proofs.Common.{◌≡◌, ℕ, zero, suc, ◌+◌, ◌-◌, ◌*◌, ◌<◌, ◌≤◌, Bool, true, false, not, List, [], ◌∷◌, length, nat_lt}
-use Rattle.std.proofs.Common.{Some, refl, sym, ap, ap₂, subst, ◌∙◌, inl, inr, arith, add-one}
+use Rattle.std.proofs.Common.{Option, Some, refl, sym, ap, ap₂, subst, ◌∙◌, inl, inr, arith, add-one}
 use Rattle.std.specs.Option.{option_map_or}
 use Rattle.std.proofs.lemmas.Bool.{and_from, both_ways, cases_eq, cases_lt, not_from_false}
 use Rattle.ucd.specs.Least.{least}
@@ -216,14 +216,15 @@ module _ (s : Selection) where
   found_fresh left right q r =
       subst (λ c. is_left_edge covered c ≡ covered c) (sym r.column) (fresh_after left.place right.place q r.within)
 
--- the spans of a line depend only on its tab width, its text and its visual order
-abbrev pub line_with : ℕ → List ℕ → List ℕ → Visual
-line_with tab_width text vtol = record {
+-- the spans of a line depend only on its tab width, its text, its advances and its visual order
+abbrev pub line_with : ℕ → Option (List ℕ) → List ℕ → List ℕ → Visual
+line_with tab_width advances text vtol = record {
   is_first = false;
   base = 0;
   tab_width = tab_width;
   len = 0;
   text = text;
+  advances = advances;
   columns = 0;
   levels = [];
   ltov = [];
@@ -231,12 +232,13 @@ line_with tab_width text vtol = record {
   chars = [];
 }
 
-pub spans_are : (of : Visual) (tab_width : ℕ) (text vtol : List ℕ) (start end : ℕ) → tab_width ≡ of.tab_width → text ≡ of.text → vtol ≡ of.vtol
-    → spans_from (line_with tab_width text vtol) start end 0 ≡ spans_of of start end
+pub spans_are : (of : Visual) (tab_width : ℕ) (advances : Option (List ℕ)) (text vtol : List ℕ) (start end : ℕ)
+    → tab_width ≡ of.tab_width → advances ≡ of.advances → text ≡ of.text → vtol ≡ of.vtol
+    → spans_from (line_with tab_width advances text vtol) start end 0 ≡ spans_of of start end
 unfolding spans_from
-spans_are of tab_width text vtol start end tabs same order =
-    ap (λ n. spans_from (line_with n text vtol) start end 0) tabs
-    ∙ ap₂ (λ (ts vs : List ℕ). spans_from (line_with of.tab_width ts vs) start end 0) same order
+spans_are of tab_width advances text vtol start end tabs measured same order =
+    ap₂ (λ (n : ℕ) (a : Option (List ℕ)). spans_from (line_with n a text vtol) start end 0) tabs measured
+    ∙ ap₂ (λ (ts vs : List ℕ). spans_from (line_with of.tab_width of.advances ts vs) start end 0) same order
 
 pub spans_maximal : (of : Visual) (start end : ℕ) → AreMaximal (is_covered of start end) (columns_left of (length of.vtol)) (spans_of of start end)
 unfolding spans_from

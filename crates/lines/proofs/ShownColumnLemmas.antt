@@ -1,6 +1,6 @@
 -- The columns of a laid out line are those of its shown characters, and so of its runs.
 use Rattle.std.proofs.Common.{◌≡◌, ℕ, suc, ◌+◌, ◌-◌, ◌≤◌, Bool, Option, List, [], ◌∷◌, length, map, drop, take, refl, sym, ap, ◌∙◌, arith}
-use Rattle.std.specs.Prelude.{slice_range, sum, sum_by, All}
+use Rattle.std.specs.Prelude.{option_map, slice_range, sum, sum_by, All}
 use Rattle.std.specs.List.{enumerate_from}
 use Rattle.std.proofs.lemmas.List.{length-drop, length-map, length-take-le, take-take}
 use Rattle.std.proofs.lemmas.List.Elements.{All-cons, All-nil, All-head, All-tail}
@@ -15,7 +15,7 @@ use Rattle.reorder.proofs.WholeRunLemmas.{are_runs}
 use Rattle.ucd.specs.Tables.{class_of}
 use Rattle.ucd.specs.declared.bidi_class.BidiClass.{BidiClass}
 use Rattle.ucd.specs.declared.tables.Tables.{Tables}
-use Rattle.lines.specs.CharInfos.{infos, infos_of}
+use Rattle.lines.specs.CharInfos.{infos, infos_of, sized}
 use Rattle.lines.specs.Clusters.{cluster_ends}
 use Rattle.lines.specs.Columns.{run_columns}
 use Rattle.lines.specs.Filling.{columns, line_starts_of}
@@ -31,26 +31,26 @@ use Rattle.lines.proofs.RunColumnLemmas.{runs_add_up}
 use Rattle.lines.proofs.ShowLemmas.{length_range}
 use Rattle.lines.proofs.ShownPartLemmas.{shown_len-within}
 use Rattle.lines.proofs.VisualLemmas.{starts_in, Rise}
-use Rattle.lines.proofs.WidthLemmas.{same_columns}
+use Rattle.lines.proofs.SkippedLemmas.{length-infos}
+use Rattle.lines.proofs.WidthLemmas.{length-sized, part_of, same_columns}
 use Rattle.lines.proofs.WrittenLemmas.{length-line_levels}
 
-length-infos_all : (t : Tables) (n : ℕ) (text : List ℕ) (marks : List Mark) (clusters : List Bool) → length marks ≡ length text → length clusters ≡ length text
-    → length (infos t n text marks clusters) ≡ length text
-length-infos_all t n [] marks clusters one other = refl
-length-infos_all t n (c ∷ text) [] clusters one other = absurd (omega (arith, one))
-length-infos_all t n (c ∷ text) (mark ∷ marks) [] one other = absurd (omega (arith, other))
-length-infos_all t n (c ∷ text) (mark ∷ marks) (ends ∷ clusters) one other =
-    ap suc (length-infos_all t n text marks clusters (omega (arith, one)) (omega (arith, other)))
+-- the advances of the shown part of a line
+abbrev shown_advances : Option (List ℕ) → Line → Option (List ℕ)
+shown_advances advances line = option_map (λ a. slice_range a line.start (line.start + length line.levels)) advances
 
 -- whether the line's levels and columns are those of its characters
-pub record HasColumns (n : ℕ) (text : List ℕ) (line : Line) : Type 0 where
+pub record HasColumns (n : ℕ) (advances : Option (List ℕ)) (text : List ℕ) (line : Line) : Type 0 where
   size : length line.levels ≡ length (slice_range text line.start (line.start + length line.levels))
-  total : sum (widths_of n (slice_range text line.start (line.start + length line.levels))) ≡ line.columns
+  total : sum (widths_of n (shown_advances advances line) (slice_range text line.start (line.start + length line.levels))) ≡ line.columns
 
-module _ (t : Tables) (options : Options) (margin : Option ℕ) (base tab_width : ℕ) (text levels : List ℕ) (marks : List Mark) (clusters : List Bool)
+module _ (t : Tables) (options : Options) (margin : Option ℕ) (base tab_width : ℕ) (advances : Option (List ℕ)) (text levels : List ℕ) (marks : List Mark) (clusters : List Bool)
     (levels_size : length levels ≡ length text) (marks_size : length marks ≡ length text) (clusters_size : length clusters ≡ length text) where
   abbrev all : List CharInfo
-  all = infos t tab_width text marks clusters
+  all = sized advances (infos t tab_width text marks clusters)
+
+  all_size : length all ≡ length text
+  all_size = length-sized advances (infos t tab_width text marks clusters) ∙ length-infos t tab_width text marks clusters (omega (arith, marks_size)) clusters_size
 
   -- the line from s to e has a level for each shown character
   pub levels_size_is : (s e : ℕ) → s ≤ e → e ≤ length text
@@ -59,7 +59,6 @@ module _ (t : Tables) (options : Options) (margin : Option ℕ) (base tab_width 
       let piece : List CharInfo = slice_range all s e in
       let q : ℕ = shown_len margin piece in
       let q_within : q ≤ length piece = shown_len-within margin piece in
-      let all_size : length all ≡ length text = length-infos_all t tab_width text marks clusters marks_size clusters_size in
       let piece_size : length piece ≡ e - s = length_range all s e forward (omega (arith, all_size, within)) in
       let part_size : length (shown margin piece) ≡ q = length-take-le q piece q_within in
       let line : List ℕ = slice_range text s e in
@@ -71,11 +70,10 @@ module _ (t : Tables) (options : Options) (margin : Option ℕ) (base tab_width 
       (omega (arith, length-line_levels base classes old whole, old_size, part_size, piece_size, q_within))
       ∙ part_size
 
-  between : (s e : ℕ) → s ≤ e → e ≤ length text → HasColumns tab_width text (line_between t options margin base text levels all s e)
+  between : (s e : ℕ) → s ≤ e → e ≤ length text → HasColumns tab_width advances text (line_between t options margin base text levels all s e)
   between s e forward within =
       let piece : List CharInfo = slice_range all s e in
       let q : ℕ = shown_len margin piece in
-      let all_size : length all ≡ length text = length-infos_all t tab_width text marks clusters marks_size clusters_size in
       let piece_size : length piece ≡ e - s = length_range all s e forward (omega (arith, all_size, within)) in
       let size : length (line_between t options margin base text levels all s e).levels ≡ q = levels_size_is s e forward within in
       let n : s + length (line_between t options margin base text levels all s e).levels - s ≡ q = omega (arith, size) in
@@ -83,40 +81,40 @@ module _ (t : Tables) (options : Options) (margin : Option ℕ) (base tab_width 
       record {
         size = size ∙ sym (ap (λ k. length (take k (drop s text))) n
             ∙ length-take-le q (drop s text) (omega (arith, length-drop s text, most, within, forward)));
-        total = ap (λ k. sum (widths_of tab_width (take k (drop s text)))) n
-            ∙ sym (ap columns (take-take q (e - s) (drop s all) most) ∙ same_columns t tab_width text marks clusters s q marks_size clusters_size);
+        total = ap (λ k. sum (widths_of tab_width (part_of s k advances) (take k (drop s text)))) n
+            ∙ sym (ap columns (take-take q (e - s) (drop s all) most) ∙ same_columns t tab_width advances text marks clusters s q marks_size clusters_size);
       }
 
-  each_line : (low : ℕ) (starts : List ℕ) → Rise low (length text) starts → All (HasColumns tab_width text) (lines_from t options margin base text levels all starts)
-  each_line low [] rise = All-nil (HasColumns tab_width text)
+  each_line : (low : ℕ) (starts : List ℕ) → Rise low (length text) starts → All (HasColumns tab_width advances text) (lines_from t options margin base text levels all starts)
+  each_line low [] rise = All-nil (HasColumns tab_width advances text)
   each_line low (s ∷ []) rise =
-      All-cons (HasColumns tab_width text) (line_between t options margin base text levels all s (length text)) [] (between s (length text) (omega (arith, rise.1)) (omega arith))
-      (All-nil (HasColumns tab_width text))
+      All-cons (HasColumns tab_width advances text) (line_between t options margin base text levels all s (length text)) [] (between s (length text) (omega (arith, rise.1)) (omega arith))
+      (All-nil (HasColumns tab_width advances text))
   each_line low (s ∷ e ∷ starts) rise =
-      All-cons (HasColumns tab_width text) (line_between t options margin base text levels all s e) (lines_from t options margin base text levels all (e ∷ starts))
+      All-cons (HasColumns tab_width advances text) (line_between t options margin base text levels all s e) (lines_from t options margin base text levels all (e ∷ starts))
       (between s e (omega (arith, rise.2.0)) (omega (arith, rise.2.1))) (each_line (suc s) (e ∷ starts) rise.2)
 
 -- the columns of a visual line's runs
 abbrev pub AddUp : Visual → Type 0
 AddUp line = sum_by (run_columns line) (runs_of line.levels) ≡ line.columns
 
-module _ (base tab_width : ℕ) (text : List ℕ) (lines : List Line) where
-  adds_up : (n : ℕ) (line : Line) → HasColumns tab_width text line → AddUp (visual_of base tab_width text lines n line)
+module _ (base tab_width : ℕ) (advances : Option (List ℕ)) (text : List ℕ) (lines : List Line) where
+  adds_up : (n : ℕ) (line : Line) → HasColumns tab_width advances text line → AddUp (visual_of base tab_width advances text lines n line)
   adds_up n line has =
-      runs_add_up (visual_of base tab_width text lines n line) has.size (runs_of line.levels) (are_runs line.levels) ∙ has.total
+      runs_add_up (visual_of base tab_width advances text lines n line) has.size (runs_of line.levels) (are_runs line.levels) ∙ has.total
 
-  all_add_up : (k : ℕ) (some : List Line) → All (HasColumns tab_width text) some
-      → All AddUp (map (λ nth. visual_of base tab_width text lines nth.0 nth.1) (enumerate_from k some))
+  all_add_up : (k : ℕ) (some : List Line) → All (HasColumns tab_width advances text) some
+      → All AddUp (map (λ nth. visual_of base tab_width advances text lines nth.0 nth.1) (enumerate_from k some))
   all_add_up k [] has = All-nil AddUp
   all_add_up k (line ∷ some) has =
-      All-cons AddUp (visual_of base tab_width text lines k line) (map (λ nth. visual_of base tab_width text lines nth.0 nth.1) (enumerate_from (k + 1) some))
-      (adds_up k line (All-head (HasColumns tab_width text) line some has)) (all_add_up (k + 1) some (All-tail (HasColumns tab_width text) line some has))
+      All-cons AddUp (visual_of base tab_width advances text lines k line) (map (λ nth. visual_of base tab_width advances text lines nth.0 nth.1) (enumerate_from (k + 1) some))
+      (adds_up k line (All-head (HasColumns tab_width advances text) line some has)) (all_add_up (k + 1) some (All-tail (HasColumns tab_width advances text) line some has))
 
 pub layout_adds_up : (rules : Rules) (width : ℕ) (text : List ℕ) → All AddUp (visuals (layout_of rules width text))
 unfolding infos_of
 layout_adds_up rules width text =
     let marks : List Mark = marks_of rules.tables rules.options.whole_numbers text in
-    all_add_up (base_of rules text) (tab_width_in rules.tables rules.options) text (lines_of rules width text) 0 (lines_of rules width text)
-    (each_line rules.tables rules.options (margin_of rules.options width) (base_of rules text) (tab_width_in rules.tables rules.options) text (levels_of rules.tables text rules.options.base) marks (cluster_ends text)
+    all_add_up (base_of rules text) (tab_width_in rules.tables rules.options) rules.advances text (lines_of rules width text) 0 (lines_of rules width text)
+    (each_line rules.tables rules.options (margin_of rules.options width) (base_of rules text) (tab_width_in rules.tables rules.options) rules.advances text (levels_of rules.tables text rules.options.base) marks (cluster_ends text)
     (length-levels_of rules.tables text rules.options.base) (length-marks rules.tables rules.options.whole_numbers text) (length-cluster_ends text)
-    0 (line_starts_of rules.options.nobreak width (infos_of rules.tables rules.options text)) (starts_in rules width text))
+    0 (line_starts_of rules.options.nobreak width (infos_of rules.tables rules.options rules.advances text)) (starts_in rules width text))

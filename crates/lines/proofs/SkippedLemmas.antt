@@ -25,6 +25,7 @@ use Rattle.lines.specs.declared.printing.print.PrintFault.{PrintFault}
 use Rattle.lines.specs.declared.printing.print.PrintFault.TheVariants.{Memory}
 use Rattle.std.specs.Prelude.{IsErrOf, OnOk, Result, Ok, Err}
 use Rattle.lines.proofs.ClusterLemmas.{length-cluster_ends}
+use Rattle.lines.proofs.WidthLemmas.{length-sized}
 
 -- ---- the bytes of a line
 
@@ -51,17 +52,17 @@ module _ (width : ℕ) (print : Print) (skips : skips_lines print ≡ true) wher
       (if print.basedir && visual.is_first then direction_line visual.base else [])
       (numbers_line visual.ltov) (numbers_line visual.vtol) (numbers_line visual.levels) skips
 
-  module _ (base tab_width : ℕ) (text : List ℕ) (all : List Line) where
+  module _ (base tab_width : ℕ) (advances : Option (List ℕ)) (text : List ℕ) (all : List Line) where
     abbrev bytes_at : ℕ × Line → List ℕ
-    bytes_at nth = line_bytes width print (visual_of base tab_width text all nth.0 nth.1)
+    bytes_at nth = line_bytes width print (visual_of base tab_width advances text all nth.0 nth.1)
 
     first_is : (line : Line) → bytes_at (0, line) ≡ (if print.basedir then direction_line base else [])
-    first_is line = line_is (visual_of base tab_width text all 0 line) ∙ on_first print.basedir (direction_line base)
+    first_is line = line_is (visual_of base tab_width advances text all 0 line) ∙ on_first print.basedir (direction_line base)
 
     other_is : (k : ℕ) (line : Line) → 0 < k → bytes_at (k, line) ≡ []
     other_is k line after =
         let second : (k == 0) ≡ false = grind (arith, nat_tests, after) in
-        line_is (visual_of base tab_width text all k line)
+        line_is (visual_of base tab_width advances text all k line)
         ∙ ap (λ first. if print.basedir && first then direction_line base else []) second ∙ on_others print.basedir (direction_line base)
 
     others_are : (k : ℕ) (lines : List Line) → 0 < k → flat_map bytes_at (enumerate_from k lines) ≡ []
@@ -102,8 +103,10 @@ some_lines : (rules : Rules) (width : ℕ) (text : List ℕ) → IsParagraph rul
     → length (marks_of rules.tables rules.options.whole_numbers text) ≡ length text → 0 < length (lines_of rules width text)
 unfolding infos_of
 some_lines rules width text paragraph marks =
-    let ps : List CharInfo = infos_of rules.tables rules.options text in
-    let size = length-infos rules.tables (tab_width_in rules.tables rules.options) text (marks_of rules.tables rules.options.whole_numbers text) (cluster_ends text) (omega (arith, marks)) (length-cluster_ends text) in
+    let ps : List CharInfo = infos_of rules.tables rules.options rules.advances text in
+    let plain : List CharInfo = infos rules.tables (tab_width_in rules.tables rules.options) text (marks_of rules.tables rules.options.whole_numbers text) (cluster_ends text) in
+    let size = length-sized rules.advances plain
+    ∙ length-infos rules.tables (tab_width_in rules.tables rules.options) text (marks_of rules.tables rules.options.whole_numbers text) (cluster_ends text) (omega (arith, marks)) (length-cluster_ends text) in
     let some : 0 < length ps = omega (arith, size, some_text rules text paragraph) in
     some_from rules.tables rules.options (margin_of rules.options width) (base_of rules text) text (levels_of rules.tables text rules.options.base) ps (line_starts_of rules.options.nobreak width ps)
     (some_starts rules.options.nobreak width ps some)
@@ -112,7 +115,7 @@ pub direction_only : (rules : Rules) (width : ℕ) (print : Print) (text : List 
     → length (marks_of rules.tables rules.options.whole_numbers text) ≡ length text
     → (if print.basedir then direction_line (base_of rules text) else []) ≡ paragraph_bytes rules width print text
 direction_only rules width print text skips paragraph marks =
-    sym (all_are width print skips (base_of rules text) (tab_width_in rules.tables rules.options) text (lines_of rules width text) (lines_of rules width text) (some_lines rules width text paragraph marks))
+    sym (all_are width print skips (base_of rules text) (tab_width_in rules.tables rules.options) rules.advances text (lines_of rules width text) (lines_of rules width text) (some_lines rules width text paragraph marks))
 
 -- the same for a base level that was found in the text, which has as many marks as characters
 pub direction_found : (rules : Rules) (width : ℕ) (print : Print) (text : List ℕ) (base : ℕ) → skips_lines print ≡ true → IsParagraph rules text

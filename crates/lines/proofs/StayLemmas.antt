@@ -4,8 +4,8 @@ use Rattle.std.specs.Option.{option_map_or}
 use Rattle.std.proofs.Common.{None, not, nat_le, ap₂, unwrap_or, List, [], ◌∷◌, length, get_or, take, drop, refl, sym, ap, subst, inl, inr, arith}
 use Rattle.std.specs.List.{slice_get, slice_range}
 use Rattle.std.proofs.lemmas.Bool.{and_from, and_parts, cases_Bool, not-true, cond-true, cond-false, le-leb, leb-true, both_ways}
-use Rattle.std.proofs.lemmas.List.{take_all}
-use Rattle.std.proofs.lemmas.Option.{slice_get-get_or, slice_get_within}
+use Rattle.std.proofs.lemmas.List.{get_or-map, take_all}
+use Rattle.std.proofs.lemmas.Option.{get_or_from_slice_get, slice_get-get_or, slice_get_within}
 use Rattle.ucd.specs.declared.tables.Tables.{Tables}
 use Rattle.ucd.specs.Least.{least}
 use Rattle.bidi.specs.Levels.{levels_of}
@@ -19,12 +19,12 @@ use Rattle.lines.specs.Clusters.{cluster_ends}
 use Rattle.lines.specs.Filling.{before_tail, by_break, by_cluster, cluster_ends_at, columns, first_end, fits, fits_to, is_break, is_must, line_end}
 use Rattle.lines.specs.Filling.{line_len, line_starts_of, may_end, must_end, or_else, place_at, starts, stop}
 use Rattle.lines.specs.Layouts.{IsLaidOut, Layout, Rules, base_of, hides_space_within, is_line_within, keeps_lines, layout_of, lines_of}
-use Rattle.lines.specs.CharInfos.{advance, info, infos, infos_of, is_space, trailing_with}
+use Rattle.lines.specs.CharInfos.{advance, info, infos, infos_of, is_space, measured, size_in, sized, trailing_with}
 use Rattle.lines.specs.Showing.{line_showing}
 use Rattle.lines.specs.ShownParts.{is_space_within, margin_of, shown, shown_len}
 use Rattle.lines.specs.Tabs.{tab_width_in}
 use Rattle.lines.specs.Visual.{Line, line_between, lines_from}
-use Rattle.lines.specs.Widths.{width_from}
+use Rattle.lines.specs.Widths.{sizes_of, width_from}
 use Rattle.lines.specs.declared.options.Options.{Options}
 use Rattle.lines.specs.declared.char_info.CharInfo.{CharInfo}
 use Rattle.lines.specs.declared.char_info.Trailing.{Trailing}
@@ -34,7 +34,7 @@ use Rattle.lines.proofs.FillingLemmas.{columns_after, least_within, stop_from}
 use Rattle.lines.proofs.ShownColumnLemmas.{levels_size_is}
 use Rattle.lines.proofs.ShownPartLemmas.{same_part, text_narrow}
 use Rattle.lines.proofs.SkippedLemmas.{length-infos, some_text}
-use Rattle.lines.proofs.WidthLemmas.{advance_info}
+use Rattle.lines.proofs.WidthLemmas.{advance_info, advance_measured, length-sized}
 
 -- ---- where the first line ends
 
@@ -153,6 +153,18 @@ mark_at t tab_width (x ∷ text) (m ∷ marks) (ends ∷ clusters) (suc k) mark 
 abbrev pub EndsAtMust : Type 0
 EndsAtMust = (tables : Tables) (whole_numbers : Bool) (text : List ℕ) → 0 < length text → slice_get (marks_of tables whole_numbers text) (length text - 1) ≡ Some Must
 
+-- advances change no marks
+measured_mark : (advances : List ℕ) (ps : List CharInfo) (k : ℕ) → (place_at (measured advances ps) k).mark ≡ (place_at ps k).mark
+measured_mark advances [] k = refl
+measured_mark [] (p ∷ ps) zero = refl
+measured_mark [] (p ∷ ps) (suc k) = measured_mark [] ps k
+measured_mark (size ∷ advances) (p ∷ ps) zero = refl
+measured_mark (size ∷ advances) (p ∷ ps) (suc k) = measured_mark advances ps k
+
+sized_mark : (advances : Option (List ℕ)) (ps : List CharInfo) (k : ℕ) → (place_at (sized advances ps) k).mark ≡ (place_at ps k).mark
+sized_mark None ps k = refl
+sized_mark (Some advances) ps k = measured_mark advances ps k
+
 module _ (tables : Tables) (options : Options) (margin : Option ℕ) (base : ℕ) (text levels : List ℕ) (ps : List CharInfo) (width : ℕ) where
   one_start : (starts : List ℕ) → is_line_within width (lines_from tables options margin base text levels ps starts) ≡ true
       → (s : ℕ) × (starts ≡ s ∷ []) × (columns (shown margin (slice_range ps s (length text))) ≤ width)
@@ -166,36 +178,56 @@ unfolding line_starts_of
 first_zero nobreak width s [] e = cc
 first_zero nobreak width s (p ∷ rest) e = sym (ap (λ xs. get_or xs 0 0) e)
 
-info_at : (t : Tables) (tab_width : ℕ) (text : List ℕ) (marks : List Mark) (clusters : List Bool) (k : ℕ) → k < length (infos t tab_width text marks clusters)
-    → ((place_at (infos t tab_width text marks clusters) k).trailing ≡ trailing_with t tab_width (get_or text k 0))
-    × ((column : ℕ) → advance column (place_at (infos t tab_width text marks clusters) k) ≡ column + width_from tab_width column (get_or text k 0))
-info_at t tab_width [] marks clusters k within = absurd (omega (arith, within))
-info_at t tab_width (x ∷ text) [] clusters k within = absurd (omega (arith, within))
-info_at t tab_width (x ∷ text) (m ∷ marks) [] k within = absurd (omega (arith, within))
-info_at t tab_width (x ∷ text) (m ∷ marks) (ends ∷ clusters) zero within = (refl, λ column. advance_info t tab_width column x m ends)
-info_at t tab_width (x ∷ text) (m ∷ marks) (ends ∷ clusters) (suc k) within = info_at t tab_width text marks clusters k (omega (arith, within))
+-- what is known of the `CharInfo` of a character of some size
+abbrev IsInfoOf : Tables → ℕ → ℕ → ℕ → CharInfo → Type 0
+IsInfoOf t tab_width c size p =
+    (p.trailing ≡ trailing_with t tab_width c) × ((column : ℕ) → advance column p ≡ column + width_from tab_width column c size)
+
+info_at : (t : Tables) (tab_width : ℕ) (advances : Option (List ℕ)) (text : List ℕ) (marks : List Mark) (clusters : List Bool) (k : ℕ)
+    → k < length (infos t tab_width text marks clusters)
+    → IsInfoOf t tab_width (get_or text k 0) (get_or (sizes_of tab_width advances text) k 0) (place_at (sized advances (infos t tab_width text marks clusters)) k)
+info_at t tab_width advances [] marks clusters k within = absurd (omega (arith, within))
+info_at t tab_width advances (x ∷ text) [] clusters k within = absurd (omega (arith, within))
+info_at t tab_width advances (x ∷ text) (m ∷ marks) [] k within = absurd (omega (arith, within))
+info_at t tab_width None (x ∷ text) (m ∷ marks) (ends ∷ clusters) zero within = (refl, λ column. advance_info t tab_width column x m ends)
+info_at t tab_width (Some []) (x ∷ text) (m ∷ marks) (ends ∷ clusters) zero within = (refl, λ column. advance_measured t tab_width column x 0 m ends)
+info_at t tab_width (Some (size ∷ advances)) (x ∷ text) (m ∷ marks) (ends ∷ clusters) zero within =
+    (refl, λ column. advance_measured t tab_width column x size m ends)
+info_at t tab_width None (x ∷ text) (m ∷ marks) (ends ∷ clusters) (suc k) within = info_at t tab_width None text marks clusters k (omega (arith, within))
+info_at t tab_width (Some []) (x ∷ text) (m ∷ marks) (ends ∷ clusters) (suc k) within = info_at t tab_width (Some []) text marks clusters k (omega (arith, within))
+info_at t tab_width (Some (size ∷ advances)) (x ∷ text) (m ∷ marks) (ends ∷ clusters) (suc k) within =
+    info_at t tab_width (Some advances) text marks clusters k (omega (arith, within))
 
 -- the first hidden character is a space that fits if its `CharInfo` says so
-hides : (t : Tables) (tab_width width : ℕ) (text : List ℕ) (line : Line) (ps : List CharInfo) (n : ℕ) → length line.levels ≡ n → line.columns ≡ columns (take n ps) → n < length ps → n < length text
-    → (place_at ps n).trailing ≡ trailing_with t tab_width (get_or text n 0)
-    → ((column : ℕ) → advance column (place_at ps n) ≡ column + width_from tab_width column (get_or text n 0))
-    → is_space_within width ps n ≡ hides_space_within t tab_width width text line
-hides t tab_width width text line ps n size sum below within trailing wide =
+hides : (t : Tables) (tab_width : ℕ) (advances : Option (List ℕ)) (width : ℕ) (text : List ℕ) (line : Line) (ps : List CharInfo) (n : ℕ)
+    → length line.levels ≡ n → line.columns ≡ columns (take n ps) → n < length ps → n < length text
+    → IsInfoOf t tab_width (get_or text n 0) (get_or (sizes_of tab_width advances text) n 0) (place_at ps n)
+    → is_space_within width ps n ≡ hides_space_within t tab_width advances width text line
+hides t tab_width advances width text line ps n size sum below within info =
     let c : ℕ = get_or text n 0 in
+    let sizes : List ℕ = sizes_of tab_width advances text in
     let found : slice_get text (length line.levels) ≡ Some c = ap (slice_get text) size ∙ slice_get-get_or text n 0 within in
-    let most : columns (take (suc n) ps) ≡ line.columns + width_from tab_width line.columns c =
-    columns_after ps n below ∙ ap (λ column. advance column (place_at ps n)) (sym sum) ∙ wide line.columns in
-    ap₂ (λ (kind : Trailing) (m : ℕ). is_space kind && nat_le m width) trailing most
-    ∙ sym (ap (λ (o : Option ℕ). option_map_or (λ d. is_space (trailing_with t tab_width d) && nat_le (line.columns + width_from tab_width line.columns d) width) o false) found)
+    let most : columns (take (suc n) ps) ≡ line.columns + width_from tab_width line.columns c (get_or sizes (length line.levels) 0) =
+    columns_after ps n below ∙ ap (λ column. advance column (place_at ps n)) (sym sum) ∙ info.1 line.columns
+    ∙ ap (λ k. line.columns + width_from tab_width line.columns c (get_or sizes k 0)) (sym size) in
+    ap₂ (λ (kind : Trailing) (m : ℕ). is_space kind && nat_le m width) info.0 most
+    ∙ sym (ap (λ (o : Option ℕ). option_map_or (λ d. is_space (trailing_with t tab_width d)
+    && nat_le (line.columns + width_from tab_width line.columns d (get_or sizes (length line.levels) 0)) width) o false) found)
 
 -- whether the first hidden character is a space that fits, given its `CharInfo`
 pub hidden_is : (t : Tables) (tab_width width c : ℕ) (text : List ℕ) (line : Line) (mark : Mark) (b : Bool) → slice_get text (length line.levels) ≡ Some c
     → b ≡ (is_space (info t tab_width c mark false).trailing && nat_le (advance line.columns (info t tab_width c mark false)) width)
-    → b ≡ hides_space_within t tab_width width text line
+    → b ≡ hides_space_within t tab_width None width text line
 hidden_is t tab_width width c text line mark b found is =
+    let sizes : List ℕ = sizes_of tab_width None text in
+    let n : ℕ = length line.levels in
+    let size : get_or sizes n 0 ≡ size_in tab_width c =
+    get_or-map (size_in tab_width) text n 0 0 (slice_get_within text n c found) ∙ ap (size_in tab_width) (get_or_from_slice_get text n c 0 found) in
     is
-    ∙ ap (λ n. is_space (trailing_with t tab_width c) && nat_le n width) (advance_info t tab_width line.columns c mark false)
-    ∙ sym (ap (λ (o : Option ℕ). option_map_or (λ d. is_space (trailing_with t tab_width d) && nat_le (line.columns + width_from tab_width line.columns d) width) o false) found)
+    ∙ ap (λ m. is_space (trailing_with t tab_width c) && nat_le m width) (advance_info t tab_width line.columns c mark false)
+    ∙ ap (λ s. is_space (trailing_with t tab_width c) && nat_le (line.columns + width_from tab_width line.columns c s) width) (sym size)
+    ∙ sym (ap (λ (o : Option ℕ). option_map_or (λ d. is_space (trailing_with t tab_width d)
+    && nat_le (line.columns + width_from tab_width line.columns d (get_or sizes n 0)) width) o false) found)
 
 lines_stay : EndsAtMust → (rules : Rules) (old width : ℕ) (text : List ℕ) → 0 < length text → keeps_lines rules width (layout_of rules old text) ≡ true
     → lines_of rules width text ≡ lines_of rules old text
@@ -205,15 +237,18 @@ lines_stay law rules old width text some h =
     let options : Options = rules.options in
     let tab_width : ℕ = tab_width_in t options in
     let marks : List Mark = marks_of t options.whole_numbers text in
-    let ps : List CharInfo = infos_of t options text in
+    let plain : List CharInfo = infos t tab_width text marks (cluster_ends text) in
+    let ps : List CharInfo = infos_of t options rules.advances text in
     let last = law t options.whole_numbers text some in
     let many : length marks ≡ length text = length-marks t options.whole_numbers text in
-    let size : length ps ≡ length text = length-infos t tab_width text marks (cluster_ends text) (omega (arith, many)) (length-cluster_ends text) in
-    let ends : (place_at ps (length text - 1)).mark ≡ Must = mark_at t tab_width text marks (cluster_ends text) (length text - 1) Must last (omega (arith, some)) (length-cluster_ends text) in
+    let plain_size : length plain ≡ length text = length-infos t tab_width text marks (cluster_ends text) (omega (arith, many)) (length-cluster_ends text) in
+    let size : length ps ≡ length text = length-sized rules.advances plain ∙ plain_size in
+    let ends : (place_at ps (length text - 1)).mark ≡ Must = sized_mark rules.advances plain (length text - 1)
+    ∙ mark_at t tab_width text marks (cluster_ends text) (length text - 1) Must last (omega (arith, some)) (length-cluster_ends text) in
     let base : ℕ = base_of rules text in
     let levels : List ℕ = levels_of t text options.base in
     let margin : Option ℕ = margin_of options old in
-    let shows : Bool = option_map_or (hides_space_within t tab_width width text) (slice_get (lines_of rules old text) 0) false in
+    let shows : Bool = option_map_or (hides_space_within t tab_width rules.advances width text) (slice_get (lines_of rules old text) 0) false in
     let tests = and_parts (is_line_within width (lines_of rules old text)) (not (options.show_spaces && shows)) h in
     let one = one_start t options margin base text levels ps width (line_starts_of options.nobreak old ps) tests.0 in
     let zero_is : one.0 ≡ 0 = first_zero options.nobreak old one.0 ps one.1 in
@@ -230,16 +265,16 @@ lines_stay law rules old width text some h =
     let lines : lines_of rules old text ≡ line ∷ [] = ap (lines_from t options margin base text levels ps) began in
     let n : ℕ = shown_len margin piece in
     let n_is : length line.levels ≡ n =
-    levels_size_is t options margin base tab_width text levels marks (cluster_ends text) (length-levels_of t text options.base) many (length-cluster_ends text)
+    levels_size_is t options margin base tab_width rules.advances text levels marks (cluster_ends text) (length-levels_of t text options.base) many (length-cluster_ends text)
     0 (length text) (omega arith) (omega arith) in
     let stops : options.show_spaces ≡ true → n < length piece → is_space_within width piece n ≡ false =
     λ on below.
     let inside : n < length ps = omega (arith, below, ap length whole) in
-    let info = info_at t tab_width text marks (cluster_ends text) n inside in
+    let info = info_at t tab_width rules.advances text marks (cluster_ends text) n (omega (arith, inside, size, plain_size)) in
     let place : place_at piece n ≡ place_at ps n = ap (λ (xs : List CharInfo). place_at xs n) whole in
-    hides t tab_width width text line piece n n_is refl below (omega (arith, inside, size)) (ap (λ (p : CharInfo). p.trailing) place ∙ info.0)
-    (λ column. ap (advance column) place ∙ info.1 column)
-    ∙ sym (ap (λ (ls : List Line). option_map_or (hides_space_within t tab_width width text) (slice_get ls 0) false) lines)
+    hides t tab_width rules.advances width text line piece n n_is refl below (omega (arith, inside, size))
+    (subst (IsInfoOf t tab_width (get_or text n 0) (get_or (sizes_of tab_width rules.advances text) n 0)) (sym place) info)
+    ∙ sym (ap (λ (ls : List Line). option_map_or (hides_space_within t tab_width rules.advances width text) (slice_get ls 0) false) lines)
     ∙ sym (ap (λ (b : Bool). b && shows) on)
     ∙ not-true (options.show_spaces && shows) tests.1 in
     let part : ℕ → Shown = λ m. record { len = length (take m piece); columns = columns (take m piece) } in

@@ -27,7 +27,7 @@ use Rattle.lines.specs.Clusters.{cluster_ends, ends_at}
 use Rattle.lines.specs.Columns.{columns_left, widths}
 use Rattle.lines.specs.Layouts.{Rules, layout_of, visuals}
 use Rattle.lines.specs.Ordered.{IsOrdered, MarksStay}
-use Rattle.lines.specs.TabStops.{IsTab, TabsEndAtStops}
+use Rattle.lines.specs.TabStops.{IsTab, TabsEndAtStops, size_at}
 use Rattle.lines.specs.Tabs.{is_segment_separator, is_tab, tab_width_in}
 use Rattle.lines.specs.Visual.{Visual}
 use Rattle.lines.proofs.AdjoinLemmas.{at, at_item, left_is, marks_still, past_item, same_left, sum_before, to_place}
@@ -37,7 +37,7 @@ use Rattle.lines.proofs.ReorderingLemmas.{clusters_vtol, marks_vtol}
 use Rattle.lines.proofs.RunColumnLemmas.{in_range, runs_add_up}
 use Rattle.lines.proofs.ShownColumnLemmas.{AddUp, layout_adds_up}
 use Rattle.lines.proofs.TabLemmas.{ends_after_tab, ends_before_tab, tab_class}
-use Rattle.lines.proofs.WidthLemmas.{length-widths, sum_next, tab_ends, tab_wide, width_tab}
+use Rattle.lines.proofs.WidthLemmas.{length-widths, sum_next, tab_ends, width_tab}
 
 -- ---- the sum of the items before an item
 
@@ -353,13 +353,10 @@ module _ (line : Visual) (k : ℕ) (tab : IsTab line k) (size : length line.text
   inside : k < length line.text
   inside = omega (arith, tab.within, size)
 
-  wide : 0 < line.tab_width
-  wide = tab_wide line.tab_width (get_or line.text k 0) tab.tab
-
   takes_columns : 0 < at (widths line) k
   takes_columns =
-      let n : ℕ = line.tab_width in
-      omega (arith, width_tab n k line.text inside tab.tab, mod_below (sum (take k (widths line))) n wide)
+      let size : ℕ = size_at line k in
+      omega (arith, width_tab line.tab_width k line.advances line.text inside tab.tab, mod_below (sum (take k (widths line))) size tab.some)
 
 module _ (line : Visual) (ordered : IsOrdered line) (stay : StayByL2 line) (total : line.columns ≡ sum (widths line)) (low : line.base ≤ 1)
     (above : (k : ℕ) → k < length line.levels → line.base ≤ get_or line.levels k 0) (reset : (k : ℕ) → IsTab line k → get_or line.levels k 0 ≡ line.base) where
@@ -367,17 +364,17 @@ module _ (line : Visual) (ordered : IsOrdered line) (stay : StayByL2 line) (tota
   ws = widths line
 
   size : length ws ≡ length line.levels
-  size = length-widths line.tab_width line.text ∙ ordered.text
+  size = length-widths line ∙ ordered.text
 
   module _ (k : ℕ) (is : IsTab line k) where
     abbrev n : ℕ
-    n = line.tab_width
+    n = size_at line k
 
     -- the columns from the start of the line to the end of the tab
     ends_tab : (sum (take k ws) + at ws k) % n ≡ 0
     ends_tab =
         let within : k < length line.text = inside line k is ordered.text in
-        ap (λ m. m % n) (sym (sum_next n k line.text within)) ∙ tab_ends n k line.text within (wide line k is ordered.text) is.tab
+        ap (λ m. m % n) (sym (sum_next line.tab_width k line.advances line.text within)) ∙ tab_ends line.tab_width k line.advances line.text within is.some is.tab
 
     before : sum_by (at ws) (range_with_len 0 k) ≡ sum (take k ws)
     before = in_range ws 0 k (omega (arith, is.within, size))
@@ -450,7 +447,7 @@ module _ (rules : Rules) (text : List ℕ) (line : Visual) (is : IsPart rules te
 
   stays_by_marks : rules.options.reorder_clusters ≡ false → MarksStay rules text → StayByL2 line
   stays_by_marks off marks k tab =
-      let size : length (widths line) ≡ length line.levels = length-widths line.tab_width line.text ∙ is.size in
+      let size : length (widths line) ≡ length line.levels = length-widths line ∙ is.size in
       ap (sum_before (at (widths line)) k) (is.vtol ∙ sym (marks_vtol rules.options is.classes is.ends line.levels off))
       ∙ same_left rules.options.reordernsm is.classes (widths line) line.levels size (marks_still rules text line is marks) k (takes_columns line k tab is.size)
       ∙ left_is (widths line) line.levels size k

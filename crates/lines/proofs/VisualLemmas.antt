@@ -19,6 +19,7 @@ use Rattle.lines.specs.Tabs.{tab_width_in}
 use Rattle.lines.specs.Visual.{Line, line_between, lines_from}
 use Rattle.lines.specs.declared.options.Options.{Options}
 use Rattle.lines.specs.declared.char_info.CharInfo.{CharInfo}
+use Rattle.lines.proofs.WidthLemmas.{length-sized}
 use Rattle.bidi.specs.Levels.{levels_of}
 
 -- whether the numbers rise strictly, start at `low` or above, and are below n
@@ -78,21 +79,32 @@ from_within tables options margin base text levels ps low n (s ∷ t ∷ at) e r
     All-cons (λ (line : Line). line.start + length line.levels ≤ n) (line_between tables options margin base text levels ps s t) (lines_from tables options margin base text levels ps (t ∷ at))
     (omega (arith, levels_most tables options margin base text levels ps s t, rise.2.0, rise.2.1)) (from_within tables options margin base text levels ps (suc s) n (t ∷ at) e rise.2)
 
+pub few_infos : (rules : Rules) (text : List ℕ) → length (infos_of rules.tables rules.options rules.advances text) ≤ length text
+unfolding infos_of
+few_infos rules text =
+    let tab_width : ℕ = tab_width_in rules.tables rules.options in
+    let marks : List Mark = marks_of rules.tables rules.options.whole_numbers text in
+    omega (
+      arith,
+      length-sized rules.advances (infos rules.tables tab_width text marks (cluster_ends text)),
+      length-infos rules.tables tab_width text marks (cluster_ends text),
+    )
+
 -- the line starts of a paragraph rise strictly
-pub starts_in : (rules : Rules) (width : ℕ) (text : List ℕ) → Rise 0 (length text) (line_starts_of rules.options.nobreak width (infos_of rules.tables rules.options text))
-unfolding line_starts_of infos_of
+pub starts_in : (rules : Rules) (width : ℕ) (text : List ℕ) → Rise 0 (length text) (line_starts_of rules.options.nobreak width (infos_of rules.tables rules.options rules.advances text))
+unfolding line_starts_of
 starts_in rules width text =
-    let ps : List CharInfo = infos_of rules.tables rules.options text in
-    rise_to 0 (length ps) (length text) (line_starts_of rules.options.nobreak width ps) (length-infos rules.tables (tab_width_in rules.tables rules.options) text (marks_of rules.tables rules.options.whole_numbers text) (cluster_ends text))
+    let ps : List CharInfo = infos_of rules.tables rules.options rules.advances text in
+    rise_to 0 (length ps) (length text) (line_starts_of rules.options.nobreak width ps) (few_infos rules text)
     (starts_rise rules.options.nobreak width 0 0 (length ps) ps (omega arith))
 
 -- the shown parts of a paragraph's lines are inside the paragraph
 pub lines_within : (rules : Rules) (width : ℕ) (text : List ℕ) → AreWithin (length text) (lines_of rules width text)
-unfolding line_starts_of infos_of
+unfolding line_starts_of
 lines_within rules width text =
-    let ps : List CharInfo = infos_of rules.tables rules.options text in
+    let ps : List CharInfo = infos_of rules.tables rules.options rules.advances text in
     from_within rules.tables rules.options (margin_of rules.options width) (base_of rules text) text (levels_of rules.tables text rules.options.base) ps 0 (length text) (line_starts_of rules.options.nobreak width ps) refl
-    (rise_to 0 (length ps) (length text) (line_starts_of rules.options.nobreak width ps) (length-infos rules.tables (tab_width_in rules.tables rules.options) text (marks_of rules.tables rules.options.whole_numbers text) (cluster_ends text))
+    (rise_to 0 (length ps) (length text) (line_starts_of rules.options.nobreak width ps) (few_infos rules text)
     (starts_rise rules.options.nobreak width 0 0 (length ps) ps (omega arith)))
 
 -- if `Rise` holds for a list of numbers, they are below n and each is less than the next one
@@ -111,11 +123,11 @@ rise_rising low n (x ∷ y ∷ xs) (suc k) rise below =
 
 -- at every width, the line starts of a paragraph are in order and inside the paragraph
 pub starts_within : (rules : Rules) (width : ℕ) (text : List ℕ) → AreStarts (length text) (extents_of rules width text).starts
-unfolding line_starts_of infos_of
+unfolding line_starts_of
 starts_within rules width text =
-    let ps : List CharInfo = infos_of rules.tables rules.options text in
+    let ps : List CharInfo = infos_of rules.tables rules.options rules.advances text in
     let rise = rise_to 0 (length ps) (length text) (line_starts_of rules.options.nobreak width ps)
-    (length-infos rules.tables (tab_width_in rules.tables rules.options) text (marks_of rules.tables rules.options.whole_numbers text) (cluster_ends text))
+    (few_infos rules text)
     (starts_rise rules.options.nobreak width 0 0 (length ps) ps (omega arith)) in
     record {
       below = λ k h. rise_below 0 (length text) (line_starts_of rules.options.nobreak width ps) k rise h;

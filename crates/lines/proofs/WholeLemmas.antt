@@ -292,8 +292,8 @@ unseen width print a b off first base ltov vtol levels =
 pub whole_bytes : (t : Tables) (options : Options) (base width : ℕ) (print : Print) (text levels : List ℕ) (len : ℕ) → print.novisual ≡ true → options.nobreak ≡ true → options.show_spaces ≡ false → options.tab_width ≡ 0
     → 0 < length text → length levels ≡ length text → length (marks_of t options.whole_numbers text) ≡ length text → IsWhole t text → IsShownLen t text len
     → line_bytes width print (visual_shown t options base true text (ends_by options text) levels (record { len = len; columns = 0 }))
-    ≡ lines_bytes width print base (tab_width_in t options) text (lines_from t options (margin_of options width) base text levels (infos_of t options text)
-    (line_starts_of options.nobreak width (infos_of t options text)))
+    ≡ lines_bytes width print base (tab_width_in t options) None text (lines_from t options (margin_of options width) base text levels (infos_of t options None text)
+    (line_starts_of options.nobreak width (infos_of t options None text)))
 unfolding infos_of
 whole_bytes t options base width print text levels len off nobreak hidden tabs some sizes many is shown_len =
     let marks : List Mark = marks_of t options.whole_numbers text in
@@ -316,6 +316,7 @@ whole_bytes t options base width print text levels len off nobreak hidden tabs s
       tab_width = 0;
       len = 0;
       text = [];
+      advances = None;
       columns = 0;
       levels = levels_by cs ls m;
       ltov = ltov_by options (map (class_of t) cs) es (levels_by cs ls m);
@@ -330,9 +331,9 @@ whole_bytes t options base width print text levels len off nobreak hidden tabs s
     (λ whole. shown_is t text marks ends len whole shown_len) size)
     ∙ ap (λ (es : List Bool). bytes text es levels (length (before_tail (slice_range all 0 n)))) (sym (all_ends options text))
     ∙ ap₂ (λ (cs ls : List ℕ). bytes cs (slice_range known 0 n) ls (length (before_tail (slice_range all 0 n)))) (sym (whole_range text n refl)) (sym (whole_range levels n (sym sizes)))
-    ∙ unseen width print (view (slice_range text 0 n) (slice_range known 0 n) (slice_range levels 0 n) (length (before_tail (slice_range all 0 n)))) (visual_of base tab_width text (line ∷ []) 0 line) off refl refl refl refl refl
-    ∙ sym (append-nil (line_bytes width print (visual_of base tab_width text (line ∷ []) 0 line)))
-    ∙ ap₂ (λ (margin : Option ℕ) (ss : List ℕ). lines_bytes width print base tab_width text (lines_from t options margin base text levels all ss)) (sym margin_is) (sym starts_are)
+    ∙ unseen width print (view (slice_range text 0 n) (slice_range known 0 n) (slice_range levels 0 n) (length (before_tail (slice_range all 0 n)))) (visual_of base tab_width None text (line ∷ []) 0 line) off refl refl refl refl refl
+    ∙ sym (append-nil (line_bytes width print (visual_of base tab_width None text (line ∷ []) 0 line)))
+    ∙ ap₂ (λ (margin : Option ℕ) (ss : List ℕ). lines_bytes width print base tab_width None text (lines_from t options margin base text levels all ss)) (sym margin_is) (sym starts_are)
 
 -- the k-th looked-up properties are those of the k-th character
 pub looked_up : (t : Tables) (text : List ℕ) (properties : List Properties) (k : ℕ) (p : Properties) → properties ≡ map (properties_of t) text → k < length text

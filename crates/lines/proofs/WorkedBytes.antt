@@ -1,5 +1,5 @@
 -- Worked examples of the bytes of a line.
-use Rattle.std.proofs.Common.{◌≡◌, true, false, [], ◌∷◌, ◌++◌, codes, refl}
+use Rattle.std.proofs.Common.{◌≡◌, true, false, None, [], ◌∷◌, ◌++◌, codes, refl}
 use Rattle.std.specs.Char.{encode_utf8}
 use Rattle.std.specs.Fmt.{digits}
 use Rattle.lines.specs.Bytes.{line_bytes}
@@ -14,6 +14,7 @@ hebrew = record {
   tab_width = 0;
   len = 4;
   text = 0x5D0 ∷ 32 ∷ 0x31 ∷ 0x32 ∷ [];
+  advances = None;
   columns = 4;
   levels = 1 ∷ 1 ∷ 2 ∷ 2 ∷ [];
   ltov = 3 ∷ 2 ∷ 0 ∷ 1 ∷ [];
@@ -54,7 +55,7 @@ later = refl
 
 -- a line with an empty shown part
 abbrev blank : Visual
-blank = record { is_first = true; base = 0; tab_width = 0; len = 0; text = []; columns = 0; levels = []; ltov = []; vtol = []; chars = [] }
+blank = record { is_first = true; base = 0; tab_width = 0; len = 0; text = []; advances = None; columns = 0; levels = []; ltov = []; vtol = []; chars = [] }
 
 empty_lines : line_bytes 80 (record all { basedir = false }) blank ≡ codes "\n\n\n\n"
 empty_lines = refl
@@ -71,6 +72,7 @@ brackets = record {
   tab_width = 0;
   len = 3;
   text = 40 ∷ 0x5D0 ∷ 41 ∷ [];
+  advances = None;
   columns = 3;
   levels = 1 ∷ 1 ∷ 1 ∷ [];
   ltov = 2 ∷ 1 ∷ 0 ∷ [];

@@ -1,7 +1,7 @@
 -- Writing the lines of a paragraph one at a time, given their shown parts, writes the printed bytes of the
 -- paragraph.
 use Rattle.std.proofs.Common.{◌≡◌, ℕ, zero, suc, ◌+◌, ◌-◌, ◌<◌, ◌≤◌, ◌==◌, ◌++◌, Bool, Option, List, [], ◌∷◌, length, map, take, drop, get_or, Some, refl, sym, ap, ap₂, ◌∙◌, arith}
-use Rattle.std.specs.Prelude.{option_map, slice_get, slice_range}
+use Rattle.std.specs.Prelude.{option_map, slice_get, slice_range, None}
 use Rattle.std.proofs.lemmas.List.{length-map, length-take-le, take-take}
 use Rattle.std.proofs.Math.Seq.{drop-append_seam, take-append_seam}
 use Rattle.ucd.specs.Tables.{class_of}
@@ -61,6 +61,7 @@ module _ (tables : Tables) (options : Options) (base : ℕ) where
         tab_width = tab_width_in tables options;
         len = length line;
         text = take (length levels) line;
+        advances = None;
         columns = columns;
         levels = levels;
         ltov = ltov;
@@ -102,7 +103,7 @@ module _ (tables : Tables) (options : Options) (base : ℕ) where
         → line_bytes width print
         (visual_shown tables options base (k == 0) (slice_range text (get_or starts k 0) e) (slice_range (ends_by options text) (get_or starts k 0) e)
         (slice_range old (get_or starts k 0) e) part)
-        ≡ get_or (pieces width print base (tab_width_in tables options) text (lines_shown tables options base text old starts parts)) k []
+        ≡ get_or (pieces width print base (tab_width_in tables options) None text (lines_shown tables options base text old starts parts)) k []
     piece_is width print starts parts k e part same below e_is part_is within most sizes =
         let lines : List Line = lines_shown tables options base text old starts parts in
         let s : ℕ = get_or starts k 0 in
@@ -126,6 +127,7 @@ module _ (tables : Tables) (options : Options) (base : ℕ) where
           tab_width = tab_width_in tables options;
           len = 0;
           text = t;
+          advances = None;
           columns = part.columns;
           levels = levels;
           ltov = ltov_by options classes ends levels;
@@ -135,19 +137,19 @@ module _ (tables : Tables) (options : Options) (base : ℕ) where
         let got : slice_get lines k ≡ Some (line_showing tables options base text old part s e) =
         line_at starts parts k same below ∙ ap₂ (λ (p : Shown) (x : ℕ). Some (line_showing tables options base text old p s x)) (sym part_is) (sym e_is) in
         ap₂ (λ (t u : List ℕ). line_bytes width print (view t u)) text_is (ap (λ (n : ℕ). take n line) size)
-        ∙ piece_at width print base (tab_width_in tables options) text lines k (visual_of base (tab_width_in tables options) text lines k (line_showing tables options base text old part s e))
-        (omega (arith, below, length-lines_shown starts parts same)) (sym (ap (option_map (visual_of base (tab_width_in tables options) text lines k)) got))
+        ∙ piece_at width print base (tab_width_in tables options) None text lines k (visual_of base (tab_width_in tables options) None text lines k (line_showing tables options base text old part s e))
+        (omega (arith, below, length-lines_shown starts parts same)) (sym (ap (option_map (visual_of base (tab_width_in tables options) None text lines k)) got))
 
 -- if the base level, levels and line starts are those of the paragraph, the printed lines are the paragraph's
 -- bytes
 pub page_is : (rules : Rules) (width : ℕ) (print : Print) (text : List ℕ) (base : ℕ) (levels starts : List ℕ) → base ≡ base_of rules text
     → levels ≡ levels_of rules.tables text rules.options.base
-    → starts ≡ line_starts_of rules.options.nobreak width (infos_of rules.tables rules.options text)
-    → lines_bytes width print base (tab_width_in rules.tables rules.options) text (lines_from rules.tables rules.options (margin_of rules.options width) base text levels (infos_of rules.tables rules.options text) starts)
+    → starts ≡ line_starts_of rules.options.nobreak width (infos_of rules.tables rules.options rules.advances text)
+    → lines_bytes width print base (tab_width_in rules.tables rules.options) rules.advances text (lines_from rules.tables rules.options (margin_of rules.options width) base text levels (infos_of rules.tables rules.options rules.advances text) starts)
     ≡ paragraph_bytes rules width print text
 page_is rules width print text base levels starts b l s =
-    let infos : List CharInfo = infos_of rules.tables rules.options text in
-    let bytes : ℕ → List ℕ → List ℕ → List ℕ = λ b l s. lines_bytes width print b (tab_width_in rules.tables rules.options) text (lines_from rules.tables rules.options (margin_of rules.options width) b text l infos s) in
+    let infos : List CharInfo = infos_of rules.tables rules.options rules.advances text in
+    let bytes : ℕ → List ℕ → List ℕ → List ℕ = λ b l s. lines_bytes width print b (tab_width_in rules.tables rules.options) rules.advances text (lines_from rules.tables rules.options (margin_of rules.options width) b text l infos s) in
     ap (λ (x : ℕ). bytes x levels starts) b
     ∙ ap (λ (ls : List ℕ). bytes (base_of rules text) ls starts) l
     ∙ ap (bytes (base_of rules text) (levels_of rules.tables text rules.options.base)) s

@@ -1,6 +1,6 @@
 -- A line for which only the printed parts are computed. No contract of an exported function uses these
 -- definitions.
-use Rattle.std.specs.Prelude.{ℕ, nat_lt, Bool, ◌&&◌, ◌||◌, not, List, length, map, take}
+use Rattle.std.specs.Prelude.{ℕ, nat_lt, Bool, ◌&&◌, ◌||◌, not, List, length, map, take, None}
 use Rattle.ucd.specs.Tables.{class_of}
 use Rattle.ucd.specs.declared.tables.Tables.{Tables}
 use Rattle.reorder.specs.Mirroring.{visual_chars}
@@ -25,6 +25,7 @@ module _ (tables : Tables) (options : Options) (base : ℕ) (is_first : Bool) (l
         tab_width = tab_width_in tables options;
         len = length line;
         text = take (length levels) line;
+        advances = None;
         columns = columns;
         levels = levels;
         ltov = ltov_by options classes ends levels;

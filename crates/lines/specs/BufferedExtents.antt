@@ -1,6 +1,6 @@
 -- The line starts and shown parts of a paragraph at a width, in buffers that have enough capacity for each
 -- line. No contract of an exported function uses this definition.
-use Rattle.std.specs.Prelude.{◌≡◌, ℕ, length}
+use Rattle.std.specs.Prelude.{◌≡◌, ℕ, length, None}
 use Rattle.lines.specs.Buffers.{CanHold}
 use Rattle.lines.specs.CharInfos.{infos_of}
 use Rattle.lines.specs.Extents.{shown_from}
@@ -12,8 +12,8 @@ use Rattle.lines.specs.declared.paragraph.Text.{Text}
 
 pub record AreExtentsOf (text : Text) (width : ℕ) (lines : LineBuffers) : Type 0 where
   pub starts : lines.extents.starts
-      ≡ line_starts_of text.rules.options.nobreak width (infos_of text.rules.tables.now text.rules.options text.characters.now)
+      ≡ line_starts_of text.rules.options.nobreak width (infos_of text.rules.tables.now text.rules.options None text.characters.now)
   pub shown : lines.extents.shown
-      ≡ shown_from (margin_of text.rules.options width) (length text.characters.now) (infos_of text.rules.tables.now text.rules.options text.characters.now) lines.extents.starts
+      ≡ shown_from (margin_of text.rules.options width) (length text.characters.now) (infos_of text.rules.tables.now text.rules.options None text.characters.now) lines.extents.starts
   pub ordered : AreStarts (length text.characters.now) lines.extents.starts
   pub visual : CanHold (length text.characters.now) lines.visual

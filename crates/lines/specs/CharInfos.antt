@@ -1,5 +1,5 @@
 -- What filling needs to know about each character of a paragraph.
-use Rattle.std.specs.Prelude.{ℕ, ◌+◌, Bool, true, false, List, [], ◌∷◌, unwrap_or, if◌then◌else◌}
+use Rattle.std.specs.Prelude.{ℕ, ◌+◌, Bool, true, false, List, [], ◌∷◌, Option, None, Some, unwrap_or, if◌then◌else◌}
 use Rattle.ucd.specs.Tables.{line_class_of, is_mark_in}
 use Rattle.ucd.specs.declared.line_class.LineClass.{LineClass}
 use Rattle.ucd.specs.declared.line_class.LineClass.TheVariants.{BK, CR, LF, NL, SP}
@@ -19,6 +19,10 @@ use Rattle.lines.specs.declared.options.Options.{Options}
 -- the columns of a character according to the crate `unicode_width`, or 0 if that crate gives no width
 abbrev pub columns_of : ℕ → ℕ
 columns_of c = unwrap_or (char_width false c) 0
+
+-- the size of a character, from which its width follows: its columns, or for a tab that moves to tab stops their distance
+abbrev pub size_in : ℕ → ℕ → ℕ
+size_in tab_width c = if is_tab tab_width c then tab_width else columns_of c
 
 -- what a character of a class, after LB1, is in a tail: a space if the class is SP, and a separator if it is BK, CR, LF or NL; other
 -- characters are in no tail
@@ -51,7 +55,7 @@ moves other = false
 -- after it
 abbrev pub info : Tables → ℕ → ℕ → Mark → Bool → CharInfo
 info t tab_width c mark ends_cluster = record {
-  columns = if is_tab tab_width c then tab_width else columns_of c;
+  columns = size_in tab_width c;
   trailing = trailing_with t tab_width c;
   mark = mark;
   ends_cluster = ends_cluster;
@@ -61,8 +65,20 @@ abbrev pub infos : Tables → ℕ → List ℕ → List Mark → List Bool → L
 infos t tab_width (c ∷ text) (mark ∷ marks) (ends ∷ clusters) = info t tab_width c mark ends ∷ infos t tab_width text marks clusters
 infos t tab_width text marks clusters = []
 
-unfoldable pub infos_of : Tables → Options → List ℕ → List CharInfo
-infos_of t options text = infos t (tab_width_in t options) text (marks_of t options.whole_numbers text) (cluster_ends text)
+-- the same with the advances of a measured paragraph, in the caller's unit, in place of its columns; a character without an advance has 0
+abbrev pub measured : List ℕ → List CharInfo → List CharInfo
+measured advances [] = []
+measured [] (p ∷ infos) = record p { columns = 0 } ∷ measured [] infos
+measured (size ∷ advances) (p ∷ infos) = record p { columns = size } ∷ measured advances infos
+
+abbrev pub sized : Option (List ℕ) → List CharInfo → List CharInfo
+sized None infos = infos
+sized (Some advances) infos = measured advances infos
+
+-- what filling needs to know about the characters of a paragraph, given their advances if the paragraph is measured
+unfoldable pub infos_of : Tables → Options → Option (List ℕ) → List ℕ → List CharInfo
+infos_of t options advances text =
+    sized advances (infos t (tab_width_in t options) text (marks_of t options.whole_numbers text) (cluster_ends text))
 
 -- the columns of a line after one more character, given those before it
 abbrev pub advance : ℕ → CharInfo → ℕ

@@ -8,7 +8,7 @@ use Rattle.lines.specs.Widths.{widths_of}
 
 -- the columns of each shown character, in logical order
 abbrev pub widths : Visual → List ℕ
-widths line = widths_of line.tab_width line.text
+widths line = widths_of line.tab_width line.advances line.text
 
 -- the columns of the shown character at a position
 abbrev pub width_at : Visual → ℕ → ℕ

@@ -43,7 +43,7 @@ shown_from margin n infos (s ∷ t ∷ starts) = shown_between margin infos s t 
 -- the extents of a paragraph's lines at a width
 abbrev pub extents_of : Rules → ℕ → List ℕ → LineExtents
 extents_of rules width text =
-    let infos = infos_of rules.tables rules.options text in
+    let infos = infos_of rules.tables rules.options rules.advances text in
     let starts = line_starts_of rules.options.nobreak width infos in
     record { starts = starts; shown = shown_from (margin_of rules.options width) (length text) infos starts }
 

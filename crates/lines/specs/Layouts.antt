@@ -1,5 +1,5 @@
 -- The layout of a paragraph.
-use Rattle.std.specs.Prelude.{◌≡◌, ℕ, ◌+◌, ◌≤◌, nat_le, Bool, false, ◌&&◌, not, List, [], ◌∷◌, length, map, slice_get, All}
+use Rattle.std.specs.Prelude.{◌≡◌, ℕ, ◌+◌, ◌≤◌, nat_le, Bool, false, ◌&&◌, not, List, [], ◌∷◌, length, map, slice_get, slice_index, All, Option}
 use Rattle.std.specs.List.{enumerate_from}
 use Rattle.std.specs.Option.{option_map_or}
 use Rattle.ucd.specs.Tables.{class_of}
@@ -15,19 +15,22 @@ use Rattle.lines.specs.Reordering.{ends_by}
 use Rattle.lines.specs.ShownParts.{margin_of}
 use Rattle.lines.specs.Tabs.{tab_width_in}
 use Rattle.lines.specs.Visual.{Line, Visual, lines_from, visual_of}
-use Rattle.lines.specs.Widths.{width_from}
+use Rattle.lines.specs.Widths.{sizes_of, width_from}
 use Rattle.lines.specs.declared.engine.TheConstants.{PARAGRAPH_LIMIT}
 use Rattle.lines.specs.declared.options.Options.{Options}
 
--- what a layout depends on, besides the text and the width
+-- what a layout depends on, besides the text and the width: the tables and the options, and in a measured paragraph the advances of its
+-- characters
 pub record Rules : Type 0 where
   pub tables : Tables
   pub options : Options
+  pub advances : Option (List ℕ)
 
--- a paragraph: its characters, its base level, its tab width, the level and the mark of each character, its cluster ends if its lines are ordered by
--- clusters, and its lines
+-- a paragraph: its characters, their advances if it is measured, its base level, its tab width, the level and the mark of each character, its
+-- cluster ends if its lines are ordered by clusters, and its lines
 pub record Layout : Type 0 where
   pub text : List ℕ
+  pub advances : Option (List ℕ)
   pub base : ℕ
   pub tab_width : ℕ
   pub levels : List ℕ
@@ -40,13 +43,14 @@ base_of rules text = base_level_of (map (class_of rules.tables) text) rules.opti
 
 abbrev pub lines_of : Rules → ℕ → List ℕ → List Line
 lines_of rules width text =
-    let infos = infos_of rules.tables rules.options text in
+    let infos = infos_of rules.tables rules.options rules.advances text in
     lines_from rules.tables rules.options (margin_of rules.options width) (base_of rules text) text (levels_of rules.tables text rules.options.base) infos (line_starts_of rules.options.nobreak width infos)
 
 -- the fresh layout of a paragraph
 abbrev pub layout_of : Rules → ℕ → List ℕ → Layout
 layout_of rules width text = record {
   text = text;
+  advances = rules.advances;
   base = base_of rules text;
   tab_width = tab_width_in rules.tables rules.options;
   levels = levels_of rules.tables text rules.options.base;
@@ -57,7 +61,7 @@ layout_of rules width text = record {
 
 -- the visual lines of a layout
 abbrev pub visuals : Layout → List Visual
-visuals layout = map (λ nth. visual_of layout.base layout.tab_width layout.text layout.lines nth.0 nth.1) (enumerate_from 0 layout.lines)
+visuals layout = map (λ nth. visual_of layout.base layout.tab_width layout.advances layout.text layout.lines nth.0 nth.1) (enumerate_from 0 layout.lines)
 
 -- lines, and the length of their paragraph in characters
 pub record Filled : Type 0 where
@@ -80,15 +84,17 @@ is_line_within width (line ∷ []) = nat_le line.columns width
 is_line_within width lines = false
 
 -- whether the first character that a paragraph's first line does not show is a space that fits the width, too
-abbrev pub hides_space_within : Tables → ℕ → ℕ → List ℕ → Line → Bool
-hides_space_within tables tab_width width text line =
-    option_map_or (λ c. is_space (trailing_with tables tab_width c) && nat_le (line.columns + width_from tab_width line.columns c) width) (slice_get text (length line.levels)) false
+abbrev pub hides_space_within : Tables → ℕ → Option (List ℕ) → ℕ → List ℕ → Line → Bool
+hides_space_within tables tab_width advances width text line =
+    let size = slice_index (sizes_of tab_width advances text) (length line.levels) in
+    option_map_or (λ c. is_space (trailing_with tables tab_width c) && nat_le (line.columns + width_from tab_width line.columns c size) width)
+    (slice_get text (length line.levels)) false
 
 -- whether a paragraph keeps its lines at a width: it has one line, which fits, and if spaces are shown, it hides none that fits
 abbrev pub keeps_lines : Rules → ℕ → Layout → Bool
 keeps_lines rules width layout =
     is_line_within width layout.lines
-    && not (rules.options.show_spaces && option_map_or (hides_space_within rules.tables layout.tab_width width layout.text) (slice_get layout.lines 0) false)
+    && not (rules.options.show_spaces && option_map_or (hides_space_within rules.tables layout.tab_width layout.advances width layout.text) (slice_get layout.lines 0) false)
 
 -- whether there is a paragraph boundary between two adjacent characters
 abbrev pub cut_by : Rules → ℕ → ℕ → Bool

@@ -1,5 +1,5 @@
 -- A paragraph that is one line at a width. No contract of an exported function uses this definition.
-use Rattle.std.specs.Prelude.{◌≡◌, ℕ, [], ◌∷◌, length}
+use Rattle.std.specs.Prelude.{◌≡◌, ℕ, [], ◌∷◌, length, None}
 use Rattle.lines.specs.CharInfos.{infos_of}
 use Rattle.lines.specs.Extents.{shown_from}
 use Rattle.lines.specs.Filling.{line_starts_of}
@@ -9,6 +9,6 @@ use Rattle.lines.specs.declared.paragraph.Text.{Text}
 
 -- whether a paragraph is one line, of which `part` is shown
 pub record IsOneLine (text : Text) (width : ℕ) (part : Shown) : Type 0 where
-  pub starts : line_starts_of text.rules.options.nobreak width (infos_of text.rules.tables.now text.rules.options text.characters.now) ≡ 0 ∷ []
-  pub shown : shown_from (margin_of text.rules.options width) (length text.characters.now) (infos_of text.rules.tables.now text.rules.options text.characters.now) (0 ∷ [])
+  pub starts : line_starts_of text.rules.options.nobreak width (infos_of text.rules.tables.now text.rules.options None text.characters.now) ≡ 0 ∷ []
+  pub shown : shown_from (margin_of text.rules.options width) (length text.characters.now) (infos_of text.rules.tables.now text.rules.options None text.characters.now) (0 ∷ [])
       ≡ part ∷ []

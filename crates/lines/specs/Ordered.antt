@@ -1,5 +1,5 @@
 -- What holds of the order of each visual line.
-use Rattle.std.specs.Prelude.{◌≡◌, ℕ, suc, ◌+◌, ◌<◌, ◌≤◌, Bool, false, true, ◌⊎◌, List, length, slice_index, All}
+use Rattle.std.specs.Prelude.{◌≡◌, ℕ, suc, ◌+◌, ◌<◌, ◌≤◌, Bool, false, true, ◌⊎◌, List, length, slice_index, All, None}
 use Rattle.reorder.specs.Order.{is_odd, AreInverse}
 use Rattle.ucd.specs.Classes.{is_mark}
 use Rattle.ucd.specs.Tables.{class_of}
@@ -17,9 +17,10 @@ pub record IsOrdered (line : Visual) : Type 0 where
   pub inverse : AreInverse (length line.levels) line.vtol line.ltov
   pub within : length line.levels ≤ line.len
 
--- whether the characters of class NSM stay where L2 puts them, or take no columns
+-- whether the characters of class NSM stay where L2 puts them, or take no columns in a paragraph that is not measured
 abbrev pub MarksStay : Rules → List ℕ → Type 0
-MarksStay rules text = (rules.options.reordernsm ≡ false) ⊎ All (λ c. is_mark (class_of rules.tables c) ≡ true → columns_of c ≡ 0) text
+MarksStay rules text =
+    (rules.options.reordernsm ≡ false) ⊎ ((rules.advances ≡ None) × All (λ c. is_mark (class_of rules.tables c) ≡ true → columns_of c ≡ 0) text)
 
 -- two characters of one level run, both of which take columns
 pub record AreInRun (line : Visual) (j k : ℕ) : Type 0 where

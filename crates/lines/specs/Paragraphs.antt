@@ -1,6 +1,6 @@
 -- What is known about a paragraph, or about one of its lines, before the lines are reordered. No contract of
 -- an exported function uses these definitions.
-use Rattle.std.specs.Prelude.{◌≡◌, ℕ, ◌≤◌, List, length, map, take, drop}
+use Rattle.std.specs.Prelude.{◌≡◌, ℕ, ◌≤◌, List, length, map, take, drop, None}
 use Rattle.ucd.specs.Properties.{properties_of}
 use Rattle.ucd.specs.Tables.{class_of}
 use Rattle.reorder.specs.Spaces.{line_levels}
@@ -22,7 +22,7 @@ use Rattle.lines.specs.declared.paragraph.Paragraph.{Paragraph}
 use Rattle.lines.specs.declared.paragraph.Text.{Text}
 
 abbrev pub rules_in : LentRules → Rules
-rules_in rules = record { tables = rules.tables.now; options = rules.options }
+rules_in rules = record { tables = rules.tables.now; options = rules.options; advances = None }
 
 -- whether the looked-up properties of a text are those of its characters
 abbrev pub IsLookedUp : Text → Type 0
@@ -51,7 +51,7 @@ abbrev pub lines_at : Text → List ℕ → ℕ → List Line
 lines_at text levels width =
     let tables = text.rules.tables.now in
     let options = text.rules.options in
-    let infos = infos_of tables options text.characters.now in
+    let infos = infos_of tables options None text.characters.now in
     lines_from tables options (margin_of options width) text.base text.characters.now levels infos (line_starts_of options.nobreak width infos)
 
 -- the visual line of a logical line, given the levels of its shown part after L1
@@ -79,6 +79,7 @@ held_line line visual =
       tab_width = tab_width_in line.text.rules.tables.now line.text.rules.options;
       len = length line.text.characters.now;
       text = take (length levels) line.text.characters.now;
+      advances = None;
       columns = line.shown.columns;
       levels = levels;
       ltov = take n visual.maps.items;

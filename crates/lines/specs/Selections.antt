@@ -1,6 +1,6 @@
 -- How the spans of a range are found, one after the other. No contract of an exported function uses these
 -- definitions.
-use Rattle.std.specs.Prelude.{◌≡◌, ℕ, ◌*◌, ◌<◌, ◌≤◌, Bool, false, not, [], length, slice_index}
+use Rattle.std.specs.Prelude.{◌≡◌, ℕ, ◌*◌, ◌<◌, ◌≤◌, Bool, false, not, [], length, slice_index, None}
 use Rattle.lines.specs.Columns.{columns_left, width_at}
 use Rattle.lines.specs.Spans.{is_covered, is_left_edge, is_selected}
 use Rattle.lines.specs.Visual.{Visual}
@@ -16,6 +16,7 @@ selected_in s = record {
   tab_width = s.tab_width;
   len = 0;
   text = s.text.now;
+  advances = None;
   columns = 0;
   levels = [];
   ltov = [];

@@ -4,14 +4,20 @@ use Rattle.reorder.specs.Order.{is_odd}
 use Rattle.lines.specs.Columns.{columns_left}
 use Rattle.lines.specs.Tabs.{is_tab}
 use Rattle.lines.specs.Visual.{Visual}
+use Rattle.lines.specs.Widths.{sizes_of}
 
--- whether the shown character at a position is a tab
+-- the size of the shown character at a position; that of a tab is the distance of its tab stops
+abbrev pub size_at : Visual → ℕ → ℕ
+size_at line k = slice_index (sizes_of line.tab_width line.advances line.text) k
+
+-- whether the shown character at a position is a tab that moves to a tab stop; a tab with advance 0 stays where it is
 pub record IsTab (line : Visual) (k : ℕ) : Type 0 where
   pub within : k < length line.levels
   pub tab : is_tab line.tab_width (slice_index line.text k) ≡ true
+  pub some : 0 < size_at line k
 
 -- Whether each tab ends at a tab stop, seen from the edge at which the line starts. That is the left edge, or in a right-to-left
 -- paragraph the right one.
 pub record TabsEndAtStops (line : Visual) : Type 0 where
-  pub left_to_right : is_odd line.base ≡ false → (k : ℕ) → IsTab line k → columns_left line (slice_index line.ltov k + 1) % line.tab_width ≡ 0
-  pub right_to_left : is_odd line.base ≡ true → (k : ℕ) → IsTab line k → (line.columns - columns_left line (slice_index line.ltov k)) % line.tab_width ≡ 0
+  pub left_to_right : is_odd line.base ≡ false → (k : ℕ) → IsTab line k → columns_left line (slice_index line.ltov k + 1) % size_at line k ≡ 0
+  pub right_to_left : is_odd line.base ≡ true → (k : ℕ) → IsTab line k → (line.columns - columns_left line (slice_index line.ltov k)) % size_at line k ≡ 0

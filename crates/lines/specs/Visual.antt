@@ -1,5 +1,5 @@
 -- The lines of a paragraph as they are shown: the order, the levels and the characters of each line's shown part.
-use Rattle.std.specs.Prelude.{ℕ, zero, suc, ◌+◌, ◌-◌, ◌==◌, Bool, List, [], ◌∷◌, length, map, take, slice_range, Option}
+use Rattle.std.specs.Prelude.{ℕ, zero, suc, ◌+◌, ◌-◌, ◌==◌, Bool, List, [], ◌∷◌, length, map, take, slice_range, Option, option_map}
 use Rattle.ucd.specs.Tables.{class_of}
 use Rattle.ucd.specs.declared.tables.Tables.{Tables}
 use Rattle.lines.specs.Filling.{columns}
@@ -56,13 +56,14 @@ end_of n (s ∷ t ∷ starts) zero = t
 end_of n (s ∷ t ∷ starts) (suc k) = end_of n (t ∷ starts) k
 
 -- A visual line: whether it is the first of its paragraph, the base level, the tab width, the length including the tail, and the
--- shown part. `text` has the shown characters in logical order.
+-- shown part. `text` has the shown characters in logical order, and `advances` their advances if the paragraph is measured.
 pub record Visual : Type 0 where
   pub is_first : Bool
   pub base : ℕ
   pub tab_width : ℕ
   pub len : ℕ
   pub text : List ℕ
+  pub advances : Option (List ℕ)
   pub columns : ℕ
   pub levels : List ℕ
   pub ltov : List ℕ
@@ -70,13 +71,14 @@ pub record Visual : Type 0 where
   pub chars : List ℕ
 
 -- the visual line of the n-th line of a paragraph
-abbrev pub visual_of : ℕ → ℕ → List ℕ → List Line → ℕ → Line → Visual
-visual_of base tab_width text lines n line = record {
+abbrev pub visual_of : ℕ → ℕ → Option (List ℕ) → List ℕ → List Line → ℕ → Line → Visual
+visual_of base tab_width advances text lines n line = record {
   is_first = n == 0;
   base = base;
   tab_width = tab_width;
   len = end_of (length text) (map (λ other. other.start) lines) n - line.start;
   text = slice_range text line.start (line.start + length line.levels);
+  advances = option_map (λ a. slice_range a line.start (line.start + length line.levels)) advances;
   columns = line.columns;
   levels = line.levels;
   ltov = line.ltov;

@@ -1,16 +1,28 @@
--- The columns of each character of a line.
-use Rattle.std.specs.Prelude.{ℕ, ◌+◌, List, [], ◌∷◌, if◌then◌else◌}
-use Rattle.lines.specs.CharInfos.{columns_of}
+-- The width of each character of a line.
+use Rattle.std.specs.Prelude.{ℕ, ◌+◌, List, [], ◌∷◌, map, Option, None, Some, if◌then◌else◌}
+use Rattle.lines.specs.CharInfos.{size_in}
 use Rattle.lines.specs.Tabs.{is_tab, to_stop}
 
--- the columns of a character that starts at a column
-abbrev pub width_from : ℕ → ℕ → ℕ → ℕ
-width_from tab_width column c = if is_tab tab_width c then to_stop tab_width column else columns_of c
+-- the advances of a text's characters; a character without an advance has 0
+abbrev pub advances_on : List ℕ → List ℕ → List ℕ
+advances_on advances [] = []
+advances_on [] (c ∷ text) = 0 ∷ advances_on [] text
+advances_on (size ∷ advances) (c ∷ text) = size ∷ advances_on advances text
 
--- the columns of each character of a text that starts at a column
-abbrev pub widths_from : ℕ → ℕ → List ℕ → List ℕ
-widths_from tab_width column [] = []
-widths_from tab_width column (c ∷ text) = width_from tab_width column c ∷ widths_from tab_width (column + width_from tab_width column c) text
+-- the size of each character: its advance in a measured paragraph
+abbrev pub sizes_of : ℕ → Option (List ℕ) → List ℕ → List ℕ
+sizes_of tab_width None text = map (size_in tab_width) text
+sizes_of tab_width (Some advances) text = advances_on advances text
 
-unfoldable pub widths_of : ℕ → List ℕ → List ℕ
-widths_of tab_width text = widths_from tab_width 0 text
+-- the width of a character that starts at a column: its size, but a tab moves to the next multiple of its size
+abbrev pub width_from : ℕ → ℕ → ℕ → ℕ → ℕ
+width_from tab_width column c size = if is_tab tab_width c then to_stop size column else size
+
+-- the width of each character of a text that starts at a column
+abbrev pub widths_from : ℕ → ℕ → List ℕ → List ℕ → List ℕ
+widths_from tab_width column (c ∷ text) (size ∷ sizes) =
+    width_from tab_width column c size ∷ widths_from tab_width (column + width_from tab_width column c size) text sizes
+widths_from tab_width column text sizes = []
+
+unfoldable pub widths_of : ℕ → Option (List ℕ) → List ℕ → List ℕ
+widths_of tab_width advances text = widths_from tab_width 0 text (sizes_of tab_width advances text)

@@ -1,6 +1,6 @@
 //! What filling needs to know about each character of a paragraph.
 ghost use Rattle.std.specs.Prelude.{◌≡◌, ◌<◌, ◌≤◌, ℕ, false, Bool, length, map};
-ghost use Rattle.std.specs.Prelude.{slice_index, take, OnOk};
+ghost use Rattle.std.specs.Prelude.{slice_index, take, None, OnOk};
 ghost use Rattle.ucd.specs.Properties.{properties_of};
 ghost use Rattle.ucd.specs.declared.tables.Tables.{Tables};
 ghost use Rattle.breaks.specs.Bases.{resolved};
@@ -230,7 +230,7 @@ impl InfoBuffers {
         ensures infos { OnOk result (with_ends
             (take (length text.now.characters.now) self.new.infos.items)
             (cluster_ends text.now.characters.now)
-            ≡ infos_of text.now.rules.tables.now text.now.rules.options text.now.characters.now) }
+            ≡ infos_of text.now.rules.tables.now text.now.rules.options None text.now.characters.now) }
         ensures len { OnOk result (length text.now.characters.now ≤ length self.new.infos.items) }
     {
         let (tables, characters) = (text.rules.tables, text.characters);

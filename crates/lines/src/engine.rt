@@ -81,12 +81,13 @@ impl Drop for Engine {
 }
 
 impl Model for Engine {
+    ghost use Rattle.std.specs.Prelude.{None};
     ghost use Rattle.lines.specs.Layouts.{EngineState};
 
     ghost Value = { EngineState };
 
     ghost view = { λ e. record {
-      rules = record { tables = e.tables; options = e.options };
+      rules = record { tables = e.tables; options = e.options; advances = None };
       analysed = e.counts.analysed;
       filled = e.counts.filled;
       written = e.counts.written;
@@ -108,7 +109,8 @@ impl Engine {
 
     /// Makes an engine whose counters are 0. Allocates nothing.
     pub fn new(tables: Tables, options: Options) -> Engine
-        ensures rules { rules_of result ≡ record { tables = tables; options = options } }
+        ensures rules { rules_of result
+            ≡ record { tables = tables; options = options; advances = None } }
         ensures analysed { analysed_of result ≡ 0 }
         ensures filled { filled_of result ≡ 0 }
         ensures written { written_of result ≡ 0 }
@@ -124,7 +126,7 @@ impl Engine {
     /// Sets the options for the next paragraphs. Keeps the tables, the counters and the buffers.
     pub fn set_options(&mut self, options: Options)
         ensures rules { rules_of self.new
-            ≡ record { tables = (rules_of self.old).tables; options = options } }
+            ≡ record { tables = (rules_of self.old).tables; options = options; advances = None } }
         ensures analysed { analysed_of self.new ≡ analysed_of self.old }
         ensures filled { filled_of self.new ≡ filled_of self.old }
         ensures written { written_of self.new ≡ written_of self.old }
@@ -499,6 +501,7 @@ impl Engine {
             parts.ends.items ≡ (layout_of (rules_of self.old) width text.now).ends) }
         ensures lines { IfOk result (λ parts.
             parts.lines ≡ fill_of (rules_of self.old) width text.now) }
+        ensures unmeasured { (rules_of self.old).advances ≡ None }
         ensures len { IfOk result (λ parts. length parts.levels.items ≡ length text.now) }
         ensures within { IfOk result (λ parts. AreWithin (length text.now) parts.lines.lines) }
         ensures counts { OnOk result (LaysOut (length text.now) self.old self.new) }

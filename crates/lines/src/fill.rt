@@ -1,7 +1,7 @@
 //! The lines of a paragraph at a width: reading them, replacing them with the lines at another width, and
 //! printing them.
 ghost use Rattle.std.specs.Prelude.{◌≡◌, ◌+◌, ◌≤◌, ℕ, List, Option, length, map, option_map, slice_get};
-ghost use Rattle.std.specs.Prelude.{IfErr, IfOk, IfSome};
+ghost use Rattle.std.specs.Prelude.{None, IfErr, IfOk, IfSome};
 ghost use Rattle.ucd.specs.Within.{AreWithin};
 ghost use Rattle.lines.specs.Engine.{counted};
 ghost use Rattle.lines.specs.Extents.{extents_in, shown_from};
@@ -172,7 +172,7 @@ impl Fill {
         requires within { Layouts.AreWithin (length of.now.text.now) self.now.lines }
         requires limit { length of.now.text.now ≤ PARAGRAPH_LIMIT }
         ensures { result
-            ≡ option_map (visual_of of.now.base of.now.tab_width of.now.text.now self.now.lines n)
+            ≡ option_map (visual_of of.now.base of.now.tab_width None of.now.text.now self.now.lines n)
             (slice_get self.now.lines n) }
     {
         let text = of.text;
@@ -207,11 +207,11 @@ impl Fill {
         requires limit { length of.now.text.now ≤ PARAGRAPH_LIMIT }
         requires before { before ≤ (W.state writer.old).passed }
         ensures ok { IfOk result (λ n.
-            PassedOn (lines_bytes width print.now of.now.base of.now.tab_width of.now.text.now
+            PassedOn (lines_bytes width print.now of.now.base of.now.tab_width None of.now.text.now
             self.now.lines) before
             (W.state writer.old) (W.state writer.new) n) }
         ensures err { IfErr result (λ fault.
-            StoppedIn (lines_bytes width print.now of.now.base of.now.tab_width of.now.text.now
+            StoppedIn (lines_bytes width print.now of.now.base of.now.tab_width None of.now.text.now
             self.now.lines) before
             (W.state writer.old) (W.state writer.new) fault.written) }
         ensures counted { IfOk result (λ n. n ≤ (W.state writer.new).passed) }

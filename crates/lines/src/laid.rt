@@ -1,6 +1,6 @@
 //! The layout of a paragraph.
 ghost use Rattle.std.specs.Prelude.{◌≡◌, ◌<◌, ◌≤◌, ℕ, false, length, map, option_map, slice_get};
-ghost use Rattle.std.specs.Prelude.{IfErr, IfOk, OnErr, OnOk};
+ghost use Rattle.std.specs.Prelude.{None, IfErr, IfOk, OnErr, OnOk};
 ghost use Rattle.device.specs.Device.{StoppedAt, Wrote};
 
 use crate::char_info::CharInfo;
@@ -46,7 +46,7 @@ impl Drop for Laid {
 }
 
 impl Model for Laid {
-    ghost use Rattle.std.specs.Prelude.{◌≡◌, ◌≤◌, length};
+    ghost use Rattle.std.specs.Prelude.{◌≡◌, ◌≤◌, None, length};
     ghost use Rattle.lines.specs.Layouts.{AreWithin, Layout};
     ghost use Rattle.lines.specs.declared.engine.TheConstants.{PARAGRAPH_LIMIT};
 
@@ -54,6 +54,7 @@ impl Model for Laid {
 
     ghost view = { λ l. record {
       text = l.text.items;
+      advances = None;
       base = l.base;
       tab_width = l.tab_width;
       levels = l.levels.items;
@@ -139,7 +140,7 @@ impl Laid {
     // too.
     pub(crate) fn hides_space_within(&self, tables: &Tables, width: u16) -> bool
         ensures { result ≡ option_map_or
-            (hides_space_within tables.now self.now.tab_width width self.now.text)
+            (hides_space_within tables.now self.now.tab_width self.now.advances width self.now.text)
             (slice_get self.now.lines 0) false }
     {
         let Some(line) = self.lines.part(0) else {
@@ -163,8 +164,8 @@ impl Laid {
     /// Returns line `n`, or `None` past the last line.
     pub fn line(&self, n: usize) -> Option<VisualLine<'_>>
         ensures line { result
-            ≡ option_map (visual_of self.now.base self.now.tab_width self.now.text self.now.lines n)
-            (slice_get self.now.lines n) }
+            ≡ option_map (visual_of self.now.base self.now.tab_width self.now.advances self.now.text
+            self.now.lines n) (slice_get self.now.lines n) }
         ensures nth { result ≡ slice_get (visuals self.now) n }
     {
         self.lines.line(&self.laid_text(), n)
@@ -230,12 +231,12 @@ impl Laid {
         properties: &mut Vec<Properties>,
         written: &mut Count,
     )
-        requires laid { IsLaidOut (record { tables = tables.now; options = options }) self.old }
+        requires laid { IsLaidOut (record { tables = tables.now; options = options; advances = None }) self.old }
         requires extents { (width : ℕ) × (extents.old
-            ≡ extents_of (record { tables = tables.now; options = options }) width self.old.text) }
+            ≡ extents_of (record { tables = tables.now; options = options; advances = None }) width self.old.text) }
         requires room { length self.old.text ≤ length properties.old.items }
         ensures laid { self.new
-            ≡ reflowed (record { tables = tables.now; options = options }) self.old extents.old }
+            ≡ reflowed (record { tables = tables.now; options = options; advances = None }) self.old extents.old }
         ensures extents { extents.new ≡ extents_in self.old.lines }
         ensures room { length properties.new.items ≡ length properties.old.items }
         ensures counts { written.new ≡ counted written.old (length self.old.text) }

@@ -1,5 +1,5 @@
 //! Lays out a paragraph, and keeps its layout.
-ghost use Rattle.std.specs.Prelude.{◌≡◌, ◌<◌, ◌≤◌, length, IfOk, OnErr, OnOk};
+ghost use Rattle.std.specs.Prelude.{◌≡◌, ◌<◌, ◌≤◌, length, None, IfOk, OnErr, OnOk};
 ghost use Rattle.lines.specs.Bare.{with_ends};
 ghost use Rattle.lines.specs.Buffers.{held_lines, AreSound};
 ghost use Rattle.lines.specs.CharInfos.{infos_of};
@@ -159,7 +159,7 @@ fn fill_lines_by(
     requires text { IsLookedUp paragraph.now.text }
     requires ends { HasEnds paragraph.now.text }
     requires infos { with_ends infos.old (cluster_ends paragraph.now.text.characters.now)
-        ≡ infos_of paragraph.now.text.rules.tables.now paragraph.now.text.rules.options
+        ≡ infos_of paragraph.now.text.rules.tables.now paragraph.now.text.rules.options None
         paragraph.now.text.characters.now }
     requires infos_len { length infos.old ≡ length paragraph.now.text.characters.now }
     requires levels_len { length paragraph.now.levels.now ≡ length paragraph.now.text.characters.now }

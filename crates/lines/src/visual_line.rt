@@ -1,6 +1,6 @@
 //! Visual lines, which borrow from their paragraph.
 ghost use Rattle.std.specs.Prelude.{◌≡◌, false, ◌^◌, ◌<◌, ◌≤◌, true, length, slice_index, sum, sum_by};
-ghost use Rattle.std.specs.Prelude.{OnOk, IfOk, IfErr};
+ghost use Rattle.std.specs.Prelude.{None, OnOk, IfOk, IfErr};
 ghost use Rattle.device.specs.Device.{Wrote, StoppedAt};
 ghost use Rattle.ucd.specs.Within.{AreWithin};
 ghost use Rattle.reorder.specs.Runs.{runs_of, AreRuns};
@@ -39,9 +39,8 @@ pub struct VisualLine<'a> {
 }
 
 impl<'a> Model for VisualLine<'a> {
-    ghost use Rattle.std.specs.Prelude.{length};
+    ghost use Rattle.std.specs.Prelude.{◌≤◌, None, length};
     ghost use Rattle.ucd.specs.Within.{AreWithin};
-    ghost use Rattle.std.specs.Prelude.{◌≤◌};
     ghost use Rattle.lines.specs.Visual.{Visual};
     ghost use Rattle.lines.specs.declared.engine.TheConstants.{PARAGRAPH_LIMIT};
 
@@ -53,6 +52,7 @@ impl<'a> Model for VisualLine<'a> {
       tab_width = l.tab_width;
       len = l.len;
       text = l.text.now;
+      advances = None;
       columns = l.columns;
       levels = l.levels.now;
       ltov = l.ltov.now;
@@ -263,7 +263,7 @@ impl<'a> VisualLine<'a> {
 pub(crate) fn columns_at(text: &[char], tab_width: u8, vtol: &[u32], place: usize) -> usize
     requires within { AreWithin (length text.now) vtol.now }
     requires place { place < length vtol.now }
-    ensures value { result ≡ slice_index (widths_of tab_width text.now) (slice_index vtol.now place) }
+    ensures value { result ≡ slice_index (widths_of tab_width None text.now) (slice_index vtol.now place) }
     ensures few { result ≤ 255 }
 {
     width_at(text, tab_width, vtol[place] as usize)

@@ -1,7 +1,7 @@
 //! A fast path for paragraphs without a mandatory break before their end, used if lines end only at mandatory
 //! breaks, no spaces at the end of lines are shown, there are no tab stops, and no characters are printed.
 //! Such a paragraph is one line. Neither its break marks nor its columns are computed.
-ghost use Rattle.std.specs.Prelude.{◌≡◌, ◌<◌, ◌≤◌, Bool, true, false, length, IfOk, IfErr};
+ghost use Rattle.std.specs.Prelude.{◌≡◌, ◌<◌, ◌≤◌, Bool, true, false, length, None, IfOk, IfErr};
 ghost use Rattle.std.specs.List.{list_all};
 ghost use Rattle.breaks.specs.Bases.{resolved};
 ghost use Rattle.lines.specs.Buffers.{CanHold};
@@ -116,11 +116,11 @@ pub(crate) fn write_whole<W: Sink>(
     requires levels { length levels.now ≡ length text.now.characters.now }
     requires visual { CanHold (length text.now.characters.now) visual.old }
     ensures ok { IfOk result (λ n. PassedOn (lines_bytes form.now.width form.now.print.now text.now.base
-        (tab_width_in text.now.rules.tables.now text.now.rules.options)
+        (tab_width_in text.now.rules.tables.now text.now.rules.options) None
         text.now.characters.now (lines_at text.now levels.now form.now.width)) 0
         (W.state writer.old) (W.state writer.new) n) }
     ensures err { IfErr result (λ fault. StoppedIn (lines_bytes form.now.width form.now.print.now
-        text.now.base (tab_width_in text.now.rules.tables.now text.now.rules.options)
+        text.now.base (tab_width_in text.now.rules.tables.now text.now.rules.options) None
         text.now.characters.now (lines_at text.now levels.now form.now.width)) 0
         (W.state writer.old) (W.state writer.new) fault.written) }
     ensures counts { written.new ≡ counted written.old (length text.now.characters.now) }

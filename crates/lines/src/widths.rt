@@ -1,5 +1,5 @@
 //! The columns of characters and of the tabs of a line, and tests for characters that have one column.
-ghost use Rattle.std.specs.Prelude.{◌≡◌, ◌+◌, ◌*◌, ◌%◌, ◌^◌, ◌<◌, ◌≤◌, ℕ, length, slice_index, sum, take};
+ghost use Rattle.std.specs.Prelude.{◌≡◌, ◌+◌, ◌*◌, ◌%◌, ◌^◌, ◌<◌, ◌≤◌, ℕ, None, length, slice_index, sum, take};
 ghost use Rattle.std.specs.List.{list_all};
 ghost use Rattle.lines.specs.CharInfos.{columns_of};
 ghost use Rattle.lines.specs.Clusters.{lies_in};
@@ -30,7 +30,7 @@ pub(crate) fn columns(c: char) -> u8
 /// tab before it.
 pub(crate) fn width_at(text: &[char], tab_width: u8, k: usize) -> usize
     requires { k < length text.now }
-    ensures value { result ≡ slice_index (widths_of tab_width text.now) k }
+    ensures value { result ≡ slice_index (widths_of tab_width None text.now) k }
     ensures few { result ≤ 255 }
 {
     let c = text[k];
@@ -53,7 +53,7 @@ pub(crate) fn is_tab(tab_width: u8, c: char) -> bool
 fn since_stop(text: &[char], k: usize) -> usize
     requires { k ≤ length text.now }
     ensures { (tab_width : ℕ) → 0 < tab_width
-        → result % tab_width ≡ sum (take k (widths_of tab_width text.now)) % tab_width }
+        → result % tab_width ≡ sum (take k (widths_of tab_width None text.now)) % tab_width }
 {
     let mut sum = 0;
     let mut start = k;

@@ -30,7 +30,7 @@ length-text [] = refl
 length-text (l ∷ kept) = length-append l.text (text_of kept) ∙ ap (λ n. length l.text + n) (length-text kept) ∙ sym (sum_by-cons chars_of l kept)
 
 pub length-visuals : (l : Layout) → length (visuals l) ≡ length l.lines
-length-visuals l = length-map (enumerate_from 0 l.lines) (λ nth. visual_of l.base l.tab_width l.text l.lines nth.0 nth.1) ∙ length-enumerate_from 0 l.lines
+length-visuals l = length-map (enumerate_from 0 l.lines) (λ nth. visual_of l.base l.tab_width l.advances l.text l.lines nth.0 nth.1) ∙ length-enumerate_from 0 l.lines
 
 pub length-lines : (kept : List Layout) → length (lines_in kept) ≡ sum_by lines_of kept
 length-lines [] = refl

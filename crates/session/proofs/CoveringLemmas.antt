@@ -29,7 +29,7 @@ module _ (line : Visual) where
       let at : j + (k - j) ≡ k = omega arith in
       let ws : List ℕ = widths line in
       ap (λ i. sum (take i (drop j ws))) n
-      ∙ sum_by_more (λ x. x) (drop j ws) (k - j) 0 (omega (arith, length-drop j ws, length-widths line.tab_width line.text))
+      ∙ sum_by_more (λ x. x) (drop j ws) (k - j) 0 (omega (arith, length-drop j ws, length-widths line))
       ∙ ap (λ w. columns_between line j k + w) (get_or-drop j ws (k - j) 0 ∙ ap (λ i. get_or ws i 0) at)
 
   pub one_between : (k : ℕ) → k < length line.text → columns_between line k (suc k) ≡ width_at k

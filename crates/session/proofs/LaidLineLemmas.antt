@@ -186,7 +186,7 @@ starts_in l = map begins l.lines
 -- the length of a line of a paragraph
 length_of : (l : Layout) (r : ℕ) (line : Visual) → slice_get (visuals l) r ≡ Some line → line.len ≡ end_of (length l.text) (starts_in l) r - get_or (starts_in l) r 0
 length_of l r line is =
-    let found = mapped (visual_of l.base l.tab_width l.text l.lines r) (slice_get l.lines r) line (visual_at l r ∙ is) in
+    let found = mapped (visual_of l.base l.tab_width l.advances l.text l.lines r) (slice_get l.lines r) line (visual_at l r ∙ is) in
     let it : Line = found.0 in
     let start : get_or (starts_in l) r 0 ≡ it.start = get_or_from_slice_get (starts_in l) r it.start 0 (slice_get-map begins l.lines r ∙ ap (option_map begins) found.1) in
     sym (ap (λ (v : Visual). v.len) found.2) ∙ ap (λ n. end_of (length l.text) (starts_in l) r - n) (sym start)
@@ -343,7 +343,8 @@ in_parts P (p ∷ pieces) all =
 
 marks_stay : (rules : Rules) (pieces : List (List ℕ)) → MarksStay rules (concat pieces) → All (MarksStay rules) pieces
 marks_stay rules pieces (inl stay) = λ k d within. inl stay
-marks_stay rules pieces (inr none) = λ k d within. inr (in_parts (λ c. is_mark (class_of rules.tables c) ≡ true → columns_of c ≡ 0) pieces none k d within)
+marks_stay rules pieces (inr none) =
+    λ k d within. inr (none.0, in_parts (λ c. is_mark (class_of rules.tables c) ≡ true → columns_of c ≡ 0) pieces none.1 k d within)
 
 pub steps_lead : ParagraphsArePieces
     → ((rules : Rules) (width : ℕ) (text : List ℕ) → BeginInOrder text (lines_at rules width text))

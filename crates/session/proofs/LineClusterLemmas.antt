@@ -39,7 +39,7 @@ visual_len l k within =
     let starts = map begins l.lines in
     let d : Line = record { start = 0; columns = 0; levels = []; ltov = []; vtol = []; chars = [] } in
     let start : get_or starts k 0 ≡ begins (get_or l.lines k d) = get_or-map begins l.lines k d 0 within in
-    ap (option_map (λ (line : Visual). line.len)) (sym (visual_at l k) ∙ ap (option_map (visual_of l.base l.tab_width l.text l.lines k)) (slice_get-get_or l.lines k d within))
+    ap (option_map (λ (line : Visual). line.len)) (sym (visual_at l k) ∙ ap (option_map (visual_of l.base l.tab_width l.advances l.text l.lines k)) (slice_get-get_or l.lines k d within))
     ∙ ap (λ m. Some (end_of (length l.text) starts k - m)) (sym start)
 
 map_len : (g : ℕ → List ℕ) (line : Option Visual) (m : ℕ) → option_map (λ (line : Visual). line.len) line ≡ Some m

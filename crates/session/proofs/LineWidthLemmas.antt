@@ -68,7 +68,7 @@ columns_fit line ordered add_up =
     let of : ℕ → ℕ = λ k. get_or (widths line) k 0 in
     let text : line.columns ≡ sum (widths line) = sym add_up ∙ runs_add_up line (sym ordered.text) (runs_of line.levels) (are_runs line.levels) in
     let logical : sum (widths line) ≡ sum_below of (length line.text) =
-    whole (λ x. x) (widths line) ∙ ap (sum_below of) (length-widths line.tab_width line.text) in
+    whole (λ x. x) (widths line) ∙ ap (sum_below of) (length-widths line) in
     let size : length line.vtol ≡ length line.text = ordered.vtol ∙ sym ordered.text in
     let each : HasEach line.vtol (length line.text) = λ k below. (
       get_or line.ltov k 0,

@@ -39,7 +39,7 @@ abbrev line_of : ℕ → ℕ → Line
 line_of start columns = record { start = start; columns = columns; levels = []; ltov = []; vtol = []; chars = [] }
 
 abbrev laid : List ℕ → List Line → Layout
-laid text lines = record { text = text; base = 0; tab_width = 0; levels = []; marks = []; ends = []; lines = lines }
+laid text lines = record { text = text; advances = None; base = 0; tab_width = 0; levels = []; marks = []; ends = []; lines = lines }
 
 abbrev three_laid : List Layout
 three_laid =

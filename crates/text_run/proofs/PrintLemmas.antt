@@ -41,8 +41,8 @@ pub nothing_printed : (rules : Rules) (width : ℕ) (print : Print) (text : List
 nothing_printed rules width print text none =
     let off = are_off print.basedir print.novisual print.ltov print.vtol print.levels none in
     let layout = layout_of rules width text in
-    flat_none (λ nth. line_bytes width print (visual_of layout.base layout.tab_width layout.text layout.lines nth.0 nth.1)) (enumerate_from 0 layout.lines)
-    (λ nth. line_none width print (visual_of layout.base layout.tab_width layout.text layout.lines nth.0 nth.1) off)
+    flat_none (λ nth. line_bytes width print (visual_of layout.base layout.tab_width layout.advances layout.text layout.lines nth.0 nth.1)) (enumerate_from 0 layout.lines)
+    (λ nth. line_none width print (visual_of layout.base layout.tab_width layout.advances layout.text layout.lines nth.0 nth.1) off)
 
 or_true : (b : Bool) → (b || true) ≡ true
 or_true true = refl

@@ -1,7 +1,7 @@
 //! Writes the lines of a paragraph one after another without keeping them. Computes only the parts of a line
 //! that are printed.
 ghost use Rattle.std.specs.Prelude.{◌≡◌, ◌*◌, ◌≤◌, ℕ, List, Option, true, false, length, slice_index};
-ghost use Rattle.std.specs.Prelude.{IfOk, IfErr, drop, take};
+ghost use Rattle.std.specs.Prelude.{IfOk, IfErr, None, drop, take};
 ghost use Rattle.ucd.specs.Within.{AreWithin};
 ghost use Rattle.lines.specs.Asked.{asks_places};
 ghost use Rattle.lines.specs.Buffers.{CanHold, SameLengths};
@@ -55,12 +55,12 @@ pub(crate) fn write_each<W: Sink>(
     requires levels { length levels.now ≡ length text.now.characters.now }
     requires visual { CanHold (length text.now.characters.now) visual.old }
     ensures ok { IfOk result (λ n. PassedOn (lines_bytes form.now.width form.now.print.now text.now.base
-        (tab_width_in text.now.rules.tables.now text.now.rules.options)
+        (tab_width_in text.now.rules.tables.now text.now.rules.options) None
         text.now.characters.now (lines_shown text.now.rules.tables.now text.now.rules.options text.now.base
         text.now.characters.now levels.now extents.now.starts extents.now.shown)) 0
         (W.state writer.old) (W.state writer.new) n) }
     ensures err { IfErr result (λ fault. StoppedIn (lines_bytes form.now.width form.now.print.now
-        text.now.base (tab_width_in text.now.rules.tables.now text.now.rules.options)
+        text.now.base (tab_width_in text.now.rules.tables.now text.now.rules.options) None
         text.now.characters.now (lines_shown text.now.rules.tables.now
         text.now.rules.options text.now.base text.now.characters.now levels.now extents.now.starts
         extents.now.shown)) 0 (W.state writer.old) (W.state writer.new) fault.written) }

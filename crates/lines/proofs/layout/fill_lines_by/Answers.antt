@@ -1,4 +1,4 @@
-use Rattle.std.proofs.Common.{◌≡◌, ◌∙◌, List, OnOk, length, ap, subst}
+use Rattle.std.proofs.Common.{◌≡◌, ◌∙◌, List, OnOk, length, ap, subst, None}
 use Rattle.lines.specs.Bare.{with_ends}
 use Rattle.lines.specs.Buffers.{held_lines}
 use Rattle.lines.specs.CharInfos.{infos_of}
@@ -28,7 +28,7 @@ returns-clause-lines c =
     let options = text.rules.options in
     let chars = text.characters.now in
     let margin = margin_of options c.args.width in
-    let infos = infos_of tables options chars in
+    let infos = infos_of tables options None chars in
     let starts = c.find.new.self.starts in
     let shown = c.in_ok-find.ensures.shown ∙ ap (λ is. shown_from margin (length chars) is starts) c.requires.infos in
     let starts_are = c.in_ok-find.ensures.starts ∙ ap (line_starts_of options.nobreak c.args.width) c.requires.infos in

@@ -1,4 +1,4 @@
-use Rattle.std.proofs.Common.{◌≡◌, ◌∙◌, List, OnOk, length, ap, subst, sym}
+use Rattle.std.proofs.Common.{◌≡◌, ◌∙◌, List, OnOk, length, ap, subst, sym, None}
 use Rattle.lines.specs.Buffers.{held_lines}
 use Rattle.lines.specs.CharInfos.{infos_of}
 use Rattle.lines.specs.Extents.{LineExtents, shown_from}
@@ -14,7 +14,7 @@ show_lines-requires-clause-shown c =
     let text = c.args.paragraph.now.text in
     let options = text.rules.options in
     let margin = margin_of options c.args._width in
-    let infos = infos_of text.rules.tables.now options text.characters.now in
+    let infos = infos_of text.rules.tables.now options None text.characters.now in
     let put = c.in_ok-put_line.ensures in (
       margin,
       infos,
@@ -30,7 +30,7 @@ returns-clause-lines c =
     let options = text.rules.options in
     let chars = text.characters.now in
     let margin = margin_of options c.args._width in
-    let infos = infos_of tables options chars in
+    let infos = infos_of tables options None chars in
     let starts = c.put_line.new.self.starts in
     let put = c.in_ok-put_line.ensures in
     let starts_are = ap (λ (e : LineExtents). e.starts) put in

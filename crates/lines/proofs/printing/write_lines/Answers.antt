@@ -1,4 +1,4 @@
-use Rattle.std.proofs.Common.{◌≡◌, ◌-◌, ◌∙◌, ℕ, List, ap, subst, arith}
+use Rattle.std.proofs.Common.{◌≡◌, ◌-◌, ◌∙◌, ℕ, List, ap, subst, arith, None}
 use Rattle.device.specs.Device.{StoppedAt, Wrote}
 use Rattle.lines.specs.CharInfos.{infos_of}
 use Rattle.lines.specs.Pages.{lines_bytes, paragraph_bytes}
@@ -19,8 +19,8 @@ returns-in-Ok-clause-ok g c =
     let form = c.args.form.now in
     let lines = lines_shown rules.tables rules.options text.base chars levels in
     let found = ap (lines starts) c.requires.spans.shown
-    ∙ shown_lines rules.tables rules.options text.base chars levels (margin_of rules.options form.width) (infos_of rules.tables rules.options chars) starts in
-    let same = ap (lines_bytes form.width form.print.now text.base (tab_width_in rules.tables rules.options) chars) found
+    ∙ shown_lines rules.tables rules.options text.base chars levels (margin_of rules.options form.width) (infos_of rules.tables rules.options None chars) starts in
+    let same = ap (lines_bytes form.width form.print.now text.base (tab_width_in rules.tables rules.options) None chars) found
     ∙ page_is rules form.width form.print.now chars text.base levels starts c.requires.text.base c.requires.text.levels_are c.requires.spans.starts in
     subst (λ (bytes : List ℕ). Wrote bytes (g.W.Sink.state c.args.writer.now) (g.W.Sink.state c.write_each.new.writer)) same
     c.in-Ok.ensures.ok.wrote
@@ -35,8 +35,8 @@ returns-in-Err-clause-err g c =
     let form = c.args.form.now in
     let lines = lines_shown rules.tables rules.options text.base chars levels in
     let found = ap (lines starts) c.requires.spans.shown
-    ∙ shown_lines rules.tables rules.options text.base chars levels (margin_of rules.options form.width) (infos_of rules.tables rules.options chars) starts in
-    let same = ap (lines_bytes form.width form.print.now text.base (tab_width_in rules.tables rules.options) chars) found
+    ∙ shown_lines rules.tables rules.options text.base chars levels (margin_of rules.options form.width) (infos_of rules.tables rules.options None chars) starts in
+    let same = ap (lines_bytes form.width form.print.now text.base (tab_width_in rules.tables rules.options) None chars) found
     ∙ page_is rules form.width form.print.now chars text.base levels starts c.requires.text.base c.requires.text.levels_are c.requires.spans.starts in
     let all : c.in-Err.fault.written - 0 ≡ c.in-Err.fault.written = omega arith in
     subst (λ (n : ℕ). StoppedAt n (paragraph_bytes rules form.width form.print.now chars) (g.W.Sink.state c.args.writer.now) (g.W.Sink.state c.write_each.new.writer)) all

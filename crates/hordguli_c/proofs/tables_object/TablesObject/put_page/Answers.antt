@@ -18,8 +18,8 @@ returns-clause-page c =
     let tables = c.args.self.now in
     let rules = rules_of c.set_options.new.self in
     let tables_are : (rules_of c.self.inside.engine).tables ≡ tables = cc (c.self.invariant, c.self.view_is) in
-    let rules_are : rules ≡ record { tables = tables; options = form.options } =
-    c.set_options.ensures.rules ∙ ap (λ (t : Tables). record { tables = t; options = form.options }) tables_are in
+    let rules_are : rules ≡ record { tables = tables; options = form.options; advances = None } =
+    c.set_options.ensures.rules ∙ ap (λ (t : Tables). record { tables = t; options = form.options; advances = None }) tables_are in
     let allowed : opening_refusal (cut_by rules) text form.width ≡ None = cc (c.opening_refusal.ensures, c.in_default.is) in
     let old : List ℕ × ℕ = (c.args.array.now, c.args.len.now) in
     let merged : List ℕ × ℕ = (c.match-pushed.array, c.match-pushed.len) in

@@ -1,4 +1,4 @@
-use Rattle.std.proofs.Common.{ap}
+use Rattle.std.proofs.Common.{ap, None, sym}
 use Rattle.lines.specs.Layouts.{Filled}
 use Rattle.lines.specs.Engine.{rules_of}
 use Rattle.lines.proofs.LayoutLemmas.{laid_out_by, same_layout}
@@ -7,8 +7,8 @@ use Rattle.lines.proofs.engine.Engine.lay_out.Goals as goal
 pub returns-in-Ok-clause-ok : goal.returns-in-Ok-clause-ok
 returns-in-Ok-clause-ok c =
     let parts = c.in-Ok.ensures in
-    same_layout (rules_of c.args.self.now) c.args.width c.args.text.items c.deref.result.now c.in-Ok.parts.base c.in-Ok.parts.tab_width c.in-Ok.parts.levels.items c.in-Ok.parts.marks.items c.in-Ok.parts.ends.items c.in-Ok.parts.lines.lines
-    c.deref.ensures.value parts.base parts.tab_width parts.levels parts.marks parts.ends (ap (λ (f : Filled). f.lines) parts.lines)
+    same_layout (rules_of c.args.self.now) c.args.width c.args.text.items c.deref.result.now None c.in-Ok.parts.base c.in-Ok.parts.tab_width c.in-Ok.parts.levels.items c.in-Ok.parts.marks.items c.in-Ok.parts.ends.items c.in-Ok.parts.lines.lines
+    c.deref.ensures.value (sym c.parts.ensures.unmeasured) parts.base parts.tab_width parts.levels parts.marks parts.ends (ap (λ (f : Filled). f.lines) parts.lines)
 
 pub returns-in-Ok-clause-laid_out : goal.returns-in-Ok-clause-laid_out
 returns-in-Ok-clause-laid_out c =

@@ -1,4 +1,4 @@
-use Rattle.std.proofs.Common.{◌≡◌, ◌∙◌, ap, subst}
+use Rattle.std.proofs.Common.{◌≡◌, ◌∙◌, ap, subst, sym}
 use Rattle.lines.specs.Engine.{rules_of}
 use Rattle.lines.specs.Layouts.{Rules, layout_of}
 use Rattle.lines.specs.Buffers.{held_lines}
@@ -21,3 +21,6 @@ pub returns-clause-lines : goal.returns-clause-lines
 returns-clause-lines c =
     let lines = subst (λ (rules : Rules). held_lines c.lay_out.new.kept.lines ≡ (layout_of rules c.args.width c.args.text.now).lines) (ap rules_of c.self.view_is) c.in_ok-base.ensures.lines in
     c.of.ensures ∙ filled_as _ _ _ _ lines c.in_ok-base.ensures.lines_len
+
+pub returns-clause-unmeasured : goal.returns-clause-unmeasured
+returns-clause-unmeasured c = sym (ap (λ (rules : Rules). rules.advances) (ap rules_of c.self.view_is))

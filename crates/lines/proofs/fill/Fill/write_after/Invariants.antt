@@ -1,4 +1,4 @@
-use Rattle.std.proofs.Common.{◌≤◌, take}
+use Rattle.std.proofs.Common.{◌≤◌, take, None}
 use Rattle.std.specs.List.{concat}
 use Rattle.lines.proofs.PageLemmas.{pieces}
 use Rattle.lines.specs.Writing.{PassedOn}
@@ -8,6 +8,6 @@ abbrev pub invariant-loop-n : goal.invariant-loop-n
 invariant-loop-n g l =
     let state = g.W.Sink.state in
     record {
-      passed : PassedOn (concat (take l.n (pieces l.width l.print l.of.base l.of.tab_width l.of.text.now l.self.lines))) l.before (state l.fn.writer) (state l.writer) l.written;
+      passed : PassedOn (concat (take l.n (pieces l.width l.print l.of.base l.of.tab_width None l.of.text.now l.self.lines))) l.before (state l.fn.writer) (state l.writer) l.written;
       counted : l.written ≤ (state l.writer).passed;
     }

@@ -1,4 +1,4 @@
-use Rattle.std.proofs.Common.{◌≡◌, ◌∙◌, ◌<◌, ◌&&◌, nat_le, Option, Some, false, length, slice_get, ap, sym, arith}
+use Rattle.std.proofs.Common.{◌≡◌, ◌∙◌, ◌<◌, ◌&&◌, nat_le, Option, Some, false, length, slice_get, ap, sym, arith, None}
 use Rattle.std.specs.Option.{option_map_or}
 use Rattle.std.proofs.lemmas.List.{get_or_default}
 use Rattle.std.proofs.lemmas.Option.{slice_get-get_or}
@@ -21,10 +21,10 @@ returns c =
     let d = c.index-c.result.now in
     let within : at < length text = omega (arith, c.if-shown-len.false, c.len.ensures) in
     let found : slice_get text at ≡ Some d = slice_get-get_or text at d within ∙ ap Some (get_or_default text at d d within ∙ sym c.index-c.ensures) in
-    let same : c.is_space_within.result ≡ hides_space_within t l.tab_width c.args.width text line =
+    let same : c.is_space_within.result ≡ hides_space_within t l.tab_width None c.args.width text line =
     hidden_is t l.tab_width c.args.width d text line Never c.is_space_within.result found
     (c.is_space_within.ensures
     ∙ ap (λ (i : CharInfo). is_space i.trailing && nat_le (advance line.columns i) c.args.width) (c.of-info.ensures t c.properties.ensures)) in
     same
-    ∙ ap (λ (o : Option Line). option_map_or (hides_space_within t l.tab_width c.args.width text) o false) c.in-Some.ensures.line
-    ∙ ap (λ (m : Layout). option_map_or (hides_space_within t m.tab_width c.args.width m.text) (slice_get m.lines 0) false) c.self.view_is
+    ∙ ap (λ (o : Option Line). option_map_or (hides_space_within t l.tab_width None c.args.width text) o false) c.in-Some.ensures.line
+    ∙ ap (λ (m : Layout). option_map_or (hides_space_within t m.tab_width m.advances c.args.width m.text) (slice_get m.lines 0) false) c.self.view_is

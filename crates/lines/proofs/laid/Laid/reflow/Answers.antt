@@ -1,4 +1,4 @@
-use Rattle.std.proofs.Common.{◌≡◌, ℕ, List, length, ap, ap₂, subst, sym, ◌∙◌}
+use Rattle.std.proofs.Common.{◌≡◌, ℕ, List, length, ap, ap₂, subst, sym, ◌∙◌, None}
 use Rattle.lines.specs.Extents.{extents_of, shown_from, LineExtents}
 use Rattle.lines.specs.Kept.{AreStarts}
 use Rattle.lines.specs.Layouts.{Layout, Rules}
@@ -9,7 +9,7 @@ use Rattle.lines.proofs.laid.Laid.reflow.Goals as goal
 
 pub reflow-requires-clause-starts : goal.reflow-requires-clause-starts
 reflow-requires-clause-starts c =
-    let rules : Rules = record { tables = c.args.tables.now; options = c.args.options } in
+    let rules : Rules = record { tables = c.args.tables.now; options = c.args.options; advances = None } in
     let text = c.args.self.now.text in
     let len : length text ≡ length c.as_slice-text.result.now = sym (ap length (c.as_slice-text.ensures.value ∙ ap (λ (l : Layout). l.text) c.self.view_is)) in
     subst (λ (s : LineExtents). AreStarts (length c.as_slice-text.result.now) s.starts) (sym c.requires.extents.1)
@@ -19,7 +19,7 @@ pub reflow-requires-clause-shown : goal.reflow-requires-clause-shown
 reflow-requires-clause-shown c =
     let text = c.args.self.now.text in
     let margin = margin_of c.args.options c.requires.extents.0 in
-    let infos = infos_of c.args.tables.now c.args.options text in
+    let infos = infos_of c.args.tables.now c.args.options None text in
     let len : length text ≡ length c.as_slice-text.result.now = sym (ap length (c.as_slice-text.ensures.value ∙ ap (λ (l : Layout). l.text) c.self.view_is)) in (
       margin,
       infos,

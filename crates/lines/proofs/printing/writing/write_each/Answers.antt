@@ -1,4 +1,4 @@
-use Rattle.std.proofs.Common.{◌≡◌, ◌==◌, ◌-◌, ◌<◌, ◌∙◌, ℕ, Bool, List, take, drop, get_or, length, slice_range, ap, subst, sym, arith}
+use Rattle.std.proofs.Common.{◌≡◌, ◌==◌, ◌-◌, ◌<◌, ◌∙◌, ℕ, Bool, List, take, drop, get_or, length, slice_range, ap, subst, sym, arith, None}
 use Rattle.std.proofs.lemmas.List.{drop-map, take-map}
 use Rattle.ucd.specs.Properties.{properties_of}
 use Rattle.lines.specs.Asked.{visual_shown}
@@ -71,8 +71,8 @@ loop-k-preserved g c =
     let inside : c.loop-k.k < length lines = omega (arith, length-lines_shown text.rules.tables.now text.rules.options text.base text.characters.now c.args.levels.now starts shown same, c.loop-k-test.true) in
     record {
       within = omega (arith, c.loop-k-test.true);
-      passed = pieces-more (pieces form.width form.print.now text.base (tab_width_in text.rules.tables.now text.rules.options) text.characters.now lines) c.loop-k.k
-          (piece_within form.width form.print.now text.base (tab_width_in text.rules.tables.now text.rules.options) text.characters.now lines c.loop-k.k inside) next c.loop-k.invariant.passed c.in_ok-written.ensures.ok;
+      passed = pieces-more (pieces form.width form.print.now text.base (tab_width_in text.rules.tables.now text.rules.options) None text.characters.now lines) c.loop-k.k
+          (piece_within form.width form.print.now text.base (tab_width_in text.rules.tables.now text.rules.options) None text.characters.now lines c.loop-k.k inside) next c.loop-k.invariant.passed c.in_ok-written.ensures.ok;
       visual = record {
         levels = omega (arith, c.loop-k.invariant.visual.levels, c.write_line.ensures.visual.levels);
         maps = omega (arith, c.loop-k.invariant.visual.maps, c.write_line.ensures.visual.maps);
@@ -98,10 +98,10 @@ returns-in_err-written-clause-err g c =
     ∙ piece_is text.rules.tables.now text.rules.options text.base text.characters.now c.args.levels.now form.width form.print.now starts shown c.loop-k.k
     c.end_of-end.result _ same c.loop-k-test.true c.end_of-end.ensures.end c.shown.ensures within ends.1 c.requires.levels in
     let inside : c.loop-k.k < length lines = omega (arith, length-lines_shown text.rules.tables.now text.rules.options text.base text.characters.now c.args.levels.now starts shown same, c.loop-k-test.true) in
-    let stopped = pieces-stopped (pieces form.width form.print.now text.base (tab_width_in text.rules.tables.now text.rules.options) text.characters.now lines) c.loop-k.k
-    (piece_within form.width form.print.now text.base (tab_width_in text.rules.tables.now text.rules.options) text.characters.now lines c.loop-k.k inside) next c.loop-k.invariant.passed c.in_err-written.ensures.err in
+    let stopped = pieces-stopped (pieces form.width form.print.now text.base (tab_width_in text.rules.tables.now text.rules.options) None text.characters.now lines) c.loop-k.k
+    (piece_within form.width form.print.now text.base (tab_width_in text.rules.tables.now text.rules.options) None text.characters.now lines c.loop-k.k inside) next c.loop-k.invariant.passed c.in_err-written.ensures.err in
     same_fault _ _ (λ w. StoppedIn _ _ _ _ w) c.from_residual.ensures.1
-    (rw (sym c.starts-starts.ensures, sym (pieces_whole form.width form.print.now text.base (tab_width_in text.rules.tables.now text.rules.options) text.characters.now lines)) stopped)
+    (rw (sym c.starts-starts.ensures, sym (pieces_whole form.width form.print.now text.base (tab_width_in text.rules.tables.now text.rules.options) None text.characters.now lines)) stopped)
 
 -- after the loop, all lines are written
 pub returns-clause-ok : goal.returns-clause-ok
@@ -113,5 +113,5 @@ returns-clause-ok g c =
     let form = c.args.form.now in
     let same = ap length c.requires.shown.2 ∙ length-shown_from c.requires.shown.0 (length text.characters.now) c.requires.shown.1 c.args.extents.now.starts ∙ ap length (sym c.starts-starts.ensures) in
     let count = length-lines_shown text.rules.tables.now text.rules.options text.base text.characters.now c.args.levels.now starts shown same in
-    let all = pieces_all form.width form.print.now text.base (tab_width_in text.rules.tables.now text.rules.options) text.characters.now lines c.loop-k.k (omega (arith, count, c.loop-k-test.false)) in
+    let all = pieces_all form.width form.print.now text.base (tab_width_in text.rules.tables.now text.rules.options) None text.characters.now lines c.loop-k.k (omega (arith, count, c.loop-k-test.false)) in
     rw (sym c.starts-starts.ensures, sym all) c.loop-k.invariant.passed

@@ -1,4 +1,4 @@
-use Rattle.std.proofs.Common.{◌≤◌, ◌-◌, length, take}
+use Rattle.std.proofs.Common.{◌≤◌, ◌-◌, length, take, None}
 use Rattle.std.specs.List.{concat}
 use Rattle.lines.specs.Buffers.{CanHold}
 use Rattle.lines.specs.Showing.{lines_shown}
@@ -13,7 +13,7 @@ invariant-loop-k g l =
     let text = l.text.characters.now in
     record {
       within : l.k ≤ length l.starts;
-      passed : PassedOn (concat (take l.k (pieces l.form.width l.form.print.now l.text.base (tab_width_in l.text.rules.tables.now l.text.rules.options) text
+      passed : PassedOn (concat (take l.k (pieces l.form.width l.form.print.now l.text.base (tab_width_in l.text.rules.tables.now l.text.rules.options) None text
           (lines_shown l.text.rules.tables.now l.text.rules.options l.text.base text l.levels l.starts l.extents.shown)))) 0
           (state l.fn.writer) (state l.writer) l.written;
       visual : CanHold (length text) l.visual;

@@ -11,7 +11,7 @@ loop-k-preserved c =
     let k = c.loop-k.k in
     let value = c.width_at-columns.ensures.value ∙ ap (λ (v : Visual). width_at v k) c.self.view_is in
     let text = ap (λ (v : Visual). length v.text) c.self.view_is in
-    let within : k < length (widths line) = omega (arith, c.loop-k-test.true, c.min-past.ensures, text, length-widths line.tab_width line.text) in
+    let within : k < length (widths line) = omega (arith, c.loop-k-test.true, c.min-past.ensures, text, length-widths line) in
     let next : suc k ≡ k + 1 = omega arith in
     record {
       sum = omega (arith, c.loop-k.invariant.sum, value, between_more (widths line) c.min-first.result k c.loop-k.auto.k within, ap (columns_between line c.min-first.result) next);
@@ -22,7 +22,7 @@ pub returns-clause-value : goal.returns-clause-value
 returns-clause-value c =
     let line = c.args.self.now in
     let text = ap (λ (v : Visual). length v.text) c.self.view_is in
-    let size = length-widths line.tab_width line.text in
+    let size = length-widths line in
     let last : c.loop-k.k ≡ c.min-past.result = omega (arith, c.loop-k-test.false, c.loop-k.auto.k-end, c.min-first.ensures) in
     c.loop-k.invariant.sum ∙ ap (columns_between line c.min-first.result) last
     ∙ ap sum (range_clipped (widths line) c.args.start c.args.end c.min-first.result c.min-past.result c.min-first.ensures (omega (arith, c.min-past.ensures, text, size)))
