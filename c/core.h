@@ -96,6 +96,7 @@ uint32_t hordguli_core_edge_caret(hordguli_session *session, size_t pos, uint32_
 uint32_t hordguli_core_step(hordguli_session *session, size_t pos, uint32_t side, uint32_t direction,
                             hordguli_edge *next, uint32_t *moved);
 uint32_t hordguli_core_edge_at(hordguli_session *session, size_t n, size_t column, hordguli_edge *edge);
+uint32_t hordguli_core_nearest_edge(hordguli_session *session, size_t n, size_t column, hordguli_edge *edge);
 uint32_t hordguli_core_line_edges(hordguli_session *session, size_t n, hordguli_edge *first, hordguli_edge *last);
 uint32_t hordguli_core_line_clusters(hordguli_session *session, size_t n, size_t *array, size_t array_length,
                                      size_t *count);

@@ -380,6 +380,12 @@ PUBLIC hordguli_status hordguli_edge_at(hordguli_session *session, size_t line, 
     return (hordguli_status)hordguli_core_edge_at(session, line, column, edge);
 }
 
+PUBLIC hordguli_status hordguli_nearest_edge(hordguli_session *session, size_t line, size_t column, hordguli_edge *edge) {
+    if (session == NULL || edge == NULL) return HORDGULI_NULL;
+    if (OVERLAP(AT(session), AT(edge))) return HORDGULI_OVERLAP;
+    return (hordguli_status)hordguli_core_nearest_edge(session, line, column, edge);
+}
+
 PUBLIC hordguli_status hordguli_line_edges(hordguli_session *session, size_t line, hordguli_edge *first,
                                            hordguli_edge *last) {
     if (session == NULL || first == NULL || last == NULL) return HORDGULI_NULL;

@@ -762,6 +762,15 @@ hordguli_status hordguli_step(hordguli_session *session, hordguli_edge edge, uin
  * Cost: as `hordguli_edge_caret`. */
 hordguli_status hordguli_edge_at(hordguli_session *session, size_t line, size_t column, hordguli_edge *edge);
 
+/* Stores in `*edge` the nearest edge to a column of a line, for mouse clicks that may hit either half of a character. In
+ * the shown part, this is the nearer end of the caret unit that covers the column, and from the unit's middle the right
+ * one. Elsewhere, and in a unit of one column, it is the edge that `hordguli_edge_at` stores.
+ *
+ * Fails with OUT_OF_RANGE for the same lines as `hordguli_edge_at`.
+ * Errors: NULL, OVERLAP, CLOSED, OUT_OF_RANGE, NO_MEMORY.
+ * Cost: as `hordguli_edge_caret`. */
+hordguli_status hordguli_nearest_edge(hordguli_session *session, size_t line, size_t column, hordguli_edge *edge);
+
 /* Stores the first and the last edge of a line in logical order, for the keys Home and End. The first edge is before the
  * start of the line. The last one is
  *   - before the separator that ends the line, if there is one (bidi class B, or line class BK, CR, LF or NL). CR LF is

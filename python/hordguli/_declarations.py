@@ -133,6 +133,7 @@ FUNCTIONS: dict[str, tuple[Any, dict[str, Any]]] = {
     "hordguli_step": (STATUS, {"session": POINTER, "edge": RawEdge, "direction": NUMBER, "next": POINTER,
                                "moved": POINTER}),
     "hordguli_edge_at": (STATUS, {"session": POINTER, "line": SIZE, "column": SIZE, "edge": POINTER}),
+    "hordguli_nearest_edge": (STATUS, {"session": POINTER, "line": SIZE, "column": SIZE, "edge": POINTER}),
     "hordguli_line_edges": (STATUS, {"session": POINTER, "line": SIZE, "first": POINTER, "last": POINTER}),
     "hordguli_line_clusters": (STATUS, {"session": POINTER, "line": SIZE, "capacity": SIZE, "ends": POINTER,
                                         "count": POINTER}),

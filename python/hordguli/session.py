@@ -343,6 +343,17 @@ class Session:
         make_call(self._call, library.hordguli_edge_at, size(line), size(column), byref(found))
         return _edge(found)
 
+    def nearest_edge(self, line: SupportsIndex, column: SupportsIndex) -> Edge:
+        """Returns the nearest edge to a column of a line, for mouse clicks that may hit either half of a character.
+
+        >>> with hordguli.Session("漢字") as text:
+        ...     text.edge_at(0, 1), text.nearest_edge(0, 1)
+        (Edge(pos=0, side=<Side.BEFORE: 0>), Edge(pos=1, side=<Side.AFTER: 1>))
+        """
+        found = RawEdge()
+        make_call(self._call, library.hordguli_nearest_edge, size(line), size(column), byref(found))
+        return _edge(found)
+
     def line_edges(self, line: SupportsIndex) -> tuple[Edge, Edge]:
         """Returns the first and the last edge of a line in logical order, for the keys Home and End."""
         first, last = RawEdge(), RawEdge()

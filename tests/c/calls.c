@@ -602,6 +602,11 @@ static void edge_statuses(void) {
     IS(hordguli_edge_at(&no_session, 3, 0, &found), CLOSED);
     IS(hordguli_edge_at(&session, 3, 0, &found), OUT_OF_RANGE);
     IS(hordguli_edge_at(&session, SIZE_MAX, SIZE_MAX, &found), OUT_OF_RANGE);
+    IS(hordguli_nearest_edge(NULL, 0, 0, &found), NULL);
+    IS(hordguli_nearest_edge(&session, 0, 0, NULL), NULL);
+    IS(hordguli_nearest_edge(&session, 3, 0, (hordguli_edge *)&session), OVERLAP);
+    IS(hordguli_nearest_edge(&no_session, 3, 0, &found), CLOSED);
+    IS(hordguli_nearest_edge(&session, 3, 0, &found), OUT_OF_RANGE);
     IS(hordguli_line_edges(NULL, 0, &found, &other), NULL);
     IS(hordguli_line_edges(&session, 0, NULL, &other), NULL);
     IS(hordguli_line_edges(&session, 0, &found, NULL), NULL);
@@ -688,6 +693,12 @@ static void at_is(int at, size_t line, size_t column, size_t pos, uint32_t side)
     is_edge(at, &found, pos, side);
 }
 
+static void nearest_is(int at, size_t line, size_t column, size_t pos, uint32_t side) {
+    hordguli_edge found = {7, 7, 7};
+    holds(hordguli_nearest_edge(&shown, line, column, &found) == HORDGULI_OK, __FILE__, at, "a column has a nearest edge");
+    is_edge(at, &found, pos, side);
+}
+
 static void ends_are(int at, size_t line, size_t first, size_t last, uint32_t side) {
     hordguli_edge found[2] = {{7, 7, 7}, {7, 7, 7}};
     holds(hordguli_line_edges(&shown, line, &found[0], &found[1]) == HORDGULI_OK, __FILE__, at, "a line has two edges");
@@ -704,6 +715,7 @@ static void clusters_are(int at, size_t line, size_t count, const size_t *wanted
 #define CARET(...) caret_is(__LINE__, __VA_ARGS__)
 #define STEPS(direction, ...) steps_are(__LINE__, direction, (const stop[]){__VA_ARGS__, {0, 0, 0}})
 #define EDGE_AT(...) at_is(__LINE__, __VA_ARGS__)
+#define NEAREST(...) nearest_is(__LINE__, __VA_ARGS__)
 #define ENDS(...) ends_are(__LINE__, __VA_ARGS__)
 #define CLUSTERS(line, ...)                                                                                            \
     clusters_are(__LINE__, line, sizeof((const size_t[]){__VA_ARGS__}) / sizeof(size_t), (const size_t[]){__VA_ARGS__})
@@ -747,6 +759,41 @@ static void edges_where_the_direction_changes(void) {
     EDGE_AT(0, 0, 8, AFTER);
     EDGE_AT(0, SIZE_MAX, 0, BEFORE);
     ENDS(0, 0, 8, BEFORE);
+}
+
+/* The nearer end of a unit; from its middle, the right one */
+static void nearest_edges(void) {
+    hordguli_edge found;
+    show("a\u6f22\u5b57\u05d0", 0, 80);
+    NEAREST(0, 0, 0, BEFORE);
+    NEAREST(0, 1, 1, BEFORE);
+    NEAREST(0, 2, 2, AFTER);
+    NEAREST(0, 3, 2, BEFORE);
+    NEAREST(0, 4, 3, AFTER);
+    NEAREST(0, 5, 4, AFTER);
+    NEAREST(0, 6, 3, BEFORE);
+    NEAREST(0, SIZE_MAX, 3, BEFORE);
+    /* a tab of three columns, in each direction */
+    show("a\tb", HORDGULI_TAB_WIDTH(4), 80);
+    NEAREST(0, 1, 1, BEFORE);
+    NEAREST(0, 2, 1, BEFORE);
+    NEAREST(0, 3, 2, AFTER);
+    NEAREST(0, 4, 2, BEFORE);
+    show("\u05d0\t\u05d1", HORDGULI_TAB_WIDTH(4), 80);
+    NEAREST(0, 0, 3, AFTER);
+    NEAREST(0, 1, 2, AFTER);
+    NEAREST(0, 2, 2, AFTER);
+    NEAREST(0, 3, 1, BEFORE);
+    NEAREST(0, 4, 1, AFTER);
+    /* one of four columns, whose middle is a column */
+    show("\tb", HORDGULI_TAB_WIDTH(4), 80);
+    NEAREST(0, 1, 0, BEFORE);
+    NEAREST(0, 2, 1, AFTER);
+    /* lines of width 0, and the line after a final separator */
+    show("\n", 0, 80);
+    NEAREST(0, 5, 0, BEFORE);
+    NEAREST(1, 5, 1, BEFORE);
+    IS(hordguli_nearest_edge(&shown, 2, 0, &found), OUT_OF_RANGE);
 }
 
 static void edges_of_clusters(void) {
@@ -1651,6 +1698,7 @@ int main(int count, char **words) {
     places();
     edge_statuses();
     edges_where_the_direction_changes();
+    nearest_edges();
     edges_of_clusters();
     edges_of_lines();
     tab_stops();

@@ -308,6 +308,14 @@ static int reference_edge_at(size_t line, size_t column, hordguli_edge *edge) {
     return *edge = before(lines[line].start), 1;
 }
 
+/* The nearer end of the unit that covers the column; elsewhere as `reference_edge_at` */
+static int reference_nearest_edge(size_t line, size_t column, hordguli_edge *edge) {
+    const unit *u = line < line_count ? covering(line, column) : NULL;
+    if (u == NULL) return reference_edge_at(line, column, edge);
+    *edge = 2 * column < u->left + u->right ? left_edge(u) : right_edge(u);
+    return 1;
+}
+
 static int reference_line_edges(size_t line, hordguli_edge *first, hordguli_edge *last) {
     size_t start, end, shown;
     if (line == line_count && starts_next_line()) return *first = *last = before(length), 1;
@@ -444,6 +452,9 @@ static void lines_are_right(hordguli_session *session) {
             if (!HOLDS(status == (is_there ? HORDGULI_OK : HORDGULI_OUT_OF_RANGE)) || !is_there) continue;
             HOLDS(is_edge(found[0], wanted[0]));
             is_inside_line(found[0]);
+            HOLDS(reference_nearest_edge(line, column, &wanted[1]));
+            OK(hordguli_nearest_edge(session, line, column, &found[1]));
+            HOLDS(is_edge(found[1], wanted[1]));
         }
         if (!reference_line_edges(line, &wanted[0], &wanted[1])) {
             HOLDS(hordguli_line_edges(session, line, &found[0], &found[1]) == HORDGULI_OUT_OF_RANGE);

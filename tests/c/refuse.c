@@ -84,8 +84,8 @@ static uint32_t found_characters[100];
 static hordguli_line_info found_info;
 
 enum {
-    BUILTIN, OPEN_17, OPEN_TABLES, OPEN, INSERT, REPLACE, WIDTH, CLUSTER, WORD, CARET, STEP, EDGE, CLUSTERS, DELETE, BASE, LEVELS, MARKS, ROW,
-    ROW_RUNS, LAYOUT, LINES, TEXT, PAGE, STEPS
+    BUILTIN, OPEN_17, OPEN_TABLES, OPEN, INSERT, REPLACE, WIDTH, CLUSTER, WORD, CARET, STEP, EDGE, NEAREST, CLUSTERS, DELETE, BASE, LEVELS,
+    MARKS, ROW, ROW_RUNS, LAYOUT, LINES, TEXT, PAGE, STEPS
 };
 
 static const char start[] = "ab \u05d0\u05d1 12\nx\n";
@@ -123,6 +123,7 @@ static hordguli_status step(int k) {
         case CARET: return hordguli_edge_caret(&session, edge, &found_caret);
         case STEP: return hordguli_step(&session, edge, HORDGULI_LEFT, &found_edge, &found_moved);
         case EDGE: return hordguli_edge_at(&session, 1, 1, &found_edge);
+        case NEAREST: return hordguli_nearest_edge(&session, 1, 1, &found_edge);
         case CLUSTERS: return hordguli_line_clusters(&session, 1, 100, found_ends, &found_length);
         case DELETE: return hordguli_delete(&session, 2, 4, &damage);
         case BASE: return hordguli_base(&tables, 0, characters, 9, &found_base);

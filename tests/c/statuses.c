@@ -387,6 +387,8 @@ static void edges_have_each_value_in_their_field(void) {
     HOLDS(moved == 1), is_edge(&first, 28, 1);
     OK(hordguli_edge_at(&session, 3, 4, &edge));
     is_edge(&edge, 25, 1);
+    OK(hordguli_nearest_edge(&session, 3, 4, &edge));
+    is_edge(&edge, 25, 1);
     OK(hordguli_line_edges(&session, 3, &first, &last));
     is_edge(&first, 21, 0), is_edge(&last, 29, 0);
     OK(hordguli_line_edges(&session, 0, &first, &last));
@@ -1086,6 +1088,7 @@ MAKE(runs, a->session, a->at, a->capacity, a->arrays[0], a->out)
 MAKE(edge_caret, a->session, (hordguli_edge){a->at, a->flags, 7}, a->out)
 MAKE(step, a->session, (hordguli_edge){a->at, a->flags, 7}, a->direction, a->out, a->arrays[0])
 MAKE(edge_at, a->session, a->at, a->column, a->out)
+MAKE(nearest_edge, a->session, a->at, a->column, a->out)
 MAKE(line_edges, a->session, a->at, a->out, a->arrays[0])
 MAKE(line_clusters, a->session, a->at, a->capacity, a->arrays[0], a->out)
 MAKE(line, a->session, a->at, a->out, a->capacity, a->arrays[0], a->arrays[1], a->arrays[2], a->arrays[3], a->arrays[4])
@@ -1185,6 +1188,8 @@ static const call calls[] = {
     CALL(step, ON_EDGE, .ways = {of_session, of_second_out, of_step}, .out_size = sizeof(hordguli_edge), .at = 17,
          .end = 19, .flags = 1),
     CALL(edge_at, READING ", NO_MEMORY", .never = NOT_BOTH, .ways = {of_session, of_at},
+         .out_size = sizeof(hordguli_edge), .at = 2, .end = 3),
+    CALL(nearest_edge, READING ", NO_MEMORY", .never = NOT_BOTH, .ways = {of_session, of_at},
          .out_size = sizeof(hordguli_edge), .at = 2, .end = 3),
     CALL(line_edges, READING, .ways = {of_session, of_second_out, of_at}, .out_size = sizeof(hordguli_edge), .at = 2,
          .end = 3),

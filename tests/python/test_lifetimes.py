@@ -226,6 +226,7 @@ EDITS = {
     "edge_caret": lambda text: text.edge_caret(hordguli.Edge(1)),
     "step": lambda text: text.step(hordguli.Edge(1), hordguli.Direction.LEFT),
     "edge_at": lambda text: text.edge_at(0, 0),
+    "nearest_edge": lambda text: text.nearest_edge(0, 0),
 }
 FUNCTIONS = {
     "Session": lambda: hordguli.Session(f"ab {HEBREW}", 9).text(),

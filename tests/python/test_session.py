@@ -139,6 +139,12 @@ def test_edges_of_a_position():
         assert (first, last) == (Edge(0), Edge(11)) and isinstance(text.edge_at(0, 0).side, Side)
 
 
+def test_nearest_edges():
+    with Session("a漢") as text:
+        edges = [text.nearest_edge(0, column) for column in (0, 1, 2, 3)]
+        assert edges == [Edge(0), Edge(1), Edge(2, AFTER), Edge(2, AFTER)]
+
+
 def test_options_apply():
     with Session("a b", 1, Options.NOBREAK | Options.RTL) as text:
         assert len(text) == 1 and text[0].base_level == 1

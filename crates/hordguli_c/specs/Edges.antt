@@ -6,7 +6,7 @@ use Rattle.lines.specs.Spans.{spans_of}
 use Rattle.lines.specs.Visual.{Visual}
 use Rattle.lines.specs.declared.spans.Span.{Span}
 use Rattle.session.specs.Clusters.{cluster_at, line_clusters}
-use Rattle.session.specs.Edges.{edge_at, edge_caret_at, is_edge_in, line_edges, step_at, HasCharacter}
+use Rattle.session.specs.Edges.{edge_at, edge_caret_at, is_edge_in, line_edges, nearest_edge, step_at, HasCharacter}
 use Rattle.session.specs.Kept.{lines_in}
 use Rattle.session.specs.Places.{line_starts}
 use Rattle.session.specs.Sessions.{SessionState, text_at}
@@ -128,6 +128,12 @@ abbrev pub GivesEdge : ℕ → ℕ → Status → SessionState → EdgeOut → E
 GivesEdge n column status state old new =
     OrNoMemory (n < length (lines_in state.kept)) status (new ≡ old)
     (Gives (option_map edge_out (edge_at (rules_of state.engine) state.kept n column)) status old new)
+
+-- the nearest edge to a column is stored
+abbrev pub GivesNearestEdge : ℕ → ℕ → Status → SessionState → EdgeOut → EdgeOut → Type 0
+GivesNearestEdge n column status state old new =
+    OrNoMemory (n < length (lines_in state.kept)) status (new ≡ old)
+    (Gives (option_map edge_out (nearest_edge (rules_of state.engine) state.kept n column)) status old new)
 
 -- the two edges of a line are stored
 abbrev pub edges_out : LineEdges → EdgeOut × EdgeOut

@@ -11,7 +11,7 @@ ghost use Rattle.hordguli_c.specs.Edges.{caret_out, hit_out, place_out, GivesClu
 ghost use Rattle.hordguli_c.specs.Edges.{edge_of, edge_out, side_of, step_direction, step_of};
 ghost use Rattle.hordguli_c.specs.Edges.{spans_out, GivesSpans};
 ghost use Rattle.hordguli_c.specs.Edges.{GivesEdge, GivesEdgeCaret, GivesLineClusters, GivesLineEdges};
-ghost use Rattle.hordguli_c.specs.Edges.{GivesStep};
+ghost use Rattle.hordguli_c.specs.Edges.{GivesNearestEdge, GivesStep};
 ghost use Rattle.hordguli_c.specs.Statuses.{Returns};
 
 use crate::calls::with_object;
@@ -546,6 +546,40 @@ pub extern "C" fn hordguli_core_edge_at(
         session.old.held edge.old edge.new) result }
 {
     with_object!(session, alloc, object, find_edge(&object, n, column, edge))
+}
+
+fn find_nearest_edge(session: &SessionObject, n: usize, column: usize, edge: &mut EdgeOut) -> Status
+    ensures { GivesNearestEdge n column result session.now edge.old edge.new }
+{
+    match session.nearest_edge(n, column) {
+        Ok(Some(found)) => {
+            *edge = edge_out(found);
+            Status::Ok
+        }
+        Ok(None) => Status::OutOfRange,
+        Err(_) => Status::NoMemory,
+    }
+}
+
+/// Stores the nearest edge to a column of a line.
+#[unsafe(no_mangle)]
+pub extern "C" fn hordguli_core_nearest_edge(
+    alloc: Global,
+    session: &mut SessionHandle,
+    n: usize,
+    column: usize,
+    edge: &mut EdgeOut,
+) -> u32
+    ensures unchanged { session.new.held ≡ session.old.held }
+    ensures edge { Returns (λ status. Asks (GivesNearestEdge n column) status
+        session.old.held edge.old edge.new) result }
+{
+    with_object!(
+        session,
+        alloc,
+        object,
+        find_nearest_edge(&object, n, column, edge)
+    )
 }
 
 fn find_line_edges(

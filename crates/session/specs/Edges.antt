@@ -50,6 +50,18 @@ left_edge start unit = if is_odd unit.level then after (start + unit.end) else b
 abbrev pub right_edge : ℕ → CaretUnit → Edge
 right_edge start unit = if is_odd unit.level then before (start + unit.start) else after (start + unit.end)
 
+-- the columns of the left and the right end of a unit
+abbrev pub left_column : CaretUnit → ℕ
+left_column unit = if is_odd unit.level then unit.trailing else unit.leading
+
+abbrev pub right_column : CaretUnit → ℕ
+right_column unit = if is_odd unit.level then unit.leading else unit.trailing
+
+-- the edge at the end of a unit that is nearer to a column of the unit; from its middle, the right one
+abbrev pub nearer_edge : ℕ → ℕ → CaretUnit → Edge
+nearer_edge start column unit =
+    if nat_lt (column - left_column unit) (right_column unit - column) then left_edge start unit else right_edge start unit
+
 -- the column of the edge on a side of character k
 abbrev pub column_on : Side → Visual → ℕ → Cluster → ℕ → ℕ
 column_on Before line start cluster k = column_before line start cluster k
@@ -94,6 +106,14 @@ module _ (kept : List Layout) where
   abbrev pub edge_on : Visual → ℕ → ℕ → Edge
   edge_on line start column = edge_by start (unit_at line start column) (unit_at line start (columns_left line (length line.vtol) - 1))
 
+  -- the nearest edge to a column, given the units that cover this column and the last column
+  abbrev pub nearest_by : ℕ → ℕ → Option CaretUnit → Option CaretUnit → Edge
+  nearest_by start column (Some unit) last = nearer_edge start column unit
+  nearest_by start column None last = edge_by start None last
+
+  abbrev pub nearest_on : Visual → ℕ → ℕ → Edge
+  nearest_on line start column = nearest_by start column (unit_at line start column) (unit_at line start (columns_left line (length line.vtol) - 1))
+
 -- whether line n would be the next one: it is the line after the last, and a new paragraph would start at the end of the text
 abbrev pub is_next : Rules → List Layout → ℕ → Bool
 is_next rules kept n = (n == length (lines_in kept)) && is_closed rules (text_of kept)
@@ -120,6 +140,12 @@ abbrev pub edge_at : Rules → List Layout → ℕ → ℕ → Option Edge
 edge_at rules kept n column =
     if is_next rules kept n then Some (before (length (text_of kept)))
     else option_map (λ found. edge_on kept found.0 found.1 column) (line_at kept n)
+
+-- the nearest edge to a column of line n; `None` for lines past the next one
+abbrev pub nearest_edge : Rules → List Layout → ℕ → ℕ → Option Edge
+nearest_edge rules kept n column =
+    if is_next rules kept n then Some (before (length (text_of kept)))
+    else option_map (λ found. nearest_on kept found.0 found.1 column) (line_at kept n)
 
 -- the position at which line n ends
 abbrev pub end_of : List Layout → ℕ → ℕ

@@ -1,9 +1,11 @@
 //! The two edges of a position, and steps from edge to edge on a line.
-ghost use Rattle.std.specs.Prelude.{◌≡◌, ◌^◌, ◌+◌, ◌<◌, ◌≤◌, length, true, IfOk, IfSome, OnErr};
+ghost use Rattle.std.specs.Prelude.{◌≡◌, ◌^◌, ◌+◌, ◌-◌, ◌<◌, ◌≤◌, length, true, None, IfOk, IfSome, OnErr};
+ghost use Rattle.lines.specs.Columns.{columns_left};
 ghost use Rattle.lines.specs.Engine.{rules_of};
 ghost use Rattle.session.specs.Edges.{after, before, caret_beside, caret_of, column_on, edge_at};
 ghost use Rattle.session.specs.Edges.{edge_caret_at};
-ghost use Rattle.session.specs.Edges.{edge_on, end_of, is_next, last_edge, left_edge, line_at, line_edges};
+ghost use Rattle.session.specs.Edges.{edge_by, edge_on, end_of, is_next, last_edge, left_edge, line_at};
+ghost use Rattle.session.specs.Edges.{line_edges, nearer_edge, nearest_edge, nearest_on};
 ghost use Rattle.session.specs.Edges.{is_edge_in, right_edge, step_at, unit_at, HasCharacter};
 ghost use Rattle.session.specs.Kept.{lines_in};
 ghost use Rattle.session.specs.Places.{place_in};
@@ -91,6 +93,25 @@ fn right_edge(start: usize, unit: CaretUnit) -> Edge
         before(start + unit.start)
     } else {
         after(start + unit.end)
+    }
+}
+
+// Returns the edge at the end of a unit that is nearer to a column of the unit, on a line that starts at the
+// position `start`. From the unit's middle, this is the right end.
+fn nearer_edge(start: usize, unit: CaretUnit, column: usize) -> Edge
+    requires start { start + unit.start < 2 ^ 64 }
+    requires end { start + unit.end < 2 ^ 64 }
+    ensures { result ≡ nearer_edge start column unit }
+{
+    let (left, right) = if is_odd(unit.level) {
+        (unit.trailing, unit.leading)
+    } else {
+        (unit.leading, unit.trailing)
+    };
+    if column.saturating_sub(left) < right.saturating_sub(column) {
+        left_edge(start, unit)
+    } else {
+        right_edge(start, unit)
     }
 }
 
@@ -265,9 +286,34 @@ impl<S: ParagraphStore<Kept>> Session<S> {
         requires { start < 2 ^ 33 }
         ensures { IfOk result (λ edge. edge ≡ edge_on self.now.kept line.now start column) }
     {
-        if let Some(unit) = self.unit_at(line, start, column)? {
-            return Ok(left_edge(start, unit));
+        match self.unit_at(line, start, column)? {
+            Some(unit) => Ok(left_edge(start, unit)),
+            None => self.rightmost_edge(line, start),
         }
+    }
+
+    // Returns the nearest edge to a column of a line.
+    fn nearest_on(
+        &self,
+        line: &VisualLine<'_>,
+        start: usize,
+        column: usize,
+    ) -> Result<Edge, AllocError>
+        requires { start < 2 ^ 33 }
+        ensures { IfOk result (λ edge. edge ≡ nearest_on self.now.kept line.now start column) }
+    {
+        match self.unit_at(line, start, column)? {
+            Some(unit) => Ok(nearer_edge(start, unit, column)),
+            None => self.rightmost_edge(line, start),
+        }
+    }
+
+    // Returns the edge at the right end of what a line shows, or before the start of a line of width 0.
+    fn rightmost_edge(&self, line: &VisualLine<'_>, start: usize) -> Result<Edge, AllocError>
+        requires { start < 2 ^ 33 }
+        ensures { IfOk result (λ edge. edge ≡ edge_by self.now.kept start None
+            (unit_at self.now.kept line.now start (columns_left line.now (length line.now.vtol) - 1))) }
+    {
         let columns = line.columns_left(line.vtol().len());
         match self.unit_at(line, start, columns.saturating_sub(1))? {
             Some(unit) => Ok(right_edge(start, unit)),
@@ -332,6 +378,25 @@ impl<S: ParagraphStore<Kept>> Session<S> {
         }
         match self.line_at(n) {
             Some((line, start)) => Ok(Some(self.edge_on(&line, start, column)?)),
+            None => Ok(None),
+        }
+    }
+
+    /// Returns the nearest edge to a column of line `n`: the nearer end of the caret unit that covers the
+    /// column, and from the unit's middle the right one. Elsewhere it is that of `edge_at`, and so it is in a
+    /// unit of one column.
+    ///
+    /// Fails if memory runs out, but only on a line that exists. Costs as `edge_caret`.
+    pub fn nearest_edge(&self, n: usize, column: usize) -> Result<Option<Edge>, AllocError>
+        ensures ok { IfOk result (λ edge. edge
+            ≡ nearest_edge (rules_of self.now.engine) self.now.kept n column) }
+        ensures memory { OnErr result (n < length (lines_in self.now.kept)) }
+    {
+        if self.is_next(n) {
+            return Ok(Some(before(self.char_count())));
+        }
+        match self.line_at(n) {
+            Some((line, start)) => Ok(Some(self.nearest_on(&line, start, column)?)),
             None => Ok(None),
         }
     }
