@@ -1,7 +1,7 @@
 -- The printed lines of a text that no session refuses.
 use Rattle.std.proofs.Common.{◌≡◌, ℕ, ◌<◌, List, length, Option, Some, None, inl, inr, subst}
 use Rattle.ucd.specs.declared.tables.Tables.{Tables}
-use Rattle.lines.specs.Layouts.{Rules, cut_by}
+use Rattle.lines.specs.Layouts.{Rules, cut_by, unmeasured}
 use Rattle.session.specs.Sessions.{opening_refusal}
 use Rattle.session.specs.declared.edits.EditFault.{EditFault}
 use Rattle.hordguli_c.specs.Arrays.{PutsItems}
@@ -15,7 +15,7 @@ not_refused : (reason : Option EditFault) (status : Status) (unchanged rest : Ty
 not_refused None status unchanged rest none done = done
 not_refused (Some fault) status unchanged rest none done = absurd (cc none)
 
-module _ (form : PageForm) (text : List ℕ) (tables : Tables) (rules : Rules) (rules_are : rules ≡ record { tables = tables; options = form.options; advances = None })
+module _ (form : PageForm) (text : List ℕ) (tables : Tables) (rules : Rules) (rules_are : rules ≡ unmeasured tables form.options)
     (allowed : opening_refusal (cut_by rules) text form.width ≡ None) (status : Status) (old new : List ℕ × ℕ)
   where
     abbrev by_rules : Rules → Type 0

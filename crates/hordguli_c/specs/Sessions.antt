@@ -2,7 +2,7 @@
 use Rattle.std.specs.Prelude.{◌≡◌, ℕ, ◌+◌, ◌<◌, ◌⊎◌, List, length, Option, Some, None}
 use Rattle.ucd.specs.declared.tables.Tables.{Tables}
 use Rattle.lines.specs.Engine.{analysed_of, filled_of, rules_of, written_of}
-use Rattle.lines.specs.Layouts.{cut_by}
+use Rattle.lines.specs.Layouts.{cut_by, unmeasured}
 use Rattle.lines.specs.declared.engine.Engine.{Engine}
 use Rattle.lines.specs.declared.options.Options.{Options}
 use Rattle.session.specs.Edits.{Replacement}
@@ -18,7 +18,7 @@ use Rattle.hordguli_c.specs.declared.status.Status.TheVariants as is
 
 -- whether an engine has these tables and options, and has done no work yet
 pub record IsFresh (tables : Tables) (options : Options) (engine : Engine) : Type 0 where
-  pub rules : rules_of engine ≡ record { tables = tables; options = options; advances = None }
+  pub rules : rules_of engine ≡ unmeasured tables options
   pub analysed : analysed_of engine ≡ 0
   pub filled : filled_of engine ≡ 0
   pub written : written_of engine ≡ 0
@@ -32,7 +32,7 @@ pub record IsOpened (tables : Tables) (options : Options) (text : List ℕ) (wid
 -- a session was not opened, for the first reason that applies, or with `NoMemory` if none applies
 pub record IsRefused (tables : Tables) (options : Options) (text : List ℕ) (width : ℕ) (status : Status) : Type 0 where
   pub fault : EditFault
-  pub reason : IsAnswerFor (opening_refusal (cut_by (record { tables = tables; options = options; advances = None })) text width) fault
+  pub reason : IsAnswerFor (opening_refusal (cut_by (unmeasured tables options)) text width) fault
   pub status_is : status ≡ edit_status fault
 
 -- The result of opening a session on tables. If the tables have too many owners, the call fails with

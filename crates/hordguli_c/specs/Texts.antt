@@ -2,7 +2,7 @@
 use Rattle.std.specs.Prelude.{◌≡◌, ℕ, ◌<◌, List, length, Option, Some, None}
 use Rattle.ucd.specs.declared.tables.Tables.{Tables}
 use Rattle.bidi.specs.Cuts.{paragraphs}
-use Rattle.lines.specs.Layouts.{Rules, cut_by}
+use Rattle.lines.specs.Layouts.{Rules, cut_by, unmeasured}
 use Rattle.lines.specs.Pages.{page}
 use Rattle.lines.specs.declared.printing.print.Print.{Print}
 use Rattle.session.specs.Sessions.{opening_refusal}
@@ -26,7 +26,7 @@ UnlessRefused (Some fault) status unchanged rest = (status ≡ edit_status fault
 -- The printed lines of a text are stored. They are collected before they are copied.
 abbrev pub PutsPage : PageForm → List ℕ → Status → Tables → List ℕ × ℕ → List ℕ × ℕ → Type 0
 PutsPage form text status tables old new =
-    let rules : Rules = record { tables = tables; options = form.options; advances = None } in
+    let rules : Rules = unmeasured tables form.options in
     UnlessRefused (opening_refusal (cut_by rules) text form.width) status (new ≡ old)
     (OrNoMemory (0 < length text) status (new ≡ old) (PutsItems (text_page rules form.width form.print text) status old new))
 

@@ -1,5 +1,5 @@
 -- The layout of a paragraph.
-use Rattle.std.specs.Prelude.{◌≡◌, ℕ, ◌+◌, ◌≤◌, nat_le, Bool, false, ◌&&◌, not, List, [], ◌∷◌, length, map, slice_get, slice_index, All, Option}
+use Rattle.std.specs.Prelude.{◌≡◌, ℕ, ◌+◌, ◌≤◌, nat_le, Bool, false, ◌&&◌, not, List, [], ◌∷◌, length, map, slice_get, slice_index, All, Option, None}
 use Rattle.std.specs.List.{enumerate_from}
 use Rattle.std.specs.Option.{option_map_or}
 use Rattle.ucd.specs.Tables.{class_of}
@@ -25,6 +25,10 @@ pub record Rules : Type 0 where
   pub tables : Tables
   pub options : Options
   pub advances : Option (List ℕ)
+
+-- the rules for a paragraph that is not measured
+abbrev pub unmeasured : Tables → Options → Rules
+unmeasured tables options = record { tables = tables; options = options; advances = None }
 
 -- a paragraph: its characters, their advances if it is measured, its base level, its tab width, the level and the mark of each character, its
 -- cluster ends if its lines are ordered by clusters, and its lines

@@ -9,7 +9,7 @@ use Rattle.breaks.specs.Marks.{marks_of}
 use Rattle.lines.specs.Asked.{visual_part}
 use Rattle.lines.specs.CharInfos.{infos_of}
 use Rattle.lines.specs.Filling.{line_starts_of}
-use Rattle.lines.specs.Layouts.{Rules, base_of}
+use Rattle.lines.specs.Layouts.{Rules, base_of, unmeasured}
 use Rattle.lines.specs.Reordering.{ends_by}
 use Rattle.lines.specs.ShownParts.{margin_of}
 use Rattle.lines.specs.Tabs.{tab_width_in}
@@ -22,7 +22,7 @@ use Rattle.lines.specs.declared.paragraph.Paragraph.{Paragraph}
 use Rattle.lines.specs.declared.paragraph.Text.{Text}
 
 abbrev pub rules_in : LentRules → Rules
-rules_in rules = record { tables = rules.tables.now; options = rules.options; advances = None }
+rules_in rules = unmeasured rules.tables.now rules.options
 
 -- whether the looked-up properties of a text are those of its characters
 abbrev pub IsLookedUp : Text → Type 0

@@ -81,13 +81,12 @@ impl Drop for Engine {
 }
 
 impl Model for Engine {
-    ghost use Rattle.std.specs.Prelude.{None};
-    ghost use Rattle.lines.specs.Layouts.{EngineState};
+    ghost use Rattle.lines.specs.Layouts.{EngineState, unmeasured};
 
     ghost Value = { EngineState };
 
     ghost view = { λ e. record {
-      rules = record { tables = e.tables; options = e.options; advances = None };
+      rules = unmeasured e.tables e.options;
       analysed = e.counts.analysed;
       filled = e.counts.filled;
       written = e.counts.written;
@@ -101,7 +100,7 @@ impl Engine {
     ghost use Rattle.bidi.specs.Levels.{levels_of};
     ghost use Rattle.lines.specs.Extents.{extents_in, extents_of, reflowed};
     ghost use Rattle.lines.specs.Layouts.{base_of, cut_by, fill_of, keeps_lines, layout_of, lines_of};
-    ghost use Rattle.lines.specs.Layouts.{AreLinesOf, AreWithin, IsLaidOut, IsParagraph};
+    ghost use Rattle.lines.specs.Layouts.{AreLinesOf, AreWithin, IsLaidOut, IsParagraph, unmeasured};
     ghost use Rattle.lines.specs.Engine.{rules_of, analysed_of, filled_of, written_of, counted};
     ghost use Rattle.lines.specs.Engine.{Fills, FillsAtMost, FindsExtents, FindsExtentsAtMost};
     ghost use Rattle.lines.specs.Engine.{LaysOut, LaysOutAtMost, Prints, Rewrites, RewritesAtMost};
@@ -109,8 +108,7 @@ impl Engine {
 
     /// Makes an engine whose counters are 0. Allocates nothing.
     pub fn new(tables: Tables, options: Options) -> Engine
-        ensures rules { rules_of result
-            ≡ record { tables = tables; options = options; advances = None } }
+        ensures rules { rules_of result ≡ unmeasured tables options }
         ensures analysed { analysed_of result ≡ 0 }
         ensures filled { filled_of result ≡ 0 }
         ensures written { written_of result ≡ 0 }
@@ -126,7 +124,7 @@ impl Engine {
     /// Sets the options for the next paragraphs. Keeps the tables, the counters and the buffers.
     pub fn set_options(&mut self, options: Options)
         ensures rules { rules_of self.new
-            ≡ record { tables = (rules_of self.old).tables; options = options; advances = None } }
+            ≡ unmeasured (rules_of self.old).tables options }
         ensures analysed { analysed_of self.new ≡ analysed_of self.old }
         ensures filled { filled_of self.new ≡ filled_of self.old }
         ensures written { written_of self.new ≡ written_of self.old }

@@ -74,7 +74,7 @@ impl Laid {
     ghost use Rattle.lines.specs.Extents.{extents_in, extents_of, reflowed};
     ghost use Rattle.std.specs.Option.{option_map_or};
     ghost use Rattle.lines.specs.Layouts.{hides_space_within, is_line_within, start_of, visuals};
-    ghost use Rattle.lines.specs.Layouts.{AreLinesOf, Exchanges, IsLaidOut, Rules};
+    ghost use Rattle.lines.specs.Layouts.{AreLinesOf, Exchanges, IsLaidOut, Rules, unmeasured};
     ghost use Rattle.lines.specs.Pages.{layout_bytes};
     ghost use Rattle.lines.specs.Visual.{visual_of};
     ghost use Rattle.lines.specs.Writing.{PassedOn, StoppedIn};
@@ -231,12 +231,11 @@ impl Laid {
         properties: &mut Vec<Properties>,
         written: &mut Count,
     )
-        requires laid { IsLaidOut (record { tables = tables.now; options = options; advances = None }) self.old }
+        requires laid { IsLaidOut (unmeasured tables.now options) self.old }
         requires extents { (width : ℕ) × (extents.old
-            ≡ extents_of (record { tables = tables.now; options = options; advances = None }) width self.old.text) }
+            ≡ extents_of (unmeasured tables.now options) width self.old.text) }
         requires room { length self.old.text ≤ length properties.old.items }
-        ensures laid { self.new
-            ≡ reflowed (record { tables = tables.now; options = options; advances = None }) self.old extents.old }
+        ensures laid { self.new ≡ reflowed (unmeasured tables.now options) self.old extents.old }
         ensures extents { extents.new ≡ extents_in self.old.lines }
         ensures room { length properties.new.items ≡ length properties.old.items }
         ensures counts { written.new ≡ counted written.old (length self.old.text) }

@@ -51,6 +51,7 @@ abbrev default_rules : Tables → Rules
 default_rules tables = record {
   tables = tables;
   options = record { base = WeakLtr; nobreak = false; reordernsm = false; whole_numbers = false; reorder_clusters = false; show_spaces = false; tab_width = 0 };
+  advances = None;
 }
 
 changed-of-three : (tables : Tables)

@@ -1,9 +1,9 @@
-use Rattle.std.proofs.Common.{◌≡◌, ◌∷◌, ◌++◌, length, refl, sym, ap, ap₂, subst, ◌∙◌, arith}
+use Rattle.std.proofs.Common.{◌≡◌, ◌∷◌, ◌++◌, ℕ, ◌+◌, ◌≤◌, length, refl, sym, ap, ap₂, subst, ◌∙◌, arith}
 use Rattle.std.specs.Result.{OnOk}
 use Rattle.std.specs.Str.{chars}
 use Rattle.std.proofs.lemmas.List.{append-nil}
 use Rattle.bidi.specs.Cuts.{paragraphs}
-use Rattle.lines.specs.Engine.{rules_of}
+use Rattle.lines.specs.Engine.{rules_of, RisesBy}
 use Rattle.lines.specs.Layouts.{cut_by, layout_of, IsParagraph}
 use Rattle.session.specs.Kept.{layouts_of}
 use Rattle.session.proofs.JoinedLemmas.{first_paragraph, layouts_none, others_within, split_length, text_none}
@@ -94,3 +94,39 @@ returns-clause-ok g c =
     let none = text_none rest _ c.is_empty.ensures c.loop-rest-test.false in
     let all = layouts_none by c.args.width _ (chars rest) (g.S.ParagraphStore.items c.loop-rest.store ++ c.loop-rest.new.items) none c.loop-rest.invariant.laid_out in
     subst (λ ks. OnOk c.append.result (g.S.ParagraphStore.items c.append.new.store ≡ ks)) all c.append.ensures
+
+-- a count that rises by part of what is left
+rises : (whole left done old mid new : ℕ) → old ≤ mid → mid + left ≤ old + whole → done ≤ left → RisesBy done mid new → RisesBy whole old new
+rises whole left done old mid new least most within by = record { least = omega (arith, least, by.least); most = omega (arith, most, within, by.most) }
+
+pub returns-in_err-push-clause-counts : goal.returns-in_err-push-clause-counts
+returns-in_err-push-clause-counts g c =
+    let by = rules_of c.args.engine.now in
+    let rest = chars c.loop-rest.rest.now in
+    let first = chars c.split_first.result.0.now in
+    let after = chars c.split_first.result.1.now in
+    let split = subst (λ r. paragraphs (cut_by r) rest ≡ first ∷ paragraphs (cut_by r) after) c.loop-rest.invariant.rules c.split_first.ensures.paragraphs in
+    let within : length c.deref.result.now ≤ length rest = omega (arith, ap length (c.deref.ensures.value ∙ c.in_ok-list.ensures), split_length c.paragraphs_are_pieces.ensures by rest first after split) in
+    let so_far = c.loop-rest.invariant in
+    let counts = c.in_ok-lay_out_one.ensures.counts in
+    record {
+      analysed = rises _ _ _ _ _ _ so_far.analysed so_far.analysed_most within counts.analysed;
+      filled = rises _ _ _ _ _ _ so_far.filled so_far.filled_most within counts.filled;
+      written = rises _ _ _ _ _ _ so_far.written so_far.written_most within counts.written;
+    }
+
+pub returns-in_err-new-clause-counts : goal.returns-in_err-new-clause-counts
+returns-in_err-new-clause-counts g c =
+    let by = rules_of c.args.engine.now in
+    let rest = chars c.loop-rest.rest.now in
+    let first = chars c.split_first.result.0.now in
+    let after = chars c.split_first.result.1.now in
+    let split = subst (λ r. paragraphs (cut_by r) rest ≡ first ∷ paragraphs (cut_by r) after) c.loop-rest.invariant.rules c.split_first.ensures.paragraphs in
+    let within : length c.deref.result.now ≤ length rest = omega (arith, ap length (c.deref.ensures.value ∙ c.in_ok-list.ensures), split_length c.paragraphs_are_pieces.ensures by rest first after split) in
+    let so_far = c.loop-rest.invariant in
+    let counts = c.in_ok-lay_out_one.ensures.counts in
+    record {
+      analysed = rises _ _ _ _ _ _ so_far.analysed so_far.analysed_most within counts.analysed;
+      filled = rises _ _ _ _ _ _ so_far.filled so_far.filled_most within counts.filled;
+      written = rises _ _ _ _ _ _ so_far.written so_far.written_most within counts.written;
+    }

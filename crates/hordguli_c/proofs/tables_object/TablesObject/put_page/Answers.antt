@@ -2,7 +2,7 @@ use Rattle.std.proofs.Common.{◌≡◌, ◌∙◌, ◌++◌, ℕ, List, None, s
 use Rattle.std.specs.Str.{chars}
 use Rattle.bidi.proofs.TextCutLemmas.{some_chars}
 use Rattle.lines.specs.Engine.{rules_of}
-use Rattle.lines.specs.Layouts.{cut_by}
+use Rattle.lines.specs.Layouts.{cut_by, unmeasured}
 use Rattle.session.specs.Sessions.{opening_refusal}
 use Rattle.ucd.specs.declared.tables.Tables.{Tables}
 use Rattle.hordguli_c.specs.Texts.{PutsPage, text_page}
@@ -18,8 +18,8 @@ returns-clause-page c =
     let tables = c.args.self.now in
     let rules = rules_of c.set_options.new.self in
     let tables_are : (rules_of c.self.inside.engine).tables ≡ tables = cc (c.self.invariant, c.self.view_is) in
-    let rules_are : rules ≡ record { tables = tables; options = form.options; advances = None } =
-    c.set_options.ensures.rules ∙ ap (λ (t : Tables). record { tables = t; options = form.options; advances = None }) tables_are in
+    let rules_are : rules ≡ unmeasured tables form.options =
+    c.set_options.ensures.rules ∙ ap (λ (t : Tables). unmeasured t form.options) tables_are in
     let allowed : opening_refusal (cut_by rules) text form.width ≡ None = cc (c.opening_refusal.ensures, c.in_default.is) in
     let old : List ℕ × ℕ = (c.args.array.now, c.args.len.now) in
     let merged : List ℕ × ℕ = (c.match-pushed.array, c.match-pushed.len) in

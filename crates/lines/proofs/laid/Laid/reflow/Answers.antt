@@ -1,7 +1,7 @@
 use Rattle.std.proofs.Common.{◌≡◌, ℕ, List, length, ap, ap₂, subst, sym, ◌∙◌, None}
 use Rattle.lines.specs.Extents.{extents_of, shown_from, LineExtents}
 use Rattle.lines.specs.Kept.{AreStarts}
-use Rattle.lines.specs.Layouts.{Layout, Rules}
+use Rattle.lines.specs.Layouts.{Layout, Rules, unmeasured}
 use Rattle.lines.specs.CharInfos.{infos_of}
 use Rattle.lines.specs.ShownParts.{margin_of}
 use Rattle.lines.proofs.VisualLemmas.{starts_within}
@@ -9,7 +9,7 @@ use Rattle.lines.proofs.laid.Laid.reflow.Goals as goal
 
 pub reflow-requires-clause-starts : goal.reflow-requires-clause-starts
 reflow-requires-clause-starts c =
-    let rules : Rules = record { tables = c.args.tables.now; options = c.args.options; advances = None } in
+    let rules : Rules = unmeasured c.args.tables.now c.args.options in
     let text = c.args.self.now.text in
     let len : length text ≡ length c.as_slice-text.result.now = sym (ap length (c.as_slice-text.ensures.value ∙ ap (λ (l : Layout). l.text) c.self.view_is)) in
     subst (λ (s : LineExtents). AreStarts (length c.as_slice-text.result.now) s.starts) (sym c.requires.extents.1)
