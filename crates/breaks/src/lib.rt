@@ -17,6 +17,7 @@ mod entries;
 mod entries_17;
 mod mark;
 mod mark_17;
+mod ordinary_17;
 mod questions;
 mod symbol;
 mod symbol_17;

@@ -30,6 +30,8 @@ pub fn mark_before_17<C: Characters>(characters: C, after: usize, decided: u8) -
 }
 
 // Does the same for a question: reads on until it is answered, past the marks of one or two bases.
+#[cold]
+#[inline(never)] // so that the loop over the characters has all registers
 fn mark_asked<C: Characters>(characters: C, after: usize, question: u8) -> Mark
     requires place { after ≤ length (C.all characters) }
     requires below { question < DECIDED_COUNT }
