@@ -47,6 +47,12 @@ below (suc n) test all k lt =
 pub is_below : (a b : ℕ) → nat_lt a b ≡ true → a < b
 is_below a b h = grind (arith, nat_tests)
 
+pub is_less : (a b : ℕ) → a < b → nat_lt a b ≡ true
+is_less a b h = grind (arith, nat_tests)
+
+pub is_no_less : (a b : ℕ) → b ≤ a → nat_lt a b ≡ false
+is_no_less a b h = grind (arith, nat_tests)
+
 pub is_within : (a b : ℕ) → nat_le a b ≡ true → a ≤ b
 is_within a b h = grind (arith, nat_tests)
 

@@ -7,7 +7,7 @@ use Rattle.ucd.specs.declared.version.Version.TheVariants.{V17_0}
 use Rattle.breaks.specs.Bases.{Base, Character, alone, is_east_asian}
 use Rattle.breaks.specs.Classes.{is_same, is_one_of}
 use Rattle.breaks.specs.Symbols.{character_by, shown_17, told_17}
-use Rattle.breaks.specs.Walk17.{Bits, FollowsNarrow, Passes17, Stands17, decided_17, decided_narrow, is_narrow_17, narrow_bits}
+use Rattle.breaks.specs.Walk17.{Bits, FollowsNarrow, Stands17, decided_17, decided_narrow, is_narrow_17, narrow_bits}
 use Rattle.breaks.specs.declared.entries_17.TheConstants.{NEXT_ROWS, OUTCOMES}
 use Rattle.breaks.specs.declared.symbol_17.TheConstants.{JOINER, SYMBOL_COUNT}
 use Rattle.breaks.specs.declared.table_17.TheConstants.{NEVER, STAYS}
@@ -15,7 +15,7 @@ use Rattle.breaks.specs.declared.walk_17.TheConstants.{NARROW}
 use Rattle.breaks.specs.declared.walk_17.Walk17.{Walk17}
 use Rattle.breaks.proofs.BoolLemmas.{all_below, below, both, is_equal}
 use Rattle.breaks.proofs.PassLemmas.{not_true}
-use Rattle.breaks.proofs.PassLemmas17.{passes_begin_17, passes_stay_17}
+use Rattle.breaks.proofs.PassLemmas17.{Passes17, passes_begin_17, passes_stay_17}
 use Rattle.breaks.proofs.SymbolLemmas17.{is_joiner_17}
 
 narrow_table : all_below 15 (λ outcome. get_or NARROW outcome 0 == decided_narrow outcome) ≡ true

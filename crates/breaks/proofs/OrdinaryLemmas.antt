@@ -9,12 +9,12 @@ use Rattle.ucd.specs.declared.properties.Properties.{Properties}
 use Rattle.breaks.specs.Bases.{Base}
 use Rattle.breaks.specs.Classes.{is_same}
 use Rattle.breaks.specs.Symbols.{character_by, shown, told}
-use Rattle.breaks.specs.Walk.{FollowsOrdinary, Stands, Passes, decided_at, is_ordinary}
+use Rattle.breaks.specs.Walk.{FollowsOrdinary, Stands, decided_at, is_ordinary}
 use Rattle.breaks.specs.declared.entries.TheConstants.{NEXT_ROWS, OUTCOMES}
 use Rattle.breaks.specs.declared.symbol.TheConstants.{JOINER, SYMBOL_COUNT}
 use Rattle.breaks.specs.declared.table.TheConstants.{STAYS, UNLESS}
 use Rattle.breaks.specs.declared.walk.Walk.{Walk}
-use Rattle.breaks.proofs.PassLemmas.{kept, passes_as}
+use Rattle.breaks.proofs.PassLemmas.{Passes15, kept, passes_as}
 use Rattle.breaks.proofs.SymbolLemmas.{is_joiner}
 
 -- the two parts of an ordinary character's definition
@@ -61,12 +61,12 @@ decides_alone outcome false true none other = cc
 pub passes_ordinary : (walk : Walk) (symbol next_row outcome : ℕ) (p : Properties) → symbol < SYMBOL_COUNT → shown symbol ≡ told (character_by V15_0 p)
     → next_row ≡ get_or NEXT_ROWS (walk.row + symbol) 0 → outcome ≡ get_or OUTCOMES (walk.row + symbol) 0 → FollowsOrdinary walk → is_ordinary p ≡ true
     → (whole_numbers : Bool) (last : Base) (others : List Base) → Stands whole_numbers walk last others
-    → Passes whole_numbers (record walk { row = next_row }) last others (character_by V15_0 p) outcome
+    → Passes15 whole_numbers (record walk { row = next_row }) last others (character_by V15_0 p) outcome
 passes_ordinary walk symbol next_row outcome p below shows reads_row reads_outcome before next whole_numbers last others stands =
     let both = parts (is_same (character_by V15_0 p).class ZWJ) p.is_future_pictograph next in
     let unjoined : (symbol == JOINER) ≡ walk.is_joined = joins symbol p below shows ∙ both.0 ∙ sym before.unjoined in
     subst
-    (λ joined. Passes whole_numbers (record { row = next_row; is_joined = joined; is_pictograph = walk.is_pictograph }) last others (character_by V15_0 p) outcome)
+    (λ joined. Passes15 whole_numbers (record { row = next_row; is_joined = joined; is_pictograph = walk.is_pictograph }) last others (character_by V15_0 p) outcome)
     unjoined
     (passes_as walk symbol next_row outcome (character_by V15_0 p) walk.is_pictograph outcome below shows reads_row reads_outcome
     (none_kept walk outcome p before.no_pictograph both.1 ∙ sym before.no_pictograph)

@@ -1,14 +1,15 @@
--- One step of the pass: the new state belongs to the bases so far, and the mark agrees with the rules.
+-- One step of the walk: the new state belongs to the bases so far, and the mark agrees with the rules.
 use Rattle.std.proofs.Common.{◌≡◌, ℕ, ◌+◌, ◌*◌, ◌/◌, ◌<◌, ◌≤◌, ◌==◌, nat_lt, nat_le, Bool, true, false, not, ◌&&◌, ◌||◌, List, [], ◌∷◌, ◌++◌, map, get_or, refl, sym, ap, ◌∙◌, arith, if◌then◌else◌, inl, inr}
 use Rattle.ucd.specs.declared.version.Version.TheVariants.{V15_0}
 use Rattle.std.proofs.lemmas.Bool.{cases_Bool}
 use Rattle.ucd.specs.declared.line_class.LineClass.{LineClass}
 use Rattle.ucd.specs.declared.line_class.LineClass.TheVariants.{CM, NU, OP, ZWJ}
-use Rattle.breaks.specs.Bases.{Base, Character, alone, base_class, bases_of, end_of, joined, stays_with}
+use Rattle.breaks.specs.Bases.{Base, Character, alone, bases_of, end_of, stays_with}
 use Rattle.breaks.specs.Classes.{is_same, is_one_of}
 use Rattle.breaks.specs.Rules.{rows_before_numbers, rows_of_numbers, rows_after_numbers, rules, mark_by, is}
 use Rattle.breaks.specs.Symbols.{shown, told}
-use Rattle.breaks.specs.Walk.{Stands, Passes, with_attached, bases_at, unattached, answers, carried, decided_at, is_before_digit, mark_of, rows}
+use Rattle.breaks.specs.Passes.{Passes, bases_after, with_attached}
+use Rattle.breaks.specs.Walk.{Stands, bases_at, unattached, answers, carried, decided_at, mark_given, mark_of, rows}
 use Rattle.breaks.specs.declared.mark.Mark.{Mark}
 use Rattle.breaks.specs.declared.mark.Mark.TheVariants.{Never, May, Must}
 use Rattle.breaks.specs.declared.symbol.TheConstants.{JOINER, SYMBOL_COUNT}
@@ -223,40 +224,17 @@ first_base c (d ∷ text) =
       | inr begins ↦ ([], record { first = d; attached = next.0 } ∷ next.1, rw (begins, next.2) refl)
     ]
 
--- whether the second base is NU
-abbrev second_is_digit : List Base → Bool
-second_is_digit [] = false
-second_is_digit (b ∷ bases) = is (NU ∷ []) bases
-
-digit_class : (class : LineClass) → is_one_of (CM ∷ ZWJ ∷ []) class ≡ false → is_one_of (NU ∷ []) (base_class class) ≡ is_same class NU
-digit_class NU h = refl
-digit_class CM h = cc
-digit_class ZWJ h = cc
-digit_class class h = refl
-
-second_joined : (c : Character) (bases : List Base) → second_is_digit (joined c bases) ≡ second_is_digit bases
-second_joined c [] = refl
-second_joined c (b ∷ bases) = refl
-
--- if characters can join the first base, the second base is NU if and only if `is_before_digit` holds for the
--- rest of the text
-second_is : (c : Character) (text : List Character) → is_one_of unattached c.class ≡ false → second_is_digit (bases_of (c ∷ text)) ≡ is_before_digit text
-second_is c [] free = refl
-second_is c (d ∷ text) free =
+-- if characters can join the first base of a text, the bases after it are those of the characters that do not join it
+pub second_bases : (c : Character) (text : List Character) → is_one_of unattached c.class ≡ false
+    → (attached : List Character) × (bases_of (c ∷ text) ≡ record { first = c; attached = attached } ∷ bases_after text)
+second_bases c [] free = ([], refl)
+second_bases c (d ∷ text) free =
     elim (cases_Bool (is_one_of (CM ∷ ZWJ ∷ []) d.class)) [
-      | inl stays ↦ rw (stays, free) (second_joined c (bases_of (d ∷ text)) ∙ second_is d text (mark_attaches d.class stays))
-      | inr begins ↦
-          let next = first_base d text in
-          rw (begins, next.2) (digit_class d.class begins)
+      | inl stays ↦
+          let next = second_bases d text (mark_attaches d.class stays) in
+          (d ∷ next.0, rw (stays, free, next.1) refl)
+      | inr begins ↦ ([], rw begins refl)
     ]
-
--- the results of all conditions on the bases after a position, from the text there
-read_text : (whole_numbers : Bool) (c : Character) (text : List Character)
-    → map (λ row. row.after (bases_of (c ∷ text))) (rows whole_numbers)
-    ≡ answers_after whole_numbers c (second_is_digit (bases_of (c ∷ text)))
-read_text whole_numbers c text =
-    let next = first_base c text in
-    rw next.2 (reads_after whole_numbers c next.0 next.1)
 
 -- the mark depends on the base after next only if the outcome is `WAITS`
 waits_or_not : (whole_numbers : Bool) (outcome : ℕ) (is_joined is_pictograph : Bool) (a b : Bool) → (outcome == WAITS)
@@ -277,31 +255,41 @@ opening_attaches class h = cc
 told_class : (symbol : ℕ) (c : Character) → shown symbol ≡ told c → (shown symbol).class ≡ c.class
 told_class symbol c shows = ap (λ d. d.class) shows
 
-same_of_digit : (whole_numbers : Bool) (symbol outcome : ℕ) (c : Character) (text : List Character)
-    (is_joined is_pictograph : Bool) → shown symbol ≡ told c → waits_for_base symbol outcome ≡ true
-    → mark_of whole_numbers (decided_at outcome is_joined is_pictograph) (is_before_digit text)
-    ≡ mark_of whole_numbers (decided_at outcome is_joined is_pictograph) (second_is_digit (bases_of (c ∷ text)))
-same_of_digit whole_numbers symbol outcome c text is_joined is_pictograph shows waits =
+-- The first base of a text and the bases after it. If the outcome asks for them, they are those of the characters that do not
+-- join the first one.
+record Reads (whole_numbers : Bool) (decided : ℕ) (c : Character) (text : List Character) : Type 0 where
+  attached : List Character
+  rest : List Base
+  bases : bases_of (c ∷ text) ≡ record { first = c; attached = attached } ∷ rest
+  alike : mark_given whole_numbers decided (bases_after text) ≡ mark_given whole_numbers decided rest
+
+reads : (whole_numbers : Bool) (symbol outcome : ℕ) (c : Character) (text : List Character) (is_joined is_pictograph : Bool)
+    → shown symbol ≡ told c → waits_for_base symbol outcome ≡ true → Reads whole_numbers (decided_at outcome is_joined is_pictograph) c text
+reads whole_numbers symbol outcome c text is_joined is_pictograph shows waits =
     elim (cases_Bool (outcome == WAITS)) [
       | inl waiting ↦
           let opening : is_one_of (OP ∷ []) (shown symbol).class ≡ true = rw waiting at waits in
           let free : is_one_of unattached c.class ≡ false = ap (is_one_of unattached) (sym (told_class symbol c shows)) ∙ opening_attaches (shown symbol).class opening in
-          ap (mark_of whole_numbers (decided_at outcome is_joined is_pictograph)) (sym (second_is c text free))
-      | inr other ↦ waits_or_not whole_numbers outcome is_joined is_pictograph _ _ other
+          let second = second_bases c text free in
+          record { attached = second.0; rest = bases_after text; bases = second.1; alike = refl }
+      | inr other ↦
+          let first = first_base c text in
+          record { attached = first.0; rest = first.1; bases = first.2; alike = waits_or_not whole_numbers outcome is_joined is_pictograph _ _ other }
     ]
 
 -- before a character that begins a base, the outcome gives the mark of the rules
 marks_begun : (whole_numbers : Bool) (walk : Walk) (last : Base) (others : List Base)
     (stands : Stands whole_numbers walk last others) (symbol next_row outcome : ℕ) (c : Character) (text : List Character)
     → shown symbol ≡ told c → Leads whole_numbers stands.state symbol next_row outcome → stays stands.state symbol ≡ false
-    → mark_of whole_numbers (decided_at outcome walk.is_joined walk.is_pictograph) (is_before_digit text)
+    → mark_given whole_numbers (decided_at outcome walk.is_joined walk.is_pictograph) (bases_after text)
     ≡ mark_by (rules V15_0 whole_numbers) (last ∷ others) (bases_of (c ∷ text))
 marks_begun whole_numbers walk last others stands symbol next_row outcome c text shows entry_leads begun =
     let says : Begins whole_numbers stands.state symbol outcome entry_leads.next = beginning _ _ _ _ _ (rw begun at entry_leads.leads) in
-    let digit : Bool = second_is_digit (bases_of (c ∷ text)) in
+    let after = reads whole_numbers symbol outcome c text walk.is_joined walk.is_pictograph shows says.waits in
+    let digit : Bool = is (NU ∷ []) after.rest in
     let free : walk.is_joined ≡ true → is unattached (bases_at stands.state) ≡ false =
     λ joined. sym stands.attaches ∙ joiner_attaches (end_of last).class (sym stands.is_joined ∙ joined) in
-    same_of_digit whole_numbers symbol outcome c text walk.is_joined walk.is_pictograph shows says.waits
+    after.alike
     ∙ given whole_numbers stands.state symbol outcome walk.is_joined walk.is_pictograph digit free says.gives
     ∙ ap (λ row. decide (marks_by_row whole_numbers) (answered_with whole_numbers walk.is_joined walk.is_pictograph row) (answers_after whole_numbers (shown symbol) digit)) (sym stands.answered)
     ∙ ap (λ joined. decide (marks_by_row whole_numbers)
@@ -312,8 +300,9 @@ marks_begun whole_numbers walk last others stands symbol next_row outcome c text
     (answers whole_numbers (last ∷ others))) (answers_after whole_numbers (shown symbol) digit))
     stands.is_pictograph
     ∙ ap (λ row. decide (marks_by_row whole_numbers) (answered_with whole_numbers (is_same (end_of last).class ZWJ) last.first.is_future_pictograph (answers whole_numbers (last ∷ others))) row)
-    (ap (λ d. answers_after whole_numbers d digit) shows ∙ sym (answers_after_told whole_numbers c digit) ∙ sym (read_text whole_numbers c text))
-    ∙ sym (marked whole_numbers last others (bases_of (c ∷ text)))
+    (ap (λ d. answers_after whole_numbers d digit) shows ∙ sym (answers_after_told whole_numbers c digit) ∙ sym (reads_after whole_numbers c after.attached after.rest))
+    ∙ sym (marked whole_numbers last others (record { first = c; attached = after.attached } ∷ after.rest))
+    ∙ ap (mark_by (rules V15_0 whole_numbers) (last ∷ others)) (sym after.bases)
 
 -- the next character joins the last base if and only if its symbol joins the last base of the state
 stays_is : (whole_numbers : Bool) (walk : Walk) (last : Base) (others : List Base)
@@ -357,10 +346,15 @@ never_stays whole_numbers outcome false is_pictograph before_digit stay =
     ap (λ o. mark_of whole_numbers (decided_at o false is_pictograph) before_digit) (is_equal outcome STAYS stay)
     ∙ never_outcome whole_numbers before_digit is_pictograph
 
+-- one step of the walk
+abbrev pub Passes15 : Bool → Walk → Base → List Base → Character → ℕ → Type 0
+Passes15 whole_numbers after last others c decided =
+    Passes (rules V15_0 whole_numbers) (mark_given whole_numbers decided) (Stands whole_numbers after) last others c
+
 pub passes : (whole_numbers : Bool) (walk : Walk) (symbol next_row outcome : ℕ) (c : Character) → symbol < SYMBOL_COUNT
     → shown symbol ≡ told c → next_row ≡ get_or NEXT_ROWS (walk.row + symbol) 0 → outcome ≡ get_or OUTCOMES (walk.row + symbol) 0 → (last : Base) (others : List Base)
     → Stands whole_numbers walk last others
-    → Passes whole_numbers (record {
+    → Passes15 whole_numbers (record {
       row = next_row;
       is_joined = symbol == JOINER;
       is_pictograph =
@@ -373,7 +367,7 @@ passes whole_numbers walk symbol next_row outcome c symbol_lt shows reads_row re
     elim (cases_Bool (stays stands.state symbol)) [
       | inl stay ↦
           rw (whether, staying, stay) (
-            λ digit. never_stays whole_numbers outcome walk.is_joined walk.is_pictograph digit (staying ∙ stay),
+            λ rest. never_stays whole_numbers outcome walk.is_joined walk.is_pictograph (is (NU ∷ []) rest) (staying ∙ stay),
             attached whole_numbers walk last others stands symbol next_row outcome c symbol_lt shows entry_leads stay,
           )
       | inr begun ↦
@@ -397,13 +391,13 @@ starts symbol next_row c symbol_lt shows reads_row whole_numbers =
     let outcome : ℕ = get_or OUTCOMES (0 + symbol) 0 in
     begins whole_numbers 0 symbol next_row outcome c [] symbol_lt shows (entry_is_right whole_numbers 0 symbol 0 next_row outcome (omega arith) symbol_lt refl reads_row refl) (and_false _) refl
 
--- one step of the pass, stated for the values that the program computes
+-- one step of the walk, stated for the values that the program computes
 pub passes_as : (walk : Walk) (symbol next_row outcome : ℕ) (c : Character) (is_pictograph : Bool) (decided : ℕ)
     → symbol < SYMBOL_COUNT → shown symbol ≡ told c → next_row ≡ get_or NEXT_ROWS (walk.row + symbol) 0 → outcome ≡ get_or OUTCOMES (walk.row + symbol) 0
     → kept walk outcome c ≡ is_pictograph → decided
     ≡ decided_at outcome walk.is_joined walk.is_pictograph
     → (whole_numbers : Bool) (last : Base) (others : List Base) → Stands whole_numbers walk last others
-    → Passes whole_numbers (record {
+    → Passes15 whole_numbers (record {
       row = next_row;
       is_joined = symbol == JOINER;
       is_pictograph =

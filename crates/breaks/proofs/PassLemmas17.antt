@@ -1,4 +1,4 @@
--- One step of the pass, with the rules of Unicode 17.0.
+-- One step of the walk, with the rules of Unicode 17.0.
 use Rattle.std.proofs.Common.{◌≡◌, ℕ, zero, suc, ◌+◌, ◌*◌, ◌/◌, ◌%◌, ◌<◌, ◌≤◌, ◌==◌, nat_lt, nat_le, Bool, true, false, not, ◌&&◌, ◌||◌, List, [], ◌∷◌, ◌++◌, map, get_or, refl, sym, ap, ap₂, subst, ◌∙◌, arith, inl, inr}
 use Rattle.std.proofs.lemmas.Bool.{cases_Bool}
 use Rattle.ucd.specs.declared.line_class.LineClass.{LineClass}
@@ -10,8 +10,9 @@ use Rattle.breaks.specs.Bases.{Base, Character, alone, base_class, bases_of, cla
 use Rattle.breaks.specs.Classes.{is_detail, is_same, is_one_of}
 use Rattle.breaks.specs.Rules.{rules, rows_before_numbers, rows_of_numbers, rows_after_numbers, mark_by, after_final, is, is_dotted_circle, is_not_east_asian, or_edge}
 use Rattle.breaks.specs.Symbols.{shown_17, told_17}
-use Rattle.breaks.specs.Walk.{unattached, with_attached}
-use Rattle.breaks.specs.Walk17.{Bits, Passes17, Stands17, answered_17, answers_17, bases_after, bases_at_17, bits_in, bits_of, carried_17, decided_17, is_stop_digit, is_wide_base, mark_of_17, marks_17, rows_17}
+use Rattle.breaks.specs.Passes.{Passes, bases_after, with_attached}
+use Rattle.breaks.specs.Walk.{unattached}
+use Rattle.breaks.specs.Walk17.{Bits, Stands17, answered_17, answers_17, bases_at_17, bits_in, bits_of, carried_17, decided_17, is_stop_digit, is_wide_base, mark_of_17, marks_17, rows_17}
 use Rattle.breaks.specs.declared.mark.Mark.TheVariants.{Never}
 use Rattle.breaks.specs.declared.entries_17.TheConstants.{NEXT_ROWS, OUTCOMES}
 use Rattle.breaks.specs.declared.symbol_17.TheConstants.{JOINER, SYMBOL_COUNT}
@@ -20,7 +21,7 @@ use Rattle.breaks.specs.declared.walk_17.Walk17.{Walk17}
 use Rattle.breaks.proofs.BoolLemmas.{all_same, all_same_is, below, both, is_below, is_equal, is_within, same, same_is}
 use Rattle.breaks.proofs.Computed.{is_mark}
 use Rattle.breaks.proofs.Computed17.{bits, all_right_17, answers_after_17, asks, befores_at, bits_at, decide_17, gives_17, gives_bits, gives_rest, gives_wide, index_of, is_as_17, is_right_at_17, is_right_17, kind, kind_of, kinds_after, leads_17, marks_by_row_17, may_have, outcomes_are_within_17, part, part_0, part_1, part_2, part_3, part_4, part_5, part_6, rest_at, rows_are_within_17, stays_17, with_width}
-use Rattle.breaks.proofs.PassLemmas.{and_false, first_base, is_mark_is, joiner_attaches, mark_attaches, not_true}
+use Rattle.breaks.proofs.PassLemmas.{and_false, first_base, is_mark_is, joiner_attaches, mark_attaches, not_true, second_bases}
 use Rattle.breaks.proofs.StepLemmas.{end_attached}
 use Rattle.breaks.proofs.StepLemmas17.{circle_told, answers_after_told_17, answers_attached_17, answers_same_17, answers_told_17, carried_attached_17, carried_same_17, carried_told_17, marked_17}
 use Rattle.breaks.proofs.SymbolLemmas17.{is_joiner_17, may_have_told}
@@ -247,18 +248,6 @@ asked_attaches OP detail h = refl
 asked_attaches QU detail h = refl
 asked_attaches class detail h = cc
 
--- if characters can join the first base of a text, the bases after it are those of the characters that do not join it
-pub second_bases : (c : Character) (text : List Character) → is_one_of unattached c.class ≡ false
-    → (attached : List Character) × (bases_of (c ∷ text) ≡ record { first = c; attached = attached } ∷ bases_after text)
-second_bases c [] free = ([], refl)
-second_bases c (d ∷ text) free =
-    elim (cases_Bool (is_one_of (CM ∷ ZWJ ∷ []) d.class)) [
-      | inl stays ↦
-          let next = second_bases d text (mark_attaches d.class stays) in
-          (d ∷ next.0, rw (stays, free, next.1) refl)
-      | inr begins ↦ ([], rw begins refl)
-    ]
-
 -- the outcomes that are marks
 pub same_mark : (decided : ℕ) (p q : List Base) → nat_lt decided 4 ≡ true → mark_of_17 decided p ≡ mark_of_17 decided q
 same_mark zero p q lt = refl
@@ -414,6 +403,10 @@ outcome_stays_17 state symbol next_row outcome entry_leads =
           not_true _ (both _ _ led).0 ∙ sym begun
     ]
 
+-- one step of the walk
+abbrev pub Passes17 : Walk17 → Base → List Base → Character → ℕ → Type 0
+Passes17 after last others c decided = Passes (rules V17_0 false) (mark_of_17 decided) (Stands17 after) last others c
+
 -- a character that joins the last base
 pub passes_stay_17 : (walk : Walk17) (symbol next_row outcome : ℕ) (c : Character) → symbol < SYMBOL_COUNT → shown_17 symbol ≡ told_17 c
     → next_row ≡ get_or NEXT_ROWS (walk.row + symbol) 0 → outcome ≡ get_or OUTCOMES (walk.row + symbol) 0 → (outcome == STAYS) ≡ true
@@ -444,7 +437,7 @@ passes_begin_17 walk symbol next_row outcome decided is_pictograph next_is_wide 
     let entry_leads : Leads17 stands.state symbol next_row outcome = entry_is_right_17 stands.state symbol walk.row next_row outcome stands.below symbol_lt stands.row reads_row reads_outcome in
     let begun : stays_17 stands.state symbol ≡ false = sym (outcome_stays_17 stands.state symbol next_row outcome entry_leads) ∙ begin in
     rw (is, wide, pictograph, stays_is_17 walk last others stands symbol c shows, begun) (
-      marks_begun_17 walk last others stands symbol next_row outcome c shows entry_leads begun,
+      marks_begun_17 walk last others stands symbol next_row outcome c shows entry_leads begun false,
       begins_17 stands.state symbol next_row outcome c (last ∷ others) walk.is_wide symbol_lt shows entry_leads begun stands.carries
           (ap (λ (b : Bits). b.is_wide) stands.bits),
     )

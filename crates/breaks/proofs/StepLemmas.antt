@@ -1,4 +1,4 @@
--- The results of all conditions after one step of the pass.
+-- The results of all conditions after one step of the walk.
 use Rattle.std.proofs.Common.{◌≡◌, ℕ, ◌+◌, ◌%◌, ◌==◌, Bool, true, false, not, cond, ◌&&◌, ◌||◌, List, [], ◌∷◌, ◌++◌, map, get_or, refl, sym, ap, ◌∙◌, arith, if◌then◌else◌}
 use Rattle.ucd.specs.declared.version.Version.TheVariants.{V15_0}
 use Rattle.std.specs.List.{prefix_len}

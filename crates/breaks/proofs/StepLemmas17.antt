@@ -1,4 +1,4 @@
--- The results of all conditions after one step of the pass, with the rules of Unicode 17.0.
+-- The results of all conditions after one step of the walk, with the rules of Unicode 17.0.
 use Rattle.std.proofs.Common.{◌≡◌, Bool, true, false, not, ◌&&◌, List, [], ◌∷◌, ◌++◌, map, get_or, refl, sym, ap, ◌∙◌, if◌then◌else◌}
 use Rattle.ucd.specs.declared.line_class.LineClass.{LineClass}
 use Rattle.ucd.specs.declared.line_class.LineClass.TheVariants.{AK, AL, AS, B2, CL, CM, CP, HH, HL, HY, OP, QU, RI, SP, ZW, ZWJ}

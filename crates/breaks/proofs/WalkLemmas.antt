@@ -1,29 +1,23 @@
--- The pass over the characters gives the marks of the bases.
-use Rattle.std.proofs.Common.{◌≡◌, ℕ, Bool, true, false, ◌==◌, nat_lt, not, suc, ◌+◌, ◌-◌, ◌<◌, ◌≤◌, Some, length, get_or, take, drop, arith, List, [], ◌∷◌, ◌++◌, map, if◌then◌else◌, refl, sym, ap, subst, ◌∙◌, append_assoc, append-nil, inl, inr}
+-- The walk over the characters gives the marks of the bases.
+use Rattle.std.proofs.Common.{◌≡◌, ℕ, Bool, true, false, suc, ◌+◌, ◌-◌, ◌<◌, ◌≤◌, Some, length, get_or, take, drop, arith, List, [], ◌∷◌, ◌++◌, map, if◌then◌else◌, refl, sym, ap, subst, ◌∙◌, append_assoc, append-nil, inl, inr}
 use Rattle.ucd.specs.declared.version.Version.TheVariants.{V15_0, V17_0}
 use Rattle.ucd.specs.declared.version.Version.{Version}
 use Rattle.std.proofs.Math.ListN.{set}
 use Rattle.std.specs.List.{slice_get}
 use Rattle.std.proofs.lemmas.Bool.{cases_Bool}
-use Rattle.std.proofs.lemmas.Bool.Decides.{nat_tests}
 use Rattle.std.proofs.lemmas.List.{at_drop_more, drop_all, length-map, length-set, take_all, take_more_set}
 use Rattle.breaks.specs.Bases.{Base, Character, alone, joined, stays_with, bases_of, end_of, character}
 use Rattle.breaks.specs.Marks.{marks_after, marks_of}
-use Rattle.breaks.specs.Classes.{is_same, is_one_of}
+use Rattle.breaks.specs.Passes.{Passes, bases_after, with_attached}
 use Rattle.breaks.specs.Rules.{Rule, rules, rows_before_numbers, mark_by}
-use Rattle.breaks.specs.Symbols.{character_by, shown, told}
-use Rattle.breaks.specs.Walk.{Passes, Stands, is_before_digit, mark_of, with_attached}
-use Rattle.ucd.specs.declared.line_class.LineClass.TheVariants.{CM, NU, ZWJ}
+use Rattle.breaks.specs.Symbols.{character_by}
 use Rattle.breaks.specs.declared.mark.Mark.{Mark}
 use Rattle.breaks.specs.declared.mark.Mark.TheVariants.{Never, Must}
-use Rattle.breaks.specs.declared.symbol.TheConstants.{ATTACHED, DIGIT, SYMBOL_COUNT}
-use Rattle.breaks.specs.declared.walk.Walk.{Walk}
 use Rattle.ucd.specs.declared.properties.Properties.{Properties}
 use Rattle.ucd.specs.declared.tables.Tables.{Tables}
 use Rattle.ucd.specs.Properties.{properties_of}
 use Rattle.breaks.proofs.PassLemmas.{first_base}
 use Rattle.breaks.proofs.StepLemmas.{end_attached}
-use Rattle.breaks.proofs.SymbolLemmas.{is_digit, is_not_attached}
 
 -- the marks from the position after the base `last` on, by recursion over the characters
 abbrev pub walk : List Rule → List Base → Base → List Character → List Mark
@@ -101,87 +95,45 @@ pub begins_walk : (t : Tables) (whole_numbers : Bool) (text rest : List ℕ) (c 
 unfolding marks_of
 begins_walk t whole_numbers text rest c first marks is reads none = rw (none, is, reads) (walk_from_start t.version whole_numbers (character t c) (map (character t) rest))
 
--- The state belongs to the bases so far. The marks so far, followed by the marks of the recursion, are all
+-- The state belongs to the bases so far, as `stands` says. The marks so far, followed by the marks of the recursion, are all
 -- marks.
-abbrev pub Walks : Bool → Walk → List Mark → List Character → List Mark → Type 0
-Walks whole_numbers before marks text whole =
-    (last : Base) × (others : List Base) × Stands whole_numbers before last others × (marks ++ walk (rules V15_0 whole_numbers) others last text ≡ whole)
+abbrev pub Walks : List Rule → (Base → List Base → Type 0) → List Mark → List Character → List Mark → Type 0
+Walks rules stands marks text whole =
+    (last : Base) × (others : List Base) × stands last others × (marks ++ walk rules others last text ≡ whole)
 
-passes_on : (whole_numbers : Bool) (before after : Walk) (marks : List Mark) (mark : Mark) (decided : ℕ)
-    (c : Character) (text : List Character) (whole : List Mark) (last : Base) (others : List Base) → marks
-    ++ walk (rules V15_0 whole_numbers) others last (c ∷ text) ≡ whole → Passes whole_numbers after last others c decided → mark
-    ≡ mark_of whole_numbers decided (is_before_digit text) → Walks whole_numbers after (marks ++ mark ∷ []) text whole
-passes_on whole_numbers before after marks mark decided c text whole last others is passes seen =
-    elim (cases_Bool (stays_with (end_of last) c)) [
-      | inl stays ↦
-          let stayed : ((digit : Bool) → mark_of whole_numbers decided digit ≡ Never) × Stands whole_numbers after (with_attached last c) others = rw stays at passes in
-          (with_attached last c, others, stayed.1, rw (append_assoc, seen ∙ stayed.0 (is_before_digit text)) (rw stays at is))
-      | inr begins ↦
-          let begun : ((text : List Character) → mark_of whole_numbers decided (is_before_digit text)
-          ≡ mark_by (rules V15_0 whole_numbers) (last ∷ others) (bases_of (c ∷ text)))
-          × Stands whole_numbers after (alone c) (last ∷ others) = rw begins at passes in
-          (alone c, last ∷ others, begun.1, rw (append_assoc, seen ∙ begun.0 text) (rw begins at is))
-    ]
+module _ (rules : List Rule) (stands : Base → List Base → Type 0) (mark_of : List Base → Mark) where
+  passes_on : (marks : List Mark) (mark : Mark) (c : Character) (text : List Character) (whole : List Mark) (last : Base) (others : List Base)
+      → marks ++ walk rules others last (c ∷ text) ≡ whole → Passes rules mark_of stands last others c
+      → mark ≡ mark_of (bases_after text) → Walks rules stands (marks ++ mark ∷ []) text whole
+  passes_on marks mark c text whole last others so_far passes seen =
+      elim (cases_Bool (stays_with (end_of last) c)) [
+        | inl stays ↦
+            let stayed : ((rest : List Base) → mark_of rest ≡ Never) × stands (with_attached last c) others = rw stays at passes in
+            (with_attached last c, others, stayed.1, rw (append_assoc, seen ∙ stayed.0 (bases_after text)) (rw stays at so_far))
+        | inr begins ↦
+            let begun : ((text : List Character) → mark_of (bases_after text) ≡ mark_by rules (last ∷ others) (bases_of (c ∷ text)))
+            × stands (alone c) (last ∷ others) = rw begins at passes in
+            (alone c, last ∷ others, begun.1, rw (append_assoc, seen ∙ begun.0 text) (rw begins at so_far))
+      ]
 
-pub is_less : (a b : ℕ) → a < b → nat_lt a b ≡ true
-is_less a b h = grind (arith, nat_tests)
+module _ {X : Type 0} (read : X → Character) (rest : List X) (whole : List Mark) (rules : List Rule) where
+  here : (i : ℕ) (x : X) → i < length rest → x ≡ get_or rest i x → drop i rest ≡ x ∷ drop (i + 1) rest
+  here i x lt reads = at_drop_more (λ xs. xs) rest i x lt ∙ ap (λ y. y ∷ drop (i + 1) rest) (sym reads)
 
-pub is_no_less : (a b : ℕ) → b ≤ a → nat_lt a b ≡ false
-is_no_less a b h = grind (arith, nat_tests)
-
-not_is : (b : Bool) → not b ≡ true → b ≡ false
-not_is true h = cc
-not_is false h = refl
-
-not_other : (b : Bool) → not b ≡ false → b ≡ true
-not_other true h = refl
-not_other false h = cc
-
-attached_class : (symbol : ℕ) (c : Character) → symbol < SYMBOL_COUNT → shown symbol ≡ told c → nat_lt symbol ATTACHED ≡ false → is_one_of (CM ∷ ZWJ ∷ []) c.class ≡ true
-attached_class symbol c below shows stays =
-    ap (λ d. is_one_of (CM ∷ ZWJ ∷ []) d.class) (sym shows) ∙ not_other _ (sym (is_not_attached symbol below) ∙ stays)
-
-other_class : (symbol : ℕ) (c : Character) → symbol < SYMBOL_COUNT → shown symbol ≡ told c → nat_lt symbol ATTACHED ≡ true → is_one_of (CM ∷ ZWJ ∷ []) c.class ≡ false
-other_class symbol c below shows begins =
-    ap (λ d. is_one_of (CM ∷ ZWJ ∷ []) d.class) (sym shows) ∙ not_is _ (sym (is_not_attached symbol below) ∙ begins)
-
-module _ {X : Type 0} (read : X → Character) (rest : List X) where
-  -- if the character at i joins the base before it, `is_before_digit` gives the same result from i as from i
-  -- + 1
-  pub looks_on : (i : ℕ) (x : X) (symbol : ℕ) → i < length rest → x ≡ get_or rest i x → symbol < SYMBOL_COUNT
-      → shown symbol ≡ told (read x) → ATTACHED ≤ symbol → is_before_digit (map read (drop i rest))
-      ≡ is_before_digit (map read (drop (i + 1) rest))
-  looks_on i x symbol lt is below shows stays =
-      let here : drop i rest ≡ x ∷ drop (i + 1) rest = at_drop_more (λ xs. xs) rest i x lt ∙ ap (λ y. y ∷ drop (i + 1) rest) (sym is) in
-      let attached : is_one_of (CM ∷ ZWJ ∷ []) (read x).class ≡ true = attached_class symbol (read x) below shows (is_no_less symbol ATTACHED stays) in
-      rw (here, attached) refl
-
-  pub finds : (i : ℕ) (x : X) (symbol : ℕ) → i < length rest → x ≡ get_or rest i x → symbol < SYMBOL_COUNT
-      → shown symbol ≡ told (read x) → symbol < ATTACHED → (symbol == DIGIT) ≡ is_before_digit (map read (drop i rest))
-  finds i x symbol lt is below shows stays =
-      let here : drop i rest ≡ x ∷ drop (i + 1) rest = at_drop_more (λ xs. xs) rest i x lt ∙ ap (λ y. y ∷ drop (i + 1) rest) (sym is) in
-      let other : is_one_of (CM ∷ ZWJ ∷ []) (read x).class ≡ false = other_class symbol (read x) below shows (is_less symbol ATTACHED stays) in
-      rw (here, other) (is_digit symbol below ∙ ap (λ d. is_same d.class NU) shows)
-
-module _ {X : Type 0} (read : X → Character) (rest : List X) (whole : List Mark) where
-  -- one step of the pass writes the mark at its index
-  pub steps : (whole_numbers : Bool) (i : ℕ) (x : X) (c : Character) (before after : Walk) (marks new : List Mark)
-      (mark : Mark) (decided : ℕ) → i < length rest → x ≡ get_or rest i x → c ≡ read x
-      → Walks whole_numbers before (take i marks) (map read (drop i rest)) whole
-      → ((whole_numbers : Bool) (last : Base) (others : List Base) → Stands whole_numbers before last others
-      → Passes whole_numbers after last others c decided) → mark
-      ≡ mark_of whole_numbers decided (is_before_digit (map read (drop (i + 1) rest))) → take (i + 1) new
-      ≡ take i marks ++ mark ∷ [] → Walks whole_numbers after (take (i + 1) new) (map read (drop (i + 1) rest)) whole
-  steps whole_numbers i x c before after marks new mark decided lt is reads (last, others, stands, so_far) passes seen written =
-      let here : drop i rest ≡ x ∷ drop (i + 1) rest = at_drop_more (λ xs. xs) rest i x lt ∙ ap (λ y. y ∷ drop (i + 1) rest) (sym is) in
-      rw written (passes_on whole_numbers before after (take i marks) mark decided c (map read (drop (i + 1) rest))
-      whole last others (rw (here, ← reads) at so_far) (passes whole_numbers last others stands) seen)
+  -- one step of the walk writes the mark at its index
+  pub steps : (before after : Base → List Base → Type 0) (mark_of : List Base → Mark) (i : ℕ) (x : X) (marks new : List Mark) (mark : Mark)
+      → i < length rest → x ≡ get_or rest i x → Walks rules before (take i marks) (map read (drop i rest)) whole
+      → ((last : Base) (others : List Base) → before last others → Passes rules mark_of after last others (read x))
+      → mark ≡ mark_of (bases_after (map read (drop (i + 1) rest))) → take (i + 1) new ≡ take i marks ++ mark ∷ []
+      → Walks rules after (take (i + 1) new) (map read (drop (i + 1) rest)) whole
+  steps before after mark_of i x marks new mark lt reads (last, others, stands, so_far) passes seen written =
+      rw written (passes_on rules after mark_of (take i marks) mark (read x) (map read (drop (i + 1) rest))
+      whole last others (rw (here i x lt reads) at so_far) (passes last others stands) seen)
 
   -- after the last character, the mark `Must` completes the list
-  pub ends : (whole_numbers : Bool) (i : ℕ) (before : Walk) (marks : List Mark) → i ≡ length rest → length marks
-      ≡ length rest + 1 → Walks whole_numbers before (take i marks) (map read (drop i rest)) whole
-      → set marks (length rest) Must ≡ whole
-  ends whole_numbers i before marks last_place len (last, others, stands, so_far) =
+  pub ends : (stands : Base → List Base → Type 0) (i : ℕ) (marks : List Mark) → i ≡ length rest → length marks ≡ length rest + 1
+      → Walks rules stands (take i marks) (map read (drop i rest)) whole → set marks (length rest) Must ≡ whole
+  ends stands i marks last_place len (last, others, belongs, so_far) =
       let none : drop i rest ≡ [] = drop_all i rest (omega arith) in
       let written : take (length rest + 1) (set marks (length rest) Must) ≡ take (length rest) marks ++ Must ∷ [] = take_more_set marks (length rest) Must (omega arith) in
       let all_of_it : take (length rest + 1) (set marks (length rest) Must)
@@ -189,6 +141,18 @@ module _ {X : Type 0} (read : X → Character) (rest : List X) (whole : List Mar
       take_all (length rest + 1) (set marks (length rest) Must)
       (omega (arith, length-set marks (length rest) Must)) in
       sym all_of_it ∙ written ∙ ap (λ n. take n marks ++ Must ∷ []) (sym last_place) ∙ rw none at so_far
+
+-- Reading on for a question: `asked` gives the mark of what is asked at a character, given the bases after the next one.
+module _ {X : Type 0} (read : X → Character) (rest : List X) where
+  -- one step
+  pub asks_on : (asked answer : List Base → Mark) (i : ℕ) (x : X) (whole : Mark) → i < length rest → x ≡ get_or rest i x
+      → ((text : List Character) → asked (bases_after (read x ∷ text)) ≡ answer (bases_after text))
+      → whole ≡ asked (bases_after (map read (drop i rest))) → whole ≡ answer (bases_after (map read (drop (i + 1) rest)))
+  asks_on asked answer i x whole lt reads said so_far =
+      so_far ∙ ap (λ xs. asked (bases_after (map read xs))) (here read rest [] [] i x lt reads) ∙ said (map read (drop (i + 1) rest))
+
+  pub ends_asking : (asked : List Base → Mark) (i : ℕ) → length rest ≤ i → asked (bases_after (map read (drop i rest))) ≡ asked []
+  ends_asking asked i ge = ap (λ xs. asked (bases_after (map read xs))) (drop_all i rest ge)
 
 -- the recursion gives a mark for each position
 length-walk : (rs : List Rule) (others : List Base) (last : Base) (text : List Character) → length (walk rs others last text) ≡ suc (length text)
@@ -259,3 +223,14 @@ begins_read v t whole_numbers text properties rest p version is reads =
 
 pub no_text : (t : Tables) (text : List ℕ) (properties : List Properties) → properties ≡ map (properties_of t) text → length properties ≡ 0 → length text ≡ 0
 no_text t text properties is none = sym (length-map text (properties_of t)) ∙ sym (ap length is) ∙ none
+
+-- With 17.0, whole numbers change nothing.
+same_rules : (whole_numbers : Bool) → rules V17_0 whole_numbers ≡ rules V17_0 false
+unfolding rules
+same_rules whole_numbers = refl
+
+pub whole_anyway : (t : Tables) (whole_numbers : Bool) (text : List ℕ) → t.version ≡ V17_0 → marks_of t whole_numbers text ≡ marks_of t false text
+unfolding marks_of
+whole_anyway t whole_numbers text version =
+    ap (λ rs. marks_after rs [] (bases_of (map (character t) text)))
+    (ap (λ v. rules v whole_numbers) version ∙ same_rules whole_numbers ∙ sym (ap (λ v. rules v false) version))

@@ -2,19 +2,20 @@
 ghost use Rattle.std.specs.Prelude.{◌≡◌, ◌+◌, ◌-◌, ◌<◌, ◌≤◌, ℕ, Bool, false, true};
 ghost use Rattle.std.specs.Prelude.{List, Some, drop, length, map};
 ghost use Rattle.std.specs.List.{list_all};
-ghost use Rattle.std.specs.Prelude.{slice_get, slice_index_or, vec_capacity, IfOk, OnErr, OnOk};
+ghost use Rattle.std.specs.Prelude.{slice_get, vec_capacity, IfOk, OnErr, OnOk};
 ghost use Rattle.ucd.specs.Properties.{properties_of};
-ghost use Rattle.ucd.specs.declared.version.Version.TheVariants.{V15_0, V17_0};
+ghost use Rattle.ucd.specs.declared.version.Version.TheVariants.{V17_0};
 ghost use Rattle.breaks.specs.Marks.{marks_of};
+ghost use Rattle.breaks.specs.Bases.{Base};
+ghost use Rattle.breaks.specs.Passes.{Passes, bases_after};
+ghost use Rattle.breaks.specs.Rules.{rules as all_rules};
 ghost use Rattle.breaks.specs.Symbols.{character_by};
-ghost use Rattle.breaks.specs.Walk.{is_before_digit, is_ordinary, mark_of};
 ghost use Rattle.breaks.specs.declared.mark.Mark.TheVariants.{Must};
 
 use crate::characters::{Characters, Known, LookedUp};
-use crate::mark_17::{mark_all_17, mark_known_17};
-use crate::symbol::{ATTACHED, DIGIT, symbol_of};
-use crate::table::WAITS;
-use crate::walk::{Walk, is_ordinary, mark_alone};
+use crate::rules::Rules;
+use crate::walk::Rules15;
+use crate::walk_17::Rules17;
 use std::alloc::{AllocError, Global};
 use ucd::{Properties, Tables, Version};
 
@@ -48,10 +49,7 @@ pub fn marks(
     let mut marks = Vec::new(alloc);
     marks.resize(text.len(), Mark::Must)?;
     let characters = LookedUp { tables, text };
-    match tables.version() {
-        Version::V15_0 => mark_all(tables, text, characters, whole_numbers, &mut marks),
-        Version::V17_0 => mark_all_17(tables, text, characters, &mut marks),
-    }
+    mark_all(tables, text, characters, whole_numbers, &mut marks);
     Ok(marks)
 }
 
@@ -72,45 +70,11 @@ pub fn marks_into(
 {
     marks.resize(properties.len(), Mark::Must)?;
     let characters = Known { properties };
-    match tables.version() {
-        Version::V15_0 => mark_15(tables, text, characters, whole_numbers, marks),
-        Version::V17_0 => mark_known_17(tables, text, characters, marks),
-    }
+    mark_all(tables, text, characters, whole_numbers, marks);
     Ok(())
 }
 
-// Overwrites `marks` with the break mark after each character, with the rules of Unicode 15.0.
-fn mark_15(
-    tables: &Tables,
-    text: &[char],
-    known: Known<'_>,
-    whole_numbers: bool,
-    marks: &mut [Mark],
-)
-    requires len { length marks.old ≡ length text.now }
-    requires version { tables.now.version ≡ V15_0 }
-    requires characters { known.properties.now ≡ map (properties_of tables.now) text.now }
-    ensures { marks.new ≡ marks_of tables.now whole_numbers text.now }
-{
-    if are_ordinary(known.properties) {
-        mark_ordinary(tables, text, known, whole_numbers, marks);
-    } else {
-        mark_all(tables, text, known, whole_numbers, marks);
-    }
-}
-
-// Returns whether no character is a ZWJ or a future pictograph. The loop has no branches, so that the
-// compiler tests many characters at a time.
-fn are_ordinary(properties: &[Properties]) -> bool
-    ensures { result ≡ list_all is_ordinary properties.now }
-{
-    let mut ordinary = true;
-    for at in 0..properties.len() {
-        ordinary &= is_ordinary(properties[at]);
-    }
-    ordinary
-}
-
+// Overwrites `marks` with the break mark after each character.
 fn mark_all<C: Characters>(
     tables: &Tables,
     text: &[char],
@@ -119,76 +83,122 @@ fn mark_all<C: Characters>(
     marks: &mut [Mark],
 )
     requires len { length marks.old ≡ length text.now }
-    requires version { tables.now.version ≡ V15_0 }
     requires characters { C.all characters ≡ map (properties_of tables.now) text.now }
     ensures { marks.new ≡ marks_of tables.now whole_numbers text.now }
+{
+    match tables.version() {
+        Version::V15_0 => mark_by(tables, text, characters, Rules15 { whole_numbers }, marks),
+        Version::V17_0 => mark_by(tables, text, characters, Rules17, marks),
+    }
+}
+
+// Does the same with the rules of one version.
+fn mark_by<R: Rules, C: Characters>(
+    tables: &Tables,
+    text: &[char],
+    characters: C,
+    rules: R,
+    marks: &mut [Mark],
+)
+    requires len { length marks.old ≡ length text.now }
+    requires version { tables.now.version ≡ R.version }
+    requires characters { C.all characters ≡ map (properties_of tables.now) text.now }
+    ensures { marks.new ≡ marks_of tables.now (R.whole_numbers rules) text.now }
+{
+    if C::ARE_KNOWN && are_ordinary::<R, C>(characters) {
+        mark_each::<R, C, true>(tables, text, characters, rules, marks);
+    } else {
+        mark_each::<R, C, false>(tables, text, characters, rules, marks);
+    }
+}
+
+// Returns whether all characters are ordinary. The loop has no branches, so that the compiler tests many
+// characters at a time.
+fn are_ordinary<R: Rules, C: Characters>(characters: C) -> bool
+    ensures { result ≡ list_all R.is_ordinary (C.all characters) }
+{
+    let mut ordinary = true;
+    for at in 0..characters.len() {
+        ordinary &= R::is_ordinary(characters.get(at));
+    }
+    ordinary
+}
+
+// Does the same as `mark_by`, in fewer steps with `ORDINARY`, which says that all characters are ordinary.
+fn mark_each<R: Rules, C: Characters, const ORDINARY: bool>(
+    tables: &Tables,
+    text: &[char],
+    characters: C,
+    rules: R,
+    marks: &mut [Mark],
+)
+    requires len { length marks.old ≡ length text.now }
+    requires version { tables.now.version ≡ R.version }
+    requires characters { C.all characters ≡ map (properties_of tables.now) text.now }
+    requires ordinary { ORDINARY ≡ true → list_all R.is_ordinary (C.all characters) ≡ true }
+    ensures { marks.new ≡ marks_of tables.now (R.whole_numbers rules) text.now }
 {
     let Some((first, rest)) = characters.split_first() else {
         return;
     };
-    let mut walk = Walk::start(first);
+    let mut walk = rules.start(first);
     let last = rest.len();
     for i in 0..last {
-        let decided = walk.pass(rest.get(i));
-        marks[i] = mark_before(rest, i + 1, decided, whole_numbers);
+        let outcome = pass::<R, ORDINARY>(rules, &mut walk, rest.get(i));
+        marks[i] = mark_before(rest, i + 1, outcome, rules);
     }
     marks[last] = Mark::Must;
 }
 
-// Does the same as `mark_all` for ordinary characters, in fewer steps.
-fn mark_ordinary<C: Characters>(
-    tables: &Tables,
-    text: &[char],
-    characters: C,
-    whole_numbers: bool,
-    marks: &mut [Mark],
-)
-    requires len { length marks.old ≡ length text.now }
-    requires version { tables.now.version ≡ V15_0 }
-    requires characters { C.all characters ≡ map (properties_of tables.now) text.now }
-    requires ordinary { list_all is_ordinary (C.all characters) ≡ true }
-    ensures { marks.new ≡ marks_of tables.now whole_numbers text.now }
+// Returns the outcome before the next character, and moves past that character.
+fn pass<R: Rules, const ORDINARY: bool>(rules: R, walk: &mut R::Walk, next: Properties) -> u8
+    requires row { R.within walk.old }
+    requires before { ORDINARY ≡ true → R.follows_ordinary walk.old }
+    requires next { ORDINARY ≡ true → R.is_ordinary next ≡ true }
+    ensures passes { (last : Base) (others : List Base) → R.stands rules walk.old last others
+        → Passes (all_rules R.version (R.whole_numbers rules)) (R.mark_of rules result)
+        (R.stands rules walk.new) last others (character_by R.version next) }
+    ensures before { ORDINARY ≡ true → R.follows_ordinary walk.new }
+    ensures within { R.within walk.new }
+    ensures below { result < R.outcome_count }
 {
-    let Some((first, rest)) = characters.split_first() else {
-        return;
-    };
-    let mut walk = Walk::start(first);
-    let end = rest.len();
-    for i in 0..end {
-        let outcome = walk.pass_ordinary(rest.get(i));
-        marks[i] = mark_before(rest, i + 1, outcome, whole_numbers);
-    }
-    marks[end] = Mark::Must;
-}
-
-// Returns the mark before a character, given its outcome. If the outcome is `WAITS`, the mark also depends on
-// the characters after that character.
-fn mark_before<C: Characters>(characters: C, after: usize, decided: u8, whole_numbers: bool) -> Mark
-    requires place { after ≤ length (C.all characters) }
-    requires below { decided < 8 }
-    ensures { result ≡ mark_of whole_numbers decided
-        (is_before_digit (map (character_by V15_0) (drop after (C.all characters)))) }
-{
-    if decided == WAITS && whole_numbers && is_before_digit(characters, after) {
-        Mark::Never
+    if ORDINARY {
+        rules.pass_ordinary(walk, next)
     } else {
-        mark_alone(decided, whole_numbers)
+        rules.pass(walk, next)
     }
 }
 
-// Returns whether the first base at or after an index is NU. Only characters that are attached to the base
-// before that index are read twice.
-fn is_before_digit<C: Characters>(characters: C, from: usize) -> bool
-    requires { from ≤ length (C.all characters) }
-    ensures { result ≡ is_before_digit (map (character_by V15_0) (drop from (C.all characters))) }
+// Returns the mark before a character, given the outcome there and the index after the character.
+#[inline(always)] // so that most characters need no call
+fn mark_before<R: Rules, C: Characters>(characters: C, after: usize, outcome: u8, rules: R) -> Mark
+    requires place { after ≤ length (C.all characters) }
+    requires below { outcome < R.outcome_count }
+    ensures { result ≡ R.mark_of rules outcome
+        (bases_after (map (character_by R.version) (drop after (C.all characters)))) }
 {
-    for i in from..characters.len() {
-        let symbol = symbol_of(characters.get(i));
-        if symbol < ATTACHED {
-            return symbol == DIGIT;
-        }
+    if rules.is_question(outcome) {
+        mark_asked(characters, after, outcome, rules)
+    } else {
+        rules.mark(outcome)
     }
-    false
+}
+
+// Does the same for a question: reads on until it is answered, past the marks of one or two bases.
+fn mark_asked<R: Rules, C: Characters>(characters: C, after: usize, question: u8, rules: R) -> Mark
+    requires place { after ≤ length (C.all characters) }
+    requires below { question < R.outcome_count }
+    ensures { result ≡ R.mark_of rules question
+        (bases_after (map (character_by R.version) (drop after (C.all characters)))) }
+{
+    let mut asked = question;
+    for i in after..characters.len() {
+        if !rules.is_question(asked) {
+            return rules.mark(asked);
+        }
+        asked = rules.answer(asked, characters.get(i));
+    }
+    rules.mark(asked)
 }
 
 /// States, as a theorem, that a paragraph has as many marks as characters.

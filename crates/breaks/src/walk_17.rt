@@ -1,13 +1,17 @@
-//! The single pass over the characters of a paragraph, with the rules of Unicode 17.0.
-ghost use Rattle.std.specs.Prelude.{◌≡◌, ◌<◌, ◌≤◌, true, ◌==◌, if◌then◌else◌, List, []};
+//! The walk over the characters of a paragraph, with the rules of Unicode 17.0.
+ghost use Rattle.std.specs.Prelude.{◌≡◌, ◌<◌, ◌≤◌, false, nat_le};
 ghost use Rattle.ucd.specs.declared.version.Version.TheVariants.{V17_0};
-ghost use Rattle.breaks.specs.Bases.{Base, alone, is_east_asian};
+ghost use Rattle.breaks.specs.Bases.{alone, is_east_asian};
 ghost use Rattle.breaks.specs.Symbols.{character_by, shown_17, told_17};
 ghost use Rattle.breaks.specs.declared.symbol_17.TheConstants.{SYMBOL_COUNT};
-ghost use Rattle.breaks.specs.declared.table_17.TheConstants.{DECIDED_COUNT, LAST_ROW, OUTCOME_COUNT};
-ghost use Rattle.breaks.specs.Walk17.{Stands17, Passes17, FollowsNarrow, bits_in, decided_17};
-ghost use Rattle.breaks.specs.Walk17.{decided_narrow, is_narrow_17};
+ghost use Rattle.breaks.specs.declared.table_17.TheConstants.{DECIDED_COUNT, LAST_ROW, LB15B};
+ghost use Rattle.breaks.specs.declared.table_17.TheConstants.{OUTCOME_COUNT};
+ghost use Rattle.breaks.specs.Walk17.{Stands17, FollowsNarrow, bits_in, decided_17};
+ghost use Rattle.breaks.specs.Walk17.{decided_narrow, is_narrow_17, mark_of_17};
 
+use crate::mark::Mark;
+use crate::questions::{answer, mark_17};
+use crate::rules::Rules;
 use crate::symbol_17::{ATTACHED, JOINER, symbol_17};
 use crate::table_17::{
     FINAL, FINAL_INITIAL, FINAL_UNLESS, INITIAL, LB15B, LB15C, LB19A, LB25, LB25_IS, LB28A, MAY,
@@ -15,7 +19,11 @@ use crate::table_17::{
 };
 use ucd::Properties;
 
-/// The state of the pass: what the rules need to know about the bases before a position.
+/// The rules of Unicode 17.0.
+#[derive(Clone, Copy)]
+pub struct Rules17;
+
+/// The state of the walk.
 #[derive(Clone, Copy)]
 pub struct Walk17 {
     // The start of the state's row in the table.
@@ -30,13 +38,29 @@ pub struct Walk17 {
     was_wide: bool,
 }
 
-impl Walk17 {
-    /// Returns the state after the first character of a text.
-    pub fn start(first: Properties) -> Walk17
-        ensures stands { Stands17 result (alone (character_by V17_0 first)) [] }
-        ensures narrow { is_narrow_17 first ≡ true → FollowsNarrow result }
-        ensures within { result.row ≤ LAST_ROW }
-    {
+impl Rules for Rules17 {
+    type Walk = Walk17;
+
+    ghost version = { V17_0 };
+
+    // Both are the same.
+    ghost whole_numbers = { λ _. false };
+
+    ghost stands = { λ _. Stands17 };
+
+    ghost within = { λ walk. walk.row ≤ LAST_ROW };
+
+    ghost outcome_count = { DECIDED_COUNT };
+
+    ghost is_question = { λ _ outcome. nat_le LB15B outcome };
+
+    ghost mark_of = { λ _. mark_of_17 };
+
+    ghost is_ordinary = { is_narrow_17 };
+
+    ghost follows_ordinary = { FollowsNarrow };
+
+    fn start(self, first: Properties) -> Walk17 {
         let symbol = symbol_17(first);
         Walk17 {
             row: next_row(START, symbol),
@@ -47,55 +71,54 @@ impl Walk17 {
         }
     }
 
-    /// Returns the mark before the next character, or the question that decides it, and moves past that
-    /// character.
-    pub fn pass(&mut self, next: Properties) -> u8
-        requires { self.old.row ≤ LAST_ROW }
-        ensures passes { (last : Base) (others : List Base)
-            → Stands17 self.old last others
-            → Passes17 self.new last others (character_by V17_0 next) result }
-        ensures within { self.new.row ≤ LAST_ROW }
-        ensures below { result < DECIDED_COUNT }
-    {
+    fn pass(self, walk: &mut Walk17, next: Properties) -> u8 {
         let symbol = symbol_17(next);
-        let outcome = outcome(self.row, symbol);
-        let row = next_row(self.row, symbol);
+        let outcome = outcome(walk.row, symbol);
+        let row = next_row(walk.row, symbol);
         let is_joined = symbol == JOINER;
         if outcome == STAYS {
-            self.row = row;
-            self.is_joined = is_joined;
+            walk.row = row;
+            walk.is_joined = is_joined;
             return NEVER;
         }
         let next_is_wide = is_wide(symbol, next);
-        let decided = self.decide(outcome, next_is_wide);
-        *self = Walk17 {
+        let decided = walk.decide(outcome, next_is_wide);
+        *walk = Walk17 {
             row,
             is_joined,
             is_pictograph: next.is_future_pictograph(),
             is_wide: next_is_wide,
-            was_wide: self.is_wide,
+            was_wide: walk.is_wide,
         };
         decided
     }
 
-    /// Does the same as `pass` between narrow characters, for which the table decides alone.
-    pub fn pass_narrow(&mut self, next: Properties) -> u8
-        requires row { self.old.row ≤ LAST_ROW }
-        requires before { FollowsNarrow self.old }
-        requires next { is_narrow_17 next ≡ true }
-        ensures passes { (last : Base) (others : List Base)
-            → Stands17 self.old last others
-            → Passes17 self.new last others (character_by V17_0 next) result }
-        ensures before { FollowsNarrow self.new }
-        ensures within { self.new.row ≤ LAST_ROW }
-        ensures below { result < DECIDED_COUNT }
-    {
+    fn pass_ordinary(self, walk: &mut Walk17, next: Properties) -> u8 {
         let symbol = symbol_17(next);
-        let row = self.row;
-        self.row = next_row(row, symbol);
+        let row = walk.row;
+        walk.row = next_row(row, symbol);
         decided_narrow(outcome(row, symbol))
     }
 
+    // Neither wide nor a ZWJ nor a future pictograph.
+    fn is_ordinary(one: Properties) -> bool {
+        (symbol_17(one) != JOINER) & (!one.is_future_pictograph() & !one.is_wide())
+    }
+
+    fn is_question(self, outcome: u8) -> bool {
+        outcome >= LB15B
+    }
+
+    fn answer(self, question: u8, next: Properties) -> u8 {
+        answer(question, next)
+    }
+
+    fn mark(self, outcome: u8) -> Mark {
+        mark_17(outcome)
+    }
+}
+
+impl Walk17 {
     // Returns the mark or the question of an outcome: `NEVER` if the last character is a ZWJ (LB8a).
     fn decide(&self, outcome: u8, next_is_wide: bool) -> u8
         requires { outcome < OUTCOME_COUNT }
@@ -118,13 +141,6 @@ impl Walk17 {
         };
         if is_open { open } else { NEVER }
     }
-}
-
-/// Returns whether a character is neither wide nor a ZWJ nor a future pictograph.
-pub fn is_narrow(one: Properties) -> bool
-    ensures { result ≡ is_narrow_17 one }
-{
-    (symbol_17(one) != JOINER) & (!one.is_future_pictograph() & !one.is_wide())
 }
 
 // Returns the mark or the question of an outcome between narrow characters.
