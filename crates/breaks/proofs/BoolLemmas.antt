@@ -1,5 +1,5 @@
 -- Boolean tests that can be computed, and the statements that they decide.
-use Rattle.std.proofs.Common.{◌≡◌, ℕ, zero, suc, ◌<◌, ◌≤◌, ◌==◌, nat_lt, nat_le, Bool, true, false, not, ◌&&◌, List, [], ◌∷◌, refl, arith}
+use Rattle.std.proofs.Common.{◌≡◌, ◌∙◌, ℕ, zero, suc, ◌<◌, ◌≤◌, ◌==◌, nat_lt, nat_le, Bool, true, false, not, ◌&&◌, List, [], ◌∷◌, get_or, refl, ap, arith}
 use Rattle.std.proofs.lemmas.Bool.Decides.{nat_tests}
 use borrow.Author.Count.{below_more}
 
@@ -55,6 +55,17 @@ is_no_less a b h = grind (arith, nat_tests)
 
 pub is_within : (a b : ℕ) → nat_le a b ≡ true → a ≤ b
 is_within a b h = grind (arith, nat_tests)
+
+-- the entries of a table are below a number, or at most a number, if the computed test says so
+pub entries_below : (table : List ℕ) (count limit : ℕ) → all_below count (λ place. nat_lt (get_or table place 0) limit) ≡ true
+    → (place entry : ℕ) → place < count → entry ≡ get_or table place 0 → entry < limit
+entries_below table count limit tested place entry lt reads =
+    is_below entry limit (ap (λ e. nat_lt e limit) reads ∙ below count (λ place. nat_lt (get_or table place 0) limit) tested place lt)
+
+pub entries_within : (table : List ℕ) (count limit : ℕ) → all_below count (λ place. nat_le (get_or table place 0) limit) ≡ true
+    → (place entry : ℕ) → place < count → entry ≡ get_or table place 0 → entry ≤ limit
+entries_within table count limit tested place entry lt reads =
+    is_within entry limit (ap (λ e. nat_le e limit) reads ∙ below count (λ place. nat_le (get_or table place 0) limit) tested place lt)
 
 pub is_equal : (a b : ℕ) → (a == b) ≡ true → a ≡ b
 is_equal a b h = grind (arith, nat_tests)

@@ -1,5 +1,5 @@
 -- One step of the walk: the new state belongs to the bases so far, and the mark agrees with the rules.
-use Rattle.std.proofs.Common.{◌≡◌, ℕ, ◌+◌, ◌*◌, ◌/◌, ◌<◌, ◌≤◌, ◌==◌, nat_lt, nat_le, Bool, true, false, not, ◌&&◌, ◌||◌, List, [], ◌∷◌, ◌++◌, map, get_or, refl, sym, ap, ◌∙◌, arith, if◌then◌else◌, inl, inr}
+use Rattle.std.proofs.Common.{◌≡◌, ℕ, ◌+◌, ◌*◌, ◌/◌, ◌<◌, ◌≤◌, ◌==◌, nat_lt, Bool, true, false, not, ◌&&◌, ◌||◌, List, [], ◌∷◌, ◌++◌, map, get_or, refl, sym, ap, ◌∙◌, arith, if◌then◌else◌, inl, inr}
 use Rattle.ucd.specs.declared.version.Version.TheVariants.{V15_0}
 use Rattle.std.proofs.lemmas.Bool.{cases_Bool}
 use Rattle.ucd.specs.declared.line_class.LineClass.{LineClass}
@@ -16,7 +16,7 @@ use Rattle.breaks.specs.declared.symbol.TheConstants.{JOINER, SYMBOL_COUNT}
 use Rattle.breaks.specs.declared.entries.TheConstants.{NEXT_ROWS, OUTCOMES}
 use Rattle.breaks.specs.declared.table.TheConstants.{ENTRY_COUNT, LAST_ROW, NEVER, STATE_COUNT, STAYS, UNLESS, WAITS}
 use Rattle.breaks.specs.declared.walk.Walk.{Walk}
-use Rattle.breaks.proofs.BoolLemmas.{both, same, same_is, all_same, all_same_is, below, is_below, is_within, is_equal}
+use Rattle.breaks.proofs.BoolLemmas.{both, same, same_is, all_same, all_same_is, below, entries_below, entries_within, is_below, is_equal}
 use Rattle.breaks.proofs.Computed.{all_right, decide, marks_by_row, answers_after, answered_with, is_mark, stays, is_as, gives_both, gives_each, leads, is_right, is_right_at, table_is_right, table_is_right_whole, rows_are_within, outcomes_are_within, waits_for_base}
 use Rattle.breaks.proofs.StepLemmas.{end_attached, marked, answers_attached, carried_attached, answers_same, carried_same, answers_told, carried_told}
 use Rattle.breaks.proofs.SymbolLemmas.{is_joiner, answers_after_told}
@@ -408,12 +408,8 @@ passes_as walk symbol next_row outcome c is_pictograph decided symbol_lt shows r
 
 -- the next row in each entry is a row of the table
 pub row_within : (place next_row : ℕ) → place < ENTRY_COUNT → next_row ≡ get_or NEXT_ROWS place 0 → next_row ≤ LAST_ROW
-row_within place next_row lt reads =
-    let test : nat_le (get_or NEXT_ROWS place 0) LAST_ROW ≡ true = below ENTRY_COUNT (λ place. nat_le (get_or NEXT_ROWS place 0) LAST_ROW) rows_are_within place lt in
-    is_within next_row LAST_ROW (ap (λ row. nat_le row LAST_ROW) reads ∙ test)
+row_within = entries_within NEXT_ROWS ENTRY_COUNT LAST_ROW rows_are_within
 
 -- the outcome in each entry is one of the eight
 pub outcome_below : (place outcome : ℕ) → place < ENTRY_COUNT → outcome ≡ get_or OUTCOMES place 0 → outcome < 8
-outcome_below place outcome lt reads =
-    let test : nat_lt (get_or OUTCOMES place 0) 8 ≡ true = below ENTRY_COUNT (λ place. nat_lt (get_or OUTCOMES place 0) 8) outcomes_are_within place lt in
-    is_below outcome 8 (ap (λ o. nat_lt o 8) reads ∙ test)
+outcome_below = entries_below OUTCOMES ENTRY_COUNT 8 outcomes_are_within

@@ -1,5 +1,5 @@
 -- One step of the walk, with the rules of Unicode 17.0.
-use Rattle.std.proofs.Common.{◌≡◌, ℕ, zero, suc, ◌+◌, ◌*◌, ◌/◌, ◌%◌, ◌<◌, ◌≤◌, ◌==◌, nat_lt, nat_le, Bool, true, false, not, ◌&&◌, ◌||◌, List, [], ◌∷◌, ◌++◌, map, get_or, refl, sym, ap, ap₂, subst, ◌∙◌, arith, inl, inr}
+use Rattle.std.proofs.Common.{◌≡◌, ℕ, zero, suc, ◌+◌, ◌*◌, ◌/◌, ◌%◌, ◌<◌, ◌≤◌, ◌==◌, nat_lt, Bool, true, false, not, ◌&&◌, ◌||◌, List, [], ◌∷◌, ◌++◌, map, get_or, refl, sym, ap, ap₂, subst, ◌∙◌, arith, inl, inr}
 use Rattle.std.proofs.lemmas.Bool.{cases_Bool}
 use Rattle.ucd.specs.declared.line_class.LineClass.{LineClass}
 use Rattle.ucd.specs.declared.line_class.LineClass.TheVariants.{AK, AL, AS, CM, IS, NU, OP, QU, VF, ZWJ}
@@ -18,7 +18,7 @@ use Rattle.breaks.specs.declared.entries_17.TheConstants.{NEXT_ROWS, OUTCOMES}
 use Rattle.breaks.specs.declared.symbol_17.TheConstants.{JOINER, SYMBOL_COUNT}
 use Rattle.breaks.specs.declared.table_17.TheConstants.{ENTRY_COUNT, LAST_ROW, NEVER, OUTCOME_COUNT, STATE_COUNT, STAYS}
 use Rattle.breaks.specs.declared.walk_17.Walk17.{Walk17}
-use Rattle.breaks.proofs.BoolLemmas.{all_same, all_same_is, below, both, is_below, is_equal, is_within, same, same_is}
+use Rattle.breaks.proofs.BoolLemmas.{all_same, all_same_is, below, both, entries_below, entries_within, is_below, is_equal, same, same_is}
 use Rattle.breaks.proofs.Computed.{is_mark}
 use Rattle.breaks.proofs.Computed17.{bits, all_right_17, answers_after_17, asks, befores_at, bits_at, decide_17, gives_17, gives_bits, gives_rest, gives_wide, index_of, is_as_17, is_right_at_17, is_right_17, kind, kind_of, kinds_after, leads_17, marks_by_row_17, may_have, outcomes_are_within_17, part, part_0, part_1, part_2, part_3, part_4, part_5, part_6, rest_at, rows_are_within_17, stays_17, with_width}
 use Rattle.breaks.proofs.PassLemmas.{and_false, first_base, is_mark_is, joiner_attaches, mark_attaches, not_true, second_bases}
@@ -460,11 +460,7 @@ starts_17 symbol next_row is_pictograph is_wide c symbol_lt shows reads_row pict
 
 -- the next row in each entry is a row of the table, and the outcome is one of the outcomes
 pub row_within_17 : (place next_row : ℕ) → place < ENTRY_COUNT → next_row ≡ get_or NEXT_ROWS place 0 → next_row ≤ LAST_ROW
-row_within_17 place next_row lt reads =
-    let test : nat_le (get_or NEXT_ROWS place 0) LAST_ROW ≡ true = below ENTRY_COUNT (λ place. nat_le (get_or NEXT_ROWS place 0) LAST_ROW) rows_are_within_17 place lt in
-    is_within next_row LAST_ROW (ap (λ row. nat_le row LAST_ROW) reads ∙ test)
+row_within_17 = entries_within NEXT_ROWS ENTRY_COUNT LAST_ROW rows_are_within_17
 
 pub outcome_below_17 : (place outcome : ℕ) → place < ENTRY_COUNT → outcome ≡ get_or OUTCOMES place 0 → outcome < OUTCOME_COUNT
-outcome_below_17 place outcome lt reads =
-    let test : nat_lt (get_or OUTCOMES place 0) OUTCOME_COUNT ≡ true = below ENTRY_COUNT (λ place. nat_lt (get_or OUTCOMES place 0) OUTCOME_COUNT) outcomes_are_within_17 place lt in
-    is_below outcome OUTCOME_COUNT (ap (λ o. nat_lt o OUTCOME_COUNT) reads ∙ test)
+outcome_below_17 = entries_below OUTCOMES ENTRY_COUNT OUTCOME_COUNT outcomes_are_within_17

@@ -12,7 +12,7 @@ use Rattle.breaks.specs.Symbols.{told_17}
 use Rattle.breaks.specs.Walk17.{answered_17, answers_17, bits_of, carried_17, is_wide_base, rows_17}
 use Rattle.breaks.specs.declared.mark.Mark.{Mark}
 use Rattle.breaks.specs.declared.mark.Mark.TheVariants.{May}
-use Rattle.breaks.proofs.StepLemmas.{last_rules_of_rows, more_rows, odd_after, pair_after, row_mark, rules_of_rows, spaced_after, spaced_same_class}
+use Rattle.breaks.proofs.StepLemmas.{last_rules_of_rows, more_rows, odd_after, odd_same, pair_after, pair_same, row_mark, rules_of_rows, spaced_same, spaced_same_class}
 use Rattle.breaks.proofs.SymbolLemmas.{narrow_before}
 use Rattle.breaks.proofs.Computed17.{answers_after_17, decide_17, marks_by_row_17, with_width}
 
@@ -74,17 +74,11 @@ spaced_before condition b bases =
 
 -- After one more base, the conditions depend on that base and on the carried results.
 module _ (b : Base) (p q : List Base) (carry : carried_17 p ≡ carried_17 q) where
-  spaced_same : (classes : List LineClass) → is_spaced classes p ≡ is_spaced classes q → is_spaced classes (b ∷ p) ≡ is_spaced classes (b ∷ q)
-  spaced_same classes e = spaced_after classes b p ∙ ap (λ s. if is_same (class_of b) SP then s else is_one_of classes (class_of b)) e ∙ sym (spaced_after classes b q)
-
-  hl : is (HL ∷ []) p ≡ is (HL ∷ []) q
-  hl = ap (λ l. get_or l 0 false) carry
-
   zw : is_spaced (ZW ∷ []) (b ∷ p) ≡ is_spaced (ZW ∷ []) (b ∷ q)
-  zw = spaced_same (ZW ∷ []) (ap (λ l. get_or l 1 false) carry)
+  zw = spaced_same b p q (ZW ∷ []) (ap (λ l. get_or l 1 false) carry)
 
   op : is_spaced (OP ∷ []) (b ∷ p) ≡ is_spaced (OP ∷ []) (b ∷ q)
-  op = spaced_same (OP ∷ []) (ap (λ l. get_or l 2 false) carry)
+  op = spaced_same b p q (OP ∷ []) (ap (λ l. get_or l 2 false) carry)
 
   initial : or_edge (is before_initial) p ≡ or_edge (is before_initial) q
   initial = ap (λ l. get_or l 8 false) carry
@@ -97,13 +91,13 @@ module _ (b : Base) (p q : List Base) (carry : carried_17 p ≡ carried_17 q) wh
       ∙ sym (spaced_before begins_quotation b q)
 
   closed : is_spaced (CL ∷ CP ∷ []) (b ∷ p) ≡ is_spaced (CL ∷ CP ∷ []) (b ∷ q)
-  closed = spaced_same (CL ∷ CP ∷ []) (ap (λ l. get_or l 4 false) carry)
+  closed = spaced_same b p q (CL ∷ CP ∷ []) (ap (λ l. get_or l 4 false) carry)
 
   dash : is_spaced (B2 ∷ []) (b ∷ p) ≡ is_spaced (B2 ∷ []) (b ∷ q)
-  dash = spaced_same (B2 ∷ []) (ap (λ l. get_or l 5 false) carry)
+  dash = spaced_same b p q (B2 ∷ []) (ap (λ l. get_or l 5 false) carry)
 
   odd : ends_in_odd_run (b ∷ p) ≡ ends_in_odd_run (b ∷ q)
-  odd = odd_after b p ∙ ap (λ o. is_same (class_of b) RI && not o) (ap (λ l. get_or l 6 false) carry) ∙ sym (odd_after b q)
+  odd = odd_same b p q (ap (λ l. get_or l 6 false) carry)
 
   number : ends_in_number p ≡ ends_in_number q
   number = ap (λ l. get_or l 7 false) carry
@@ -115,7 +109,7 @@ module _ (b : Base) (p q : List Base) (carry : carried_17 p ≡ carried_17 q) wh
   aksara = ap (λ l. get_or l 10 false) carry
 
   pair : is_pair (HL ∷ []) (HY ∷ HH ∷ []) (b ∷ p) ≡ is_pair (HL ∷ []) (HY ∷ HH ∷ []) (b ∷ q)
-  pair = pair_after (HL ∷ []) (HY ∷ HH ∷ []) b p ∙ ap (λ h. h && is_one_of (HY ∷ HH ∷ []) (class_of b)) hl ∙ sym (pair_after (HL ∷ []) (HY ∷ HH ∷ []) b q)
+  pair = pair_same b p q (HY ∷ HH ∷ []) (ap (λ l. get_or l 0 false) carry)
 
   pub carried_same_17 : carried_17 (b ∷ p) ≡ carried_17 (b ∷ q)
   carried_same_17 = rw (zw, op, quotation, closed, dash, odd, number) refl
