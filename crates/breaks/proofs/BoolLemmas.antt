@@ -1,5 +1,5 @@
 -- Boolean tests that can be computed, and the statements that they decide.
-use Rattle.std.proofs.Common.{◌≡◌, ◌∙◌, ℕ, zero, suc, ◌<◌, ◌≤◌, ◌==◌, nat_lt, nat_le, Bool, true, false, not, ◌&&◌, List, [], ◌∷◌, get_or, refl, ap, arith}
+use Rattle.std.proofs.Common.{◌≡◌, ◌∙◌, ℕ, zero, suc, ◌*◌, ◌<◌, ◌≤◌, ◌==◌, nat_lt, nat_le, Bool, true, false, not, ◌&&◌, List, [], ◌∷◌, get_or, refl, ap, arith}
 use Rattle.std.proofs.lemmas.Bool.Decides.{nat_tests}
 use borrow.Author.Count.{below_more}
 
@@ -69,6 +69,19 @@ entries_within table count limit tested place entry lt reads =
 
 pub is_equal : (a b : ℕ) → (a == b) ≡ true → a ≡ b
 is_equal a b h = grind (arith, nat_tests)
+
+-- the next state of a table's entry, if the computed test of the entry says so
+pub record Next (symbols states next_row : ℕ) (test : ℕ → Bool) : Type 0 where
+  pub next : ℕ
+  pub below : next < states
+  pub row : next_row ≡ next * symbols
+  pub leads : test next ≡ true
+
+pub next_of : (symbols states row next : ℕ) (test : ℕ → Bool) → ((row == next * symbols) && (nat_lt next states && test next)) ≡ true → Next symbols states row test
+next_of symbols states row next test tested =
+    let row_and : ((row == next * symbols) ≡ true) × ((nat_lt next states && test next) ≡ true) = both _ _ tested in
+    let next_and : (nat_lt next states ≡ true) × (test next ≡ true) = both _ _ row_and.1 in
+    record { next = next; below = is_below _ _ next_and.0; row = is_equal _ _ row_and.0; leads = next_and.1 }
 
 -- if two numbers are equal, or are not, so is their Boolean comparison
 pub equal_is : (a b : ℕ) → a ≡ b → (a == b) ≡ true

@@ -1,5 +1,5 @@
 -- One step of the walk: the new state belongs to the bases so far, and the mark agrees with the rules.
-use Rattle.std.proofs.Common.{◌≡◌, ℕ, ◌+◌, ◌*◌, ◌/◌, ◌<◌, ◌≤◌, ◌==◌, nat_lt, Bool, true, false, not, ◌&&◌, ◌||◌, List, [], ◌∷◌, ◌++◌, map, get_or, refl, sym, ap, ◌∙◌, arith, if◌then◌else◌, inl, inr}
+use Rattle.std.proofs.Common.{◌≡◌, ℕ, ◌+◌, ◌*◌, ◌<◌, ◌≤◌, ◌==◌, Bool, true, false, not, ◌&&◌, ◌||◌, List, [], ◌∷◌, ◌++◌, map, get_or, refl, sym, ap, ◌∙◌, arith, if◌then◌else◌, inl, inr}
 use Rattle.ucd.specs.declared.version.Version.TheVariants.{V15_0}
 use Rattle.std.proofs.lemmas.Bool.{cases_Bool}
 use Rattle.ucd.specs.declared.line_class.LineClass.{LineClass}
@@ -16,7 +16,7 @@ use Rattle.breaks.specs.declared.symbol.TheConstants.{JOINER, SYMBOL_COUNT}
 use Rattle.breaks.specs.declared.entries.TheConstants.{NEXT_ROWS, OUTCOMES}
 use Rattle.breaks.specs.declared.table.TheConstants.{ENTRY_COUNT, LAST_ROW, NEVER, STATE_COUNT, STAYS, UNLESS, WAITS}
 use Rattle.breaks.specs.declared.walk.Walk.{Walk}
-use Rattle.breaks.proofs.BoolLemmas.{both, same, same_is, all_same, all_same_is, below, entries_below, entries_within, is_below, is_equal}
+use Rattle.breaks.proofs.BoolLemmas.{Next, next_of, both, same, same_is, all_same, all_same_is, below, entries_below, entries_within, is_equal}
 use Rattle.breaks.proofs.Computed.{all_right, decide, marks_by_row, answers_after, answered_with, is_mark, stays, is_as, gives_both, gives_each, leads, is_right, is_right_at, table_is_right, table_is_right_whole, rows_are_within, outcomes_are_within, waits_for_base}
 use Rattle.breaks.proofs.StepLemmas.{end_attached, marked, answers_attached, carried_attached, answers_same, carried_same, answers_told, carried_told}
 use Rattle.breaks.proofs.SymbolLemmas.{is_joiner, answers_after_told}
@@ -84,12 +84,9 @@ given whole_numbers state symbol outcome true is_pictograph before_digit free ea
       | true ↦ given_both whole_numbers state symbol outcome true true before_digit (both _ _ whole).1
     ]
 
--- the next state of an entry, and the proof that the entry is right
-pub record Leads (whole_numbers : Bool) (state symbol next_row outcome : ℕ) : Type 0 where
-  pub next : ℕ
-  pub below : next < STATE_COUNT
-  pub row : next_row ≡ next * SYMBOL_COUNT
-  pub leads : leads whole_numbers (stays state symbol) state symbol outcome next ≡ true
+-- the entry for a state and a symbol is right
+abbrev pub Leads : Bool → ℕ → ℕ → ℕ → ℕ → Type 0
+Leads whole_numbers state symbol next_row outcome = Next SYMBOL_COUNT STATE_COUNT next_row (leads whole_numbers (stays state symbol) state symbol outcome)
 
 state_is_right : (whole_numbers : Bool) (state : ℕ) → state < STATE_COUNT → all_right whole_numbers state ≡ true
 state_is_right true state state_lt = below STATE_COUNT (all_right true) table_is_right_whole state state_lt
@@ -102,11 +99,7 @@ entry_is_right whole_numbers state symbol row next_row outcome state_lt symbol_l
     let at_state = state_is_right whole_numbers state state_lt in
     let at_symbol = below SYMBOL_COUNT (λ symbol. is_right_at whole_numbers state symbol (state * SYMBOL_COUNT + symbol)) at_state symbol symbol_lt in
     let right : is_right whole_numbers state symbol next_row outcome ≡ true = rw (reads_row, reads_outcome, begins) at_symbol in
-    let next : ℕ = next_row / SYMBOL_COUNT in
-    let leading : Bool = leads whole_numbers (stays state symbol) state symbol outcome next in
-    let row_and : ((next_row == next * SYMBOL_COUNT) ≡ true) × ((nat_lt next STATE_COUNT && leading) ≡ true) = both _ _ right in
-    let next_and : (nat_lt next STATE_COUNT ≡ true) × (leading ≡ true) = both _ _ row_and.1 in
-    record { next = next; below = is_below _ _ next_and.0; row = is_equal _ _ row_and.0; leads = next_and.1 }
+    next_of _ _ _ _ _ right
 
 -- the entry is right for a character that begins a base
 record Begins (whole_numbers : Bool) (state symbol outcome next : ℕ) : Type 0 where

@@ -18,7 +18,7 @@ use Rattle.breaks.specs.declared.entries_17.TheConstants.{NEXT_ROWS, OUTCOMES}
 use Rattle.breaks.specs.declared.symbol_17.TheConstants.{JOINER, SYMBOL_COUNT}
 use Rattle.breaks.specs.declared.table_17.TheConstants.{ENTRY_COUNT, LAST_ROW, NEVER, OUTCOME_COUNT, STATE_COUNT, STAYS}
 use Rattle.breaks.specs.declared.walk_17.Walk17.{Walk17}
-use Rattle.breaks.proofs.BoolLemmas.{all_same, all_same_is, below, both, entries_below, entries_within, is_below, is_equal, same, same_is}
+use Rattle.breaks.proofs.BoolLemmas.{Next, next_of, all_same, all_same_is, below, both, entries_below, entries_within, is_below, is_equal, same, same_is}
 use Rattle.breaks.proofs.Computed.{is_mark}
 use Rattle.breaks.proofs.Computed17.{bits, all_right_17, answers_after_17, asks, befores_at, bits_at, decide_17, gives_17, gives_bits, gives_rest, gives_wide, index_of, is_as_17, is_right_at_17, is_right_17, kind, kind_of, kinds_after, leads_17, marks_by_row_17, may_have, outcomes_are_within_17, part, part_0, part_1, part_2, part_3, part_4, part_5, part_6, rest_at, rows_are_within_17, stays_17, with_width}
 use Rattle.breaks.proofs.PassLemmas.{and_false, first_base, is_mark_is, joiner_attaches, mark_attaches, not_true, second_bases}
@@ -44,12 +44,9 @@ state_is_right_17 state lt =
     let whole : 7 * (state / 7) + state % 7 ≡ state = omega arith in
     subst (λ s. all_right_17 s ≡ true) whole (below 7 (λ i. all_right_17 (7 * (state / 7) + i)) (part_is (state / 7) (omega arith)) (state % 7) (omega arith))
 
--- an entry gives the right outcome and the right next state
-pub record Leads17 (state symbol next_row outcome : ℕ) : Type 0 where
-  pub next : ℕ
-  pub below : next < STATE_COUNT
-  pub row : next_row ≡ next * SYMBOL_COUNT
-  pub leads : leads_17 (stays_17 state symbol) (befores_at state) state symbol outcome next ≡ true
+-- the entry for a state and a symbol is right
+abbrev pub Leads17 : ℕ → ℕ → ℕ → ℕ → Type 0
+Leads17 state symbol next_row outcome = Next SYMBOL_COUNT STATE_COUNT next_row (leads_17 (stays_17 state symbol) (befores_at state) state symbol outcome)
 
 pub entry_is_right_17 : (state symbol row next_row outcome : ℕ) → state < STATE_COUNT → symbol < SYMBOL_COUNT
     → row ≡ state * SYMBOL_COUNT → next_row ≡ get_or NEXT_ROWS (row + symbol) 0 → outcome ≡ get_or OUTCOMES (row + symbol) 0
@@ -58,11 +55,7 @@ entry_is_right_17 state symbol row next_row outcome state_lt symbol_lt begins re
     let at_state = state_is_right_17 state state_lt in
     let at_symbol = below SYMBOL_COUNT (λ symbol. is_right_at_17 (befores_at state) state symbol (state * SYMBOL_COUNT + symbol)) at_state symbol symbol_lt in
     let right : is_right_17 (befores_at state) state symbol next_row outcome ≡ true = rw (reads_row, reads_outcome, begins) at_symbol in
-    let next : ℕ = next_row / SYMBOL_COUNT in
-    let leading : Bool = leads_17 (stays_17 state symbol) (befores_at state) state symbol outcome next in
-    let row_and : ((next_row == next * SYMBOL_COUNT) ≡ true) × ((nat_lt next STATE_COUNT && leading) ≡ true) = both _ _ right in
-    let next_and : (nat_lt next STATE_COUNT ≡ true) × (leading ≡ true) = both _ _ row_and.1 in
-    record { next = next; below = is_below _ _ next_and.0; row = is_equal _ _ row_and.0; leads = next_and.1 }
+    next_of _ _ _ _ _ right
 
 -- the entry is right for a character that begins a base
 record Begins17 (state symbol outcome next : ℕ) : Type 0 where
@@ -342,26 +335,26 @@ module _ (walk : Walk17) (last : Base) (others : List Base) (stands : Stands17 w
       (may_have_told c (shown_17 symbol) shows) free says.gives lt
 
   -- what the rules say, from what the table was computed from
-  ruled : (place : ℕ) (attached : List Character) (rest : List Base) (whole_numbers : Bool)
+  ruled : (place : ℕ) (attached : List Character) (rest : List Base)
       → map (λ row. row.after (record { first = c; attached = attached } ∷ rest)) rows_17 ≡ answers_after_17 c (rest_at place)
       → decide_17 marks_by_row_17 (answered_17 (bits_in walk) (answers_17 (bases_at_17 stands.state)))
       (answers_after_17 (with_width (shown_17 symbol) (is_east_asian (alone c))) (rest_at place))
-      ≡ mark_by (rules V17_0 whole_numbers) (last ∷ others) (record { first = c; attached = attached } ∷ rest)
-  ruled place attached rest whole_numbers after =
+      ≡ mark_by (rules V17_0 false) (last ∷ others) (record { first = c; attached = attached } ∷ rest)
+  ruled place attached rest after =
       ap₂ (λ (bits : Bits) (row : List Bool). decide_17 marks_by_row_17 (answered_17 bits row)
       (answers_after_17 (with_width (shown_17 symbol) (is_east_asian (alone c))) (rest_at place))) stands.bits (sym stands.answered)
       ∙ ap (λ row. decide_17 marks_by_row_17 (answered_17 (bits_of last others) (answers_17 (last ∷ others))) row)
       (ap (λ d. answers_after_17 (with_width d (is_east_asian (alone c))) (rest_at place)) shows
       ∙ sym (answers_after_told_17 c (rest_at place)) ∙ sym after)
-      ∙ sym (marked_17 whole_numbers last others (record { first = c; attached = attached } ∷ rest))
+      ∙ sym (marked_17 last others (record { first = c; attached = attached } ∷ rest))
 
   asks_same : asks (shown_17 symbol) ≡ asks c
   asks_same = ap asks shows ∙ ap (λ circle. is_one_of (AK ∷ AS ∷ IS ∷ OP ∷ QU ∷ []) c.class || circle) (sym (circle_told c.class c.detail))
 
-  pub marks_begun_17 : (whole_numbers : Bool) (text : List Character)
+  pub marks_begun_17 : (text : List Character)
       → mark_of_17 (decided_17 outcome (bits_in walk) (is_east_asian (alone c))) (bases_after text)
-      ≡ mark_by (rules V17_0 whole_numbers) (last ∷ others) (bases_of (c ∷ text))
-  marks_begun_17 whole_numbers text =
+      ≡ mark_by (rules V17_0 false) (last ∷ others) (bases_of (c ∷ text))
+  marks_begun_17 text =
       let decided : ℕ = decided_17 outcome (bits_in walk) (is_east_asian (alone c)) in
       elim (cases_Bool (asks c)) [
         | inl asked ↦
@@ -371,8 +364,8 @@ module _ (walk : Walk17) (last : Base) (others : List Base) (stands : Stands17 w
             let below_all : kind rest < kinds_after (shown_17 symbol) = rw (asks_same ∙ asked) (is_below _ _ (kind_below rest)) in
             ap (λ marks. get_or marks decided Never) (marks_alike rest (rest_at (kind rest)) alike)
             ∙ (given_at (kind rest) below_all).1
-            ∙ ruled (kind rest) bases.0 rest whole_numbers (after_alike rest (rest_at (kind rest)) alike c bases.0)
-            ∙ ap (mark_by (rules V17_0 whole_numbers) (last ∷ others)) (sym bases.1)
+            ∙ ruled (kind rest) bases.0 rest (after_alike rest (rest_at (kind rest)) alike c bases.0)
+            ∙ ap (mark_by (rules V17_0 false) (last ∷ others)) (sym bases.1)
         | inr silent ↦
             let bases = first_base c text in
             let one : 0 < kinds_after (shown_17 symbol) = rw (asks_same ∙ silent) (omega arith) in
@@ -380,8 +373,8 @@ module _ (walk : Walk17) (last : Base) (others : List Base) (stands : Stands17 w
             let small : nat_lt decided 4 ≡ true = rw (asks_same ∙ silent) at given.0 in
             same_mark decided (bases_after text) [] small
             ∙ given.1
-            ∙ ruled 0 bases.0 bases.1 whole_numbers (after_any c bases.0 bases.1 silent)
-            ∙ ap (mark_by (rules V17_0 whole_numbers) (last ∷ others)) (sym bases.2)
+            ∙ ruled 0 bases.0 bases.1 (after_any c bases.0 bases.1 silent)
+            ∙ ap (mark_by (rules V17_0 false) (last ∷ others)) (sym bases.2)
       ]
 
 -- the next character joins the last base if and only if its symbol joins the last base of the state
@@ -437,7 +430,7 @@ passes_begin_17 walk symbol next_row outcome decided is_pictograph next_is_wide 
     let entry_leads : Leads17 stands.state symbol next_row outcome = entry_is_right_17 stands.state symbol walk.row next_row outcome stands.below symbol_lt stands.row reads_row reads_outcome in
     let begun : stays_17 stands.state symbol ≡ false = sym (outcome_stays_17 stands.state symbol next_row outcome entry_leads) ∙ begin in
     rw (is, wide, pictograph, stays_is_17 walk last others stands symbol c shows, begun) (
-      marks_begun_17 walk last others stands symbol next_row outcome c shows entry_leads begun false,
+      marks_begun_17 walk last others stands symbol next_row outcome c shows entry_leads begun,
       begins_17 stands.state symbol next_row outcome c (last ∷ others) walk.is_wide symbol_lt shows entry_leads begun stands.carries
           (ap (λ (b : Bits). b.is_wide) stands.bits),
     )

@@ -29,20 +29,20 @@ decides_17 [] before after = refl
 decides_17 (row ∷ some) before after = chosen (row.before before && row.after after) row.mark _ _ (decides_17 some before after)
 
 -- all rules together give the same mark as their rows
-rows_mark_17 : (whole_numbers : Bool) (before after : List Base) → mark_by (rules V17_0 whole_numbers) before after
+rows_mark_17 : (before after : List Base) → mark_by (rules V17_0 false) before after
     ≡ row_mark (rows_before_numbers V17_0) (row_mark (rows_of_numbers V17_0) (row_mark (rows_after_numbers V17_0) May before after) before after) before after
 unfolding rules
-rows_mark_17 whole_numbers before after =
+rows_mark_17 before after =
     rules_of_rows (rows_before_numbers V17_0) _ before after
     ∙ ap (λ mark. row_mark (rows_before_numbers V17_0) mark before after)
     (rules_of_rows (rows_of_numbers V17_0) _ before after
     ∙ ap (λ mark. row_mark (rows_of_numbers V17_0) mark before after) (last_rules_of_rows (rows_after_numbers V17_0) before after))
 
-rules_decide_17 : (whole_numbers : Bool) (before after : List Base) → mark_by (rules V17_0 whole_numbers) before after
+rules_decide_17 : (before after : List Base) → mark_by (rules V17_0 false) before after
     ≡ decide_17 marks_by_row_17 (map (λ row. row.before before) rows_17) (map (λ row. row.after after) rows_17)
 unfolding rows_17
-rules_decide_17 whole_numbers before after =
-    rows_mark_17 whole_numbers before after
+rules_decide_17 before after =
+    rows_mark_17 before after
     ∙ sym (more_rows (rows_before_numbers V17_0) (rows_of_numbers V17_0 ++ rows_after_numbers V17_0) May before after
     ∙ ap (λ mark. row_mark (rows_before_numbers V17_0) mark before after) (more_rows (rows_of_numbers V17_0) (rows_after_numbers V17_0) May before after))
     ∙ decides_17 (rows_before_numbers V17_0 ++ (rows_of_numbers V17_0 ++ rows_after_numbers V17_0)) before after
@@ -59,10 +59,10 @@ all_answers_17 : (last : Base) (others : List Base)
 unfolding rows_17 rows_before_numbers rows_of_numbers rows_after_numbers
 all_answers_17 last others = rw (not_wide others) refl
 
-pub marked_17 : (whole_numbers : Bool) (last : Base) (others after : List Base) → mark_by (rules V17_0 whole_numbers) (last ∷ others) after
+pub marked_17 : (last : Base) (others after : List Base) → mark_by (rules V17_0 false) (last ∷ others) after
     ≡ decide_17 marks_by_row_17 (answered_17 (bits_of last others) (answers_17 (last ∷ others))) (map (λ row. row.after after) rows_17)
-marked_17 whole_numbers last others after =
-    rules_decide_17 whole_numbers (last ∷ others) after
+marked_17 last others after =
+    rules_decide_17 (last ∷ others) after
     ∙ ap (λ befores. decide_17 marks_by_row_17 befores (map (λ row. row.after after) rows_17)) (all_answers_17 last others)
 
 -- a condition after spaces depends on the last base and on the same condition on the bases before it
