@@ -177,28 +177,28 @@ fn mark_before<R: Rules, C: Characters>(characters: C, after: usize, outcome: u8
     ensures { result ≡ R.mark_of rules outcome
         (bases_after (map (character_by R.version) (drop after (C.all characters)))) }
 {
-    if rules.is_question(outcome) {
-        mark_asked(characters, after, outcome, rules)
-    } else {
-        rules.mark(outcome)
+    match rules.mark(outcome) {
+        Some(mark) => mark,
+        None => mark_asked(characters, after, outcome, rules),
     }
 }
 
-// Does the same for a question: reads on until it is answered, past the marks of one or two bases.
+// Returns the mark of a question: reads on until it is answered, past the marks of one or two bases.
 fn mark_asked<R: Rules, C: Characters>(characters: C, after: usize, question: u8, rules: R) -> Mark
     requires place { after ≤ length (C.all characters) }
     requires below { question < R.outcome_count }
+    requires question { R.is_question rules question ≡ true }
     ensures { result ≡ R.mark_of rules question
         (bases_after (map (character_by R.version) (drop after (C.all characters)))) }
 {
     let mut asked = question;
     for i in after..characters.len() {
-        if !rules.is_question(asked) {
-            return rules.mark(asked);
-        }
         asked = rules.answer(asked, characters.get(i));
+        if let Some(mark) = rules.mark(asked) {
+            return mark;
+        }
     }
-    rules.mark(asked)
+    rules.answer_at_end(asked)
 }
 
 /// States, as a theorem, that a paragraph has as many marks as characters.

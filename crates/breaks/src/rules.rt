@@ -1,5 +1,5 @@
 //! The rules of a Unicode version, as the walk over the characters of a paragraph uses them.
-ghost use Rattle.std.specs.Prelude.{◌≡◌, ◌<◌, ℕ, Bool, false, true, List, [], ◌∷◌};
+ghost use Rattle.std.specs.Prelude.{◌≡◌, ◌<◌, ℕ, Bool, true, List, [], ◌∷◌, MatchOption};
 ghost use Rattle.ucd.specs.declared.properties.Properties.{Properties};
 ghost use Rattle.ucd.specs.declared.version.Version.{Version};
 ghost use Rattle.breaks.specs.Bases.{Base, Character, alone};
@@ -74,9 +74,11 @@ pub trait Rules: Copy {
     fn is_ordinary(one: Properties) -> bool
         ensures { result ≡ is_ordinary one };
 
-    /// Returns whether an outcome is a question.
-    fn is_question(self, outcome: u8) -> bool
-        ensures { result ≡ is_question self outcome };
+    /// Returns the mark of an outcome, or `None` for a question.
+    fn mark(self, outcome: u8) -> Option<Mark>
+        requires { outcome < outcome_count }
+        ensures cases { MatchOption result (is_question self outcome ≡ true)
+            (λ mark. (rest : List Base) → mark ≡ mark_of self outcome rest) };
 
     /// Returns the answer to a question, given the character after the next one or its marks: a mark, or a
     /// question about the bases after that character.
@@ -88,10 +90,9 @@ pub trait Rules: Copy {
             ≡ mark_of self result (bases_after text) }
         ensures below { result < outcome_count };
 
-    /// Returns the mark of an outcome. That of a question is its answer at the end of a text.
-    fn mark(self, outcome: u8) -> Mark
-        requires { outcome < outcome_count }
-        ensures end { result ≡ mark_of self outcome [] }
-        ensures anywhere { is_question self outcome ≡ false
-            → (rest : List Base) → result ≡ mark_of self outcome rest };
+    /// Returns the answer to a question at the end of a text.
+    fn answer_at_end(self, question: u8) -> Mark
+        requires below { question < outcome_count }
+        requires question { is_question self question ≡ true }
+        ensures { result ≡ mark_of self question [] };
 }

@@ -83,8 +83,14 @@ impl Rules for Rules15 {
         (symbol_of(one) != JOINER) & !one.is_future_pictograph()
     }
 
-    fn is_question(self, outcome: u8) -> bool {
-        outcome == WAITS && self.whole_numbers
+    fn mark(self, outcome: u8) -> Option<Mark> {
+        if !self.whole_numbers {
+            Some(MARKS[outcome as usize])
+        } else if outcome != WAITS {
+            Some(WHOLE_MARKS[outcome as usize])
+        } else {
+            None
+        }
     }
 
     fn answer(self, question: u8, next: Properties) -> u8 {
@@ -98,8 +104,8 @@ impl Rules for Rules15 {
         }
     }
 
-    fn mark(self, outcome: u8) -> Mark {
-        mark_alone(outcome, self.whole_numbers)
+    fn answer_at_end(self, _question: u8) -> Mark {
+        Mark::May
     }
 }
 
@@ -125,18 +131,6 @@ fn decide(outcome: u8, is_joined: bool, is_pictograph: bool) -> u8
     }
 }
 
-// Returns the mark before the next character if the base after that character is not NU or does not matter.
-fn mark_alone(decided: u8, whole_numbers: bool) -> Mark
-    requires { decided < 8 }
-    ensures { result ≡ get_or (marks_alone whole_numbers) decided Never }
-{
-    if whole_numbers {
-        WHOLE_MARKS[decided as usize]
-    } else {
-        MARKS[decided as usize]
-    }
-}
-
 // The mark for each outcome, with LB25 as a rule for two bases.
 static MARKS: [Mark; 8] = [
     Mark::Never,
@@ -149,7 +143,7 @@ static MARKS: [Mark; 8] = [
     Mark::Never,
 ];
 
-// The mark for each outcome, with whole numbers.
+// The mark for each outcome, with whole numbers. The last one, `WAITS`, has that before another base than NU.
 static WHOLE_MARKS: [Mark; 8] = [
     Mark::Never,
     Mark::Never,

@@ -105,16 +105,20 @@ impl Rules for Rules17 {
         (symbol_17(one) != JOINER) & (!one.is_future_pictograph() & !one.is_wide())
     }
 
-    fn is_question(self, outcome: u8) -> bool {
-        outcome >= LB15B
+    fn mark(self, outcome: u8) -> Option<Mark> {
+        if outcome < LB15B {
+            Some(mark_17(outcome))
+        } else {
+            None
+        }
     }
 
     fn answer(self, question: u8, next: Properties) -> u8 {
         answer(question, next)
     }
 
-    fn mark(self, outcome: u8) -> Mark {
-        mark_17(outcome)
+    fn answer_at_end(self, question: u8) -> Mark {
+        mark_17(question)
     }
 }
 

@@ -1,4 +1,4 @@
-use Rattle.std.proofs.Common.{◌≡◌, ◌<◌, map, drop}
+use Rattle.std.proofs.Common.{◌≡◌, ◌<◌, true, map, drop}
 use Rattle.breaks.specs.Passes.{bases_after}
 use Rattle.breaks.specs.Symbols.{character_by}
 use Rattle.breaks.proofs.mark.mark_asked.Given as goal
@@ -10,6 +10,7 @@ invariant-loop-i g l =
     let all = g.C.Characters.all l.characters in
     record {
       below : l.asked < g.R.Rules.outcome_count;
+      question : g.R.Rules.is_question l.rules l.asked ≡ true;
       said : g.R.Rules.mark_of l.rules l.fn.question (bases_after (read (drop l.fn.after all)))
           ≡ g.R.Rules.mark_of l.rules l.asked (bases_after (read (drop l.i all)));
     }
