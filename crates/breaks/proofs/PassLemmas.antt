@@ -15,7 +15,7 @@ use Rattle.breaks.specs.declared.mark.Mark.TheVariants.{Never, May, Must}
 use Rattle.breaks.specs.declared.symbol.TheConstants.{JOINER, SYMBOL_COUNT}
 use Rattle.breaks.specs.declared.entries.TheConstants.{NEXT_ROWS, OUTCOMES}
 use Rattle.breaks.specs.declared.table.TheConstants.{ENTRY_COUNT, LAST_ROW, NEVER, STATE_COUNT, STAYS, UNLESS, WAITS}
-use Rattle.breaks.specs.declared.walk.Walk.{Walk}
+use Rattle.breaks.specs.declared.walk.Walk15.{Walk15}
 use Rattle.breaks.proofs.BoolLemmas.{Next, next_of, both, same, same_is, all_same, all_same_is, below, entries_below, entries_within, is_equal}
 use Rattle.breaks.proofs.Computed.{all_right, decide, marks_by_row, answers_after, answered_with, is_mark, stays, is_as, gives_both, gives_each, leads, is_right, is_right_at, table_is_right, table_is_right_whole, rows_are_within, outcomes_are_within, waits_for_base}
 use Rattle.breaks.proofs.StepLemmas.{end_attached, marked, answers_attached, carried_attached, answers_same, carried_same, answers_told, carried_told}
@@ -158,7 +158,7 @@ begins whole_numbers state symbol next_row outcome c before symbol_lt shows entr
     }
 
 -- after a character that joins the last base, the new state belongs to the bases with the character attached
-attached : (whole_numbers : Bool) (walk : Walk) (last : Base) (others : List Base)
+attached : (whole_numbers : Bool) (walk : Walk15) (last : Base) (others : List Base)
     (stands : Stands whole_numbers walk last others) (symbol next_row outcome : ℕ) (c : Character) → symbol < SYMBOL_COUNT
     → shown symbol ≡ told c → Leads whole_numbers stands.state symbol next_row outcome → stays stands.state symbol ≡ true
     → Stands whole_numbers (record {
@@ -271,7 +271,7 @@ reads whole_numbers symbol outcome c text is_joined is_pictograph shows waits =
     ]
 
 -- before a character that begins a base, the outcome gives the mark of the rules
-marks_begun : (whole_numbers : Bool) (walk : Walk) (last : Base) (others : List Base)
+marks_begun : (whole_numbers : Bool) (walk : Walk15) (last : Base) (others : List Base)
     (stands : Stands whole_numbers walk last others) (symbol next_row outcome : ℕ) (c : Character) (text : List Character)
     → shown symbol ≡ told c → Leads whole_numbers stands.state symbol next_row outcome → stays stands.state symbol ≡ false
     → mark_given whole_numbers (decided_at outcome walk.is_joined walk.is_pictograph) (bases_after text)
@@ -298,7 +298,7 @@ marks_begun whole_numbers walk last others stands symbol next_row outcome c text
     ∙ ap (mark_by (rules V15_0 whole_numbers) (last ∷ others)) (sym after.bases)
 
 -- the next character joins the last base if and only if its symbol joins the last base of the state
-stays_is : (whole_numbers : Bool) (walk : Walk) (last : Base) (others : List Base)
+stays_is : (whole_numbers : Bool) (walk : Walk15) (last : Base) (others : List Base)
     (stands : Stands whole_numbers walk last others) (symbol : ℕ) (c : Character) → shown symbol ≡ told c
     → stays_with (end_of last) c ≡ stays stands.state symbol
 stays_is whole_numbers walk last others stands symbol c shows =
@@ -306,7 +306,7 @@ stays_is whole_numbers walk last others stands symbol c shows =
     ∙ ap (λ d. is_one_of (CM ∷ ZWJ ∷ []) d.class && not (is unattached (bases_at stands.state))) (sym shows)
 
 -- the outcome is `STAYS` if and only if the next character joins the last base
-outcome_stays : (whole_numbers : Bool) (walk : Walk) (last : Base) (others : List Base)
+outcome_stays : (whole_numbers : Bool) (walk : Walk15) (last : Base) (others : List Base)
     (stands : Stands whole_numbers walk last others) (symbol next_row outcome : ℕ) → Leads whole_numbers stands.state symbol next_row outcome
     → (outcome == STAYS) ≡ stays stands.state symbol
 outcome_stays whole_numbers walk last others stands symbol next_row outcome entry_leads =
@@ -320,7 +320,7 @@ outcome_stays whole_numbers walk last others stands symbol next_row outcome entr
     ]
 
 -- whether the last base is a future pictograph after the step
-abbrev pub kept : Walk → ℕ → Character → Bool
+abbrev pub kept : Walk15 → ℕ → Character → Bool
 kept walk outcome c = if outcome == STAYS then walk.is_pictograph else c.is_future_pictograph
 
 -- LB9: no line ends before a character that joins the last base
@@ -340,11 +340,11 @@ never_stays whole_numbers outcome false is_pictograph before_digit stay =
     ∙ never_outcome whole_numbers before_digit is_pictograph
 
 -- one step of the walk
-abbrev pub Passes15 : Bool → Walk → Base → List Base → Character → ℕ → Type 0
+abbrev pub Passes15 : Bool → Walk15 → Base → List Base → Character → ℕ → Type 0
 Passes15 whole_numbers after last others c decided =
     Passes (rules V15_0 whole_numbers) (mark_given whole_numbers decided) (Stands whole_numbers after) last others c
 
-pub passes : (whole_numbers : Bool) (walk : Walk) (symbol next_row outcome : ℕ) (c : Character) → symbol < SYMBOL_COUNT
+pub passes : (whole_numbers : Bool) (walk : Walk15) (symbol next_row outcome : ℕ) (c : Character) → symbol < SYMBOL_COUNT
     → shown symbol ≡ told c → next_row ≡ get_or NEXT_ROWS (walk.row + symbol) 0 → outcome ≡ get_or OUTCOMES (walk.row + symbol) 0 → (last : Base) (others : List Base)
     → Stands whole_numbers walk last others
     → Passes15 whole_numbers (record {
@@ -385,7 +385,7 @@ starts symbol next_row c symbol_lt shows reads_row whole_numbers =
     begins whole_numbers 0 symbol next_row outcome c [] symbol_lt shows (entry_is_right whole_numbers 0 symbol 0 next_row outcome (omega arith) symbol_lt refl reads_row refl) (and_false _) refl
 
 -- one step of the walk, stated for the values that the program computes
-pub passes_as : (walk : Walk) (symbol next_row outcome : ℕ) (c : Character) (is_pictograph : Bool) (decided : ℕ)
+pub passes_as : (walk : Walk15) (symbol next_row outcome : ℕ) (c : Character) (is_pictograph : Bool) (decided : ℕ)
     → symbol < SYMBOL_COUNT → shown symbol ≡ told c → next_row ≡ get_or NEXT_ROWS (walk.row + symbol) 0 → outcome ≡ get_or OUTCOMES (walk.row + symbol) 0
     → kept walk outcome c ≡ is_pictograph → decided
     ≡ decided_at outcome walk.is_joined walk.is_pictograph

@@ -15,7 +15,7 @@ use Rattle.breaks.specs.declared.mark.Mark.{Mark}
 use Rattle.breaks.specs.declared.mark.Mark.TheVariants.{Never}
 use Rattle.breaks.specs.declared.table.TheConstants.{NEVER, STATE_COUNT, UNLESS, WAITS}
 use Rattle.breaks.specs.declared.walk.TheConstants.{MARKS, WHOLE_MARKS}
-use Rattle.breaks.specs.declared.walk.Walk.{Walk}
+use Rattle.breaks.specs.declared.walk.Walk15.{Walk15}
 use Rattle.breaks.specs.declared.symbol.TheConstants.{SYMBOL_COUNT}
 
 abbrev pub base : LineClass → Base
@@ -86,10 +86,9 @@ decided_at outcome is_joined is_pictograph = if is_joined || ((outcome == UNLESS
 abbrev pub is_ordinary : Properties → Bool
 is_ordinary p = not (is_same (character_by V15_0 p).class class.ZWJ) && not p.is_future_pictograph
 
--- whether the characters before a position are ordinary, as far as the rules look back
-pub record FollowsOrdinary (walk : Walk) : Type 0 where
-  pub unjoined : walk.is_joined ≡ false
-  pub no_pictograph : walk.is_pictograph ≡ false
+-- the walk over ordinary characters in this row, with all that a walk over any characters knows
+abbrev pub full_walk : ℕ → Walk15
+full_walk row = record { row = row; is_joined = false; is_pictograph = false }
 
 -- the mark of an outcome that does not wait for the base after next
 abbrev pub marks_alone : Bool → List Mark
@@ -159,7 +158,7 @@ carried bases =
 -- The state `walk` belongs to the bases `last` and `others`, the nearest first. A character may still join
 -- `last`. The row of `walk` is that of a state whose example bases have the same `answers` and `carried`. The
 -- two bits of `walk` describe `last`.
-pub record Stands (whole_numbers : Bool) (walk : Walk) (last : Base) (others : List Base) : Type 0 where
+pub record Stands (whole_numbers : Bool) (walk : Walk15) (last : Base) (others : List Base) : Type 0 where
   pub state : ℕ
   pub below : state < STATE_COUNT
   pub row : walk.row ≡ state * SYMBOL_COUNT

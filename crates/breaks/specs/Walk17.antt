@@ -166,9 +166,9 @@ is_narrow_17 p = not (is_same (character_by V17_0 p).class class.ZWJ) && (not p.
 abbrev pub narrow_bits : Bits
 narrow_bits = record { is_joined = false; is_pictograph = false; is_wide = false; was_wide = false }
 
--- whether the characters before a position are narrow, as far as the rules look back
-abbrev pub FollowsNarrow : Walk17 → Type 0
-FollowsNarrow walk = bits_in walk ≡ narrow_bits
+-- the walk over narrow characters in this row, with all that a walk over any characters knows
+abbrev pub full_walk_17 : ℕ → Walk17
+full_walk_17 row = record { row = row; is_joined = false; is_pictograph = false; is_wide = false; was_wide = false }
 
 -- the mark or the question of an outcome between narrow characters
 abbrev pub decided_narrow : ℕ → ℕ

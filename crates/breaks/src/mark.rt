@@ -4,18 +4,17 @@ ghost use Rattle.std.specs.Prelude.{List, Some, drop, length, map};
 ghost use Rattle.std.specs.List.{list_all};
 ghost use Rattle.std.specs.Prelude.{slice_get, vec_capacity, IfOk, OnErr, OnOk};
 ghost use Rattle.ucd.specs.Properties.{properties_of};
+ghost use Rattle.ucd.specs.declared.properties.Properties.{Properties};
 ghost use Rattle.ucd.specs.declared.version.Version.TheVariants.{V17_0};
 ghost use Rattle.breaks.specs.Marks.{marks_of};
-ghost use Rattle.breaks.specs.Bases.{Base};
-ghost use Rattle.breaks.specs.Passes.{Passes, bases_after};
-ghost use Rattle.breaks.specs.Rules.{rules as all_rules};
+ghost use Rattle.breaks.specs.Passes.{bases_after};
 ghost use Rattle.breaks.specs.Symbols.{character_by};
 ghost use Rattle.breaks.specs.declared.mark.Mark.TheVariants.{Must};
 
 use crate::characters::{Characters, Known, LookedUp};
-use crate::rules::Rules;
-use crate::walk::Rules15;
-use crate::walk_17::Rules17;
+use crate::rules::{Rules, Walk};
+use crate::walk::{OrdinaryWalk15, Rules15, Walk15};
+use crate::walk_17::{OrdinaryWalk17, Rules17, Walk17};
 use std::alloc::{AllocError, Global};
 use ucd::{Properties, Tables, Version};
 
@@ -87,13 +86,19 @@ fn mark_all<C: Characters>(
     ensures { marks.new ≡ marks_of tables.now whole_numbers text.now }
 {
     match tables.version() {
-        Version::V15_0 => mark_by(tables, text, characters, Rules15 { whole_numbers }, marks),
-        Version::V17_0 => mark_by(tables, text, characters, Rules17, marks),
+        Version::V15_0 => {
+            let rules = Rules15 { whole_numbers };
+            mark_by::<Rules15, OrdinaryWalk15, Walk15, C>(tables, text, characters, rules, marks);
+        }
+        Version::V17_0 => {
+            let rules = Rules17;
+            mark_by::<Rules17, OrdinaryWalk17, Walk17, C>(tables, text, characters, rules, marks);
+        }
     }
 }
 
-// Does the same with the rules of one version.
-fn mark_by<R: Rules, C: Characters>(
+// Does the same with the rules of one version: in fewer steps if the first walk can pass all characters.
+fn mark_by<R: Rules, O: Walk<R>, W: Walk<R>, C: Characters>(
     tables: &Tables,
     text: &[char],
     characters: C,
@@ -103,29 +108,30 @@ fn mark_by<R: Rules, C: Characters>(
     requires len { length marks.old ≡ length text.now }
     requires version { tables.now.version ≡ R.version }
     requires characters { C.all characters ≡ map (properties_of tables.now) text.now }
+    requires any { (one : Properties) → W.accepts one ≡ true }
     ensures { marks.new ≡ marks_of tables.now (R.whole_numbers rules) text.now }
 {
-    if C::ARE_KNOWN && are_ordinary::<R, C>(characters) {
-        mark_each::<R, C, true>(tables, text, characters, rules, marks);
+    if C::ARE_KNOWN && are_accepted::<R, O, C>(characters) {
+        mark_each::<R, O, C>(tables, text, characters, rules, marks);
     } else {
-        mark_each::<R, C, false>(tables, text, characters, rules, marks);
+        mark_each::<R, W, C>(tables, text, characters, rules, marks);
     }
 }
 
-// Returns whether all characters are ordinary. The loop has no branches, so that the compiler tests many
+// Returns whether a walk can pass all characters. The loop has no branches, so that the compiler tests many
 // characters at a time.
-fn are_ordinary<R: Rules, C: Characters>(characters: C) -> bool
-    ensures { result ≡ list_all R.is_ordinary (C.all characters) }
+fn are_accepted<R: Rules, W: Walk<R>, C: Characters>(characters: C) -> bool
+    ensures { result ≡ list_all W.accepts (C.all characters) }
 {
-    let mut ordinary = true;
+    let mut accepted = true;
     for at in 0..characters.len() {
-        ordinary &= R::is_ordinary(characters.get(at));
+        accepted &= W::accepts(characters.get(at));
     }
-    ordinary
+    accepted
 }
 
-// Does the same as `mark_by`, in fewer steps with `ORDINARY`, which says that all characters are ordinary.
-fn mark_each<R: Rules, C: Characters, const ORDINARY: bool>(
+// Does the same as `mark_by` with a walk that can pass all characters.
+fn mark_each<R: Rules, W: Walk<R>, C: Characters>(
     tables: &Tables,
     text: &[char],
     characters: C,
@@ -135,38 +141,19 @@ fn mark_each<R: Rules, C: Characters, const ORDINARY: bool>(
     requires len { length marks.old ≡ length text.now }
     requires version { tables.now.version ≡ R.version }
     requires characters { C.all characters ≡ map (properties_of tables.now) text.now }
-    requires ordinary { ORDINARY ≡ true → list_all R.is_ordinary (C.all characters) ≡ true }
+    requires accepted { list_all W.accepts (C.all characters) ≡ true }
     ensures { marks.new ≡ marks_of tables.now (R.whole_numbers rules) text.now }
 {
     let Some((first, rest)) = characters.split_first() else {
         return;
     };
-    let mut walk = rules.start(first);
+    let mut walk = W::start(first);
     let last = rest.len();
     for i in 0..last {
-        let outcome = pass::<R, ORDINARY>(rules, &mut walk, rest.get(i));
+        let outcome = walk.pass(rest.get(i));
         marks[i] = mark_before(rest, i + 1, outcome, rules);
     }
     marks[last] = Mark::Must;
-}
-
-// Returns the outcome before the next character, and moves past that character.
-fn pass<R: Rules, const ORDINARY: bool>(rules: R, walk: &mut R::Walk, next: Properties) -> u8
-    requires row { R.within walk.old }
-    requires before { ORDINARY ≡ true → R.follows_ordinary walk.old }
-    requires next { ORDINARY ≡ true → R.is_ordinary next ≡ true }
-    ensures passes { (last : Base) (others : List Base) → R.stands rules walk.old last others
-        → Passes (all_rules R.version (R.whole_numbers rules)) (R.mark_of rules result)
-        (R.stands rules walk.new) last others (character_by R.version next) }
-    ensures before { ORDINARY ≡ true → R.follows_ordinary walk.new }
-    ensures within { R.within walk.new }
-    ensures below { result < R.outcome_count }
-{
-    if ORDINARY {
-        rules.pass_ordinary(walk, next)
-    } else {
-        rules.pass(walk, next)
-    }
 }
 
 // Returns the mark before a character, given the outcome there and the index after the character.

@@ -1,13 +1,11 @@
 //! The walk over the characters of a paragraph, with the rules of Unicode 15.0.
-ghost use Rattle.std.specs.Prelude.{◌≡◌, ◌<◌, ◌≤◌, ◌==◌, ◌&&◌, get_or, if◌then◌else◌};
+ghost use Rattle.std.specs.Prelude.{◌≡◌, ◌<◌, ◌≤◌, ◌==◌, ◌&&◌, true, if◌then◌else◌};
 ghost use Rattle.ucd.specs.declared.version.Version.TheVariants.{V15_0};
-ghost use Rattle.breaks.specs.declared.mark.Mark.TheVariants.{Never};
 ghost use Rattle.breaks.specs.declared.table.TheConstants.{LAST_ROW, WAITS};
-ghost use Rattle.breaks.specs.Walk.{FollowsOrdinary, Stands, decided_at, is_ordinary, mark_given};
-ghost use Rattle.breaks.specs.Walk.{marks_alone};
+ghost use Rattle.breaks.specs.Walk.{Stands, decided_at, full_walk, is_ordinary, mark_given};
 
 use crate::mark::Mark;
-use crate::rules::Rules;
+use crate::rules::{Rules, Walk};
 use crate::symbol::{ATTACHED, DIGIT, JOINER, symbol_of};
 use crate::table::{MAY, NEVER, START, STAYS, UNLESS, WAITS, next_row, outcome};
 use ucd::Properties;
@@ -19,69 +17,16 @@ pub struct Rules15 {
     pub whole_numbers: bool,
 }
 
-/// The state of the walk.
-#[derive(Clone, Copy)]
-pub struct Walk {
-    // The start of the state's row in the table.
-    row: usize,
-    // LB8a: whether the last character is a ZWJ.
-    is_joined: bool,
-    // LB30b: whether the last base is a future pictograph.
-    is_pictograph: bool,
-}
-
 impl Rules for Rules15 {
-    type Walk = Walk;
-
     ghost version = { V15_0 };
 
     ghost whole_numbers = { λ rules. rules.whole_numbers };
-
-    ghost stands = { λ rules. Stands rules.whole_numbers };
-
-    ghost within = { λ walk. walk.row ≤ LAST_ROW };
 
     ghost outcome_count = { 8 };
 
     ghost is_question = { λ rules outcome. (outcome == WAITS) && rules.whole_numbers };
 
     ghost mark_of = { λ rules. mark_given rules.whole_numbers };
-
-    ghost is_ordinary = { is_ordinary };
-
-    ghost follows_ordinary = { FollowsOrdinary };
-
-    fn start(self, first: Properties) -> Walk {
-        let symbol = symbol_of(first);
-        Walk {
-            row: next_row(START, symbol),
-            is_joined: symbol == JOINER,
-            is_pictograph: first.is_future_pictograph(),
-        }
-    }
-
-    fn pass(self, walk: &mut Walk, next: Properties) -> u8 {
-        let symbol = symbol_of(next);
-        let outcome = outcome(walk.row, symbol);
-        let decided = decide(outcome, walk.is_joined, walk.is_pictograph);
-        walk.row = next_row(walk.row, symbol);
-        walk.is_joined = symbol == JOINER;
-        let is_pictograph = next.is_future_pictograph();
-        walk.is_pictograph = is_now_pictograph(outcome, walk.is_pictograph, is_pictograph);
-        decided
-    }
-
-    fn pass_ordinary(self, walk: &mut Walk, next: Properties) -> u8 {
-        let symbol = symbol_of(next);
-        let row = walk.row;
-        walk.row = next_row(row, symbol);
-        outcome(row, symbol)
-    }
-
-    // Neither a ZWJ nor a future pictograph.
-    fn is_ordinary(one: Properties) -> bool {
-        (symbol_of(one) != JOINER) & !one.is_future_pictograph()
-    }
 
     fn mark(self, outcome: u8) -> Option<Mark> {
         if !self.whole_numbers {
@@ -106,6 +51,81 @@ impl Rules for Rules15 {
 
     fn answer_at_end(self, _question: u8) -> Mark {
         Mark::May
+    }
+}
+
+/// The state of the walk over any characters.
+#[derive(Clone, Copy)]
+pub struct Walk15 {
+    // The start of the state's row in the table.
+    row: usize,
+    // LB8a: whether the last character is a ZWJ.
+    is_joined: bool,
+    // LB30b: whether the last base is a future pictograph.
+    is_pictograph: bool,
+}
+
+impl Walk<Rules15> for Walk15 {
+    ghost stands = { λ rules. Stands rules.whole_numbers };
+
+    ghost within = { λ walk. walk.row ≤ LAST_ROW };
+
+    ghost accepts = { λ _. true };
+
+    fn accepts(_one: Properties) -> bool {
+        true
+    }
+
+    fn start(first: Properties) -> Walk15 {
+        let symbol = symbol_of(first);
+        Walk15 {
+            row: next_row(START, symbol),
+            is_joined: symbol == JOINER,
+            is_pictograph: first.is_future_pictograph(),
+        }
+    }
+
+    fn pass(&mut self, next: Properties) -> u8 {
+        let symbol = symbol_of(next);
+        let outcome = outcome(self.row, symbol);
+        let decided = decide(outcome, self.is_joined, self.is_pictograph);
+        self.row = next_row(self.row, symbol);
+        self.is_joined = symbol == JOINER;
+        let is_pictograph = next.is_future_pictograph();
+        self.is_pictograph = is_now_pictograph(outcome, self.is_pictograph, is_pictograph);
+        decided
+    }
+}
+
+/// The state of the walk over ordinary characters, between which the table decides alone. These are neither a
+/// ZWJ nor a future pictograph.
+#[derive(Clone, Copy)]
+pub struct OrdinaryWalk15 {
+    row: usize,
+}
+
+impl Walk<Rules15> for OrdinaryWalk15 {
+    ghost stands = { λ rules walk. Stands rules.whole_numbers (full_walk walk.row) };
+
+    ghost within = { λ walk. walk.row ≤ LAST_ROW };
+
+    ghost accepts = { is_ordinary };
+
+    fn accepts(one: Properties) -> bool {
+        (symbol_of(one) != JOINER) & !one.is_future_pictograph()
+    }
+
+    fn start(first: Properties) -> OrdinaryWalk15 {
+        OrdinaryWalk15 {
+            row: next_row(START, symbol_of(first)),
+        }
+    }
+
+    fn pass(&mut self, next: Properties) -> u8 {
+        let symbol = symbol_of(next);
+        let row = self.row;
+        self.row = next_row(row, symbol);
+        outcome(row, symbol)
     }
 }
 

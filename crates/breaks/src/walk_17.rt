@@ -1,17 +1,17 @@
 //! The walk over the characters of a paragraph, with the rules of Unicode 17.0.
-ghost use Rattle.std.specs.Prelude.{◌≡◌, ◌<◌, ◌≤◌, false, nat_le};
+ghost use Rattle.std.specs.Prelude.{◌≡◌, ◌<◌, ◌≤◌, false, nat_le, true};
 ghost use Rattle.ucd.specs.declared.version.Version.TheVariants.{V17_0};
 ghost use Rattle.breaks.specs.Bases.{alone, is_east_asian};
 ghost use Rattle.breaks.specs.Symbols.{character_by, shown_17, told_17};
 ghost use Rattle.breaks.specs.declared.symbol_17.TheConstants.{SYMBOL_COUNT};
 ghost use Rattle.breaks.specs.declared.table_17.TheConstants.{DECIDED_COUNT, LAST_ROW, LB15B};
 ghost use Rattle.breaks.specs.declared.table_17.TheConstants.{OUTCOME_COUNT};
-ghost use Rattle.breaks.specs.Walk17.{Stands17, FollowsNarrow, bits_in, decided_17};
-ghost use Rattle.breaks.specs.Walk17.{decided_narrow, is_narrow_17, mark_of_17};
+ghost use Rattle.breaks.specs.Walk17.{Stands17, bits_in, decided_17, decided_narrow};
+ghost use Rattle.breaks.specs.Walk17.{full_walk_17, is_narrow_17, mark_of_17};
 
 use crate::mark::Mark;
 use crate::questions::{answer, mark_17};
-use crate::rules::Rules;
+use crate::rules::{Rules, Walk};
 use crate::symbol_17::{ATTACHED, JOINER, symbol_17};
 use crate::table_17::{
     FINAL, FINAL_INITIAL, FINAL_UNLESS, INITIAL, LB15B, LB15C, LB19A, LB25, LB25_IS, LB28A, MAY,
@@ -23,87 +23,17 @@ use ucd::Properties;
 #[derive(Clone, Copy)]
 pub struct Rules17;
 
-/// The state of the walk.
-#[derive(Clone, Copy)]
-pub struct Walk17 {
-    // The start of the state's row in the table.
-    row: usize,
-    // LB8a: whether the last character is a ZWJ.
-    is_joined: bool,
-    // LB30b: whether the last base is a future pictograph.
-    is_pictograph: bool,
-    // LB19a: whether the last base is wide.
-    is_wide: bool,
-    // LB19a: whether the base before the last one is wide.
-    was_wide: bool,
-}
-
 impl Rules for Rules17 {
-    type Walk = Walk17;
-
     ghost version = { V17_0 };
 
     // Both are the same.
     ghost whole_numbers = { λ _. false };
-
-    ghost stands = { λ _. Stands17 };
-
-    ghost within = { λ walk. walk.row ≤ LAST_ROW };
 
     ghost outcome_count = { DECIDED_COUNT };
 
     ghost is_question = { λ _ outcome. nat_le LB15B outcome };
 
     ghost mark_of = { λ _. mark_of_17 };
-
-    ghost is_ordinary = { is_narrow_17 };
-
-    ghost follows_ordinary = { FollowsNarrow };
-
-    fn start(self, first: Properties) -> Walk17 {
-        let symbol = symbol_17(first);
-        Walk17 {
-            row: next_row(START, symbol),
-            is_joined: symbol == JOINER,
-            is_pictograph: first.is_future_pictograph(),
-            is_wide: is_wide(symbol, first),
-            was_wide: false,
-        }
-    }
-
-    fn pass(self, walk: &mut Walk17, next: Properties) -> u8 {
-        let symbol = symbol_17(next);
-        let outcome = outcome(walk.row, symbol);
-        let row = next_row(walk.row, symbol);
-        let is_joined = symbol == JOINER;
-        if outcome == STAYS {
-            walk.row = row;
-            walk.is_joined = is_joined;
-            return NEVER;
-        }
-        let next_is_wide = is_wide(symbol, next);
-        let decided = walk.decide(outcome, next_is_wide);
-        *walk = Walk17 {
-            row,
-            is_joined,
-            is_pictograph: next.is_future_pictograph(),
-            is_wide: next_is_wide,
-            was_wide: walk.is_wide,
-        };
-        decided
-    }
-
-    fn pass_ordinary(self, walk: &mut Walk17, next: Properties) -> u8 {
-        let symbol = symbol_17(next);
-        let row = walk.row;
-        walk.row = next_row(row, symbol);
-        decided_narrow(outcome(row, symbol))
-    }
-
-    // Neither wide nor a ZWJ nor a future pictograph.
-    fn is_ordinary(one: Properties) -> bool {
-        (symbol_17(one) != JOINER) & (!one.is_future_pictograph() & !one.is_wide())
-    }
 
     fn mark(self, outcome: u8) -> Option<Mark> {
         if outcome < LB15B {
@@ -119,6 +49,66 @@ impl Rules for Rules17 {
 
     fn answer_at_end(self, question: u8) -> Mark {
         mark_17(question)
+    }
+}
+
+/// The state of the walk over any characters.
+#[derive(Clone, Copy)]
+pub struct Walk17 {
+    // The start of the state's row in the table.
+    row: usize,
+    // LB8a: whether the last character is a ZWJ.
+    is_joined: bool,
+    // LB30b: whether the last base is a future pictograph.
+    is_pictograph: bool,
+    // LB19a: whether the last base is wide.
+    is_wide: bool,
+    // LB19a: whether the base before the last one is wide.
+    was_wide: bool,
+}
+
+impl Walk<Rules17> for Walk17 {
+    ghost stands = { λ _. Stands17 };
+
+    ghost within = { λ walk. walk.row ≤ LAST_ROW };
+
+    ghost accepts = { λ _. true };
+
+    fn accepts(_one: Properties) -> bool {
+        true
+    }
+
+    fn start(first: Properties) -> Walk17 {
+        let symbol = symbol_17(first);
+        Walk17 {
+            row: next_row(START, symbol),
+            is_joined: symbol == JOINER,
+            is_pictograph: first.is_future_pictograph(),
+            is_wide: is_wide(symbol, first),
+            was_wide: false,
+        }
+    }
+
+    fn pass(&mut self, next: Properties) -> u8 {
+        let symbol = symbol_17(next);
+        let outcome = outcome(self.row, symbol);
+        let row = next_row(self.row, symbol);
+        let is_joined = symbol == JOINER;
+        if outcome == STAYS {
+            self.row = row;
+            self.is_joined = is_joined;
+            return NEVER;
+        }
+        let next_is_wide = is_wide(symbol, next);
+        let decided = self.decide(outcome, next_is_wide);
+        *self = Walk17 {
+            row,
+            is_joined,
+            is_pictograph: next.is_future_pictograph(),
+            is_wide: next_is_wide,
+            was_wide: self.is_wide,
+        };
+        decided
     }
 }
 
@@ -144,6 +134,38 @@ impl Walk17 {
             _ => (is_between & self.is_wide, LB19A),
         };
         if is_open { open } else { NEVER }
+    }
+}
+
+/// The state of the walk over narrow characters, between which the table decides alone. These are neither wide
+/// nor a ZWJ nor a future pictograph.
+#[derive(Clone, Copy)]
+pub struct OrdinaryWalk17 {
+    row: usize,
+}
+
+impl Walk<Rules17> for OrdinaryWalk17 {
+    ghost stands = { λ _ walk. Stands17 (full_walk_17 walk.row) };
+
+    ghost within = { λ walk. walk.row ≤ LAST_ROW };
+
+    ghost accepts = { is_narrow_17 };
+
+    fn accepts(one: Properties) -> bool {
+        (symbol_17(one) != JOINER) & (!one.is_future_pictograph() & !one.is_wide())
+    }
+
+    fn start(first: Properties) -> OrdinaryWalk17 {
+        OrdinaryWalk17 {
+            row: next_row(START, symbol_17(first)),
+        }
+    }
+
+    fn pass(&mut self, next: Properties) -> u8 {
+        let symbol = symbol_17(next);
+        let row = self.row;
+        self.row = next_row(row, symbol);
+        decided_narrow(outcome(row, symbol))
     }
 }
 

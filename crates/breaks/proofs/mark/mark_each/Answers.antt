@@ -13,17 +13,18 @@ returns-in_default g c = none_at_all _ _ _ _ (no_text _ _ _ c.requires.character
 -- the loop invariant holds after the first character
 pub loop-i-init : goal.loop-i-init
 loop-i-init g c = record {
-  walks = (_, [], c.start-walk.ensures.stands, begins_read _ _ _ _ _ _ _ c.requires.version c.requires.characters c.in-Some.ensures.cases);
+  walks = (_, [], c.start-walk.ensures.stands c.args.rules, begins_read _ _ _ _ _ _ _ c.requires.version c.requires.characters c.in-Some.ensures.cases);
   len = one_longer _ _ _ _ (c.requires.len ∙ sym (length-map _ _) ∙ sym (ap length c.requires.characters)) c.in-Some.ensures.cases;
   within = c.start-walk.ensures.within;
-  before = λ ordinary. c.start-walk.ensures.ordinary (head_passes g.R.Rules.is_ordinary _ _ _ (c.requires.ordinary ordinary) c.in-Some.ensures.cases);
-  ordinary = λ ordinary. tail_passes g.R.Rules.is_ordinary _ _ _ (c.requires.ordinary ordinary) c.in-Some.ensures.cases;
+  accepted = tail_passes g.W.Walk.accepts _ _ _ c.requires.accepted c.in-Some.ensures.cases;
 }
 
--- the next character is ordinary
+-- the walk can pass the first character and the next one
+pub start-walk-requires : goal.start-walk-requires
+start-walk-requires g c = head_passes g.W.Walk.accepts _ _ _ c.requires.accepted c.in-Some.ensures.cases
+
 pub pass-outcome-requires-clause-next : goal.pass-outcome-requires-clause-next
-pass-outcome-requires-clause-next g c =
-    λ ordinary. one_of_all g.R.Rules.is_ordinary _ c.loop-i.i c.get.result (omega arith) (c.loop-i.invariant.ordinary ordinary) c.get.ensures
+pass-outcome-requires-clause-next g c = one_of_all g.W.Walk.accepts _ c.loop-i.i c.get.result (omega arith) c.loop-i.invariant.accepted c.get.ensures
 
 -- the loop invariant still holds after the next character
 pub loop-i-preserved : goal.loop-i-preserved
@@ -31,12 +32,11 @@ loop-i-preserved g c =
     let lt : c.loop-i.i < length c.loop-i.marks = omega arith in
     record {
       walks = steps (character_by g.R.Rules.version) _ _ (rules g.R.Rules.version (g.R.Rules.whole_numbers c.args.rules)) _ _ _ c.loop-i.i _ c.loop-i.marks _ c.mark_before.result
-          (omega arith) c.get.ensures c.loop-i.invariant.walks c.pass-outcome.ensures.passes c.mark_before.ensures
+          (omega arith) c.get.ensures c.loop-i.invariant.walks (c.pass-outcome.ensures.passes c.args.rules) c.mark_before.ensures
           (take_more_set c.loop-i.marks c.loop-i.i c.mark_before.result lt);
       len = length-set c.loop-i.marks c.loop-i.i c.mark_before.result ∙ c.loop-i.invariant.len;
       within = c.pass-outcome.ensures.within;
-      before = c.pass-outcome.ensures.before;
-      ordinary = c.loop-i.invariant.ordinary;
+      accepted = c.loop-i.invariant.accepted;
     }
 
 -- the mark after the last character completes the list

@@ -1,4 +1,4 @@
-use Rattle.std.proofs.Common.{◌≡◌, ◌+◌, ◌==◌, not, true, length, map, take, drop}
+use Rattle.std.proofs.Common.{◌≡◌, ◌+◌, true, length, map, take, drop}
 use Rattle.std.specs.List.{list_all}
 use Rattle.breaks.specs.Marks.{marks_of}
 use Rattle.breaks.specs.Rules.{rules}
@@ -13,9 +13,8 @@ invariant-loop-i g l =
     let whole_numbers = g.R.Rules.whole_numbers l.rules in
     let rest = g.C.Characters.all l.rest in
     record {
-      walks : Walks (rules v whole_numbers) (g.R.Rules.stands l.rules l.walk) (take l.i l.marks) (map (character_by v) (drop l.i rest)) (marks_of l.tables whole_numbers l.text);
+      walks : Walks (rules v whole_numbers) (g.W.Walk.stands l.rules l.walk) (take l.i l.marks) (map (character_by v) (drop l.i rest)) (marks_of l.tables whole_numbers l.text);
       len : length l.marks ≡ length rest + 1;
-      within : g.R.Rules.within l.walk;
-      before : not (g.row.ORDINARY == 0) ≡ true → g.R.Rules.follows_ordinary l.walk;
-      ordinary : not (g.row.ORDINARY == 0) ≡ true → list_all g.R.Rules.is_ordinary rest ≡ true;
+      within : g.W.Walk.within l.walk;
+      accepted : list_all g.W.Walk.accepts rest ≡ true;
     }
