@@ -1,5 +1,5 @@
 -- Narrow characters: with the rules of Unicode 17.0, the table alone decides the marks between them.
-use Rattle.std.proofs.Common.{◌≡◌, ◌∙◌, ℕ, ◌+◌, ◌<◌, ◌==◌, Bool, true, false, not, ◌&&◌, List, [], ◌∷◌, get_or, refl, ap, ap₂, subst, sym, inl, inr}
+use Rattle.std.proofs.Common.{◌≡◌, ◌∙◌, ℕ, ◌+◌, ◌<◌, ◌==◌, Bool, true, false, not, ◌&&◌, List, [], ◌∷◌, get_or, refl, ap, subst, sym, inl, inr}
 use Rattle.std.proofs.lemmas.Bool.{cases_Bool}
 use Rattle.ucd.specs.declared.line_class.LineClass.TheVariants.{CM, ZWJ}
 use Rattle.ucd.specs.declared.properties.Properties.{Properties}

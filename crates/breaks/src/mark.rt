@@ -131,6 +131,7 @@ fn are_accepted<R: Rules, W: Walk<R>, C: Characters>(characters: C) -> bool
 }
 
 // Does the same as `mark_by` with a walk that can pass all characters.
+#[inline(never)] // so that the loop has all registers
 fn mark_each<R: Rules, W: Walk<R>, C: Characters>(
     tables: &Tables,
     text: &[char],
@@ -171,6 +172,8 @@ fn mark_before<R: Rules, C: Characters>(characters: C, after: usize, outcome: u8
 }
 
 // Returns the mark of a question: reads on until it is answered, past the marks of one or two bases.
+#[cold]
+#[inline(never)] // so that the loop over the characters has all registers
 fn mark_asked<R: Rules, C: Characters>(characters: C, after: usize, question: u8, rules: R) -> Mark
     requires place { after ≤ length (C.all characters) }
     requires below { question < R.outcome_count }
