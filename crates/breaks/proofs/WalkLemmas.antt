@@ -8,7 +8,7 @@ use Rattle.std.proofs.lemmas.Bool.{cases_Bool}
 use Rattle.std.proofs.lemmas.List.{at_drop_more, drop_all, length-map, length-set, take_all, take_more_set}
 use Rattle.breaks.specs.Bases.{Base, Character, alone, joined, stays_with, bases_of, end_of, character}
 use Rattle.breaks.specs.Marks.{marks_after, marks_of}
-use Rattle.breaks.specs.Passes.{Passes, bases_after, with_attached}
+use Rattle.breaks.specs.Passes.{Passes, bases_after, marks_by, with_attached}
 use Rattle.breaks.specs.Rules.{Rule, rules, rows_before_numbers, mark_by}
 use Rattle.breaks.specs.Symbols.{character_by}
 use Rattle.breaks.specs.declared.mark.Mark.{Mark}
@@ -82,18 +82,21 @@ walk_is v whole_numbers others last (c ∷ text) end is =
 pub walk_from_start : (v : Version) (whole_numbers : Bool) (c : Character) (text : List Character) → walk (rules v whole_numbers) [] (alone c) text ≡ marks_after (rules v whole_numbers) [] (bases_of (c ∷ text))
 walk_from_start v whole_numbers c text = walk_is v whole_numbers [] (alone c) text c refl ∙ ap (marks_after (rules v whole_numbers) []) (grown_alone c text)
 
--- an empty text has no marks
-pub none_marked : (t : Tables) (whole_numbers : Bool) (text : List ℕ) → length text ≡ 0 → marks_of t whole_numbers text ≡ []
-unfolding marks_of
-none_marked t whole_numbers [] none = refl
-none_marked t whole_numbers (c ∷ text) none = absurd (omega arith)
+-- a text of no characters has no marks
+pub none_at_all : (v : Version) (whole_numbers : Bool) (all : List Properties) (marks : List Mark) → length all ≡ 0 → length marks ≡ length all → marks ≡ marks_by v whole_numbers all
+unfolding marks_by
+none_at_all v whole_numbers [] [] none len = refl
+none_at_all v whole_numbers [] (m ∷ marks) none len = absurd (omega arith)
+none_at_all v whole_numbers (p ∷ all) marks none len = absurd (omega arith)
 
--- the recursion from the second character of a text on gives the marks of the text
-pub begins_walk : (t : Tables) (whole_numbers : Bool) (text rest : List ℕ) (c : ℕ) (first : Character)
-    (marks : List Mark) → text ≡ c ∷ rest → first ≡ character t c → marks ≡ [] → marks
-    ++ walk (rules t.version whole_numbers) [] (alone first) (map (character t) rest) ≡ marks_of t whole_numbers text
-unfolding marks_of
-begins_walk t whole_numbers text rest c first marks is reads none = rw (none, is, reads) (walk_from_start t.version whole_numbers (character t c) (map (character t) rest))
+-- the recursion from the second character on gives the marks of all characters
+pub begins_walk : (v : Version) (whole_numbers : Bool) (all rest : List Properties) (p : Properties) → all ≡ p ∷ rest
+    → walk (rules v whole_numbers) [] (alone (character_by v p)) (map (character_by v) rest) ≡ marks_by v whole_numbers all
+unfolding marks_by
+begins_walk v whole_numbers all rest p is = rw is (walk_from_start v whole_numbers (character_by v p) (map (character_by v) rest))
+
+pub one_longer : {X : Type 0} (text : List X) (x : X) (rest : List X) (marks : List Mark) → length marks ≡ length text → text ≡ x ∷ rest → length marks ≡ length rest + 1
+one_longer text x rest marks len is = omega (arith, ap length is)
 
 -- The state belongs to the bases so far, as `stands` says. The marks so far, followed by the marks of the recursion, are all
 -- marks.
@@ -164,9 +167,10 @@ length-walk rs others last (c ∷ text) =
     ]
 
 pub length-marks : (t : Tables) (whole_numbers : Bool) (text : List ℕ) → length (marks_of t whole_numbers text) ≡ length text
-length-marks t whole_numbers [] = ap length (none_marked t whole_numbers [] refl)
+unfolding marks_of
+length-marks t whole_numbers [] = refl
 length-marks t whole_numbers (c ∷ text) =
-    ap length (sym (begins_walk t whole_numbers (c ∷ text) text c (character t c) [] refl refl refl))
+    ap length (sym (walk_from_start t.version whole_numbers (character t c) (map (character t) text)))
     ∙ length-walk (rules t.version whole_numbers) [] (alone (character t c)) (map (character t) text) ∙ ap suc (length-map text (character t))
 
 -- the last mark is `Must`
@@ -179,50 +183,25 @@ last-walk rs others last (c ∷ text) =
     ]
 
 pub last_mark : (t : Tables) (whole_numbers : Bool) (text : List ℕ) → 0 < length text → slice_get (marks_of t whole_numbers text) (length text - 1) ≡ Some Must
+unfolding marks_of
 last_mark t whole_numbers [] some = absurd (omega (arith, some))
 last_mark t whole_numbers (c ∷ text) some =
     let place : length (c ∷ text) - 1 ≡ length (map (character t) text) = omega (arith, length-map text (character t)) in
     ap (λ k. slice_get (marks_of t whole_numbers (c ∷ text)) k) place
-    ∙ ap (λ ms. slice_get ms (length (map (character t) text))) (sym (begins_walk t whole_numbers (c ∷ text) text c (character t c) [] refl refl refl))
+    ∙ ap (λ ms. slice_get ms (length (map (character t) text))) (sym (walk_from_start t.version whole_numbers (character t c) (map (character t) text)))
     ∙ last-walk (rules t.version whole_numbers) [] (alone (character t c)) (map (character t) text)
 
 -- the characters read from the properties are those read from the tables
-pub read_once : (t : Tables) (text : List ℕ) → map (character_by t.version) (map (properties_of t) text) ≡ map (character t) text
+read_once : (t : Tables) (text : List ℕ) → map (character_by t.version) (map (properties_of t) text) ≡ map (character t) text
 read_once t [] = refl
 read_once t (c ∷ text) = ap (λ cs. character t c ∷ cs) (read_once t text)
 
--- if a text is empty, a list of the same length is the list of its marks
-pub none_at_all : (t : Tables) (whole_numbers : Bool) (text : List ℕ) (marks : List Mark) → length text ≡ 0 → length marks ≡ length text → marks ≡ marks_of t whole_numbers text
-none_at_all t whole_numbers [] [] none len = sym (none_marked t whole_numbers [] refl)
-none_at_all t whole_numbers [] (m ∷ marks) none len = absurd (omega arith)
-none_at_all t whole_numbers (c ∷ text) marks none len = absurd (omega arith)
-
-pub one_longer : {X : Type 0} (text : List X) (x : X) (rest : List X) (marks : List Mark) → length marks ≡ length text → text ≡ x ∷ rest → length marks ≡ length rest + 1
-one_longer text x rest marks len is = omega (arith, ap length is)
-
--- the recursion from the second character of a text on, with characters read from their properties, gives the
--- marks of the text
-read_from : (t : Tables) (whole_numbers : Bool) (text : List ℕ) (properties rest : List Properties)
-    (p : Properties) → properties ≡ map (properties_of t) text → properties ≡ p ∷ rest
-    → walk (rules t.version whole_numbers) [] (alone (character_by t.version p)) (map (character_by t.version) rest) ≡ marks_of t whole_numbers text
-read_from t whole_numbers [] properties rest p is reads =
-    let none : [] ≡ p ∷ rest = sym is ∙ reads in
-    cc
-read_from t whole_numbers (c ∷ text) properties rest p is reads =
-    let same : properties_of t c ∷ map (properties_of t) text ≡ p ∷ rest = sym is ∙ reads in
-    let first : p ≡ properties_of t c = cc in
-    let others : rest ≡ map (properties_of t) text = cc in
-    rw (first, others) (rw (read_once t text) (begins_walk t whole_numbers (c ∷ text) text c (character t c) [] refl refl refl))
-
-pub begins_read : (v : Version) (t : Tables) (whole_numbers : Bool) (text : List ℕ) (properties rest : List Properties)
-    (p : Properties) → t.version ≡ v → properties ≡ map (properties_of t) text → properties ≡ p ∷ rest
-    → walk (rules v whole_numbers) [] (alone (character_by v p)) (map (character_by v) rest) ≡ marks_of t whole_numbers text
-begins_read v t whole_numbers text properties rest p version is reads =
-    subst (λ v. walk (rules v whole_numbers) [] (alone (character_by v p)) (map (character_by v) rest) ≡ marks_of t whole_numbers text) version
-    (read_from t whole_numbers text properties rest p is reads)
-
-pub no_text : (t : Tables) (text : List ℕ) (properties : List Properties) → properties ≡ map (properties_of t) text → length properties ≡ 0 → length text ≡ 0
-no_text t text properties is none = sym (length-map text (properties_of t)) ∙ sym (ap length is) ∙ none
+pub marks_read : (v : Version) (t : Tables) (whole_numbers : Bool) (text : List ℕ) (all : List Properties) → t.version ≡ v → all ≡ map (properties_of t) text
+    → marks_by v whole_numbers all ≡ marks_of t whole_numbers text
+unfolding marks_by marks_of
+marks_read v t whole_numbers text all version is =
+    subst (λ v. marks_by v whole_numbers all ≡ marks_of t whole_numbers text) version
+    (ap (λ all. marks_by t.version whole_numbers all) is ∙ ap (λ cs. marks_after (rules t.version whole_numbers) [] (bases_of cs)) (read_once t text))
 
 -- With 17.0, whole numbers change nothing.
 same_rules : (whole_numbers : Bool) → rules V17_0 whole_numbers ≡ rules V17_0 false

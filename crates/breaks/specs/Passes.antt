@@ -1,9 +1,13 @@
 -- One step of the walk over the characters of a paragraph, with the rules of any version.
-use Rattle.std.specs.Prelude.{◌≡◌, List, [], ◌∷◌, ◌++◌, MatchBool, if◌then◌else◌}
+use Rattle.std.specs.Prelude.{◌≡◌, Bool, List, [], ◌∷◌, ◌++◌, MatchBool, map, if◌then◌else◌}
 use Rattle.ucd.specs.declared.line_class.LineClass.TheVariants.{CM, ZWJ}
+use Rattle.ucd.specs.declared.properties.Properties.{Properties}
+use Rattle.ucd.specs.declared.version.Version.{Version}
 use Rattle.breaks.specs.Bases.{Base, Character, alone, bases_of, end_of, stays_with}
 use Rattle.breaks.specs.Classes.{is_one_of}
-use Rattle.breaks.specs.Rules.{Rule, mark_by}
+use Rattle.breaks.specs.Marks.{marks_after}
+use Rattle.breaks.specs.Rules.{Rule, mark_by, rules}
+use Rattle.breaks.specs.Symbols.{character_by}
 use Rattle.breaks.specs.declared.mark.Mark.{Mark}
 use Rattle.breaks.specs.declared.mark.Mark.TheVariants.{Never}
 
@@ -20,8 +24,12 @@ bases_after (c ∷ text) = if is_one_of (CM ∷ ZWJ ∷ []) c.class then bases_a
 -- `mark` is the mark of the outcome, given the bases after the next one. `stands` says to which bases the new state
 -- belongs.
 abbrev pub Passes : List Rule → (List Base → Mark) → (Base → List Base → Type 0) → Base → List Base → Character → Type 0
-Passes rules mark stands last others c =
+Passes some mark stands last others c =
     MatchBool (stays_with (end_of last) c)
     (((rest : List Base) → mark rest ≡ Never) × stands (with_attached last c) others)
-    (((text : List Character) → mark (bases_after text) ≡ mark_by rules (last ∷ others) (bases_of (c ∷ text)))
+    (((text : List Character) → mark (bases_after text) ≡ mark_by some (last ∷ others) (bases_of (c ∷ text)))
     × stands (alone c) (last ∷ others))
+
+-- the marks of a paragraph whose characters have these properties
+unfoldable pub marks_by : Version → Bool → List Properties → List Mark
+marks_by v whole_numbers all = marks_after (rules v whole_numbers) [] (bases_of (map (character_by v) all))

@@ -7,7 +7,7 @@ ghost use Rattle.ucd.specs.Properties.{properties_of};
 ghost use Rattle.ucd.specs.declared.properties.Properties.{Properties};
 ghost use Rattle.ucd.specs.declared.version.Version.TheVariants.{V17_0};
 ghost use Rattle.breaks.specs.Marks.{marks_of};
-ghost use Rattle.breaks.specs.Passes.{bases_after};
+ghost use Rattle.breaks.specs.Passes.{bases_after, marks_by};
 ghost use Rattle.breaks.specs.Symbols.{character_by};
 ghost use Rattle.breaks.specs.declared.mark.Mark.TheVariants.{Must};
 
@@ -88,33 +88,28 @@ fn mark_all<C: Characters>(
     match tables.version() {
         Version::V15_0 => {
             let rules = Rules15 { whole_numbers };
-            mark_by::<Rules15, OrdinaryWalk15, Walk15, C>(tables, text, characters, rules, marks);
+            mark_by::<Rules15, OrdinaryWalk15, Walk15, C>(characters, rules, marks);
         }
         Version::V17_0 => {
-            let rules = Rules17;
-            mark_by::<Rules17, OrdinaryWalk17, Walk17, C>(tables, text, characters, rules, marks);
+            mark_by::<Rules17, OrdinaryWalk17, Walk17, C>(characters, Rules17, marks);
         }
     }
 }
 
 // Does the same with the rules of one version: in fewer steps if the first walk can pass all characters.
 fn mark_by<R: Rules, O: Walk<R>, W: Walk<R>, C: Characters>(
-    tables: &Tables,
-    text: &[char],
     characters: C,
     rules: R,
     marks: &mut [Mark],
 )
-    requires len { length marks.old ≡ length text.now }
-    requires version { tables.now.version ≡ R.version }
-    requires characters { C.all characters ≡ map (properties_of tables.now) text.now }
+    requires len { length marks.old ≡ length (C.all characters) }
     requires any { (one : Properties) → W.accepts one ≡ true }
-    ensures { marks.new ≡ marks_of tables.now (R.whole_numbers rules) text.now }
+    ensures { marks.new ≡ marks_by R.version (R.whole_numbers rules) (C.all characters) }
 {
     if C::ARE_KNOWN && are_accepted::<R, O, C>(characters) {
-        mark_each::<R, O, C>(tables, text, characters, rules, marks);
+        mark_each::<R, O, C>(characters, rules, marks);
     } else {
-        mark_each::<R, W, C>(tables, text, characters, rules, marks);
+        mark_each::<R, W, C>(characters, rules, marks);
     }
 }
 
@@ -132,18 +127,10 @@ fn are_accepted<R: Rules, W: Walk<R>, C: Characters>(characters: C) -> bool
 
 // Does the same as `mark_by` with a walk that can pass all characters.
 #[inline(never)] // so that the loop has all registers
-fn mark_each<R: Rules, W: Walk<R>, C: Characters>(
-    tables: &Tables,
-    text: &[char],
-    characters: C,
-    rules: R,
-    marks: &mut [Mark],
-)
-    requires len { length marks.old ≡ length text.now }
-    requires version { tables.now.version ≡ R.version }
-    requires characters { C.all characters ≡ map (properties_of tables.now) text.now }
+fn mark_each<R: Rules, W: Walk<R>, C: Characters>(characters: C, rules: R, marks: &mut [Mark])
+    requires len { length marks.old ≡ length (C.all characters) }
     requires accepted { list_all W.accepts (C.all characters) ≡ true }
-    ensures { marks.new ≡ marks_of tables.now (R.whole_numbers rules) text.now }
+    ensures { marks.new ≡ marks_by R.version (R.whole_numbers rules) (C.all characters) }
 {
     let Some((first, rest)) = characters.split_first() else {
         return;

@@ -1,20 +1,20 @@
-use Rattle.std.proofs.Common.{[], ◌<◌, length, sym, ap, ◌∙◌, arith}
-use Rattle.std.proofs.lemmas.List.{length-map, length-set, take_more_set}
+use Rattle.std.proofs.Common.{[], ◌<◌, length, ◌∙◌, arith}
+use Rattle.std.proofs.lemmas.List.{length-set, take_more_set}
 use Rattle.breaks.specs.Rules.{rules}
 use Rattle.breaks.specs.Symbols.{character_by}
 use Rattle.breaks.proofs.OrdinaryLemmas.{head_passes, one_of_all, tail_passes}
-use Rattle.breaks.proofs.WalkLemmas.{none_at_all, no_text, begins_read, one_longer, steps, ends}
+use Rattle.breaks.proofs.WalkLemmas.{none_at_all, begins_walk, one_longer, steps, ends}
 use Rattle.breaks.proofs.mark.mark_each.Goals as goal
 
 -- the text is empty
 pub returns-in_default : goal.returns-in_default
-returns-in_default g c = none_at_all _ _ _ _ (no_text _ _ _ c.requires.characters c.in_default.ensures.cases) c.requires.len
+returns-in_default g c = none_at_all _ _ _ _ c.in_default.ensures.cases c.requires.len
 
 -- the loop invariant holds after the first character
 pub loop-i-init : goal.loop-i-init
 loop-i-init g c = record {
-  walks = (_, [], c.start-walk.ensures.stands c.args.rules, begins_read _ _ _ _ _ _ _ c.requires.version c.requires.characters c.in-Some.ensures.cases);
-  len = one_longer _ _ _ _ (c.requires.len ∙ sym (length-map _ _) ∙ sym (ap length c.requires.characters)) c.in-Some.ensures.cases;
+  walks = (_, [], c.start-walk.ensures.stands c.args.rules, begins_walk _ _ _ _ _ c.in-Some.ensures.cases);
+  len = one_longer _ _ _ _ c.requires.len c.in-Some.ensures.cases;
   within = c.start-walk.ensures.within;
   accepted = tail_passes g.W.Walk.accepts _ _ _ c.requires.accepted c.in-Some.ensures.cases;
 }
