@@ -14,7 +14,7 @@ ghost use Rattle.breaks.specs.declared.mark.Mark.TheVariants.{Must};
 use crate::characters::{Characters, Known, LookedUp};
 use crate::rules::{Rules, Walk};
 use crate::walk::{OrdinaryWalk15, Rules15, Walk15};
-use crate::walk_17::{OrdinaryWalk17, Rules17, Walk17};
+use crate::walk_17::{NarrowWalk17, Rules17, Walk17};
 use std::alloc::{AllocError, Global};
 use ucd::{Properties, Tables, Version};
 
@@ -91,7 +91,7 @@ fn mark_all<C: Characters>(
             mark_by::<Rules15, OrdinaryWalk15, Walk15, C>(characters, rules, marks);
         }
         Version::V17_0 => {
-            mark_by::<Rules17, OrdinaryWalk17, Walk17, C>(characters, Rules17, marks);
+            mark_by::<Rules17, NarrowWalk17, Walk17, C>(characters, Rules17, marks);
         }
     }
 }

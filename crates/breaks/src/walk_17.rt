@@ -140,11 +140,11 @@ impl Walk17 {
 /// The state of the walk over narrow characters, between which the table decides alone. These are neither wide
 /// nor a ZWJ nor a future pictograph.
 #[derive(Clone, Copy)]
-pub struct OrdinaryWalk17 {
+pub struct NarrowWalk17 {
     row: usize,
 }
 
-impl Walk<Rules17> for OrdinaryWalk17 {
+impl Walk<Rules17> for NarrowWalk17 {
     ghost stands = { λ _ walk. Stands17 (full_walk_17 walk.row) };
 
     ghost within = { λ walk. walk.row ≤ LAST_ROW };
@@ -155,8 +155,8 @@ impl Walk<Rules17> for OrdinaryWalk17 {
         (symbol_17(one) != JOINER) & (!one.is_future_pictograph() & !one.is_wide())
     }
 
-    fn start(first: Properties) -> OrdinaryWalk17 {
-        OrdinaryWalk17 {
+    fn start(first: Properties) -> NarrowWalk17 {
+        NarrowWalk17 {
             row: next_row(START, symbol_17(first)),
         }
     }

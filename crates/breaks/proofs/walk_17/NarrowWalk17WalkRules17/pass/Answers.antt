@@ -2,7 +2,7 @@ use Rattle.std.proofs.Common.{◌+◌, ◌<◌, arith}
 use Rattle.breaks.specs.declared.table_17.TheConstants.{ENTRY_COUNT}
 use Rattle.breaks.proofs.NarrowLemmas.{passes_narrow}
 use Rattle.breaks.proofs.PassLemmas17.{row_within_17}
-use Rattle.breaks.proofs.walk_17.OrdinaryWalk17WalkRules17.pass.Goals as goal
+use Rattle.breaks.proofs.walk_17.NarrowWalk17WalkRules17.pass.Goals as goal
 
 pub returns-clause-within : goal.returns-clause-within
 returns-clause-within c =
