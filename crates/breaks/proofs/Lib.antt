@@ -4,6 +4,7 @@ pub mod Computed17
 pub mod NarrowLemmas
 pub mod NumberLemmas
 pub mod OrdinaryLemmas
+pub mod OrdinaryLemmas17
 pub mod PassLemmas
 pub mod PassLemmas17
 pub mod QuestionLemmas

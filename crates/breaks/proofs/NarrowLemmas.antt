@@ -7,7 +7,7 @@ use Rattle.ucd.specs.declared.version.Version.TheVariants.{V17_0}
 use Rattle.breaks.specs.Bases.{Base, Character, alone, is_east_asian}
 use Rattle.breaks.specs.Classes.{is_same, is_one_of}
 use Rattle.breaks.specs.Symbols.{character_by, shown_17, told_17}
-use Rattle.breaks.specs.Walk17.{Stands17, full_walk_17, decided_17, decided_narrow, is_narrow_17, narrow_bits}
+use Rattle.breaks.specs.Walk17.{Stands17, narrow_walk, decided_17, decided_narrow, is_narrow_17, narrow_bits}
 use Rattle.breaks.specs.declared.entries_17.TheConstants.{NEXT_ROWS, OUTCOMES}
 use Rattle.breaks.specs.declared.symbol_17.TheConstants.{JOINER, SYMBOL_COUNT}
 use Rattle.breaks.specs.declared.table_17.TheConstants.{NEVER, STAYS}
@@ -42,7 +42,7 @@ narrow_base : (p : Properties) → IsNarrow p → is_east_asian (alone (characte
 narrow_base p is = ap (λ w. w && not (is_one_of (CM ∷ ZWJ ∷ []) (character_by V17_0 p).class)) is.no_width
 
 pub starts_narrow : (symbol next_row : ℕ) (p : Properties) → symbol < SYMBOL_COUNT → shown_17 symbol ≡ told_17 (character_by V17_0 p)
-    → next_row ≡ get_or NEXT_ROWS (0 + symbol) 0 → is_narrow_17 p ≡ true → Stands17 (full_walk_17 next_row) (alone (character_by V17_0 p)) []
+    → next_row ≡ get_or NEXT_ROWS (0 + symbol) 0 → is_narrow_17 p ≡ true → Stands17 (narrow_walk next_row) (alone (character_by V17_0 p)) []
 starts_narrow symbol next_row p lt shows reads h =
     let c : Character = character_by V17_0 p in
     let is = narrow_parts p h in
@@ -57,8 +57,8 @@ narrow_by symbol p joiner pictograph wide lt shows joined is width =
 
 pub passes_narrow : (row symbol next_row outcome : ℕ) (p : Properties) → symbol < SYMBOL_COUNT → shown_17 symbol ≡ told_17 (character_by V17_0 p)
     → next_row ≡ get_or NEXT_ROWS (row + symbol) 0 → outcome ≡ get_or OUTCOMES (row + symbol) 0 → is_narrow_17 p ≡ true
-    → (last : Base) (others : List Base) → Stands17 (full_walk_17 row) last others
-    → Passes17 (full_walk_17 next_row) last others (character_by V17_0 p) (decided_narrow outcome)
+    → (last : Base) (others : List Base) → Stands17 (narrow_walk row) last others
+    → Passes17 (narrow_walk next_row) last others (character_by V17_0 p) (decided_narrow outcome)
 passes_narrow row symbol next_row outcome p lt shows reads_row reads_outcome h last others stands =
     let c : Character = character_by V17_0 p in
     let is = narrow_parts p h in
@@ -66,9 +66,9 @@ passes_narrow row symbol next_row outcome p lt shows reads_row reads_outcome h l
     elim (cases_Bool (outcome == STAYS)) [
       | inl stay ↦
           rw stay (subst (λ a. Passes17 (record { row = next_row; is_joined = a; is_pictograph = false; is_wide = false; was_wide = false }) last others c NEVER) joined
-          (passes_stay_17 (full_walk_17 row) symbol next_row outcome c lt shows reads_row reads_outcome stay last others stands))
+          (passes_stay_17 (narrow_walk row) symbol next_row outcome c lt shows reads_row reads_outcome stay last others stands))
       | inr begin ↦
           rw begin (subst (λ a. Passes17 (record { row = next_row; is_joined = a; is_pictograph = false; is_wide = false; was_wide = false }) last others c (decided_17 outcome narrow_bits false)) joined
-          (passes_begin_17 (full_walk_17 row) symbol next_row outcome (decided_17 outcome narrow_bits false) false false c lt shows reads_row reads_outcome begin
+          (passes_begin_17 (narrow_walk row) symbol next_row outcome (decided_17 outcome narrow_bits false) false false c lt shows reads_row reads_outcome begin
           (sym is.no_pictograph) (sym (narrow_base p is)) refl last others stands))
     ]

@@ -1,7 +1,7 @@
 -- The state of the walk over the characters with the rules of Unicode 17.0, as Walk.antt has it for 15.0. In
 -- addition, the walk knows whether the last two bases are wide (LB19a). The outcome of an entry is a mark or a
 -- question about the bases after the next one.
-use Rattle.std.specs.Prelude.{◌≡◌, ℕ, ◌*◌, ◌<◌, ◌==◌, Bool, false, not, ◌||◌, ◌&&◌, ◌++◌, List, [], ◌∷◌, map, get_or, set, if◌then◌else◌}
+use Rattle.std.specs.Prelude.{◌≡◌, ℕ, Option, None, Some, ◌*◌, ◌<◌, ◌==◌, Bool, false, not, ◌||◌, ◌&&◌, ◌++◌, List, [], ◌∷◌, map, get_or, set, if◌then◌else◌}
 use Rattle.ucd.specs.declared.line_class.LineClass.TheVariants as class
 use Rattle.ucd.specs.declared.line_detail.LineDetail.TheVariants.{Final, Initial}
 use Rattle.ucd.specs.declared.properties.Properties.{Properties}
@@ -14,6 +14,7 @@ use Rattle.breaks.specs.Walk.{base, last_states, unattached}
 use Rattle.breaks.specs.declared.mark.Mark.{Mark}
 use Rattle.breaks.specs.declared.mark.Mark.TheVariants.{Never, May, Must}
 use Rattle.breaks.specs.declared.table_17.TheConstants.{FINAL, FINAL_INITIAL, FINAL_UNLESS, INITIAL, LB19A, MAY, NEVER, STATE_COUNT, STAYS, UNLESS}
+use Rattle.breaks.specs.declared.ordinary_17.OrdinaryWalk17.{OrdinaryWalk17}
 use Rattle.breaks.specs.declared.walk_17.Walk17.{Walk17}
 use Rattle.breaks.specs.declared.symbol_17.TheConstants.{SYMBOL_COUNT}
 
@@ -167,12 +168,33 @@ abbrev pub narrow_bits : Bits
 narrow_bits = record { is_joined = false; is_pictograph = false; is_wide = false; was_wide = false }
 
 -- the walk over narrow characters in this row, with all that a walk over any characters knows
-abbrev pub full_walk_17 : ℕ → Walk17
-full_walk_17 row = record { row = row; is_joined = false; is_pictograph = false; is_wide = false; was_wide = false }
+abbrev pub narrow_walk : ℕ → Walk17
+narrow_walk row = record { row = row; is_joined = false; is_pictograph = false; is_wide = false; was_wide = false }
 
 -- the mark or the question of an outcome between narrow characters
 abbrev pub decided_narrow : ℕ → ℕ
 decided_narrow outcome = if outcome == STAYS then NEVER else decided_17 outcome narrow_bits false
+
+-- whether a character is neither a ZWJ nor a future pictograph
+abbrev pub is_ordinary_17 : Properties → Bool
+is_ordinary_17 p = not (is_same (character_by V17_0 p).class class.ZWJ) && not p.is_future_pictograph
+
+-- whether a base that begins with this character is wide
+abbrev pub begins_wide : Properties → Bool
+begins_wide p = is_east_asian (alone (character_by V17_0 p))
+
+abbrev pub begins_wide_if_any : Option Properties → Bool
+begins_wide_if_any None = false
+begins_wide_if_any (Some p) = begins_wide p
+
+-- what a walk over ordinary characters knows, given the first characters of the last base and of the base before it
+abbrev pub ordinary_bits : Properties → Option Properties → Bits
+ordinary_bits last before =
+    record { is_joined = false; is_pictograph = false; is_wide = begins_wide last; was_wide = begins_wide_if_any before }
+
+-- the walk in the same state, with these bits
+abbrev pub full_walk : OrdinaryWalk17 → Walk17
+full_walk walk = record { row = walk.row; is_joined = false; is_pictograph = false; is_wide = begins_wide walk.last; was_wide = begins_wide_if_any walk.before }
 
 -- The state `walk` belongs to the bases `last` and `others`, the nearest first. A character may still join `last`.
 pub record Stands17 (walk : Walk17) (last : Base) (others : List Base) : Type 0 where

@@ -16,6 +16,7 @@ mod characters;
 mod entries;
 mod entries_17;
 mod mark;
+mod ordinary_17;
 mod questions;
 mod rules;
 mod symbol;

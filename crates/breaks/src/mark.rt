@@ -12,6 +12,7 @@ ghost use Rattle.breaks.specs.Symbols.{character_by};
 ghost use Rattle.breaks.specs.declared.mark.Mark.TheVariants.{Must};
 
 use crate::characters::{Characters, Known, LookedUp};
+use crate::ordinary_17::OrdinaryWalk17;
 use crate::rules::{Rules, Walk};
 use crate::walk::{OrdinaryWalk15, Rules15, Walk15};
 use crate::walk_17::{NarrowWalk17, Rules17, Walk17};
@@ -91,7 +92,7 @@ fn mark_all<C: Characters>(
             mark_by::<Rules15, OrdinaryWalk15, Walk15, C>(characters, rules, marks);
         }
         Version::V17_0 => {
-            mark_by::<Rules17, NarrowWalk17, Walk17, C>(characters, Rules17, marks);
+            mark_17(characters, marks);
         }
     }
 }
@@ -110,6 +111,18 @@ fn mark_by<R: Rules, O: Walk<R>, W: Walk<R>, C: Characters>(
         mark_each::<R, O, C>(characters, rules, marks);
     } else {
         mark_each::<R, W, C>(characters, rules, marks);
+    }
+}
+
+// Does the same with the rules of 17.0, which have one more walk.
+fn mark_17<C: Characters>(characters: C, marks: &mut [Mark])
+    requires { length marks.old ≡ length (C.all characters) }
+    ensures { marks.new ≡ marks_by V17_0 false (C.all characters) }
+{
+    if C::ARE_KNOWN && are_accepted::<Rules17, NarrowWalk17, C>(characters) {
+        mark_each::<Rules17, NarrowWalk17, C>(characters, Rules17, marks);
+    } else {
+        mark_by::<Rules17, OrdinaryWalk17, Walk17, C>(characters, Rules17, marks);
     }
 }
 

@@ -7,7 +7,7 @@ ghost use Rattle.breaks.specs.declared.symbol_17.TheConstants.{SYMBOL_COUNT};
 ghost use Rattle.breaks.specs.declared.table_17.TheConstants.{DECIDED_COUNT, LAST_ROW, LB15B};
 ghost use Rattle.breaks.specs.declared.table_17.TheConstants.{OUTCOME_COUNT};
 ghost use Rattle.breaks.specs.Walk17.{Stands17, bits_in, decided_17, decided_narrow};
-ghost use Rattle.breaks.specs.Walk17.{full_walk_17, is_narrow_17, mark_of_17};
+ghost use Rattle.breaks.specs.Walk17.{narrow_walk, is_narrow_17, mark_of_17};
 
 use crate::mark::Mark;
 use crate::questions::{answer, mark_17};
@@ -145,7 +145,7 @@ pub struct NarrowWalk17 {
 }
 
 impl Walk<Rules17> for NarrowWalk17 {
-    ghost stands = { λ _ walk. Stands17 (full_walk_17 walk.row) };
+    ghost stands = { λ _ walk. Stands17 (narrow_walk walk.row) };
 
     ghost within = { λ walk. walk.row ≤ LAST_ROW };
 
@@ -184,9 +184,9 @@ static NARROW: [u8; 15] = [
     NEVER,
 ];
 
-// Returns whether a base that begins with this character is wide. A CM or ZWJ is then an AL that is not wide
-// (LB10).
-fn is_wide(symbol: u8, first: Properties) -> bool
+/// Returns whether a base that begins with this character is wide. A CM or ZWJ is then an AL that is not wide
+/// (LB10).
+pub fn is_wide(symbol: u8, first: Properties) -> bool
     requires below { symbol < SYMBOL_COUNT }
     requires shown { shown_17 symbol ≡ told_17 (character_by V17_0 first) }
     ensures { result ≡ is_east_asian (alone (character_by V17_0 first)) }

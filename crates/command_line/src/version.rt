@@ -1,8 +1,11 @@
-//! What `--version` prints: the product's version and two of Unicode's. The first is that of the rules and
-//! table files (`ucd`), the second that of the kit's tables, for columns and grapheme clusters.
+//! What `--version` and `--help` print: the product's version and those of Unicode. The rules and table files
+//! have the versions of `ucd`, columns and grapheme clusters that of the kit's tables.
 //! `tools/sync_versions` generates this file from `VERSION`, `ucd` and the kit's tables. CI checks it.
 
-/// The versions.
+/// The product's version, followed by those of Unicode.
 pub const VERSION: &str = "0.5.0
-Unicode 15.0: the rules and the table files
+Unicode 15.0 or 17.0: the rules and the table files
 Unicode 18.0: columns and grapheme clusters";
+
+/// The Unicode versions of the rules and the table files.
+pub const UNICODE_VERSIONS: &str = "Unicode 15.0 or 17.0";

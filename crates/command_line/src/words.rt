@@ -11,14 +11,14 @@ ghost use Rattle.command_line.specs.CommandLine.{base_by, base_of, fits_queries,
 ghost use Rattle.command_line.specs.CommandLine.{layout_rules, print_rules, tab_width_of, HasTabs};
 
 use crate::options::{LineFault, Settings};
-use crate::version::VERSION;
+use crate::version::{UNICODE_VERSIONS, VERSION};
 use bidi::Base;
 use clap::error::ErrorKind;
 use clap::parser::ValueSource;
 use clap::{Arg, ArgAction, ArgMatches, Command, value_parser};
 use lines::{Options, Print};
 use std::alloc::{AllocError, Global};
-use ucd::{UNICODE_VERSION, Version};
+use ucd::Version;
 
 // Returns the command with all options and the texts.
 fn command<'a>(alloc: Global) -> Result<Command<'a>, AllocError>
@@ -28,7 +28,7 @@ fn command<'a>(alloc: Global) -> Result<Command<'a>, AllocError>
         .no_binary_name(true)
         .version(VERSION)
         .about("Wrap bidirectional text and print its lines in visual order")
-        .after_help(UNICODE_VERSION);
+        .after_help(UNICODE_VERSIONS);
     let command = with_layout(alloc, command)?;
     let command = with_print(alloc, command)?;
     let command = command.arg(script(alloc))?;

@@ -265,7 +265,7 @@ Options:
   -h, --help               Print help
   -V, --version            Print version
 
-Unicode 15.0
+Unicode 15.0 or 17.0
 ";
 
 // Whether the arguments are refused with this message.

@@ -21,16 +21,12 @@ pub enum Category {
 fn category_named(name: &[u8]) -> Category
     ensures { result ≡ category_named name.now }
 {
-    if b"Mn".as_slice() == name || b"Mc".as_slice() == name {
-        Category::Mark
-    } else if b"Cn".as_slice() == name {
-        Category::Unassigned
-    } else if b"Pi".as_slice() == name {
-        Category::InitialQuote
-    } else if b"Pf".as_slice() == name {
-        Category::FinalQuote
-    } else {
-        Category::Other
+    match name {
+        b"Mn" | b"Mc" => Category::Mark,
+        b"Cn" => Category::Unassigned,
+        b"Pi" => Category::InitialQuote,
+        b"Pf" => Category::FinalQuote,
+        _ => Category::Other,
     }
 }
 

@@ -117,7 +117,7 @@ fn fill<'a>(runs: Runs<'a>, start: usize, page: &mut [Properties]) -> Runs<'a>
     let mut runs = runs;
     let mut point = start;
     while point < start + PAGE {
-        runs = runs.containing(point);
+        runs.move_to(point);
         let run = runs.run();
         let stop = run.end.min(start + PAGE);
         set_all(page, point - start, stop - start, run.properties);

@@ -64,20 +64,35 @@ impl<'a, V: Layer> Cursor<'a, V> {
         Cursor { entries }
     }
 
-    // Passes the entries that end before `point`.
-    fn passed(&self, point: usize) -> Cursor<'a, V>
+    // Passes the entries that end before `point`. Most runs pass none of most files, which needs no loop.
+    fn pass(&mut self, point: usize)
         ensures values { (c : ℕ) → point ≤ c
-            → value_at result c ≡ value_at self.now c }
-        ensures ends { EndsFrom point result }
+            → value_at self.new c ≡ value_at self.old c }
+        ensures ends { EndsFrom point self.new }
     {
-        let mut entries = self.entries;
-        while let Some((first, later)) = entries.split_first() {
-            if point <= first.last as usize {
-                return Cursor { entries };
+        if let Some(first) = self.entries.first() {
+            if (first.last as usize) < point {
+                self.entries = Cursor::entries_from(self.entries, point);
             }
-            entries = later;
         }
-        Cursor { entries }
+    }
+
+    // Returns the entries without those that end before `point`.
+    fn entries_from(entries: &'a [Entry<V>], point: usize) -> &'a [Entry<V>]
+        requires { AreRisingFrom 0 entries.now }
+        ensures rising { AreRisingFrom 0 result.now }
+        ensures values { (c : ℕ) → point ≤ c
+            → value_at result.now c ≡ value_at entries.now c }
+        ensures ends { EndsFrom point result.now }
+    {
+        let mut left = entries;
+        while let Some((first, later)) = left.split_first() {
+            if point <= first.last as usize {
+                break;
+            }
+            left = later;
+        }
+        left
     }
 
     // Applies the value at the run's start, and ends the run where the entries give another value.
@@ -146,23 +161,20 @@ impl<'a> Left<'a> {
     }
 
     // Passes the entries that end before `point`.
-    fn passed(&self, point: usize) -> Left<'a>
+    fn pass(&mut self, point: usize)
         ensures said { (c : ℕ) → point ≤ c
-            → said (layers_left result) c ≡ said (layers_left self.now) c }
-        ensures ends { AllEndFrom point (layers_left result) }
+            → said (layers_left self.new) c ≡ said (layers_left self.old) c }
+        ensures ends { AllEndFrom point (layers_left self.new) }
     {
-        Left {
-            version: self.version,
-            default_classes: self.default_classes.passed(point),
-            bidi_classes: self.bidi_classes.passed(point),
-            brackets: self.brackets.passed(point),
-            mirrors: self.mirrors.passed(point),
-            line_classes: self.line_classes.passed(point),
-            circles: self.circles.passed(point),
-            widths: self.widths.passed(point),
-            pictographs: self.pictographs.passed(point),
-            categories: self.categories.passed(point),
-        }
+        self.default_classes.pass(point);
+        self.bidi_classes.pass(point);
+        self.brackets.pass(point);
+        self.mirrors.pass(point);
+        self.line_classes.pass(point);
+        self.circles.pass(point);
+        self.widths.pass(point);
+        self.pictographs.pass(point);
+        self.categories.pass(point);
     }
 
     // Returns the run that starts at `start`.
@@ -228,31 +240,30 @@ impl<'a> Runs<'a> {
         self.run
     }
 
-    /// Returns the run that contains `point`: this one, or the next one if this one ends there.
-    pub fn containing(self, point: usize) -> Runs<'a>
-        requires run { (self.run.start ≤ point) × (point ≤ self.run.end) × (self.run.end ≤ 1114112) }
+    /// Moves to the run that contains `point`: this one, or the next one if this one ends there.
+    pub fn move_to(&mut self, point: usize)
+        requires run { (self.old.run.start ≤ point) × (point ≤ self.old.run.end)
+            × (self.old.run.end ≤ 1114112) }
         requires point { point < 1114112 }
-        ensures start { result.run.start ≤ point }
-        ensures end { (point < result.run.end) × (result.run.end ≤ 1114112) }
-        ensures reaches { (k : Layers) → ReachesTo k self.entry point → ReachesTo k result point }
+        ensures start { self.new.run.start ≤ point }
+        ensures end { (point < self.new.run.end) × (self.new.run.end ≤ 1114112) }
+        ensures reaches { (k : Layers) → ReachesTo k self.old point → ReachesTo k self.new point }
     {
-        if point < self.run.end {
-            self
-        } else {
-            self.next()
+        if point >= self.run.end {
+            self.move_on();
         }
     }
 
-    // Returns the run that starts where this one ends.
-    fn next(&self) -> Runs<'a>
-        requires { self.now.run.end < 1114112 }
-        ensures start { result.run.start ≡ self.now.run.end }
-        ensures end { (self.now.run.end < result.run.end) × (result.run.end ≤ 1114112) }
-        ensures reaches { (k : Layers) → ReachesTo k self.now self.now.run.end
-            → ReachesTo k result self.now.run.end }
+    // Moves to the run that starts where this one ends.
+    fn move_on(&mut self)
+        requires { self.old.run.end < 1114112 }
+        ensures start { self.new.run.start ≡ self.old.run.end }
+        ensures end { (self.old.run.end < self.new.run.end) × (self.new.run.end ≤ 1114112) }
+        ensures reaches { (k : Layers) → ReachesTo k self.old self.old.run.end
+            → ReachesTo k self.new self.old.run.end }
     {
-        let left = self.left.passed(self.run.end);
-        let run = left.run_at(self.run.end);
-        Runs { left, run }
+        let start = self.run.end;
+        self.left.pass(start);
+        self.run = self.left.run_at(start);
     }
 }
