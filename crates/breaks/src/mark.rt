@@ -91,9 +91,7 @@ fn mark_all<C: Characters>(
             let rules = Rules15 { whole_numbers };
             mark_by::<Rules15, OrdinaryWalk15, Walk15, C>(characters, rules, marks);
         }
-        Version::V17_0 => {
-            mark_17(characters, marks);
-        }
+        Version::V17_0 => mark_all_17(characters, marks),
     }
 }
 
@@ -115,7 +113,7 @@ fn mark_by<R: Rules, O: Walk<R>, W: Walk<R>, C: Characters>(
 }
 
 // Does the same with the rules of 17.0, which have one more walk.
-fn mark_17<C: Characters>(characters: C, marks: &mut [Mark])
+fn mark_all_17<C: Characters>(characters: C, marks: &mut [Mark])
     requires { length marks.old ≡ length (C.all characters) }
     ensures { marks.new ≡ marks_by V17_0 false (C.all characters) }
 {

@@ -52,7 +52,7 @@ pub trait Rules: Copy {
 
 /// The state of the walk: what the rules need to know about the bases before a position.
 pub trait Walk<R: Rules>: Copy {
-    // Whether the state belongs to the bases before a position: the last one, and those before it, the nearest
+    // Whether the state belongs to the bases before a position: the last one, and the others, the nearest
     // first.
     ghost stands: { R → Self → Base → List Base → Type 0 };
 

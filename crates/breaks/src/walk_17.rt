@@ -137,8 +137,8 @@ impl Walk17 {
     }
 }
 
-/// The state of the walk over narrow characters, between which the table decides alone. These are neither wide
-/// nor a ZWJ nor a future pictograph.
+/// The state of the walk over narrow characters, between which the table decides alone. These are neither
+/// wide nor a ZWJ nor a future pictograph.
 #[derive(Clone, Copy)]
 pub struct NarrowWalk17 {
     row: usize,

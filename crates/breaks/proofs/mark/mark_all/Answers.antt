@@ -11,5 +11,5 @@ returns-in-V15_0 g c =
 pub returns-in-V17_0 : goal.returns-in-V17_0
 returns-in-V17_0 g c =
     let version = sym c.version.ensures ∙ c.in-V17_0.is in
-    c.mark_17.ensures ∙ marks_read V17_0 c.args.tables.now false c.args.text.now _ version c.requires.characters
+    c.mark_all_17.ensures ∙ marks_read V17_0 c.args.tables.now false c.args.text.now _ version c.requires.characters
     ∙ sym (whole_anyway c.args.tables.now c.args.whole_numbers c.args.text.now version)
