@@ -15,7 +15,7 @@ use crate::table_17::{LB15B, LB19A, MAY, NEVER};
 use ucd::Properties;
 
 /// Returns the answer to a question, given the next character: a mark, or a question about the characters
-// after it.
+/// after it.
 pub fn answer(question: u8, next: Properties) -> u8
     requires { (LB15B ≤ question) × (question < DECIDED_COUNT) }
     ensures said { (text : List Character)
