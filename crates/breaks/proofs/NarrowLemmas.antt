@@ -46,7 +46,7 @@ pub starts_narrow : (symbol next_row : ℕ) (p : Properties) → symbol < SYMBOL
 starts_narrow symbol next_row p lt shows reads h =
     let c : Character = character_by V17_0 p in
     let is = narrow_parts p h in
-    subst (λ a. Stands17 (record { row = next_row; is_joined = a; is_pictograph = false; is_wide = false; was_wide = false }) (alone c) []) (unjoined symbol p lt shows is)
+    subst (λ a. Stands17 (record (narrow_walk next_row) { is_joined = a }) (alone c) []) (unjoined symbol p lt shows is)
     (starts_17 symbol next_row false false c lt shows reads (sym is.no_pictograph) (sym (narrow_base p is)))
 
 pub narrow_by : (symbol : ℕ) (p : Properties) (joiner pictograph wide : Bool) → symbol < SYMBOL_COUNT → shown_17 symbol ≡ told_17 (character_by V17_0 p)
@@ -65,10 +65,10 @@ passes_narrow row symbol next_row outcome p lt shows reads_row reads_outcome h l
     let joined : (symbol == JOINER) ≡ false = unjoined symbol p lt shows is in
     elim (cases_Bool (outcome == STAYS)) [
       | inl stay ↦
-          rw stay (subst (λ a. Passes17 (record { row = next_row; is_joined = a; is_pictograph = false; is_wide = false; was_wide = false }) last others c NEVER) joined
+          rw stay (subst (λ a. Passes17 (record (narrow_walk next_row) { is_joined = a }) last others c NEVER) joined
           (passes_stay_17 (narrow_walk row) symbol next_row outcome c lt shows reads_row reads_outcome stay last others stands))
       | inr begin ↦
-          rw begin (subst (λ a. Passes17 (record { row = next_row; is_joined = a; is_pictograph = false; is_wide = false; was_wide = false }) last others c (decided_17 outcome narrow_bits false)) joined
+          rw begin (subst (λ a. Passes17 (record (narrow_walk next_row) { is_joined = a }) last others c (decided_17 outcome narrow_bits false)) joined
           (passes_begin_17 (narrow_walk row) symbol next_row outcome (decided_17 outcome narrow_bits false) false false c lt shows reads_row reads_outcome begin
           (sym is.no_pictograph) (sym (narrow_base p is)) refl last others stands))
     ]

@@ -41,7 +41,7 @@ pub starts_ordinary : (symbol next_row : ℕ) (p : Properties) → symbol < SYMB
 starts_ordinary symbol next_row p below shows reads ordinary whole_numbers =
     let c : Character = character_by V15_0 p in
     let both = parts (is_same (character_by V15_0 p).class ZWJ) p.is_future_pictograph ordinary in
-    subst (λ joined. Stands whole_numbers (record { row = next_row; is_joined = joined; is_pictograph = false }) (alone c) []) (joins symbol p below shows ∙ both.0)
+    subst (λ joined. Stands whole_numbers (record (full_walk next_row) { is_joined = joined }) (alone c) []) (joins symbol p below shows ∙ both.0)
     (subst (λ pictograph. Stands whole_numbers (record { row = next_row; is_joined = symbol == JOINER; is_pictograph = pictograph }) (alone c) []) both.1
     (starts symbol next_row c below shows reads whole_numbers))
 
@@ -66,7 +66,7 @@ pub passes_ordinary : (row symbol next_row outcome : ℕ) (p : Properties) → s
 passes_ordinary row symbol next_row outcome p below shows reads_row reads_outcome next whole_numbers last others stands =
     let c : Character = character_by V15_0 p in
     let both = parts (is_same (character_by V15_0 p).class ZWJ) p.is_future_pictograph next in
-    subst (λ joined. Passes15 whole_numbers (record { row = next_row; is_joined = joined; is_pictograph = false }) last others c outcome) (joins symbol p below shows ∙ both.0)
+    subst (λ joined. Passes15 whole_numbers (record (full_walk next_row) { is_joined = joined }) last others c outcome) (joins symbol p below shows ∙ both.0)
     (passes_as (full_walk row) symbol next_row outcome c false outcome below shows reads_row reads_outcome
     (none_kept row outcome p both.1) (decides_alone outcome) whole_numbers last others stands)
 
