@@ -1,5 +1,5 @@
 -- Boolean tests that can be computed, and the statements that they decide.
-use Rattle.std.proofs.Common.{◌≡◌, ℕ, zero, suc, ◌<◌, ◌≤◌, ◌==◌, nat_lt, nat_le, Bool, true, false, not, ◌&&◌, List, [], ◌∷◌, refl, arith}
+use Rattle.std.proofs.Common.{◌≡◌, ◌∙◌, ℕ, zero, suc, ◌*◌, ◌<◌, ◌≤◌, ◌==◌, nat_lt, nat_le, Bool, true, false, not, ◌&&◌, List, [], ◌∷◌, get_or, refl, ap, arith}
 use Rattle.std.proofs.lemmas.Bool.Decides.{nat_tests}
 use borrow.Author.Count.{below_more}
 
@@ -47,11 +47,41 @@ below (suc n) test all k lt =
 pub is_below : (a b : ℕ) → nat_lt a b ≡ true → a < b
 is_below a b h = grind (arith, nat_tests)
 
+pub is_less : (a b : ℕ) → a < b → nat_lt a b ≡ true
+is_less a b h = grind (arith, nat_tests)
+
+pub is_no_less : (a b : ℕ) → b ≤ a → nat_lt a b ≡ false
+is_no_less a b h = grind (arith, nat_tests)
+
 pub is_within : (a b : ℕ) → nat_le a b ≡ true → a ≤ b
 is_within a b h = grind (arith, nat_tests)
 
+-- the entries of a table are below a number, or at most a number, if the computed test says so
+pub entries_below : (table : List ℕ) (count limit : ℕ) → all_below count (λ place. nat_lt (get_or table place 0) limit) ≡ true
+    → (place entry : ℕ) → place < count → entry ≡ get_or table place 0 → entry < limit
+entries_below table count limit tested place entry lt reads =
+    is_below entry limit (ap (λ e. nat_lt e limit) reads ∙ below count (λ place. nat_lt (get_or table place 0) limit) tested place lt)
+
+pub entries_within : (table : List ℕ) (count limit : ℕ) → all_below count (λ place. nat_le (get_or table place 0) limit) ≡ true
+    → (place entry : ℕ) → place < count → entry ≡ get_or table place 0 → entry ≤ limit
+entries_within table count limit tested place entry lt reads =
+    is_within entry limit (ap (λ e. nat_le e limit) reads ∙ below count (λ place. nat_le (get_or table place 0) limit) tested place lt)
+
 pub is_equal : (a b : ℕ) → (a == b) ≡ true → a ≡ b
 is_equal a b h = grind (arith, nat_tests)
+
+-- the next state of a table's entry, if the computed test of the entry says so
+pub record Next (symbols states next_row : ℕ) (test : ℕ → Bool) : Type 0 where
+  pub next : ℕ
+  pub below : next < states
+  pub row : next_row ≡ next * symbols
+  pub leads : test next ≡ true
+
+pub next_of : (symbols states row next : ℕ) (test : ℕ → Bool) → ((row == next * symbols) && (nat_lt next states && test next)) ≡ true → Next symbols states row test
+next_of symbols states row next test tested =
+    let row_and : ((row == next * symbols) ≡ true) × ((nat_lt next states && test next) ≡ true) = both _ _ tested in
+    let next_and : (nat_lt next states ≡ true) × (test next ≡ true) = both _ _ row_and.1 in
+    record { next = next; below = is_below _ _ next_and.0; row = is_equal _ _ row_and.0; leads = next_and.1 }
 
 -- if two numbers are equal, or are not, so is their Boolean comparison
 pub equal_is : (a b : ℕ) → a ≡ b → (a == b) ≡ true

@@ -8,11 +8,11 @@ pub mod OrdinaryLemmas17
 pub mod PassLemmas
 pub mod PassLemmas17
 pub mod QuestionLemmas
+pub mod QuestionLemmas17
 pub mod StepLemmas
 pub mod StepLemmas17
 pub mod SymbolLemmas
 pub mod SymbolLemmas17
 pub mod WalkLemmas
-pub mod WalkLemmas17
 mod WorkedRows
 mod WorkedRows17

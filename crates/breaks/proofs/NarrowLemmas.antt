@@ -1,5 +1,5 @@
 -- Narrow characters: with the rules of Unicode 17.0, the table alone decides the marks between them.
-use Rattle.std.proofs.Common.{◌≡◌, ◌∙◌, ℕ, ◌+◌, ◌<◌, ◌==◌, Bool, true, false, not, ◌&&◌, List, [], ◌∷◌, get_or, refl, ap, ap₂, subst, sym, inl, inr}
+use Rattle.std.proofs.Common.{◌≡◌, ◌∙◌, ℕ, ◌+◌, ◌<◌, ◌==◌, Bool, true, false, not, ◌&&◌, List, [], ◌∷◌, get_or, refl, ap, subst, sym, inl, inr}
 use Rattle.std.proofs.lemmas.Bool.{cases_Bool}
 use Rattle.ucd.specs.declared.line_class.LineClass.TheVariants.{CM, ZWJ}
 use Rattle.ucd.specs.declared.properties.Properties.{Properties}
@@ -7,15 +7,14 @@ use Rattle.ucd.specs.declared.version.Version.TheVariants.{V17_0}
 use Rattle.breaks.specs.Bases.{Base, Character, alone, is_east_asian}
 use Rattle.breaks.specs.Classes.{is_same, is_one_of}
 use Rattle.breaks.specs.Symbols.{character_by, shown_17, told_17}
-use Rattle.breaks.specs.Walk17.{Bits, FollowsNarrow, Passes17, Stands17, decided_17, decided_narrow, is_narrow_17, narrow_bits}
+use Rattle.breaks.specs.Walk17.{Stands17, narrow_walk, decided_17, decided_narrow, is_narrow_17, narrow_bits}
 use Rattle.breaks.specs.declared.entries_17.TheConstants.{NEXT_ROWS, OUTCOMES}
 use Rattle.breaks.specs.declared.symbol_17.TheConstants.{JOINER, SYMBOL_COUNT}
 use Rattle.breaks.specs.declared.table_17.TheConstants.{NEVER, STAYS}
 use Rattle.breaks.specs.declared.walk_17.TheConstants.{NARROW}
-use Rattle.breaks.specs.declared.walk_17.Walk17.{Walk17}
 use Rattle.breaks.proofs.BoolLemmas.{all_below, below, both, is_equal}
 use Rattle.breaks.proofs.PassLemmas.{not_true}
-use Rattle.breaks.proofs.PassLemmas17.{passes_begin_17, passes_stay_17}
+use Rattle.breaks.proofs.PassLemmas17.{Passes17, passes_begin_17, passes_stay_17, starts_17}
 use Rattle.breaks.proofs.SymbolLemmas17.{is_joiner_17}
 
 narrow_table : all_below 15 (λ outcome. get_or NARROW outcome 0 == decided_narrow outcome) ≡ true
@@ -42,12 +41,13 @@ unjoined symbol p lt shows is = is_joiner_17 symbol lt ∙ ap (λ d. is_same d.c
 narrow_base : (p : Properties) → IsNarrow p → is_east_asian (alone (character_by V17_0 p)) ≡ false
 narrow_base p is = ap (λ w. w && not (is_one_of (CM ∷ ZWJ ∷ []) (character_by V17_0 p).class)) is.no_width
 
-pub starts_narrow : (symbol row : ℕ) (p : Properties) (is_pictograph is_wide : Bool) → symbol < SYMBOL_COUNT → shown_17 symbol ≡ told_17 (character_by V17_0 p)
-    → is_pictograph ≡ p.is_future_pictograph → is_wide ≡ is_east_asian (alone (character_by V17_0 p)) → is_narrow_17 p ≡ true
-    → FollowsNarrow (record { row = row; is_joined = symbol == JOINER; is_pictograph = is_pictograph; is_wide = is_wide; was_wide = false })
-starts_narrow symbol row p is_pictograph is_wide lt shows pictograph wide h =
+pub starts_narrow : (symbol next_row : ℕ) (p : Properties) → symbol < SYMBOL_COUNT → shown_17 symbol ≡ told_17 (character_by V17_0 p)
+    → next_row ≡ get_or NEXT_ROWS (0 + symbol) 0 → is_narrow_17 p ≡ true → Stands17 (narrow_walk next_row) (alone (character_by V17_0 p)) []
+starts_narrow symbol next_row p lt shows reads h =
+    let c : Character = character_by V17_0 p in
     let is = narrow_parts p h in
-    rw (unjoined symbol p lt shows is, pictograph ∙ is.no_pictograph, wide ∙ narrow_base p is) refl
+    subst (λ a. Stands17 (record (narrow_walk next_row) { is_joined = a }) (alone c) []) (unjoined symbol p lt shows is)
+    (starts_17 symbol next_row false false c lt shows reads (sym is.no_pictograph) (sym (narrow_base p is)))
 
 pub narrow_by : (symbol : ℕ) (p : Properties) (joiner pictograph wide : Bool) → symbol < SYMBOL_COUNT → shown_17 symbol ≡ told_17 (character_by V17_0 p)
     → joiner ≡ (symbol == JOINER) → pictograph ≡ p.is_future_pictograph → wide ≡ p.is_wide
@@ -55,30 +55,20 @@ pub narrow_by : (symbol : ℕ) (p : Properties) (joiner pictograph wide : Bool) 
 narrow_by symbol p joiner pictograph wide lt shows joined is width =
     rw (joined ∙ is_joiner_17 symbol lt ∙ ap (λ d. is_same d.class ZWJ) shows, is, width) refl
 
-walk_with : ℕ → Bool → Bool → Bool → Bool → Walk17
-walk_with row a b d e = record { row = row; is_joined = a; is_pictograph = b; is_wide = d; was_wide = e }
-
-pub passes_narrow : (walk : Walk17) (symbol next_row outcome : ℕ) (p : Properties) → symbol < SYMBOL_COUNT → shown_17 symbol ≡ told_17 (character_by V17_0 p)
-    → next_row ≡ get_or NEXT_ROWS (walk.row + symbol) 0 → outcome ≡ get_or OUTCOMES (walk.row + symbol) 0 → FollowsNarrow walk → is_narrow_17 p ≡ true
-    → (last : Base) (others : List Base) → Stands17 walk last others
-    → Passes17 (record walk { row = next_row }) last others (character_by V17_0 p) (decided_narrow outcome)
-unfolding walk_with
-passes_narrow walk symbol next_row outcome p lt shows reads_row reads_outcome before h last others stands =
+pub passes_narrow : (row symbol next_row outcome : ℕ) (p : Properties) → symbol < SYMBOL_COUNT → shown_17 symbol ≡ told_17 (character_by V17_0 p)
+    → next_row ≡ get_or NEXT_ROWS (row + symbol) 0 → outcome ≡ get_or OUTCOMES (row + symbol) 0 → is_narrow_17 p ≡ true
+    → (last : Base) (others : List Base) → Stands17 (narrow_walk row) last others
+    → Passes17 (narrow_walk next_row) last others (character_by V17_0 p) (decided_narrow outcome)
+passes_narrow row symbol next_row outcome p lt shows reads_row reads_outcome h last others stands =
     let c : Character = character_by V17_0 p in
     let is = narrow_parts p h in
-    let was_joined : walk.is_joined ≡ false = ap (λ (b : Bits). b.is_joined) before in
-    let was_pictograph : walk.is_pictograph ≡ false = ap (λ (b : Bits). b.is_pictograph) before in
-    let wide : walk.is_wide ≡ false = ap (λ (b : Bits). b.is_wide) before in
-    let was_wide : walk.was_wide ≡ false = ap (λ (b : Bits). b.was_wide) before in
-    let joined : (symbol == JOINER) ≡ walk.is_joined = unjoined symbol p lt shows is ∙ sym was_joined in
+    let joined : (symbol == JOINER) ≡ false = unjoined symbol p lt shows is in
     elim (cases_Bool (outcome == STAYS)) [
       | inl stay ↦
-          rw stay (subst (λ a. Passes17 (walk_with next_row a walk.is_pictograph walk.is_wide walk.was_wide) last others c NEVER) joined
-          (passes_stay_17 walk symbol next_row outcome c lt shows reads_row reads_outcome stay last others stands))
+          rw stay (subst (λ a. Passes17 (record (narrow_walk next_row) { is_joined = a }) last others c NEVER) joined
+          (passes_stay_17 (narrow_walk row) symbol next_row outcome c lt shows reads_row reads_outcome stay last others stands))
       | inr begin ↦
-          rw begin (subst (λ e. Passes17 (walk_with next_row walk.is_joined walk.is_pictograph walk.is_wide e) last others c (decided_17 outcome narrow_bits false)) (wide ∙ sym was_wide)
-          (subst (λ a. Passes17 (walk_with next_row a walk.is_pictograph walk.is_wide walk.is_wide) last others c (decided_17 outcome narrow_bits false)) joined
-          (passes_begin_17 walk symbol next_row outcome (decided_17 outcome narrow_bits false) walk.is_pictograph walk.is_wide c lt shows reads_row reads_outcome begin
-          (was_pictograph ∙ sym is.no_pictograph) (wide ∙ sym (narrow_base p is))
-          (sym (ap₂ (λ (b : Bits) (w : Bool). decided_17 outcome b w) before wide)) last others stands)))
+          rw begin (subst (λ a. Passes17 (record (narrow_walk next_row) { is_joined = a }) last others c (decided_17 outcome narrow_bits false)) joined
+          (passes_begin_17 (narrow_walk row) symbol next_row outcome (decided_17 outcome narrow_bits false) false false c lt shows reads_row reads_outcome begin
+          (sym is.no_pictograph) (sym (narrow_base p is)) refl last others stands))
     ]

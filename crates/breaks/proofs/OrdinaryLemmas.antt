@@ -1,20 +1,19 @@
 -- Ordinary characters: the table alone decides the marks between them.
-use Rattle.std.proofs.Common.{◌≡◌, ◌∙◌, ℕ, ◌+◌, ◌<◌, ◌==◌, Bool, true, false, not, ◌&&◌, List, ◌∷◌, length, get_or, refl, ap, subst, sym, inl, inr}
+use Rattle.std.proofs.Common.{◌≡◌, ◌∙◌, ℕ, ◌+◌, ◌<◌, ◌==◌, Bool, true, false, not, ◌&&◌, List, [], ◌∷◌, length, get_or, refl, ap, subst, sym, inl, inr}
 use Rattle.ucd.specs.declared.version.Version.TheVariants.{V15_0}
 use Rattle.std.specs.List.{list_all}
 use Rattle.std.proofs.lemmas.Bool.{both_ways, cases_Bool}
 use Rattle.std.proofs.lemmas.List.Folds.{list_all_at}
 use Rattle.ucd.specs.declared.line_class.LineClass.TheVariants.{ZWJ}
 use Rattle.ucd.specs.declared.properties.Properties.{Properties}
-use Rattle.breaks.specs.Bases.{Base}
+use Rattle.breaks.specs.Bases.{Base, Character, alone}
 use Rattle.breaks.specs.Classes.{is_same}
 use Rattle.breaks.specs.Symbols.{character_by, shown, told}
-use Rattle.breaks.specs.Walk.{FollowsOrdinary, Stands, Passes, decided_at, is_ordinary}
+use Rattle.breaks.specs.Walk.{Stands, decided_at, full_walk, is_ordinary}
 use Rattle.breaks.specs.declared.entries.TheConstants.{NEXT_ROWS, OUTCOMES}
 use Rattle.breaks.specs.declared.symbol.TheConstants.{JOINER, SYMBOL_COUNT}
 use Rattle.breaks.specs.declared.table.TheConstants.{STAYS, UNLESS}
-use Rattle.breaks.specs.declared.walk.Walk.{Walk}
-use Rattle.breaks.proofs.PassLemmas.{kept, passes_as}
+use Rattle.breaks.proofs.PassLemmas.{Passes15, kept, passes_as, starts}
 use Rattle.breaks.proofs.SymbolLemmas.{is_joiner}
 
 -- the two parts of an ordinary character's definition
@@ -36,42 +35,40 @@ pub ordinary_by : (symbol : ℕ) (p : Properties) (joiner pictograph : Bool) →
     → joiner ≡ (symbol == JOINER) → pictograph ≡ p.is_future_pictograph → (not joiner && not pictograph) ≡ is_ordinary p
 ordinary_by symbol p joiner pictograph below shows joined is = rw (joined ∙ joins symbol p below shows, is) refl
 
-pub starts_ordinary : (symbol row : ℕ) (p : Properties) → symbol < SYMBOL_COUNT → shown symbol ≡ told (character_by V15_0 p) → is_ordinary p ≡ true
-    → FollowsOrdinary (record { row = row; is_joined = symbol == JOINER; is_pictograph = p.is_future_pictograph })
-starts_ordinary symbol row p below shows ordinary =
+pub starts_ordinary : (symbol next_row : ℕ) (p : Properties) → symbol < SYMBOL_COUNT → shown symbol ≡ told (character_by V15_0 p)
+    → next_row ≡ get_or NEXT_ROWS (0 + symbol) 0 → is_ordinary p ≡ true
+    → (whole_numbers : Bool) → Stands whole_numbers (full_walk next_row) (alone (character_by V15_0 p)) []
+starts_ordinary symbol next_row p below shows reads ordinary whole_numbers =
+    let c : Character = character_by V15_0 p in
     let both = parts (is_same (character_by V15_0 p).class ZWJ) p.is_future_pictograph ordinary in
-    record { unjoined = joins symbol p below shows ∙ both.0; no_pictograph = both.1 }
+    subst (λ joined. Stands whole_numbers (record (full_walk next_row) { is_joined = joined }) (alone c) []) (joins symbol p below shows ∙ both.0)
+    (subst (λ pictograph. Stands whole_numbers (record { row = next_row; is_joined = symbol == JOINER; is_pictograph = pictograph }) (alone c) []) both.1
+    (starts symbol next_row c below shows reads whole_numbers))
 
-none_kept : (walk : Walk) (outcome : ℕ) (p : Properties) → walk.is_pictograph ≡ false → p.is_future_pictograph ≡ false → kept walk outcome (character_by V15_0 p) ≡ false
-none_kept walk outcome p before next =
+none_kept : (row outcome : ℕ) (p : Properties) → p.is_future_pictograph ≡ false → kept (full_walk row) outcome (character_by V15_0 p) ≡ false
+none_kept row outcome p next =
     elim (cases_Bool (outcome == STAYS)) [
-      | inl stays ↦ rw stays before
+      | inl stays ↦ rw stays refl
       | inr begins ↦ rw begins next
     ]
 
-decides_alone : (outcome : ℕ) (a b : Bool) → a ≡ false → b ≡ false → outcome ≡ decided_at outcome a b
-decides_alone outcome false false none other =
+decides_alone : (outcome : ℕ) → outcome ≡ decided_at outcome false false
+decides_alone outcome =
     elim (cases_Bool (outcome == UNLESS)) [
       | inl unless ↦ rw unless refl
       | inr not_unless ↦ rw not_unless refl
     ]
-decides_alone outcome true b none other = cc
-decides_alone outcome false true none other = cc
 
-pub passes_ordinary : (walk : Walk) (symbol next_row outcome : ℕ) (p : Properties) → symbol < SYMBOL_COUNT → shown symbol ≡ told (character_by V15_0 p)
-    → next_row ≡ get_or NEXT_ROWS (walk.row + symbol) 0 → outcome ≡ get_or OUTCOMES (walk.row + symbol) 0 → FollowsOrdinary walk → is_ordinary p ≡ true
-    → (whole_numbers : Bool) (last : Base) (others : List Base) → Stands whole_numbers walk last others
-    → Passes whole_numbers (record walk { row = next_row }) last others (character_by V15_0 p) outcome
-passes_ordinary walk symbol next_row outcome p below shows reads_row reads_outcome before next whole_numbers last others stands =
+pub passes_ordinary : (row symbol next_row outcome : ℕ) (p : Properties) → symbol < SYMBOL_COUNT → shown symbol ≡ told (character_by V15_0 p)
+    → next_row ≡ get_or NEXT_ROWS (row + symbol) 0 → outcome ≡ get_or OUTCOMES (row + symbol) 0 → is_ordinary p ≡ true
+    → (whole_numbers : Bool) (last : Base) (others : List Base) → Stands whole_numbers (full_walk row) last others
+    → Passes15 whole_numbers (full_walk next_row) last others (character_by V15_0 p) outcome
+passes_ordinary row symbol next_row outcome p below shows reads_row reads_outcome next whole_numbers last others stands =
+    let c : Character = character_by V15_0 p in
     let both = parts (is_same (character_by V15_0 p).class ZWJ) p.is_future_pictograph next in
-    let unjoined : (symbol == JOINER) ≡ walk.is_joined = joins symbol p below shows ∙ both.0 ∙ sym before.unjoined in
-    subst
-    (λ joined. Passes whole_numbers (record { row = next_row; is_joined = joined; is_pictograph = walk.is_pictograph }) last others (character_by V15_0 p) outcome)
-    unjoined
-    (passes_as walk symbol next_row outcome (character_by V15_0 p) walk.is_pictograph outcome below shows reads_row reads_outcome
-    (none_kept walk outcome p before.no_pictograph both.1 ∙ sym before.no_pictograph)
-    (decides_alone outcome walk.is_joined walk.is_pictograph before.unjoined before.no_pictograph)
-    whole_numbers last others stands)
+    subst (λ joined. Passes15 whole_numbers (record (full_walk next_row) { is_joined = joined }) last others c outcome) (joins symbol p below shows ∙ both.0)
+    (passes_as (full_walk row) symbol next_row outcome c false outcome below shows reads_row reads_outcome
+    (none_kept row outcome p both.1) (decides_alone outcome) whole_numbers last others stands)
 
 -- an item of a list that passes throughout
 pub one_of_all : (p : Properties → Bool) (all : List Properties) (i : ℕ) (d : Properties) → i < length all → list_all p all ≡ true → d ≡ get_or all i d → p d ≡ true
@@ -86,3 +83,7 @@ head_passes p all rest first passes is = (parts_both (p first) (list_all p rest)
 
 pub tail_passes : (p : Properties → Bool) (all rest : List Properties) (first : Properties) → list_all p all ≡ true → all ≡ first ∷ rest → list_all p rest ≡ true
 tail_passes p all rest first passes is = (parts_both (p first) (list_all p rest) (ap (list_all p) (sym is) ∙ passes)).1
+
+pub all_pass : (p : Properties → Bool) → ((one : Properties) → p one ≡ true) → (all : List Properties) → list_all p all ≡ true
+all_pass p passes [] = refl
+all_pass p passes (one ∷ all) = rw (passes one) (all_pass p passes all)

@@ -1,4 +1,4 @@
--- Ordinary characters, with the rules of Unicode 17.0: the pass that looks widths up only when they matter.
+-- Ordinary characters, with the rules of Unicode 17.0: the walk that looks widths up only when they matter.
 use Rattle.std.proofs.Common.{◌≡◌, ◌∙◌, ℕ, ◌+◌, ◌<◌, ◌==◌, Bool, true, false, not, ◌&&◌, List, [], None, Some, get_or, refl, ap, subst, sym}
 use Rattle.ucd.specs.declared.line_class.LineClass.TheVariants.{ZWJ}
 use Rattle.ucd.specs.declared.properties.Properties.{Properties}
@@ -6,7 +6,7 @@ use Rattle.ucd.specs.declared.version.Version.TheVariants.{V17_0}
 use Rattle.breaks.specs.Bases.{Base, Character, alone}
 use Rattle.breaks.specs.Classes.{is_same}
 use Rattle.breaks.specs.Symbols.{character_by, shown_17, told_17}
-use Rattle.breaks.specs.Walk17.{Passes17, Stands17, begins_wide, begins_wide_if_any, bits_in, decided_17, full_walk, is_ordinary_17}
+use Rattle.breaks.specs.Walk17.{Stands17, begins_wide, begins_wide_if_any, bits_in, decided_17, full_walk, is_ordinary_17}
 use Rattle.breaks.specs.declared.entries_17.TheConstants.{NEXT_ROWS, OUTCOMES}
 use Rattle.breaks.specs.declared.ordinary_17.OrdinaryWalk17.{OrdinaryWalk17}
 use Rattle.breaks.specs.declared.symbol_17.TheConstants.{JOINER, SYMBOL_COUNT}
@@ -14,7 +14,7 @@ use Rattle.breaks.specs.declared.table_17.TheConstants.{NEVER, STAYS}
 use Rattle.breaks.specs.declared.walk_17.Walk17.{Walk17}
 use Rattle.breaks.proofs.BoolLemmas.{both}
 use Rattle.breaks.proofs.PassLemmas.{not_true}
-use Rattle.breaks.proofs.PassLemmas17.{passes_begin_17, passes_stay_17, starts_17}
+use Rattle.breaks.proofs.PassLemmas17.{Passes17, passes_begin_17, passes_stay_17, starts_17}
 use Rattle.breaks.proofs.SymbolLemmas17.{is_joiner_17}
 
 -- what is known of an ordinary character

@@ -1,21 +1,22 @@
--- One step of the pass: the new state belongs to the bases so far, and the mark agrees with the rules.
-use Rattle.std.proofs.Common.{◌≡◌, ℕ, ◌+◌, ◌*◌, ◌/◌, ◌<◌, ◌≤◌, ◌==◌, nat_lt, nat_le, Bool, true, false, not, ◌&&◌, ◌||◌, List, [], ◌∷◌, ◌++◌, map, get_or, refl, sym, ap, ◌∙◌, arith, if◌then◌else◌, inl, inr}
+-- One step of the walk: the new state belongs to the bases so far, and the mark agrees with the rules.
+use Rattle.std.proofs.Common.{◌≡◌, ℕ, ◌+◌, ◌*◌, ◌<◌, ◌≤◌, ◌==◌, Bool, true, false, not, ◌&&◌, ◌||◌, List, [], ◌∷◌, ◌++◌, map, get_or, refl, sym, ap, ◌∙◌, arith, if◌then◌else◌, inl, inr}
 use Rattle.ucd.specs.declared.version.Version.TheVariants.{V15_0}
 use Rattle.std.proofs.lemmas.Bool.{cases_Bool}
 use Rattle.ucd.specs.declared.line_class.LineClass.{LineClass}
 use Rattle.ucd.specs.declared.line_class.LineClass.TheVariants.{CM, NU, OP, ZWJ}
-use Rattle.breaks.specs.Bases.{Base, Character, alone, base_class, bases_of, end_of, joined, stays_with}
+use Rattle.breaks.specs.Bases.{Base, Character, alone, bases_of, end_of, stays_with}
 use Rattle.breaks.specs.Classes.{is_same, is_one_of}
 use Rattle.breaks.specs.Rules.{rows_before_numbers, rows_of_numbers, rows_after_numbers, rules, mark_by, is}
 use Rattle.breaks.specs.Symbols.{shown, told}
-use Rattle.breaks.specs.Walk.{Stands, Passes, with_attached, bases_at, unattached, answers, carried, decided_at, is_before_digit, mark_of, rows}
+use Rattle.breaks.specs.Passes.{Passes, bases_after, with_attached}
+use Rattle.breaks.specs.Walk.{Stands, bases_at, unattached, answers, carried, decided_at, mark_given, mark_of, rows}
 use Rattle.breaks.specs.declared.mark.Mark.{Mark}
 use Rattle.breaks.specs.declared.mark.Mark.TheVariants.{Never, May, Must}
 use Rattle.breaks.specs.declared.symbol.TheConstants.{JOINER, SYMBOL_COUNT}
 use Rattle.breaks.specs.declared.entries.TheConstants.{NEXT_ROWS, OUTCOMES}
 use Rattle.breaks.specs.declared.table.TheConstants.{ENTRY_COUNT, LAST_ROW, NEVER, STATE_COUNT, STAYS, UNLESS, WAITS}
-use Rattle.breaks.specs.declared.walk.Walk.{Walk}
-use Rattle.breaks.proofs.BoolLemmas.{both, same, same_is, all_same, all_same_is, below, is_below, is_within, is_equal}
+use Rattle.breaks.specs.declared.walk.Walk15.{Walk15}
+use Rattle.breaks.proofs.BoolLemmas.{Next, next_of, both, same, same_is, all_same, all_same_is, below, entries_below, entries_within, is_equal}
 use Rattle.breaks.proofs.Computed.{all_right, decide, marks_by_row, answers_after, answered_with, is_mark, stays, is_as, gives_both, gives_each, leads, is_right, is_right_at, table_is_right, table_is_right_whole, rows_are_within, outcomes_are_within, waits_for_base}
 use Rattle.breaks.proofs.StepLemmas.{end_attached, marked, answers_attached, carried_attached, answers_same, carried_same, answers_told, carried_told}
 use Rattle.breaks.proofs.SymbolLemmas.{is_joiner, answers_after_told}
@@ -83,12 +84,9 @@ given whole_numbers state symbol outcome true is_pictograph before_digit free ea
       | true ↦ given_both whole_numbers state symbol outcome true true before_digit (both _ _ whole).1
     ]
 
--- the next state of an entry, and the proof that the entry is right
-pub record Leads (whole_numbers : Bool) (state symbol next_row outcome : ℕ) : Type 0 where
-  pub next : ℕ
-  pub below : next < STATE_COUNT
-  pub row : next_row ≡ next * SYMBOL_COUNT
-  pub leads : leads whole_numbers (stays state symbol) state symbol outcome next ≡ true
+-- the entry for a state and a symbol is right
+abbrev pub Leads : Bool → ℕ → ℕ → ℕ → ℕ → Type 0
+Leads whole_numbers state symbol next_row outcome = Next SYMBOL_COUNT STATE_COUNT next_row (leads whole_numbers (stays state symbol) state symbol outcome)
 
 state_is_right : (whole_numbers : Bool) (state : ℕ) → state < STATE_COUNT → all_right whole_numbers state ≡ true
 state_is_right true state state_lt = below STATE_COUNT (all_right true) table_is_right_whole state state_lt
@@ -101,11 +99,7 @@ entry_is_right whole_numbers state symbol row next_row outcome state_lt symbol_l
     let at_state = state_is_right whole_numbers state state_lt in
     let at_symbol = below SYMBOL_COUNT (λ symbol. is_right_at whole_numbers state symbol (state * SYMBOL_COUNT + symbol)) at_state symbol symbol_lt in
     let right : is_right whole_numbers state symbol next_row outcome ≡ true = rw (reads_row, reads_outcome, begins) at_symbol in
-    let next : ℕ = next_row / SYMBOL_COUNT in
-    let leading : Bool = leads whole_numbers (stays state symbol) state symbol outcome next in
-    let row_and : ((next_row == next * SYMBOL_COUNT) ≡ true) × ((nat_lt next STATE_COUNT && leading) ≡ true) = both _ _ right in
-    let next_and : (nat_lt next STATE_COUNT ≡ true) × (leading ≡ true) = both _ _ row_and.1 in
-    record { next = next; below = is_below _ _ next_and.0; row = is_equal _ _ row_and.0; leads = next_and.1 }
+    next_of _ _ _ _ _ right
 
 -- the entry is right for a character that begins a base
 record Begins (whole_numbers : Bool) (state symbol outcome next : ℕ) : Type 0 where
@@ -164,7 +158,7 @@ begins whole_numbers state symbol next_row outcome c before symbol_lt shows entr
     }
 
 -- after a character that joins the last base, the new state belongs to the bases with the character attached
-attached : (whole_numbers : Bool) (walk : Walk) (last : Base) (others : List Base)
+attached : (whole_numbers : Bool) (walk : Walk15) (last : Base) (others : List Base)
     (stands : Stands whole_numbers walk last others) (symbol next_row outcome : ℕ) (c : Character) → symbol < SYMBOL_COUNT
     → shown symbol ≡ told c → Leads whole_numbers stands.state symbol next_row outcome → stays stands.state symbol ≡ true
     → Stands whole_numbers (record {
@@ -223,40 +217,17 @@ first_base c (d ∷ text) =
       | inr begins ↦ ([], record { first = d; attached = next.0 } ∷ next.1, rw (begins, next.2) refl)
     ]
 
--- whether the second base is NU
-abbrev second_is_digit : List Base → Bool
-second_is_digit [] = false
-second_is_digit (b ∷ bases) = is (NU ∷ []) bases
-
-digit_class : (class : LineClass) → is_one_of (CM ∷ ZWJ ∷ []) class ≡ false → is_one_of (NU ∷ []) (base_class class) ≡ is_same class NU
-digit_class NU h = refl
-digit_class CM h = cc
-digit_class ZWJ h = cc
-digit_class class h = refl
-
-second_joined : (c : Character) (bases : List Base) → second_is_digit (joined c bases) ≡ second_is_digit bases
-second_joined c [] = refl
-second_joined c (b ∷ bases) = refl
-
--- if characters can join the first base, the second base is NU if and only if `is_before_digit` holds for the
--- rest of the text
-second_is : (c : Character) (text : List Character) → is_one_of unattached c.class ≡ false → second_is_digit (bases_of (c ∷ text)) ≡ is_before_digit text
-second_is c [] free = refl
-second_is c (d ∷ text) free =
+-- if characters can join the first base of a text, the bases after it are those of the characters that do not join it
+pub second_bases : (c : Character) (text : List Character) → is_one_of unattached c.class ≡ false
+    → (attached : List Character) × (bases_of (c ∷ text) ≡ record { first = c; attached = attached } ∷ bases_after text)
+second_bases c [] free = ([], refl)
+second_bases c (d ∷ text) free =
     elim (cases_Bool (is_one_of (CM ∷ ZWJ ∷ []) d.class)) [
-      | inl stays ↦ rw (stays, free) (second_joined c (bases_of (d ∷ text)) ∙ second_is d text (mark_attaches d.class stays))
-      | inr begins ↦
-          let next = first_base d text in
-          rw (begins, next.2) (digit_class d.class begins)
+      | inl stays ↦
+          let next = second_bases d text (mark_attaches d.class stays) in
+          (d ∷ next.0, rw (stays, free, next.1) refl)
+      | inr begins ↦ ([], rw begins refl)
     ]
-
--- the results of all conditions on the bases after a position, from the text there
-read_text : (whole_numbers : Bool) (c : Character) (text : List Character)
-    → map (λ row. row.after (bases_of (c ∷ text))) (rows whole_numbers)
-    ≡ answers_after whole_numbers c (second_is_digit (bases_of (c ∷ text)))
-read_text whole_numbers c text =
-    let next = first_base c text in
-    rw next.2 (reads_after whole_numbers c next.0 next.1)
 
 -- the mark depends on the base after next only if the outcome is `WAITS`
 waits_or_not : (whole_numbers : Bool) (outcome : ℕ) (is_joined is_pictograph : Bool) (a b : Bool) → (outcome == WAITS)
@@ -277,31 +248,41 @@ opening_attaches class h = cc
 told_class : (symbol : ℕ) (c : Character) → shown symbol ≡ told c → (shown symbol).class ≡ c.class
 told_class symbol c shows = ap (λ d. d.class) shows
 
-same_of_digit : (whole_numbers : Bool) (symbol outcome : ℕ) (c : Character) (text : List Character)
-    (is_joined is_pictograph : Bool) → shown symbol ≡ told c → waits_for_base symbol outcome ≡ true
-    → mark_of whole_numbers (decided_at outcome is_joined is_pictograph) (is_before_digit text)
-    ≡ mark_of whole_numbers (decided_at outcome is_joined is_pictograph) (second_is_digit (bases_of (c ∷ text)))
-same_of_digit whole_numbers symbol outcome c text is_joined is_pictograph shows waits =
+-- The first base of a text and the bases after it. If the outcome asks for them, they are those of the characters that do not
+-- join the first one.
+record Reads (whole_numbers : Bool) (decided : ℕ) (c : Character) (text : List Character) : Type 0 where
+  attached : List Character
+  rest : List Base
+  bases : bases_of (c ∷ text) ≡ record { first = c; attached = attached } ∷ rest
+  alike : mark_given whole_numbers decided (bases_after text) ≡ mark_given whole_numbers decided rest
+
+reads : (whole_numbers : Bool) (symbol outcome : ℕ) (c : Character) (text : List Character) (is_joined is_pictograph : Bool)
+    → shown symbol ≡ told c → waits_for_base symbol outcome ≡ true → Reads whole_numbers (decided_at outcome is_joined is_pictograph) c text
+reads whole_numbers symbol outcome c text is_joined is_pictograph shows waits =
     elim (cases_Bool (outcome == WAITS)) [
       | inl waiting ↦
           let opening : is_one_of (OP ∷ []) (shown symbol).class ≡ true = rw waiting at waits in
           let free : is_one_of unattached c.class ≡ false = ap (is_one_of unattached) (sym (told_class symbol c shows)) ∙ opening_attaches (shown symbol).class opening in
-          ap (mark_of whole_numbers (decided_at outcome is_joined is_pictograph)) (sym (second_is c text free))
-      | inr other ↦ waits_or_not whole_numbers outcome is_joined is_pictograph _ _ other
+          let second = second_bases c text free in
+          record { attached = second.0; rest = bases_after text; bases = second.1; alike = refl }
+      | inr other ↦
+          let first = first_base c text in
+          record { attached = first.0; rest = first.1; bases = first.2; alike = waits_or_not whole_numbers outcome is_joined is_pictograph _ _ other }
     ]
 
 -- before a character that begins a base, the outcome gives the mark of the rules
-marks_begun : (whole_numbers : Bool) (walk : Walk) (last : Base) (others : List Base)
+marks_begun : (whole_numbers : Bool) (walk : Walk15) (last : Base) (others : List Base)
     (stands : Stands whole_numbers walk last others) (symbol next_row outcome : ℕ) (c : Character) (text : List Character)
     → shown symbol ≡ told c → Leads whole_numbers stands.state symbol next_row outcome → stays stands.state symbol ≡ false
-    → mark_of whole_numbers (decided_at outcome walk.is_joined walk.is_pictograph) (is_before_digit text)
+    → mark_given whole_numbers (decided_at outcome walk.is_joined walk.is_pictograph) (bases_after text)
     ≡ mark_by (rules V15_0 whole_numbers) (last ∷ others) (bases_of (c ∷ text))
 marks_begun whole_numbers walk last others stands symbol next_row outcome c text shows entry_leads begun =
     let says : Begins whole_numbers stands.state symbol outcome entry_leads.next = beginning _ _ _ _ _ (rw begun at entry_leads.leads) in
-    let digit : Bool = second_is_digit (bases_of (c ∷ text)) in
+    let after = reads whole_numbers symbol outcome c text walk.is_joined walk.is_pictograph shows says.waits in
+    let digit : Bool = is (NU ∷ []) after.rest in
     let free : walk.is_joined ≡ true → is unattached (bases_at stands.state) ≡ false =
     λ joined. sym stands.attaches ∙ joiner_attaches (end_of last).class (sym stands.is_joined ∙ joined) in
-    same_of_digit whole_numbers symbol outcome c text walk.is_joined walk.is_pictograph shows says.waits
+    after.alike
     ∙ given whole_numbers stands.state symbol outcome walk.is_joined walk.is_pictograph digit free says.gives
     ∙ ap (λ row. decide (marks_by_row whole_numbers) (answered_with whole_numbers walk.is_joined walk.is_pictograph row) (answers_after whole_numbers (shown symbol) digit)) (sym stands.answered)
     ∙ ap (λ joined. decide (marks_by_row whole_numbers)
@@ -312,11 +293,12 @@ marks_begun whole_numbers walk last others stands symbol next_row outcome c text
     (answers whole_numbers (last ∷ others))) (answers_after whole_numbers (shown symbol) digit))
     stands.is_pictograph
     ∙ ap (λ row. decide (marks_by_row whole_numbers) (answered_with whole_numbers (is_same (end_of last).class ZWJ) last.first.is_future_pictograph (answers whole_numbers (last ∷ others))) row)
-    (ap (λ d. answers_after whole_numbers d digit) shows ∙ sym (answers_after_told whole_numbers c digit) ∙ sym (read_text whole_numbers c text))
-    ∙ sym (marked whole_numbers last others (bases_of (c ∷ text)))
+    (ap (λ d. answers_after whole_numbers d digit) shows ∙ sym (answers_after_told whole_numbers c digit) ∙ sym (reads_after whole_numbers c after.attached after.rest))
+    ∙ sym (marked whole_numbers last others (record { first = c; attached = after.attached } ∷ after.rest))
+    ∙ ap (mark_by (rules V15_0 whole_numbers) (last ∷ others)) (sym after.bases)
 
 -- the next character joins the last base if and only if its symbol joins the last base of the state
-stays_is : (whole_numbers : Bool) (walk : Walk) (last : Base) (others : List Base)
+stays_is : (whole_numbers : Bool) (walk : Walk15) (last : Base) (others : List Base)
     (stands : Stands whole_numbers walk last others) (symbol : ℕ) (c : Character) → shown symbol ≡ told c
     → stays_with (end_of last) c ≡ stays stands.state symbol
 stays_is whole_numbers walk last others stands symbol c shows =
@@ -324,7 +306,7 @@ stays_is whole_numbers walk last others stands symbol c shows =
     ∙ ap (λ d. is_one_of (CM ∷ ZWJ ∷ []) d.class && not (is unattached (bases_at stands.state))) (sym shows)
 
 -- the outcome is `STAYS` if and only if the next character joins the last base
-outcome_stays : (whole_numbers : Bool) (walk : Walk) (last : Base) (others : List Base)
+outcome_stays : (whole_numbers : Bool) (walk : Walk15) (last : Base) (others : List Base)
     (stands : Stands whole_numbers walk last others) (symbol next_row outcome : ℕ) → Leads whole_numbers stands.state symbol next_row outcome
     → (outcome == STAYS) ≡ stays stands.state symbol
 outcome_stays whole_numbers walk last others stands symbol next_row outcome entry_leads =
@@ -338,7 +320,7 @@ outcome_stays whole_numbers walk last others stands symbol next_row outcome entr
     ]
 
 -- whether the last base is a future pictograph after the step
-abbrev pub kept : Walk → ℕ → Character → Bool
+abbrev pub kept : Walk15 → ℕ → Character → Bool
 kept walk outcome c = if outcome == STAYS then walk.is_pictograph else c.is_future_pictograph
 
 -- LB9: no line ends before a character that joins the last base
@@ -357,10 +339,15 @@ never_stays whole_numbers outcome false is_pictograph before_digit stay =
     ap (λ o. mark_of whole_numbers (decided_at o false is_pictograph) before_digit) (is_equal outcome STAYS stay)
     ∙ never_outcome whole_numbers before_digit is_pictograph
 
-pub passes : (whole_numbers : Bool) (walk : Walk) (symbol next_row outcome : ℕ) (c : Character) → symbol < SYMBOL_COUNT
+-- one step of the walk
+abbrev pub Passes15 : Bool → Walk15 → Base → List Base → Character → ℕ → Type 0
+Passes15 whole_numbers after last others c decided =
+    Passes (rules V15_0 whole_numbers) (mark_given whole_numbers decided) (Stands whole_numbers after) last others c
+
+pub passes : (whole_numbers : Bool) (walk : Walk15) (symbol next_row outcome : ℕ) (c : Character) → symbol < SYMBOL_COUNT
     → shown symbol ≡ told c → next_row ≡ get_or NEXT_ROWS (walk.row + symbol) 0 → outcome ≡ get_or OUTCOMES (walk.row + symbol) 0 → (last : Base) (others : List Base)
     → Stands whole_numbers walk last others
-    → Passes whole_numbers (record {
+    → Passes15 whole_numbers (record {
       row = next_row;
       is_joined = symbol == JOINER;
       is_pictograph =
@@ -373,7 +360,7 @@ passes whole_numbers walk symbol next_row outcome c symbol_lt shows reads_row re
     elim (cases_Bool (stays stands.state symbol)) [
       | inl stay ↦
           rw (whether, staying, stay) (
-            λ digit. never_stays whole_numbers outcome walk.is_joined walk.is_pictograph digit (staying ∙ stay),
+            λ rest. never_stays whole_numbers outcome walk.is_joined walk.is_pictograph (is (NU ∷ []) rest) (staying ∙ stay),
             attached whole_numbers walk last others stands symbol next_row outcome c symbol_lt shows entry_leads stay,
           )
       | inr begun ↦
@@ -397,13 +384,13 @@ starts symbol next_row c symbol_lt shows reads_row whole_numbers =
     let outcome : ℕ = get_or OUTCOMES (0 + symbol) 0 in
     begins whole_numbers 0 symbol next_row outcome c [] symbol_lt shows (entry_is_right whole_numbers 0 symbol 0 next_row outcome (omega arith) symbol_lt refl reads_row refl) (and_false _) refl
 
--- one step of the pass, stated for the values that the program computes
-pub passes_as : (walk : Walk) (symbol next_row outcome : ℕ) (c : Character) (is_pictograph : Bool) (decided : ℕ)
+-- one step of the walk, stated for the values that the program computes
+pub passes_as : (walk : Walk15) (symbol next_row outcome : ℕ) (c : Character) (is_pictograph : Bool) (decided : ℕ)
     → symbol < SYMBOL_COUNT → shown symbol ≡ told c → next_row ≡ get_or NEXT_ROWS (walk.row + symbol) 0 → outcome ≡ get_or OUTCOMES (walk.row + symbol) 0
     → kept walk outcome c ≡ is_pictograph → decided
     ≡ decided_at outcome walk.is_joined walk.is_pictograph
     → (whole_numbers : Bool) (last : Base) (others : List Base) → Stands whole_numbers walk last others
-    → Passes whole_numbers (record {
+    → Passes15 whole_numbers (record {
       row = next_row;
       is_joined = symbol == JOINER;
       is_pictograph =
@@ -414,12 +401,8 @@ passes_as walk symbol next_row outcome c is_pictograph decided symbol_lt shows r
 
 -- the next row in each entry is a row of the table
 pub row_within : (place next_row : ℕ) → place < ENTRY_COUNT → next_row ≡ get_or NEXT_ROWS place 0 → next_row ≤ LAST_ROW
-row_within place next_row lt reads =
-    let test : nat_le (get_or NEXT_ROWS place 0) LAST_ROW ≡ true = below ENTRY_COUNT (λ place. nat_le (get_or NEXT_ROWS place 0) LAST_ROW) rows_are_within place lt in
-    is_within next_row LAST_ROW (ap (λ row. nat_le row LAST_ROW) reads ∙ test)
+row_within = entries_within NEXT_ROWS ENTRY_COUNT LAST_ROW rows_are_within
 
 -- the outcome in each entry is one of the eight
 pub outcome_below : (place outcome : ℕ) → place < ENTRY_COUNT → outcome ≡ get_or OUTCOMES place 0 → outcome < 8
-outcome_below place outcome lt reads =
-    let test : nat_lt (get_or OUTCOMES place 0) 8 ≡ true = below ENTRY_COUNT (λ place. nat_lt (get_or OUTCOMES place 0) 8) outcomes_are_within place lt in
-    is_below outcome 8 (ap (λ o. nat_lt o 8) reads ∙ test)
+outcome_below = entries_below OUTCOMES ENTRY_COUNT 8 outcomes_are_within

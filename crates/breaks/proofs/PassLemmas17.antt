@@ -1,5 +1,5 @@
--- One step of the pass, with the rules of Unicode 17.0.
-use Rattle.std.proofs.Common.{◌≡◌, ℕ, zero, suc, ◌+◌, ◌*◌, ◌/◌, ◌%◌, ◌<◌, ◌≤◌, ◌==◌, nat_lt, nat_le, Bool, true, false, not, ◌&&◌, ◌||◌, List, [], ◌∷◌, ◌++◌, map, get_or, refl, sym, ap, ap₂, subst, ◌∙◌, arith, inl, inr}
+-- One step of the walk, with the rules of Unicode 17.0.
+use Rattle.std.proofs.Common.{◌≡◌, ℕ, zero, suc, ◌+◌, ◌*◌, ◌/◌, ◌%◌, ◌<◌, ◌≤◌, ◌==◌, nat_lt, Bool, true, false, not, ◌&&◌, ◌||◌, List, [], ◌∷◌, ◌++◌, map, get_or, refl, sym, ap, ap₂, subst, ◌∙◌, arith, inl, inr}
 use Rattle.std.proofs.lemmas.Bool.{cases_Bool}
 use Rattle.ucd.specs.declared.line_class.LineClass.{LineClass}
 use Rattle.ucd.specs.declared.line_class.LineClass.TheVariants.{AK, AL, AS, CM, IS, NU, OP, QU, VF, ZWJ}
@@ -10,17 +10,18 @@ use Rattle.breaks.specs.Bases.{Base, Character, alone, base_class, bases_of, cla
 use Rattle.breaks.specs.Classes.{is_detail, is_same, is_one_of}
 use Rattle.breaks.specs.Rules.{rules, rows_before_numbers, rows_of_numbers, rows_after_numbers, mark_by, after_final, is, is_dotted_circle, is_not_east_asian, or_edge}
 use Rattle.breaks.specs.Symbols.{shown_17, told_17}
-use Rattle.breaks.specs.Walk.{unattached, with_attached}
-use Rattle.breaks.specs.Walk17.{Bits, Passes17, Stands17, answered_17, answers_17, bases_after, bases_at_17, bits_in, bits_of, carried_17, decided_17, is_stop_digit, is_wide_base, mark_of_17, marks_17, rows_17}
+use Rattle.breaks.specs.Passes.{Passes, bases_after, with_attached}
+use Rattle.breaks.specs.Walk.{unattached}
+use Rattle.breaks.specs.Walk17.{Bits, Stands17, answered_17, answers_17, bases_at_17, bits_in, bits_of, carried_17, decided_17, is_stop_digit, is_wide_base, mark_of_17, marks_17, rows_17}
 use Rattle.breaks.specs.declared.mark.Mark.TheVariants.{Never}
 use Rattle.breaks.specs.declared.entries_17.TheConstants.{NEXT_ROWS, OUTCOMES}
 use Rattle.breaks.specs.declared.symbol_17.TheConstants.{JOINER, SYMBOL_COUNT}
 use Rattle.breaks.specs.declared.table_17.TheConstants.{ENTRY_COUNT, LAST_ROW, NEVER, OUTCOME_COUNT, STATE_COUNT, STAYS}
 use Rattle.breaks.specs.declared.walk_17.Walk17.{Walk17}
-use Rattle.breaks.proofs.BoolLemmas.{all_same, all_same_is, below, both, is_below, is_equal, is_within, same, same_is}
+use Rattle.breaks.proofs.BoolLemmas.{Next, next_of, all_same, all_same_is, below, both, entries_below, entries_within, is_below, is_equal, same, same_is}
 use Rattle.breaks.proofs.Computed.{is_mark}
 use Rattle.breaks.proofs.Computed17.{bits, all_right_17, answers_after_17, asks, befores_at, bits_at, decide_17, gives_17, gives_bits, gives_rest, gives_wide, index_of, is_as_17, is_right_at_17, is_right_17, kind, kind_of, kinds_after, leads_17, marks_by_row_17, may_have, outcomes_are_within_17, part, part_0, part_1, part_2, part_3, part_4, part_5, part_6, rest_at, rows_are_within_17, stays_17, with_width}
-use Rattle.breaks.proofs.PassLemmas.{and_false, first_base, is_mark_is, joiner_attaches, mark_attaches, not_true}
+use Rattle.breaks.proofs.PassLemmas.{and_false, first_base, is_mark_is, joiner_attaches, mark_attaches, not_true, second_bases}
 use Rattle.breaks.proofs.StepLemmas.{end_attached}
 use Rattle.breaks.proofs.StepLemmas17.{circle_told, answers_after_told_17, answers_attached_17, answers_same_17, answers_told_17, carried_attached_17, carried_same_17, carried_told_17, marked_17}
 use Rattle.breaks.proofs.SymbolLemmas17.{is_joiner_17, may_have_told}
@@ -43,12 +44,9 @@ state_is_right_17 state lt =
     let whole : 7 * (state / 7) + state % 7 ≡ state = omega arith in
     subst (λ s. all_right_17 s ≡ true) whole (below 7 (λ i. all_right_17 (7 * (state / 7) + i)) (part_is (state / 7) (omega arith)) (state % 7) (omega arith))
 
--- an entry gives the right outcome and the right next state
-pub record Leads17 (state symbol next_row outcome : ℕ) : Type 0 where
-  pub next : ℕ
-  pub below : next < STATE_COUNT
-  pub row : next_row ≡ next * SYMBOL_COUNT
-  pub leads : leads_17 (stays_17 state symbol) (befores_at state) state symbol outcome next ≡ true
+-- the entry for a state and a symbol is right
+abbrev pub Leads17 : ℕ → ℕ → ℕ → ℕ → Type 0
+Leads17 state symbol next_row outcome = Next SYMBOL_COUNT STATE_COUNT next_row (leads_17 (stays_17 state symbol) (befores_at state) state symbol outcome)
 
 pub entry_is_right_17 : (state symbol row next_row outcome : ℕ) → state < STATE_COUNT → symbol < SYMBOL_COUNT
     → row ≡ state * SYMBOL_COUNT → next_row ≡ get_or NEXT_ROWS (row + symbol) 0 → outcome ≡ get_or OUTCOMES (row + symbol) 0
@@ -57,11 +55,7 @@ entry_is_right_17 state symbol row next_row outcome state_lt symbol_lt begins re
     let at_state = state_is_right_17 state state_lt in
     let at_symbol = below SYMBOL_COUNT (λ symbol. is_right_at_17 (befores_at state) state symbol (state * SYMBOL_COUNT + symbol)) at_state symbol symbol_lt in
     let right : is_right_17 (befores_at state) state symbol next_row outcome ≡ true = rw (reads_row, reads_outcome, begins) at_symbol in
-    let next : ℕ = next_row / SYMBOL_COUNT in
-    let leading : Bool = leads_17 (stays_17 state symbol) (befores_at state) state symbol outcome next in
-    let row_and : ((next_row == next * SYMBOL_COUNT) ≡ true) × ((nat_lt next STATE_COUNT && leading) ≡ true) = both _ _ right in
-    let next_and : (nat_lt next STATE_COUNT ≡ true) × (leading ≡ true) = both _ _ row_and.1 in
-    record { next = next; below = is_below _ _ next_and.0; row = is_equal _ _ row_and.0; leads = next_and.1 }
+    next_of _ _ _ _ _ right
 
 -- the entry is right for a character that begins a base
 record Begins17 (state symbol outcome next : ℕ) : Type 0 where
@@ -247,18 +241,6 @@ asked_attaches OP detail h = refl
 asked_attaches QU detail h = refl
 asked_attaches class detail h = cc
 
--- if characters can join the first base of a text, the bases after it are those of the characters that do not join it
-pub second_bases : (c : Character) (text : List Character) → is_one_of unattached c.class ≡ false
-    → (attached : List Character) × (bases_of (c ∷ text) ≡ record { first = c; attached = attached } ∷ bases_after text)
-second_bases c [] free = ([], refl)
-second_bases c (d ∷ text) free =
-    elim (cases_Bool (is_one_of (CM ∷ ZWJ ∷ []) d.class)) [
-      | inl stays ↦
-          let next = second_bases d text (mark_attaches d.class stays) in
-          (d ∷ next.0, rw (stays, free, next.1) refl)
-      | inr begins ↦ ([], rw begins refl)
-    ]
-
 -- the outcomes that are marks
 pub same_mark : (decided : ℕ) (p q : List Base) → nat_lt decided 4 ≡ true → mark_of_17 decided p ≡ mark_of_17 decided q
 same_mark zero p q lt = refl
@@ -353,26 +335,26 @@ module _ (walk : Walk17) (last : Base) (others : List Base) (stands : Stands17 w
       (may_have_told c (shown_17 symbol) shows) free says.gives lt
 
   -- what the rules say, from what the table was computed from
-  ruled : (place : ℕ) (attached : List Character) (rest : List Base) (whole_numbers : Bool)
+  ruled : (place : ℕ) (attached : List Character) (rest : List Base)
       → map (λ row. row.after (record { first = c; attached = attached } ∷ rest)) rows_17 ≡ answers_after_17 c (rest_at place)
       → decide_17 marks_by_row_17 (answered_17 (bits_in walk) (answers_17 (bases_at_17 stands.state)))
       (answers_after_17 (with_width (shown_17 symbol) (is_east_asian (alone c))) (rest_at place))
-      ≡ mark_by (rules V17_0 whole_numbers) (last ∷ others) (record { first = c; attached = attached } ∷ rest)
-  ruled place attached rest whole_numbers after =
+      ≡ mark_by (rules V17_0 false) (last ∷ others) (record { first = c; attached = attached } ∷ rest)
+  ruled place attached rest after =
       ap₂ (λ (bits : Bits) (row : List Bool). decide_17 marks_by_row_17 (answered_17 bits row)
       (answers_after_17 (with_width (shown_17 symbol) (is_east_asian (alone c))) (rest_at place))) stands.bits (sym stands.answered)
       ∙ ap (λ row. decide_17 marks_by_row_17 (answered_17 (bits_of last others) (answers_17 (last ∷ others))) row)
       (ap (λ d. answers_after_17 (with_width d (is_east_asian (alone c))) (rest_at place)) shows
       ∙ sym (answers_after_told_17 c (rest_at place)) ∙ sym after)
-      ∙ sym (marked_17 whole_numbers last others (record { first = c; attached = attached } ∷ rest))
+      ∙ sym (marked_17 last others (record { first = c; attached = attached } ∷ rest))
 
   asks_same : asks (shown_17 symbol) ≡ asks c
   asks_same = ap asks shows ∙ ap (λ circle. is_one_of (AK ∷ AS ∷ IS ∷ OP ∷ QU ∷ []) c.class || circle) (sym (circle_told c.class c.detail))
 
-  pub marks_begun_17 : (whole_numbers : Bool) (text : List Character)
+  pub marks_begun_17 : (text : List Character)
       → mark_of_17 (decided_17 outcome (bits_in walk) (is_east_asian (alone c))) (bases_after text)
-      ≡ mark_by (rules V17_0 whole_numbers) (last ∷ others) (bases_of (c ∷ text))
-  marks_begun_17 whole_numbers text =
+      ≡ mark_by (rules V17_0 false) (last ∷ others) (bases_of (c ∷ text))
+  marks_begun_17 text =
       let decided : ℕ = decided_17 outcome (bits_in walk) (is_east_asian (alone c)) in
       elim (cases_Bool (asks c)) [
         | inl asked ↦
@@ -382,8 +364,8 @@ module _ (walk : Walk17) (last : Base) (others : List Base) (stands : Stands17 w
             let below_all : kind rest < kinds_after (shown_17 symbol) = rw (asks_same ∙ asked) (is_below _ _ (kind_below rest)) in
             ap (λ marks. get_or marks decided Never) (marks_alike rest (rest_at (kind rest)) alike)
             ∙ (given_at (kind rest) below_all).1
-            ∙ ruled (kind rest) bases.0 rest whole_numbers (after_alike rest (rest_at (kind rest)) alike c bases.0)
-            ∙ ap (mark_by (rules V17_0 whole_numbers) (last ∷ others)) (sym bases.1)
+            ∙ ruled (kind rest) bases.0 rest (after_alike rest (rest_at (kind rest)) alike c bases.0)
+            ∙ ap (mark_by (rules V17_0 false) (last ∷ others)) (sym bases.1)
         | inr silent ↦
             let bases = first_base c text in
             let one : 0 < kinds_after (shown_17 symbol) = rw (asks_same ∙ silent) (omega arith) in
@@ -391,8 +373,8 @@ module _ (walk : Walk17) (last : Base) (others : List Base) (stands : Stands17 w
             let small : nat_lt decided 4 ≡ true = rw (asks_same ∙ silent) at given.0 in
             same_mark decided (bases_after text) [] small
             ∙ given.1
-            ∙ ruled 0 bases.0 bases.1 whole_numbers (after_any c bases.0 bases.1 silent)
-            ∙ ap (mark_by (rules V17_0 whole_numbers) (last ∷ others)) (sym bases.2)
+            ∙ ruled 0 bases.0 bases.1 (after_any c bases.0 bases.1 silent)
+            ∙ ap (mark_by (rules V17_0 false) (last ∷ others)) (sym bases.2)
       ]
 
 -- the next character joins the last base if and only if its symbol joins the last base of the state
@@ -413,6 +395,10 @@ outcome_stays_17 state symbol next_row outcome entry_leads =
           let led : leads_17 false (befores_at state) state symbol outcome entry_leads.next ≡ true = rw begun at entry_leads.leads in
           not_true _ (both _ _ led).0 ∙ sym begun
     ]
+
+-- one step of the walk
+abbrev pub Passes17 : Walk17 → Base → List Base → Character → ℕ → Type 0
+Passes17 after last others c decided = Passes (rules V17_0 false) (mark_of_17 decided) (Stands17 after) last others c
 
 -- a character that joins the last base
 pub passes_stay_17 : (walk : Walk17) (symbol next_row outcome : ℕ) (c : Character) → symbol < SYMBOL_COUNT → shown_17 symbol ≡ told_17 c
@@ -467,11 +453,7 @@ starts_17 symbol next_row is_pictograph is_wide c symbol_lt shows reads_row pict
 
 -- the next row in each entry is a row of the table, and the outcome is one of the outcomes
 pub row_within_17 : (place next_row : ℕ) → place < ENTRY_COUNT → next_row ≡ get_or NEXT_ROWS place 0 → next_row ≤ LAST_ROW
-row_within_17 place next_row lt reads =
-    let test : nat_le (get_or NEXT_ROWS place 0) LAST_ROW ≡ true = below ENTRY_COUNT (λ place. nat_le (get_or NEXT_ROWS place 0) LAST_ROW) rows_are_within_17 place lt in
-    is_within next_row LAST_ROW (ap (λ row. nat_le row LAST_ROW) reads ∙ test)
+row_within_17 = entries_within NEXT_ROWS ENTRY_COUNT LAST_ROW rows_are_within_17
 
 pub outcome_below_17 : (place outcome : ℕ) → place < ENTRY_COUNT → outcome ≡ get_or OUTCOMES place 0 → outcome < OUTCOME_COUNT
-outcome_below_17 place outcome lt reads =
-    let test : nat_lt (get_or OUTCOMES place 0) OUTCOME_COUNT ≡ true = below ENTRY_COUNT (λ place. nat_lt (get_or OUTCOMES place 0) OUTCOME_COUNT) outcomes_are_within_17 place lt in
-    is_below outcome OUTCOME_COUNT (ap (λ o. nat_lt o OUTCOME_COUNT) reads ∙ test)
+outcome_below_17 = entries_below OUTCOMES ENTRY_COUNT OUTCOME_COUNT outcomes_are_within_17

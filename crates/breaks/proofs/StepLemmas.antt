@@ -1,4 +1,4 @@
--- The results of all conditions after one step of the pass.
+-- The results of all conditions after one step of the walk.
 use Rattle.std.proofs.Common.{◌≡◌, ℕ, ◌+◌, ◌%◌, ◌==◌, Bool, true, false, not, cond, ◌&&◌, ◌||◌, List, [], ◌∷◌, ◌++◌, map, get_or, refl, sym, ap, ◌∙◌, arith, if◌then◌else◌}
 use Rattle.ucd.specs.declared.version.Version.TheVariants.{V15_0}
 use Rattle.std.specs.List.{prefix_len}
@@ -112,30 +112,35 @@ odd_after b bases =
       | false ↦ refl
     ]
 
-module _ (b : Base) (p q : List Base) (carry : carried p ≡ carried q) where
-  pair_same : (classes : List LineClass) → is_pair (HL ∷ []) classes (b ∷ p) ≡ is_pair (HL ∷ []) classes (b ∷ q)
-  pair_same classes = pair_after (HL ∷ []) classes b p ∙ ap (λ h. h && is_one_of classes (class_of b)) (ap (λ l. get_or l 0 false) carry) ∙ sym (pair_after (HL ∷ []) classes b q)
-
-  spaced_same : (classes : List LineClass) → is_spaced classes p ≡ is_spaced classes q → is_spaced classes (b ∷ p) ≡ is_spaced classes (b ∷ q)
+-- after one more base, these conditions are the same for two lists of bases if they were
+module _ (b : Base) (p q : List Base) where
+  pub spaced_same : (classes : List LineClass) → is_spaced classes p ≡ is_spaced classes q → is_spaced classes (b ∷ p) ≡ is_spaced classes (b ∷ q)
   spaced_same classes e = spaced_after classes b p ∙ ap (λ s. if is_same (class_of b) SP then s else is_one_of classes (class_of b)) e ∙ sym (spaced_after classes b q)
 
+  pub odd_same : ends_in_odd_run p ≡ ends_in_odd_run q → ends_in_odd_run (b ∷ p) ≡ ends_in_odd_run (b ∷ q)
+  odd_same e = odd_after b p ∙ ap (λ o. is_same (class_of b) RI && not o) e ∙ sym (odd_after b q)
+
+  pub pair_same : (classes : List LineClass) → is (HL ∷ []) p ≡ is (HL ∷ []) q → is_pair (HL ∷ []) classes (b ∷ p) ≡ is_pair (HL ∷ []) classes (b ∷ q)
+  pair_same classes e = pair_after (HL ∷ []) classes b p ∙ ap (λ h. h && is_one_of classes (class_of b)) e ∙ sym (pair_after (HL ∷ []) classes b q)
+
+module _ (b : Base) (p q : List Base) (carry : carried p ≡ carried q) where
   zw : is_spaced (ZW ∷ []) (b ∷ p) ≡ is_spaced (ZW ∷ []) (b ∷ q)
-  zw = spaced_same (ZW ∷ []) (ap (λ l. get_or l 1 false) carry)
+  zw = spaced_same b p q (ZW ∷ []) (ap (λ l. get_or l 1 false) carry)
 
   op : is_spaced (OP ∷ []) (b ∷ p) ≡ is_spaced (OP ∷ []) (b ∷ q)
-  op = spaced_same (OP ∷ []) (ap (λ l. get_or l 2 false) carry)
+  op = spaced_same b p q (OP ∷ []) (ap (λ l. get_or l 2 false) carry)
 
   qu : is_spaced (QU ∷ []) (b ∷ p) ≡ is_spaced (QU ∷ []) (b ∷ q)
-  qu = spaced_same (QU ∷ []) (ap (λ l. get_or l 3 false) carry)
+  qu = spaced_same b p q (QU ∷ []) (ap (λ l. get_or l 3 false) carry)
 
   after_closing : is_spaced (CL ∷ CP ∷ []) (b ∷ p) ≡ is_spaced (CL ∷ CP ∷ []) (b ∷ q)
-  after_closing = spaced_same (CL ∷ CP ∷ []) (ap (λ l. get_or l 4 false) carry)
+  after_closing = spaced_same b p q (CL ∷ CP ∷ []) (ap (λ l. get_or l 4 false) carry)
 
   dash : is_spaced (B2 ∷ []) (b ∷ p) ≡ is_spaced (B2 ∷ []) (b ∷ q)
-  dash = spaced_same (B2 ∷ []) (ap (λ l. get_or l 5 false) carry)
+  dash = spaced_same b p q (B2 ∷ []) (ap (λ l. get_or l 5 false) carry)
 
   odd : ends_in_odd_run (b ∷ p) ≡ ends_in_odd_run (b ∷ q)
-  odd = odd_after b p ∙ ap (λ o. is_same (class_of b) RI && not o) (ap (λ l. get_or l 6 false) carry) ∙ sym (odd_after b q)
+  odd = odd_same b p q (ap (λ l. get_or l 6 false) carry)
 
   digits : ends_in_digits (b ∷ p) ≡ ends_in_digits (b ∷ q)
   digits = ap (λ digits. is_same (class_of b) NU || (is_one_of middle (class_of b) && digits)) (ap (λ l. get_or l 7 false) carry)
@@ -169,11 +174,11 @@ answers_same_plain true b p q carry =
       after_closing b p q carry,
       dash b p q carry,
       odd b p q carry,
-      pair_same b p q carry (BA ∷ HY ∷ []),
+      pair_same b p q (BA ∷ HY ∷ []) (ap (λ l. get_or l 0 false) carry),
       digits b p q carry,
       closed_digits b p q carry,
     ) refl
-answers_same_plain false b p q carry = rw (zw b p q carry, op b p q carry, qu b p q carry, after_closing b p q carry, dash b p q carry, odd b p q carry, pair_same b p q carry (BA ∷ HY ∷ [])) refl
+answers_same_plain false b p q carry = rw (zw b p q carry, op b p q carry, qu b p q carry, after_closing b p q carry, dash b p q carry, odd b p q carry, pair_same b p q (BA ∷ HY ∷ []) (ap (λ l. get_or l 0 false) carry)) refl
 
 pub answers_same : (whole_numbers : Bool) (b : Base) (p q : List Base) → carried p ≡ carried q → answers whole_numbers (b ∷ p) ≡ answers whole_numbers (b ∷ q)
 answers_same whole_numbers b p q carry = answers_same_plain whole_numbers (record { first = record b.first { is_future_pictograph = false }; attached = narrow CM ∷ [] }) p q carry

@@ -1,4 +1,4 @@
--- The results of all conditions after one step of the pass, with the rules of Unicode 17.0.
+-- The results of all conditions after one step of the walk, with the rules of Unicode 17.0.
 use Rattle.std.proofs.Common.{◌≡◌, Bool, true, false, not, ◌&&◌, List, [], ◌∷◌, ◌++◌, map, get_or, refl, sym, ap, ◌∙◌, if◌then◌else◌}
 use Rattle.ucd.specs.declared.line_class.LineClass.{LineClass}
 use Rattle.ucd.specs.declared.line_class.LineClass.TheVariants.{AK, AL, AS, B2, CL, CM, CP, HH, HL, HY, OP, QU, RI, SP, ZW, ZWJ}
@@ -12,7 +12,7 @@ use Rattle.breaks.specs.Symbols.{told_17}
 use Rattle.breaks.specs.Walk17.{answered_17, answers_17, bits_of, carried_17, is_wide_base, rows_17}
 use Rattle.breaks.specs.declared.mark.Mark.{Mark}
 use Rattle.breaks.specs.declared.mark.Mark.TheVariants.{May}
-use Rattle.breaks.proofs.StepLemmas.{last_rules_of_rows, more_rows, odd_after, pair_after, row_mark, rules_of_rows, spaced_after, spaced_same_class}
+use Rattle.breaks.proofs.StepLemmas.{last_rules_of_rows, more_rows, odd_after, odd_same, pair_after, pair_same, row_mark, rules_of_rows, spaced_same, spaced_same_class}
 use Rattle.breaks.proofs.SymbolLemmas.{narrow_before}
 use Rattle.breaks.proofs.Computed17.{answers_after_17, decide_17, marks_by_row_17, with_width}
 
@@ -29,20 +29,20 @@ decides_17 [] before after = refl
 decides_17 (row ∷ some) before after = chosen (row.before before && row.after after) row.mark _ _ (decides_17 some before after)
 
 -- all rules together give the same mark as their rows
-rows_mark_17 : (whole_numbers : Bool) (before after : List Base) → mark_by (rules V17_0 whole_numbers) before after
+rows_mark_17 : (before after : List Base) → mark_by (rules V17_0 false) before after
     ≡ row_mark (rows_before_numbers V17_0) (row_mark (rows_of_numbers V17_0) (row_mark (rows_after_numbers V17_0) May before after) before after) before after
 unfolding rules
-rows_mark_17 whole_numbers before after =
+rows_mark_17 before after =
     rules_of_rows (rows_before_numbers V17_0) _ before after
     ∙ ap (λ mark. row_mark (rows_before_numbers V17_0) mark before after)
     (rules_of_rows (rows_of_numbers V17_0) _ before after
     ∙ ap (λ mark. row_mark (rows_of_numbers V17_0) mark before after) (last_rules_of_rows (rows_after_numbers V17_0) before after))
 
-rules_decide_17 : (whole_numbers : Bool) (before after : List Base) → mark_by (rules V17_0 whole_numbers) before after
+rules_decide_17 : (before after : List Base) → mark_by (rules V17_0 false) before after
     ≡ decide_17 marks_by_row_17 (map (λ row. row.before before) rows_17) (map (λ row. row.after after) rows_17)
 unfolding rows_17
-rules_decide_17 whole_numbers before after =
-    rows_mark_17 whole_numbers before after
+rules_decide_17 before after =
+    rows_mark_17 before after
     ∙ sym (more_rows (rows_before_numbers V17_0) (rows_of_numbers V17_0 ++ rows_after_numbers V17_0) May before after
     ∙ ap (λ mark. row_mark (rows_before_numbers V17_0) mark before after) (more_rows (rows_of_numbers V17_0) (rows_after_numbers V17_0) May before after))
     ∙ decides_17 (rows_before_numbers V17_0 ++ (rows_of_numbers V17_0 ++ rows_after_numbers V17_0)) before after
@@ -59,10 +59,10 @@ all_answers_17 : (last : Base) (others : List Base)
 unfolding rows_17 rows_before_numbers rows_of_numbers rows_after_numbers
 all_answers_17 last others = rw (not_wide others) refl
 
-pub marked_17 : (whole_numbers : Bool) (last : Base) (others after : List Base) → mark_by (rules V17_0 whole_numbers) (last ∷ others) after
+pub marked_17 : (last : Base) (others after : List Base) → mark_by (rules V17_0 false) (last ∷ others) after
     ≡ decide_17 marks_by_row_17 (answered_17 (bits_of last others) (answers_17 (last ∷ others))) (map (λ row. row.after after) rows_17)
-marked_17 whole_numbers last others after =
-    rules_decide_17 whole_numbers (last ∷ others) after
+marked_17 last others after =
+    rules_decide_17 (last ∷ others) after
     ∙ ap (λ befores. decide_17 marks_by_row_17 befores (map (λ row. row.after after) rows_17)) (all_answers_17 last others)
 
 -- a condition after spaces depends on the last base and on the same condition on the bases before it
@@ -74,17 +74,11 @@ spaced_before condition b bases =
 
 -- After one more base, the conditions depend on that base and on the carried results.
 module _ (b : Base) (p q : List Base) (carry : carried_17 p ≡ carried_17 q) where
-  spaced_same : (classes : List LineClass) → is_spaced classes p ≡ is_spaced classes q → is_spaced classes (b ∷ p) ≡ is_spaced classes (b ∷ q)
-  spaced_same classes e = spaced_after classes b p ∙ ap (λ s. if is_same (class_of b) SP then s else is_one_of classes (class_of b)) e ∙ sym (spaced_after classes b q)
-
-  hl : is (HL ∷ []) p ≡ is (HL ∷ []) q
-  hl = ap (λ l. get_or l 0 false) carry
-
   zw : is_spaced (ZW ∷ []) (b ∷ p) ≡ is_spaced (ZW ∷ []) (b ∷ q)
-  zw = spaced_same (ZW ∷ []) (ap (λ l. get_or l 1 false) carry)
+  zw = spaced_same b p q (ZW ∷ []) (ap (λ l. get_or l 1 false) carry)
 
   op : is_spaced (OP ∷ []) (b ∷ p) ≡ is_spaced (OP ∷ []) (b ∷ q)
-  op = spaced_same (OP ∷ []) (ap (λ l. get_or l 2 false) carry)
+  op = spaced_same b p q (OP ∷ []) (ap (λ l. get_or l 2 false) carry)
 
   initial : or_edge (is before_initial) p ≡ or_edge (is before_initial) q
   initial = ap (λ l. get_or l 8 false) carry
@@ -97,13 +91,13 @@ module _ (b : Base) (p q : List Base) (carry : carried_17 p ≡ carried_17 q) wh
       ∙ sym (spaced_before begins_quotation b q)
 
   closed : is_spaced (CL ∷ CP ∷ []) (b ∷ p) ≡ is_spaced (CL ∷ CP ∷ []) (b ∷ q)
-  closed = spaced_same (CL ∷ CP ∷ []) (ap (λ l. get_or l 4 false) carry)
+  closed = spaced_same b p q (CL ∷ CP ∷ []) (ap (λ l. get_or l 4 false) carry)
 
   dash : is_spaced (B2 ∷ []) (b ∷ p) ≡ is_spaced (B2 ∷ []) (b ∷ q)
-  dash = spaced_same (B2 ∷ []) (ap (λ l. get_or l 5 false) carry)
+  dash = spaced_same b p q (B2 ∷ []) (ap (λ l. get_or l 5 false) carry)
 
   odd : ends_in_odd_run (b ∷ p) ≡ ends_in_odd_run (b ∷ q)
-  odd = odd_after b p ∙ ap (λ o. is_same (class_of b) RI && not o) (ap (λ l. get_or l 6 false) carry) ∙ sym (odd_after b q)
+  odd = odd_same b p q (ap (λ l. get_or l 6 false) carry)
 
   number : ends_in_number p ≡ ends_in_number q
   number = ap (λ l. get_or l 7 false) carry
@@ -115,7 +109,7 @@ module _ (b : Base) (p q : List Base) (carry : carried_17 p ≡ carried_17 q) wh
   aksara = ap (λ l. get_or l 10 false) carry
 
   pair : is_pair (HL ∷ []) (HY ∷ HH ∷ []) (b ∷ p) ≡ is_pair (HL ∷ []) (HY ∷ HH ∷ []) (b ∷ q)
-  pair = pair_after (HL ∷ []) (HY ∷ HH ∷ []) b p ∙ ap (λ h. h && is_one_of (HY ∷ HH ∷ []) (class_of b)) hl ∙ sym (pair_after (HL ∷ []) (HY ∷ HH ∷ []) b q)
+  pair = pair_same b p q (HY ∷ HH ∷ []) (ap (λ l. get_or l 0 false) carry)
 
   pub carried_same_17 : carried_17 (b ∷ p) ≡ carried_17 (b ∷ q)
   carried_same_17 = rw (zw, op, quotation, closed, dash, odd, number) refl

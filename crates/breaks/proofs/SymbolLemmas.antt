@@ -15,7 +15,7 @@ use Rattle.ucd.specs.declared.properties.Properties.{Properties}
 use Rattle.ucd.specs.Answers.{line_answers, line_answers_at}
 use Rattle.breaks.specs.Symbols.{character_by, character_in, shown, told}
 use Rattle.breaks.specs.declared.symbol.TheConstants.{ATTACHED, DIGIT, JOINER, SYMBOLS, SYMBOL_COUNT}
-use Rattle.breaks.proofs.BoolLemmas.{both, same, same_is, below, is_below}
+use Rattle.breaks.proofs.BoolLemmas.{both, same, same_is, below, entries_below}
 use Rattle.breaks.proofs.Computed.{attached_are_last, answers_after, character_with, digit_is_one, is_character, joiner_is_one, symbols_are_right, symbols_are_within}
 
 -- two characters are the same if the test says so
@@ -67,6 +67,4 @@ symbol_shown p index symbol lt is reads =
     ∙ ap (λ a. told (character_in V15_0 a)) (sym is)
 
 pub symbol_below : (index symbol : ℕ) → index < 448 → symbol ≡ get_or SYMBOLS index 0 → symbol < SYMBOL_COUNT
-symbol_below index symbol lt reads =
-    let test : nat_lt (get_or SYMBOLS index 0) SYMBOL_COUNT ≡ true = below 448 (λ place. nat_lt (get_or SYMBOLS place 0) SYMBOL_COUNT) symbols_are_within index lt in
-    is_below symbol SYMBOL_COUNT (ap (λ s. nat_lt s SYMBOL_COUNT) reads ∙ test)
+symbol_below = entries_below SYMBOLS 448 SYMBOL_COUNT symbols_are_within

@@ -9,7 +9,7 @@ use Rattle.breaks.specs.Bases.{Character, alone, is_east_asian}
 use Rattle.breaks.specs.Classes.{is_same, is_one_of}
 use Rattle.breaks.specs.Symbols.{character_by, character_in, shown_17, told_17}
 use Rattle.breaks.specs.declared.symbol_17.TheConstants.{ATTACHED, JOINER, SYMBOLS, SYMBOL_COUNT}
-use Rattle.breaks.proofs.BoolLemmas.{same, same_is, below, is_below}
+use Rattle.breaks.proofs.BoolLemmas.{same, same_is, below, entries_below}
 use Rattle.breaks.proofs.Computed.{is_character}
 use Rattle.breaks.proofs.Computed17.{attached_are_last_17, joiner_is_one_17, may_have, symbols_are_right_17, symbols_are_within_17}
 use Rattle.breaks.proofs.SymbolLemmas.{character_is}
@@ -38,9 +38,7 @@ symbol_shown_17 p index symbol lt is reads =
     ∙ ap (λ a. told_17 (character_in V17_0 a)) (sym is)
 
 pub symbol_below_17 : (index symbol : ℕ) → index < 448 → symbol ≡ get_or SYMBOLS index 0 → symbol < SYMBOL_COUNT
-symbol_below_17 index symbol lt reads =
-    let test : nat_lt (get_or SYMBOLS index 0) SYMBOL_COUNT ≡ true = below 448 (λ place. nat_lt (get_or SYMBOLS place 0) SYMBOL_COUNT) symbols_are_within_17 index lt in
-    is_below symbol SYMBOL_COUNT (ap (λ s. nat_lt s SYMBOL_COUNT) reads ∙ test)
+symbol_below_17 = entries_below SYMBOLS 448 SYMBOL_COUNT symbols_are_within_17
 
 -- the width of a base is one that the symbol of its first character allows
 width_possible : (class : LineClass) (wide : Bool)

@@ -1,29 +1,23 @@
--- The pass over the characters gives the marks of the bases.
-use Rattle.std.proofs.Common.{◌≡◌, ℕ, Bool, true, false, ◌==◌, nat_lt, not, suc, ◌+◌, ◌-◌, ◌<◌, ◌≤◌, Some, length, get_or, take, drop, arith, List, [], ◌∷◌, ◌++◌, map, if◌then◌else◌, refl, sym, ap, subst, ◌∙◌, append_assoc, append-nil, inl, inr}
+-- The walk over the characters gives the marks of the bases.
+use Rattle.std.proofs.Common.{◌≡◌, ℕ, Bool, true, false, suc, ◌+◌, ◌-◌, ◌<◌, ◌≤◌, Some, length, get_or, take, drop, arith, List, [], ◌∷◌, ◌++◌, map, if◌then◌else◌, refl, sym, ap, subst, ◌∙◌, append_assoc, append-nil, inl, inr}
 use Rattle.ucd.specs.declared.version.Version.TheVariants.{V15_0, V17_0}
 use Rattle.ucd.specs.declared.version.Version.{Version}
 use Rattle.std.proofs.Math.ListN.{set}
 use Rattle.std.specs.List.{slice_get}
 use Rattle.std.proofs.lemmas.Bool.{cases_Bool}
-use Rattle.std.proofs.lemmas.Bool.Decides.{nat_tests}
 use Rattle.std.proofs.lemmas.List.{at_drop_more, drop_all, length-map, length-set, take_all, take_more_set}
 use Rattle.breaks.specs.Bases.{Base, Character, alone, joined, stays_with, bases_of, end_of, character}
 use Rattle.breaks.specs.Marks.{marks_after, marks_of}
-use Rattle.breaks.specs.Classes.{is_same, is_one_of}
+use Rattle.breaks.specs.Passes.{Passes, bases_after, marks_by, with_attached}
 use Rattle.breaks.specs.Rules.{Rule, rules, rows_before_numbers, mark_by}
-use Rattle.breaks.specs.Symbols.{character_by, shown, told}
-use Rattle.breaks.specs.Walk.{Passes, Stands, is_before_digit, mark_of, with_attached}
-use Rattle.ucd.specs.declared.line_class.LineClass.TheVariants.{CM, NU, ZWJ}
+use Rattle.breaks.specs.Symbols.{character_by}
 use Rattle.breaks.specs.declared.mark.Mark.{Mark}
 use Rattle.breaks.specs.declared.mark.Mark.TheVariants.{Never, Must}
-use Rattle.breaks.specs.declared.symbol.TheConstants.{ATTACHED, DIGIT, SYMBOL_COUNT}
-use Rattle.breaks.specs.declared.walk.Walk.{Walk}
 use Rattle.ucd.specs.declared.properties.Properties.{Properties}
 use Rattle.ucd.specs.declared.tables.Tables.{Tables}
 use Rattle.ucd.specs.Properties.{properties_of}
 use Rattle.breaks.proofs.PassLemmas.{first_base}
 use Rattle.breaks.proofs.StepLemmas.{end_attached}
-use Rattle.breaks.proofs.SymbolLemmas.{is_digit, is_not_attached}
 
 -- the marks from the position after the base `last` on, by recursion over the characters
 abbrev pub walk : List Rule → List Base → Base → List Character → List Mark
@@ -88,100 +82,61 @@ walk_is v whole_numbers others last (c ∷ text) end is =
 pub walk_from_start : (v : Version) (whole_numbers : Bool) (c : Character) (text : List Character) → walk (rules v whole_numbers) [] (alone c) text ≡ marks_after (rules v whole_numbers) [] (bases_of (c ∷ text))
 walk_from_start v whole_numbers c text = walk_is v whole_numbers [] (alone c) text c refl ∙ ap (marks_after (rules v whole_numbers) []) (grown_alone c text)
 
--- an empty text has no marks
-pub none_marked : (t : Tables) (whole_numbers : Bool) (text : List ℕ) → length text ≡ 0 → marks_of t whole_numbers text ≡ []
-unfolding marks_of
-none_marked t whole_numbers [] none = refl
-none_marked t whole_numbers (c ∷ text) none = absurd (omega arith)
+-- a text of no characters has no marks
+pub none_at_all : (v : Version) (whole_numbers : Bool) (all : List Properties) (marks : List Mark) → length all ≡ 0 → length marks ≡ length all → marks ≡ marks_by v whole_numbers all
+unfolding marks_by
+none_at_all v whole_numbers [] [] none len = refl
+none_at_all v whole_numbers [] (m ∷ marks) none len = absurd (omega arith)
+none_at_all v whole_numbers (p ∷ all) marks none len = absurd (omega arith)
 
--- the recursion from the second character of a text on gives the marks of the text
-pub begins_walk : (t : Tables) (whole_numbers : Bool) (text rest : List ℕ) (c : ℕ) (first : Character)
-    (marks : List Mark) → text ≡ c ∷ rest → first ≡ character t c → marks ≡ [] → marks
-    ++ walk (rules t.version whole_numbers) [] (alone first) (map (character t) rest) ≡ marks_of t whole_numbers text
-unfolding marks_of
-begins_walk t whole_numbers text rest c first marks is reads none = rw (none, is, reads) (walk_from_start t.version whole_numbers (character t c) (map (character t) rest))
+-- the recursion from the second character on gives the marks of all characters
+pub begins_walk : (v : Version) (whole_numbers : Bool) (all rest : List Properties) (p : Properties) → all ≡ p ∷ rest
+    → walk (rules v whole_numbers) [] (alone (character_by v p)) (map (character_by v) rest) ≡ marks_by v whole_numbers all
+unfolding marks_by
+begins_walk v whole_numbers all rest p is = rw is (walk_from_start v whole_numbers (character_by v p) (map (character_by v) rest))
 
--- The state belongs to the bases so far. The marks so far, followed by the marks of the recursion, are all
+pub one_longer : {X : Type 0} (text : List X) (x : X) (rest : List X) (marks : List Mark) → length marks ≡ length text → text ≡ x ∷ rest → length marks ≡ length rest + 1
+one_longer text x rest marks len is = omega (arith, ap length is)
+
+-- The state belongs to the bases so far, as `stands` says. The marks so far, followed by the marks of the recursion, are all
 -- marks.
-abbrev pub Walks : Bool → Walk → List Mark → List Character → List Mark → Type 0
-Walks whole_numbers before marks text whole =
-    (last : Base) × (others : List Base) × Stands whole_numbers before last others × (marks ++ walk (rules V15_0 whole_numbers) others last text ≡ whole)
+abbrev pub Walks : List Rule → (Base → List Base → Type 0) → List Mark → List Character → List Mark → Type 0
+Walks rules stands marks text whole =
+    (last : Base) × (others : List Base) × stands last others × (marks ++ walk rules others last text ≡ whole)
 
-passes_on : (whole_numbers : Bool) (before after : Walk) (marks : List Mark) (mark : Mark) (decided : ℕ)
-    (c : Character) (text : List Character) (whole : List Mark) (last : Base) (others : List Base) → marks
-    ++ walk (rules V15_0 whole_numbers) others last (c ∷ text) ≡ whole → Passes whole_numbers after last others c decided → mark
-    ≡ mark_of whole_numbers decided (is_before_digit text) → Walks whole_numbers after (marks ++ mark ∷ []) text whole
-passes_on whole_numbers before after marks mark decided c text whole last others is passes seen =
-    elim (cases_Bool (stays_with (end_of last) c)) [
-      | inl stays ↦
-          let stayed : ((digit : Bool) → mark_of whole_numbers decided digit ≡ Never) × Stands whole_numbers after (with_attached last c) others = rw stays at passes in
-          (with_attached last c, others, stayed.1, rw (append_assoc, seen ∙ stayed.0 (is_before_digit text)) (rw stays at is))
-      | inr begins ↦
-          let begun : ((text : List Character) → mark_of whole_numbers decided (is_before_digit text)
-          ≡ mark_by (rules V15_0 whole_numbers) (last ∷ others) (bases_of (c ∷ text)))
-          × Stands whole_numbers after (alone c) (last ∷ others) = rw begins at passes in
-          (alone c, last ∷ others, begun.1, rw (append_assoc, seen ∙ begun.0 text) (rw begins at is))
-    ]
+module _ (rules : List Rule) (stands : Base → List Base → Type 0) (mark_of : List Base → Mark) where
+  passes_on : (marks : List Mark) (mark : Mark) (c : Character) (text : List Character) (whole : List Mark) (last : Base) (others : List Base)
+      → marks ++ walk rules others last (c ∷ text) ≡ whole → Passes rules mark_of stands last others c
+      → mark ≡ mark_of (bases_after text) → Walks rules stands (marks ++ mark ∷ []) text whole
+  passes_on marks mark c text whole last others so_far passes seen =
+      elim (cases_Bool (stays_with (end_of last) c)) [
+        | inl stays ↦
+            let stayed : ((rest : List Base) → mark_of rest ≡ Never) × stands (with_attached last c) others = rw stays at passes in
+            (with_attached last c, others, stayed.1, rw (append_assoc, seen ∙ stayed.0 (bases_after text)) (rw stays at so_far))
+        | inr begins ↦
+            let begun : ((text : List Character) → mark_of (bases_after text) ≡ mark_by rules (last ∷ others) (bases_of (c ∷ text)))
+            × stands (alone c) (last ∷ others) = rw begins at passes in
+            (alone c, last ∷ others, begun.1, rw (append_assoc, seen ∙ begun.0 text) (rw begins at so_far))
+      ]
 
-pub is_less : (a b : ℕ) → a < b → nat_lt a b ≡ true
-is_less a b h = grind (arith, nat_tests)
+module _ {X : Type 0} (read : X → Character) (rest : List X) (whole : List Mark) (rules : List Rule) where
+  here : (i : ℕ) (x : X) → i < length rest → x ≡ get_or rest i x → drop i rest ≡ x ∷ drop (i + 1) rest
+  here i x lt reads = at_drop_more (λ xs. xs) rest i x lt ∙ ap (λ y. y ∷ drop (i + 1) rest) (sym reads)
 
-pub is_no_less : (a b : ℕ) → b ≤ a → nat_lt a b ≡ false
-is_no_less a b h = grind (arith, nat_tests)
-
-not_is : (b : Bool) → not b ≡ true → b ≡ false
-not_is true h = cc
-not_is false h = refl
-
-not_other : (b : Bool) → not b ≡ false → b ≡ true
-not_other true h = refl
-not_other false h = cc
-
-attached_class : (symbol : ℕ) (c : Character) → symbol < SYMBOL_COUNT → shown symbol ≡ told c → nat_lt symbol ATTACHED ≡ false → is_one_of (CM ∷ ZWJ ∷ []) c.class ≡ true
-attached_class symbol c below shows stays =
-    ap (λ d. is_one_of (CM ∷ ZWJ ∷ []) d.class) (sym shows) ∙ not_other _ (sym (is_not_attached symbol below) ∙ stays)
-
-other_class : (symbol : ℕ) (c : Character) → symbol < SYMBOL_COUNT → shown symbol ≡ told c → nat_lt symbol ATTACHED ≡ true → is_one_of (CM ∷ ZWJ ∷ []) c.class ≡ false
-other_class symbol c below shows begins =
-    ap (λ d. is_one_of (CM ∷ ZWJ ∷ []) d.class) (sym shows) ∙ not_is _ (sym (is_not_attached symbol below) ∙ begins)
-
-module _ {X : Type 0} (read : X → Character) (rest : List X) where
-  -- if the character at i joins the base before it, `is_before_digit` gives the same result from i as from i
-  -- + 1
-  pub looks_on : (i : ℕ) (x : X) (symbol : ℕ) → i < length rest → x ≡ get_or rest i x → symbol < SYMBOL_COUNT
-      → shown symbol ≡ told (read x) → ATTACHED ≤ symbol → is_before_digit (map read (drop i rest))
-      ≡ is_before_digit (map read (drop (i + 1) rest))
-  looks_on i x symbol lt is below shows stays =
-      let here : drop i rest ≡ x ∷ drop (i + 1) rest = at_drop_more (λ xs. xs) rest i x lt ∙ ap (λ y. y ∷ drop (i + 1) rest) (sym is) in
-      let attached : is_one_of (CM ∷ ZWJ ∷ []) (read x).class ≡ true = attached_class symbol (read x) below shows (is_no_less symbol ATTACHED stays) in
-      rw (here, attached) refl
-
-  pub finds : (i : ℕ) (x : X) (symbol : ℕ) → i < length rest → x ≡ get_or rest i x → symbol < SYMBOL_COUNT
-      → shown symbol ≡ told (read x) → symbol < ATTACHED → (symbol == DIGIT) ≡ is_before_digit (map read (drop i rest))
-  finds i x symbol lt is below shows stays =
-      let here : drop i rest ≡ x ∷ drop (i + 1) rest = at_drop_more (λ xs. xs) rest i x lt ∙ ap (λ y. y ∷ drop (i + 1) rest) (sym is) in
-      let other : is_one_of (CM ∷ ZWJ ∷ []) (read x).class ≡ false = other_class symbol (read x) below shows (is_less symbol ATTACHED stays) in
-      rw (here, other) (is_digit symbol below ∙ ap (λ d. is_same d.class NU) shows)
-
-module _ {X : Type 0} (read : X → Character) (rest : List X) (whole : List Mark) where
-  -- one step of the pass writes the mark at its index
-  pub steps : (whole_numbers : Bool) (i : ℕ) (x : X) (c : Character) (before after : Walk) (marks new : List Mark)
-      (mark : Mark) (decided : ℕ) → i < length rest → x ≡ get_or rest i x → c ≡ read x
-      → Walks whole_numbers before (take i marks) (map read (drop i rest)) whole
-      → ((whole_numbers : Bool) (last : Base) (others : List Base) → Stands whole_numbers before last others
-      → Passes whole_numbers after last others c decided) → mark
-      ≡ mark_of whole_numbers decided (is_before_digit (map read (drop (i + 1) rest))) → take (i + 1) new
-      ≡ take i marks ++ mark ∷ [] → Walks whole_numbers after (take (i + 1) new) (map read (drop (i + 1) rest)) whole
-  steps whole_numbers i x c before after marks new mark decided lt is reads (last, others, stands, so_far) passes seen written =
-      let here : drop i rest ≡ x ∷ drop (i + 1) rest = at_drop_more (λ xs. xs) rest i x lt ∙ ap (λ y. y ∷ drop (i + 1) rest) (sym is) in
-      rw written (passes_on whole_numbers before after (take i marks) mark decided c (map read (drop (i + 1) rest))
-      whole last others (rw (here, ← reads) at so_far) (passes whole_numbers last others stands) seen)
+  -- one step of the walk writes the mark at its index
+  pub steps : (before after : Base → List Base → Type 0) (mark_of : List Base → Mark) (i : ℕ) (x : X) (marks new : List Mark) (mark : Mark)
+      → i < length rest → x ≡ get_or rest i x → Walks rules before (take i marks) (map read (drop i rest)) whole
+      → ((last : Base) (others : List Base) → before last others → Passes rules mark_of after last others (read x))
+      → mark ≡ mark_of (bases_after (map read (drop (i + 1) rest))) → take (i + 1) new ≡ take i marks ++ mark ∷ []
+      → Walks rules after (take (i + 1) new) (map read (drop (i + 1) rest)) whole
+  steps before after mark_of i x marks new mark lt reads (last, others, stands, so_far) passes seen written =
+      rw written (passes_on rules after mark_of (take i marks) mark (read x) (map read (drop (i + 1) rest))
+      whole last others (rw (here i x lt reads) at so_far) (passes last others stands) seen)
 
   -- after the last character, the mark `Must` completes the list
-  pub ends : (whole_numbers : Bool) (i : ℕ) (before : Walk) (marks : List Mark) → i ≡ length rest → length marks
-      ≡ length rest + 1 → Walks whole_numbers before (take i marks) (map read (drop i rest)) whole
-      → set marks (length rest) Must ≡ whole
-  ends whole_numbers i before marks last_place len (last, others, stands, so_far) =
+  pub ends : (stands : Base → List Base → Type 0) (i : ℕ) (marks : List Mark) → i ≡ length rest → length marks ≡ length rest + 1
+      → Walks rules stands (take i marks) (map read (drop i rest)) whole → set marks (length rest) Must ≡ whole
+  ends stands i marks last_place len (last, others, belongs, so_far) =
       let none : drop i rest ≡ [] = drop_all i rest (omega arith) in
       let written : take (length rest + 1) (set marks (length rest) Must) ≡ take (length rest) marks ++ Must ∷ [] = take_more_set marks (length rest) Must (omega arith) in
       let all_of_it : take (length rest + 1) (set marks (length rest) Must)
@@ -189,6 +144,18 @@ module _ {X : Type 0} (read : X → Character) (rest : List X) (whole : List Mar
       take_all (length rest + 1) (set marks (length rest) Must)
       (omega (arith, length-set marks (length rest) Must)) in
       sym all_of_it ∙ written ∙ ap (λ n. take n marks ++ Must ∷ []) (sym last_place) ∙ rw none at so_far
+
+-- Reading on for a question: `asked` gives the mark of what is asked at a character, given the bases after the next one.
+module _ {X : Type 0} (read : X → Character) (rest : List X) where
+  -- one step
+  pub asks_on : (asked answer : List Base → Mark) (i : ℕ) (x : X) (whole : Mark) → i < length rest → x ≡ get_or rest i x
+      → ((text : List Character) → asked (bases_after (read x ∷ text)) ≡ answer (bases_after text))
+      → whole ≡ asked (bases_after (map read (drop i rest))) → whole ≡ answer (bases_after (map read (drop (i + 1) rest)))
+  asks_on asked answer i x whole lt reads said so_far =
+      so_far ∙ ap (λ xs. asked (bases_after (map read xs))) (here read rest [] [] i x lt reads) ∙ said (map read (drop (i + 1) rest))
+
+  pub ends_asking : (asked : List Base → Mark) (i : ℕ) → length rest ≤ i → asked (bases_after (map read (drop i rest))) ≡ asked []
+  ends_asking asked i ge = ap (λ xs. asked (bases_after (map read xs))) (drop_all i rest ge)
 
 -- the recursion gives a mark for each position
 length-walk : (rs : List Rule) (others : List Base) (last : Base) (text : List Character) → length (walk rs others last text) ≡ suc (length text)
@@ -200,9 +167,10 @@ length-walk rs others last (c ∷ text) =
     ]
 
 pub length-marks : (t : Tables) (whole_numbers : Bool) (text : List ℕ) → length (marks_of t whole_numbers text) ≡ length text
-length-marks t whole_numbers [] = ap length (none_marked t whole_numbers [] refl)
+unfolding marks_of
+length-marks t whole_numbers [] = refl
 length-marks t whole_numbers (c ∷ text) =
-    ap length (sym (begins_walk t whole_numbers (c ∷ text) text c (character t c) [] refl refl refl))
+    ap length (sym (walk_from_start t.version whole_numbers (character t c) (map (character t) text)))
     ∙ length-walk (rules t.version whole_numbers) [] (alone (character t c)) (map (character t) text) ∙ ap suc (length-map text (character t))
 
 -- the last mark is `Must`
@@ -215,47 +183,33 @@ last-walk rs others last (c ∷ text) =
     ]
 
 pub last_mark : (t : Tables) (whole_numbers : Bool) (text : List ℕ) → 0 < length text → slice_get (marks_of t whole_numbers text) (length text - 1) ≡ Some Must
+unfolding marks_of
 last_mark t whole_numbers [] some = absurd (omega (arith, some))
 last_mark t whole_numbers (c ∷ text) some =
     let place : length (c ∷ text) - 1 ≡ length (map (character t) text) = omega (arith, length-map text (character t)) in
     ap (λ k. slice_get (marks_of t whole_numbers (c ∷ text)) k) place
-    ∙ ap (λ ms. slice_get ms (length (map (character t) text))) (sym (begins_walk t whole_numbers (c ∷ text) text c (character t c) [] refl refl refl))
+    ∙ ap (λ ms. slice_get ms (length (map (character t) text))) (sym (walk_from_start t.version whole_numbers (character t c) (map (character t) text)))
     ∙ last-walk (rules t.version whole_numbers) [] (alone (character t c)) (map (character t) text)
 
 -- the characters read from the properties are those read from the tables
-pub read_once : (t : Tables) (text : List ℕ) → map (character_by t.version) (map (properties_of t) text) ≡ map (character t) text
+read_once : (t : Tables) (text : List ℕ) → map (character_by t.version) (map (properties_of t) text) ≡ map (character t) text
 read_once t [] = refl
 read_once t (c ∷ text) = ap (λ cs. character t c ∷ cs) (read_once t text)
 
--- if a text is empty, a list of the same length is the list of its marks
-pub none_at_all : (t : Tables) (whole_numbers : Bool) (text : List ℕ) (marks : List Mark) → length text ≡ 0 → length marks ≡ length text → marks ≡ marks_of t whole_numbers text
-none_at_all t whole_numbers [] [] none len = sym (none_marked t whole_numbers [] refl)
-none_at_all t whole_numbers [] (m ∷ marks) none len = absurd (omega arith)
-none_at_all t whole_numbers (c ∷ text) marks none len = absurd (omega arith)
+pub marks_read : (v : Version) (t : Tables) (whole_numbers : Bool) (text : List ℕ) (all : List Properties) → t.version ≡ v → all ≡ map (properties_of t) text
+    → marks_by v whole_numbers all ≡ marks_of t whole_numbers text
+unfolding marks_by marks_of
+marks_read v t whole_numbers text all version is =
+    subst (λ v. marks_by v whole_numbers all ≡ marks_of t whole_numbers text) version
+    (ap (λ all. marks_by t.version whole_numbers all) is ∙ ap (λ cs. marks_after (rules t.version whole_numbers) [] (bases_of cs)) (read_once t text))
 
-pub one_longer : {X : Type 0} (text : List X) (x : X) (rest : List X) (marks : List Mark) → length marks ≡ length text → text ≡ x ∷ rest → length marks ≡ length rest + 1
-one_longer text x rest marks len is = omega (arith, ap length is)
+-- With 17.0, whole numbers change nothing.
+same_rules : (whole_numbers : Bool) → rules V17_0 whole_numbers ≡ rules V17_0 false
+unfolding rules
+same_rules whole_numbers = refl
 
--- the recursion from the second character of a text on, with characters read from their properties, gives the
--- marks of the text
-read_from : (t : Tables) (whole_numbers : Bool) (text : List ℕ) (properties rest : List Properties)
-    (p : Properties) → properties ≡ map (properties_of t) text → properties ≡ p ∷ rest
-    → walk (rules t.version whole_numbers) [] (alone (character_by t.version p)) (map (character_by t.version) rest) ≡ marks_of t whole_numbers text
-read_from t whole_numbers [] properties rest p is reads =
-    let none : [] ≡ p ∷ rest = sym is ∙ reads in
-    cc
-read_from t whole_numbers (c ∷ text) properties rest p is reads =
-    let same : properties_of t c ∷ map (properties_of t) text ≡ p ∷ rest = sym is ∙ reads in
-    let first : p ≡ properties_of t c = cc in
-    let others : rest ≡ map (properties_of t) text = cc in
-    rw (first, others) (rw (read_once t text) (begins_walk t whole_numbers (c ∷ text) text c (character t c) [] refl refl refl))
-
-pub begins_read : (v : Version) (t : Tables) (whole_numbers : Bool) (text : List ℕ) (properties rest : List Properties)
-    (p : Properties) → t.version ≡ v → properties ≡ map (properties_of t) text → properties ≡ p ∷ rest
-    → walk (rules v whole_numbers) [] (alone (character_by v p)) (map (character_by v) rest) ≡ marks_of t whole_numbers text
-begins_read v t whole_numbers text properties rest p version is reads =
-    subst (λ v. walk (rules v whole_numbers) [] (alone (character_by v p)) (map (character_by v) rest) ≡ marks_of t whole_numbers text) version
-    (read_from t whole_numbers text properties rest p is reads)
-
-pub no_text : (t : Tables) (text : List ℕ) (properties : List Properties) → properties ≡ map (properties_of t) text → length properties ≡ 0 → length text ≡ 0
-no_text t text properties is none = sym (length-map text (properties_of t)) ∙ sym (ap length is) ∙ none
+pub whole_anyway : (t : Tables) (whole_numbers : Bool) (text : List ℕ) → t.version ≡ V17_0 → marks_of t whole_numbers text ≡ marks_of t false text
+unfolding marks_of
+whole_anyway t whole_numbers text version =
+    ap (λ rs. marks_after rs [] (bases_of (map (character t) text)))
+    (ap (λ v. rules v whole_numbers) version ∙ same_rules whole_numbers ∙ sym (ap (λ v. rules v false) version))

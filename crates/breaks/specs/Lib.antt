@@ -2,6 +2,7 @@ pub mod Bases
 pub mod Classes
 pub mod Marks
 pub mod Numbers
+pub mod Passes
 pub mod Rules
 pub mod Symbols
 pub mod Walk

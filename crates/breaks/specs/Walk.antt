@@ -1,21 +1,21 @@
--- The state of the single pass over the characters with the rules of Unicode 15.0: what the rules need to know about the bases before a
+-- The state of the walk over the characters with the rules of Unicode 15.0: what the rules need to know about the bases before a
 -- position. A state belongs to all bases that the rules cannot distinguish from its example bases
 -- (`bases_at`). Only the code depends on states. The contract of `marks` refers to Marks.antt instead.
-use Rattle.std.specs.Prelude.{◌≡◌, ℕ, ◌*◌, ◌<◌, Bool, true, false, not, ◌||◌, ◌&&◌, ◌==◌, ◌++◌, List, [], ◌∷◌, map, MatchBool, get_or, if◌then◌else◌}
+use Rattle.std.specs.Prelude.{◌≡◌, ℕ, ◌*◌, ◌<◌, Bool, true, false, not, ◌||◌, ◌&&◌, ◌==◌, ◌++◌, List, [], ◌∷◌, map, get_or, if◌then◌else◌}
 use Rattle.ucd.specs.declared.line_class.LineClass.{LineClass}
 use Rattle.ucd.specs.declared.line_class.LineClass.TheVariants as class
 use Rattle.ucd.specs.declared.properties.Properties.{Properties}
 use Rattle.ucd.specs.declared.version.Version.TheVariants.{V15_0}
-use Rattle.breaks.specs.Bases.{Base, Character, alone, bases_of, class_of, end_of, stays_with}
+use Rattle.breaks.specs.Bases.{Base, alone, class_of, end_of}
 use Rattle.breaks.specs.Classes.{is_same, is_one_of}
 use Rattle.breaks.specs.Numbers.{affix, closing, middle, opening}
-use Rattle.breaks.specs.Rules.{Row, rules, rows_before_numbers, rows_of_numbers, rows_after_numbers, mark_by, never, is, is_spaced, ends_in_odd_run}
+use Rattle.breaks.specs.Rules.{Row, rows_before_numbers, rows_of_numbers, rows_after_numbers, never, is, is_spaced, ends_in_odd_run}
 use Rattle.breaks.specs.Symbols.{character_by, narrow}
 use Rattle.breaks.specs.declared.mark.Mark.{Mark}
 use Rattle.breaks.specs.declared.mark.Mark.TheVariants.{Never}
 use Rattle.breaks.specs.declared.table.TheConstants.{NEVER, STATE_COUNT, UNLESS, WAITS}
 use Rattle.breaks.specs.declared.walk.TheConstants.{MARKS, WHOLE_MARKS}
-use Rattle.breaks.specs.declared.walk.Walk.{Walk}
+use Rattle.breaks.specs.declared.walk.Walk15.{Walk15}
 use Rattle.breaks.specs.declared.symbol.TheConstants.{SYMBOL_COUNT}
 
 abbrev pub base : LineClass → Base
@@ -86,10 +86,9 @@ decided_at outcome is_joined is_pictograph = if is_joined || ((outcome == UNLESS
 abbrev pub is_ordinary : Properties → Bool
 is_ordinary p = not (is_same (character_by V15_0 p).class class.ZWJ) && not p.is_future_pictograph
 
--- whether the characters before a position are ordinary, as far as the rules look back
-pub record FollowsOrdinary (walk : Walk) : Type 0 where
-  pub unjoined : walk.is_joined ≡ false
-  pub no_pictograph : walk.is_pictograph ≡ false
+-- the walk over ordinary characters in this row, with all that a walk over any characters knows
+abbrev pub full_walk : ℕ → Walk15
+full_walk row = record { row = row; is_joined = false; is_pictograph = false }
 
 -- the mark of an outcome that does not wait for the base after next
 abbrev pub marks_alone : Bool → List Mark
@@ -100,11 +99,9 @@ abbrev pub mark_of : Bool → ℕ → Bool → Mark
 mark_of whole_numbers decided before_digit =
     if whole_numbers && ((decided == WAITS) && before_digit) then Never else get_or (marks_alone whole_numbers) decided Never
 
--- Whether the next base that begins in these characters is NU. The first characters may still join the base
--- before them.
-abbrev pub is_before_digit : List Character → Bool
-is_before_digit [] = false
-is_before_digit (c ∷ text) = if is_one_of (class.CM ∷ class.ZWJ ∷ []) c.class then is_before_digit text else is_same c.class class.NU
+-- the same, given the bases after the next one
+abbrev pub mark_given : Bool → ℕ → List Base → Mark
+mark_given whole_numbers decided rest = mark_of whole_numbers decided (is (class.NU ∷ []) rest)
 
 -- LB9: the classes to which no CM or ZWJ is attached
 abbrev pub unattached : List LineClass
@@ -161,7 +158,7 @@ carried bases =
 -- The state `walk` belongs to the bases `last` and `others`, the nearest first. A character may still join
 -- `last`. The row of `walk` is that of a state whose example bases have the same `answers` and `carried`. The
 -- two bits of `walk` describe `last`.
-pub record Stands (whole_numbers : Bool) (walk : Walk) (last : Base) (others : List Base) : Type 0 where
+pub record Stands (whole_numbers : Bool) (walk : Walk15) (last : Base) (others : List Base) : Type 0 where
   pub state : ℕ
   pub below : state < STATE_COUNT
   pub row : walk.row ≡ state * SYMBOL_COUNT
@@ -170,17 +167,3 @@ pub record Stands (whole_numbers : Bool) (walk : Walk) (last : Base) (others : L
   pub attaches : is_one_of unattached (end_of last).class ≡ is unattached (bases_at state)
   pub is_joined : walk.is_joined ≡ is_same (end_of last).class class.ZWJ
   pub is_pictograph : walk.is_pictograph ≡ last.first.is_future_pictograph
-
--- the last base after the next character has joined it
-abbrev pub with_attached : Base → Character → Base
-with_attached last c = record { first = last.first; attached = last.attached ++ c ∷ [] }
-
--- the outcome before the character c gives the mark of the rules, and the new state belongs to the bases that
--- include c
-abbrev pub Passes : Bool → Walk → Base → List Base → Character → ℕ → Type 0
-Passes whole_numbers after last others c decided =
-    MatchBool (stays_with (end_of last) c)
-    (((before_digit : Bool) → mark_of whole_numbers decided before_digit ≡ Never) × Stands whole_numbers after (with_attached last c) others)
-    (((text : List Character) →
-    mark_of whole_numbers decided (is_before_digit text) ≡ mark_by (rules V15_0 whole_numbers) (last ∷ others) (bases_of (c ∷ text)))
-    × Stands whole_numbers after (alone c) (last ∷ others))

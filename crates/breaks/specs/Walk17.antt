@@ -1,16 +1,16 @@
--- The state of the single pass over the characters with the rules of Unicode 17.0, as Walk.antt has it for 15.0. In
+-- The state of the walk over the characters with the rules of Unicode 17.0, as Walk.antt has it for 15.0. In
 -- addition, the walk knows whether the last two bases are wide (LB19a). The outcome of an entry is a mark or a
 -- question about the bases after the next one.
-use Rattle.std.specs.Prelude.{◌≡◌, ℕ, Option, None, Some, ◌*◌, ◌<◌, ◌==◌, Bool, false, not, ◌||◌, ◌&&◌, ◌++◌, List, [], ◌∷◌, map, MatchBool, get_or, set, if◌then◌else◌}
+use Rattle.std.specs.Prelude.{◌≡◌, ℕ, Option, None, Some, ◌*◌, ◌<◌, ◌==◌, Bool, false, not, ◌||◌, ◌&&◌, ◌++◌, List, [], ◌∷◌, map, get_or, set, if◌then◌else◌}
 use Rattle.ucd.specs.declared.line_class.LineClass.TheVariants as class
 use Rattle.ucd.specs.declared.line_detail.LineDetail.TheVariants.{Final, Initial}
 use Rattle.ucd.specs.declared.properties.Properties.{Properties}
 use Rattle.ucd.specs.declared.version.Version.TheVariants.{V17_0}
-use Rattle.breaks.specs.Bases.{Base, Character, alone, bases_of, end_of, is_east_asian, stays_with}
+use Rattle.breaks.specs.Bases.{Base, alone, end_of, is_east_asian}
 use Rattle.breaks.specs.Classes.{is_same, is_one_of}
-use Rattle.breaks.specs.Rules.{Row, rules, rows_before_numbers, rows_of_numbers, rows_after_numbers, mark_by, after_final, before_initial, before_word, begins_quotation, ends_in_number, ends_in_odd_run, followed, is, is_aksara, is_not_east_asian, is_spaced, or_edge, spaced}
+use Rattle.breaks.specs.Rules.{Row, rows_before_numbers, rows_of_numbers, rows_after_numbers, after_final, before_initial, before_word, begins_quotation, ends_in_number, ends_in_odd_run, followed, is, is_aksara, is_not_east_asian, is_spaced, or_edge, spaced}
 use Rattle.breaks.specs.Symbols.{character_by, dotted_circle, quote}
-use Rattle.breaks.specs.Walk.{base, last_states, unattached, with_attached}
+use Rattle.breaks.specs.Walk.{base, last_states, unattached}
 use Rattle.breaks.specs.declared.mark.Mark.{Mark}
 use Rattle.breaks.specs.declared.mark.Mark.TheVariants.{Never, May, Must}
 use Rattle.breaks.specs.declared.table_17.TheConstants.{FINAL, FINAL_INITIAL, FINAL_UNLESS, INITIAL, LB19A, MAY, NEVER, STATE_COUNT, STAYS, UNLESS}
@@ -117,11 +117,6 @@ mark_of_17 decided rest = get_or (marks_17 rest) decided Never
 abbrev pub by_width : ℕ → Bool → ℕ
 by_width answer is_wide = if answer == LB19A then (if is_wide then MAY else NEVER) else answer
 
--- the bases in these characters, without the first ones that join the base before them
-abbrev pub bases_after : List Character → List Base
-bases_after [] = []
-bases_after (c ∷ text) = if is_one_of (class.CM ∷ class.ZWJ ∷ []) c.class then bases_after text else bases_of (c ∷ text)
-
 -- all rules as rows
 unfoldable pub rows_17 : List Row
 rows_17 = rows_before_numbers V17_0 ++ (rows_of_numbers V17_0 ++ rows_after_numbers V17_0)
@@ -172,9 +167,9 @@ is_narrow_17 p = not (is_same (character_by V17_0 p).class class.ZWJ) && (not p.
 abbrev pub narrow_bits : Bits
 narrow_bits = record { is_joined = false; is_pictograph = false; is_wide = false; was_wide = false }
 
--- whether the characters before a position are narrow, as far as the rules look back
-abbrev pub FollowsNarrow : Walk17 → Type 0
-FollowsNarrow walk = bits_in walk ≡ narrow_bits
+-- the walk over narrow characters in this row, with all that a walk over any characters knows
+abbrev pub narrow_walk : ℕ → Walk17
+narrow_walk row = record { row = row; is_joined = false; is_pictograph = false; is_wide = false; was_wide = false }
 
 -- the mark or the question of an outcome between narrow characters
 abbrev pub decided_narrow : ℕ → ℕ
@@ -210,12 +205,3 @@ pub record Stands17 (walk : Walk17) (last : Base) (others : List Base) : Type 0 
   pub carries : carried_17 (last ∷ others) ≡ carried_17 (bases_at_17 state)
   pub attaches : is_one_of unattached (end_of last).class ≡ is unattached (bases_at_17 state)
   pub bits : bits_in walk ≡ bits_of last others
-
--- the outcome before the character c gives the mark of the rules, and the new state belongs to the bases that include c
-abbrev pub Passes17 : Walk17 → Base → List Base → Character → ℕ → Type 0
-Passes17 after last others c decided =
-    MatchBool (stays_with (end_of last) c)
-    (((rest : List Base) → mark_of_17 decided rest ≡ Never) × Stands17 after (with_attached last c) others)
-    (((whole_numbers : Bool) (text : List Character) →
-    mark_of_17 decided (bases_after text) ≡ mark_by (rules V17_0 whole_numbers) (last ∷ others) (bases_of (c ∷ text)))
-    × Stands17 after (alone c) (last ∷ others))

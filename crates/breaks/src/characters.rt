@@ -7,6 +7,9 @@ ghost use Rattle.ucd.specs.declared.properties.Properties.{Properties};
 use ucd::{Properties, Tables};
 
 pub trait Characters: Copy {
+    /// Whether reading a character again costs little.
+    const ARE_KNOWN: bool;
+
     ghost all: { Self → List Properties };
 
     /// Returns the properties of the first character, and the characters after it.
@@ -29,6 +32,8 @@ pub struct Known<'a> {
 }
 
 impl Characters for Known<'_> {
+    const ARE_KNOWN: bool = true;
+
     ghost all = { λ s. s.properties.now };
 
     fn split_first(&self) -> Option<(Properties, Self)> {
@@ -55,6 +60,8 @@ pub struct LookedUp<'a> {
 }
 
 impl Characters for LookedUp<'_> {
+    const ARE_KNOWN: bool = false;
+
     ghost all = { λ s. map (properties_of s.tables.now) s.text.now };
 
     fn split_first(&self) -> Option<(Properties, Self)> {

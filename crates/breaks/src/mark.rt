@@ -2,19 +2,20 @@
 ghost use Rattle.std.specs.Prelude.{◌≡◌, ◌+◌, ◌-◌, ◌<◌, ◌≤◌, ℕ, Bool, false, true};
 ghost use Rattle.std.specs.Prelude.{List, Some, drop, length, map};
 ghost use Rattle.std.specs.List.{list_all};
-ghost use Rattle.std.specs.Prelude.{slice_get, slice_index_or, vec_capacity, IfOk, OnErr, OnOk};
+ghost use Rattle.std.specs.Prelude.{slice_get, vec_capacity, IfOk, OnErr, OnOk};
 ghost use Rattle.ucd.specs.Properties.{properties_of};
-ghost use Rattle.ucd.specs.declared.version.Version.TheVariants.{V15_0, V17_0};
+ghost use Rattle.ucd.specs.declared.properties.Properties.{Properties};
+ghost use Rattle.ucd.specs.declared.version.Version.TheVariants.{V17_0};
 ghost use Rattle.breaks.specs.Marks.{marks_of};
+ghost use Rattle.breaks.specs.Passes.{bases_after, marks_by};
 ghost use Rattle.breaks.specs.Symbols.{character_by};
-ghost use Rattle.breaks.specs.Walk.{is_before_digit, is_ordinary, mark_of};
 ghost use Rattle.breaks.specs.declared.mark.Mark.TheVariants.{Must};
 
 use crate::characters::{Characters, Known, LookedUp};
-use crate::mark_17::{mark_all_17, mark_known_17};
-use crate::symbol::{ATTACHED, DIGIT, symbol_of};
-use crate::table::WAITS;
-use crate::walk::{Walk, is_ordinary, mark_alone};
+use crate::ordinary_17::OrdinaryWalk17;
+use crate::rules::{Rules, Walk};
+use crate::walk::{OrdinaryWalk15, Rules15, Walk15};
+use crate::walk_17::{NarrowWalk17, Rules17, Walk17};
 use std::alloc::{AllocError, Global};
 use ucd::{Properties, Tables, Version};
 
@@ -48,10 +49,7 @@ pub fn marks(
     let mut marks = Vec::new(alloc);
     marks.resize(text.len(), Mark::Must)?;
     let characters = LookedUp { tables, text };
-    match tables.version() {
-        Version::V15_0 => mark_all(tables, text, characters, whole_numbers, &mut marks),
-        Version::V17_0 => mark_all_17(tables, text, characters, &mut marks),
-    }
+    mark_all(tables, text, characters, whole_numbers, &mut marks);
     Ok(marks)
 }
 
@@ -72,45 +70,11 @@ pub fn marks_into(
 {
     marks.resize(properties.len(), Mark::Must)?;
     let characters = Known { properties };
-    match tables.version() {
-        Version::V15_0 => mark_15(tables, text, characters, whole_numbers, marks),
-        Version::V17_0 => mark_known_17(tables, text, characters, marks),
-    }
+    mark_all(tables, text, characters, whole_numbers, marks);
     Ok(())
 }
 
-// Overwrites `marks` with the break mark after each character, with the rules of Unicode 15.0.
-fn mark_15(
-    tables: &Tables,
-    text: &[char],
-    known: Known<'_>,
-    whole_numbers: bool,
-    marks: &mut [Mark],
-)
-    requires len { length marks.old ≡ length text.now }
-    requires version { tables.now.version ≡ V15_0 }
-    requires characters { known.properties.now ≡ map (properties_of tables.now) text.now }
-    ensures { marks.new ≡ marks_of tables.now whole_numbers text.now }
-{
-    if are_ordinary(known.properties) {
-        mark_ordinary(tables, text, known, whole_numbers, marks);
-    } else {
-        mark_all(tables, text, known, whole_numbers, marks);
-    }
-}
-
-// Returns whether no character is a ZWJ or a future pictograph. The loop has no branches, so that the
-// compiler tests many characters at a time.
-fn are_ordinary(properties: &[Properties]) -> bool
-    ensures { result ≡ list_all is_ordinary properties.now }
-{
-    let mut ordinary = true;
-    for at in 0..properties.len() {
-        ordinary &= is_ordinary(properties[at]);
-    }
-    ordinary
-}
-
+// Overwrites `marks` with the break mark after each character.
 fn mark_all<C: Characters>(
     tables: &Tables,
     text: &[char],
@@ -119,76 +83,110 @@ fn mark_all<C: Characters>(
     marks: &mut [Mark],
 )
     requires len { length marks.old ≡ length text.now }
-    requires version { tables.now.version ≡ V15_0 }
     requires characters { C.all characters ≡ map (properties_of tables.now) text.now }
     ensures { marks.new ≡ marks_of tables.now whole_numbers text.now }
+{
+    match tables.version() {
+        Version::V15_0 => {
+            let rules = Rules15 { whole_numbers };
+            mark_by::<Rules15, OrdinaryWalk15, Walk15, C>(characters, rules, marks);
+        }
+        Version::V17_0 => mark_all_17(characters, marks),
+    }
+}
+
+// Does the same with the rules of one version: in fewer steps if the first walk can pass all characters.
+fn mark_by<R: Rules, O: Walk<R>, W: Walk<R>, C: Characters>(
+    characters: C,
+    rules: R,
+    marks: &mut [Mark],
+)
+    requires len { length marks.old ≡ length (C.all characters) }
+    requires any { (one : Properties) → W.accepts one ≡ true }
+    ensures { marks.new ≡ marks_by R.version (R.whole_numbers rules) (C.all characters) }
+{
+    if C::ARE_KNOWN && are_accepted::<R, O, C>(characters) {
+        mark_each::<R, O, C>(characters, rules, marks);
+    } else {
+        mark_each::<R, W, C>(characters, rules, marks);
+    }
+}
+
+// Does the same with the rules of 17.0, which have one more walk.
+fn mark_all_17<C: Characters>(characters: C, marks: &mut [Mark])
+    requires { length marks.old ≡ length (C.all characters) }
+    ensures { marks.new ≡ marks_by V17_0 false (C.all characters) }
+{
+    if C::ARE_KNOWN && are_accepted::<Rules17, NarrowWalk17, C>(characters) {
+        mark_each::<Rules17, NarrowWalk17, C>(characters, Rules17, marks);
+    } else {
+        mark_by::<Rules17, OrdinaryWalk17, Walk17, C>(characters, Rules17, marks);
+    }
+}
+
+// Returns whether a walk can pass all characters. The loop has no branches, so that the compiler tests many
+// characters at a time.
+fn are_accepted<R: Rules, W: Walk<R>, C: Characters>(characters: C) -> bool
+    ensures { result ≡ list_all W.accepts (C.all characters) }
+{
+    let mut accepted = true;
+    for at in 0..characters.len() {
+        accepted &= W::accepts(characters.get(at));
+    }
+    accepted
+}
+
+// Does the same as `mark_by` with a walk that can pass all characters.
+#[inline(never)] // so that the loop has all registers
+fn mark_each<R: Rules, W: Walk<R>, C: Characters>(characters: C, rules: R, marks: &mut [Mark])
+    requires len { length marks.old ≡ length (C.all characters) }
+    requires accepted { list_all W.accepts (C.all characters) ≡ true }
+    ensures { marks.new ≡ marks_by R.version (R.whole_numbers rules) (C.all characters) }
 {
     let Some((first, rest)) = characters.split_first() else {
         return;
     };
-    let mut walk = Walk::start(first);
+    let mut walk = W::start(first);
     let last = rest.len();
     for i in 0..last {
-        let decided = walk.pass(rest.get(i));
-        marks[i] = mark_before(rest, i + 1, decided, whole_numbers);
+        let outcome = walk.pass(rest.get(i));
+        marks[i] = mark_before(rest, i + 1, outcome, rules);
     }
     marks[last] = Mark::Must;
 }
 
-// Does the same as `mark_all` for ordinary characters, in fewer steps.
-fn mark_ordinary<C: Characters>(
-    tables: &Tables,
-    text: &[char],
-    characters: C,
-    whole_numbers: bool,
-    marks: &mut [Mark],
-)
-    requires len { length marks.old ≡ length text.now }
-    requires version { tables.now.version ≡ V15_0 }
-    requires characters { C.all characters ≡ map (properties_of tables.now) text.now }
-    requires ordinary { list_all is_ordinary (C.all characters) ≡ true }
-    ensures { marks.new ≡ marks_of tables.now whole_numbers text.now }
-{
-    let Some((first, rest)) = characters.split_first() else {
-        return;
-    };
-    let mut walk = Walk::start(first);
-    let end = rest.len();
-    for i in 0..end {
-        let outcome = walk.pass_ordinary(rest.get(i));
-        marks[i] = mark_before(rest, i + 1, outcome, whole_numbers);
-    }
-    marks[end] = Mark::Must;
-}
-
-// Returns the mark before a character, given its outcome. If the outcome is `WAITS`, the mark also depends on
-// the characters after that character.
-fn mark_before<C: Characters>(characters: C, after: usize, decided: u8, whole_numbers: bool) -> Mark
+// Returns the mark before a character, given the outcome there and the index after the character.
+#[inline(always)] // so that most characters need no call
+fn mark_before<R: Rules, C: Characters>(characters: C, after: usize, outcome: u8, rules: R) -> Mark
     requires place { after ≤ length (C.all characters) }
-    requires below { decided < 8 }
-    ensures { result ≡ mark_of whole_numbers decided
-        (is_before_digit (map (character_by V15_0) (drop after (C.all characters)))) }
+    requires below { outcome < R.outcome_count }
+    ensures { result ≡ R.mark_of rules outcome
+        (bases_after (map (character_by R.version) (drop after (C.all characters)))) }
 {
-    if decided == WAITS && whole_numbers && is_before_digit(characters, after) {
-        Mark::Never
-    } else {
-        mark_alone(decided, whole_numbers)
+    match rules.mark(outcome) {
+        Some(mark) => mark,
+        None => mark_asked(characters, after, outcome, rules),
     }
 }
 
-// Returns whether the first base at or after an index is NU. Only characters that are attached to the base
-// before that index are read twice.
-fn is_before_digit<C: Characters>(characters: C, from: usize) -> bool
-    requires { from ≤ length (C.all characters) }
-    ensures { result ≡ is_before_digit (map (character_by V15_0) (drop from (C.all characters))) }
+// Returns the mark of a question: reads on until it is answered, past the marks of one or two bases.
+#[cold]
+#[inline(never)] // so that the loop over the characters has all registers
+fn mark_asked<R: Rules, C: Characters>(characters: C, after: usize, question: u8, rules: R) -> Mark
+    requires place { after ≤ length (C.all characters) }
+    requires below { question < R.outcome_count }
+    requires question { R.is_question rules question ≡ true }
+    ensures { result ≡ R.mark_of rules question
+        (bases_after (map (character_by R.version) (drop after (C.all characters)))) }
 {
-    for i in from..characters.len() {
-        let symbol = symbol_of(characters.get(i));
-        if symbol < ATTACHED {
-            return symbol == DIGIT;
+    let mut asked = question;
+    for i in after..characters.len() {
+        asked = rules.answer(asked, characters.get(i));
+        if let Some(mark) = rules.mark(asked) {
+            return mark;
         }
     }
-    false
+    rules.answer_at_end(asked)
 }
 
 /// States, as a theorem, that a paragraph has as many marks as characters.

@@ -1,22 +1,20 @@
-//! The pass over ordinary characters with the rules of Unicode 17.0: those that are neither a ZWJ nor a
+//! The walk over ordinary characters with the rules of Unicode 17.0: those that are neither a ZWJ nor a
 //! future pictograph. The table decides nearly all marks between them alone, so whether a base is wide
 //! (LB19a) is looked up only for an outcome that depends on it.
-ghost use Rattle.std.specs.Prelude.{◌≡◌, ◌<◌, ◌≤◌, true, List, [], Some};
-ghost use Rattle.ucd.specs.declared.version.Version.TheVariants.{V17_0};
-ghost use Rattle.breaks.specs.Bases.{Base, alone};
-ghost use Rattle.breaks.specs.Symbols.{character_by};
-ghost use Rattle.breaks.specs.Walk17.{Passes17, Stands17, decided_17, full_walk, is_ordinary_17};
+ghost use Rattle.std.specs.Prelude.{◌≡◌, ◌<◌, ◌≤◌, Some};
+ghost use Rattle.breaks.specs.Walk17.{Stands17, decided_17, full_walk, is_ordinary_17};
 ghost use Rattle.breaks.specs.Walk17.{begins_wide, begins_wide_if_any, ordinary_bits};
 ghost use Rattle.breaks.specs.declared.table_17.TheConstants.{DECIDED_COUNT, LAST_ROW, OUTCOME_COUNT};
 
+use crate::rules::Walk;
 use crate::symbol_17::{JOINER, symbol_17};
 use crate::table_17::{
     FINAL, FINAL_UNLESS, INITIAL, LB19A, MAY, MUST, NEVER, START, STAYS, UNLESS, next_row, outcome,
 };
-use crate::walk_17::is_wide;
+use crate::walk_17::{Rules17, is_wide};
 use ucd::Properties;
 
-/// The state of the pass, as `Walk17` has it for all characters.
+/// The state of the walk, as `Walk17` has it for all characters.
 #[derive(Clone, Copy)]
 pub struct OrdinaryWalk17 {
     // The start of the state's row in the table.
@@ -27,13 +25,18 @@ pub struct OrdinaryWalk17 {
     before: Option<Properties>,
 }
 
-impl OrdinaryWalk17 {
-    /// Returns the state after the first character of a text.
-    pub fn start(first: Properties) -> OrdinaryWalk17
-        requires { is_ordinary_17 first ≡ true }
-        ensures stands { Stands17 (full_walk result) (alone (character_by V17_0 first)) [] }
-        ensures within { result.row ≤ LAST_ROW }
-    {
+impl Walk<Rules17> for OrdinaryWalk17 {
+    ghost stands = { λ _ walk. Stands17 (full_walk walk) };
+
+    ghost within = { λ walk. walk.row ≤ LAST_ROW };
+
+    ghost accepts = { is_ordinary_17 };
+
+    fn accepts(one: Properties) -> bool {
+        (symbol_17(one) != JOINER) & !one.is_future_pictograph()
+    }
+
+    fn start(first: Properties) -> OrdinaryWalk17 {
         OrdinaryWalk17 {
             row: next_row(START, symbol_17(first)),
             last: first,
@@ -41,17 +44,7 @@ impl OrdinaryWalk17 {
         }
     }
 
-    /// Returns the mark before the next character, or the question that decides it, and moves past that
-    /// character.
-    pub fn pass(&mut self, next: Properties) -> u8
-        requires row { self.old.row ≤ LAST_ROW }
-        requires next { is_ordinary_17 next ≡ true }
-        ensures passes { (last : Base) (others : List Base)
-            → Stands17 (full_walk self.old) last others
-            → Passes17 (full_walk self.new) last others (character_by V17_0 next) result }
-        ensures within { self.new.row ≤ LAST_ROW }
-        ensures below { result < DECIDED_COUNT }
-    {
+    fn pass(&mut self, next: Properties) -> u8 {
         let symbol = symbol_17(next);
         let outcome = outcome(self.row, symbol);
         self.row = next_row(self.row, symbol);
@@ -64,7 +57,9 @@ impl OrdinaryWalk17 {
         }
         self.begin(outcome, next)
     }
+}
 
+impl OrdinaryWalk17 {
     // Returns the mark before a base that begins with this character, or the question that decides it, and
     // moves past the character.
     #[inline(always)] // so that the loop keeps the state in registers
@@ -121,11 +116,4 @@ fn begins_wide(first: Properties) -> bool
     ensures { result ≡ begins_wide first }
 {
     is_wide(symbol_17(first), first)
-}
-
-/// Returns whether a character is neither a ZWJ nor a future pictograph.
-pub fn is_ordinary_17(one: Properties) -> bool
-    ensures { result ≡ is_ordinary_17 one }
-{
-    (symbol_17(one) != JOINER) & !one.is_future_pictograph()
 }

@@ -1,56 +1,22 @@
 //! The answers to questions about the bases after the next one (Unicode 17.0): those of LB15b, LB15c, LB19a,
 //! LB25 and LB28a.
-ghost use Rattle.std.specs.Prelude.{◌≡◌, ◌<◌, ◌≤◌, [], ◌∷◌, List, drop, length, map, slice_index};
+ghost use Rattle.std.specs.Prelude.{◌≡◌, ◌<◌, ◌≤◌, [], ◌∷◌, List, slice_index};
 ghost use Rattle.ucd.specs.declared.version.Version.TheVariants.{V17_0};
 ghost use Rattle.breaks.specs.Bases.{Base, Character};
 ghost use Rattle.breaks.specs.Symbols.{character_by};
-ghost use Rattle.breaks.specs.Walk17.{bases_after, by_width, mark_of_17};
+ghost use Rattle.breaks.specs.Passes.{bases_after};
+ghost use Rattle.breaks.specs.Walk17.{by_width, mark_of_17};
 ghost use Rattle.breaks.specs.declared.table_17.TheConstants.{ANSWER_COUNT, DECIDED_COUNT, LB15B};
 
-use crate::characters::Characters;
 use crate::entries_17::ANSWERS;
 use crate::mark::Mark;
 use crate::symbol_17::{ATTACHED, SYMBOL_COUNT, symbol_17};
 use crate::table_17::{LB15B, LB19A, MAY, NEVER};
 use ucd::Properties;
 
-/// Returns the mark before a character, given what the walk decided and the index after the character.
-#[inline(always)] // so that most characters need no call
-pub fn mark_before_17<C: Characters>(characters: C, after: usize, decided: u8) -> Mark
-    requires place { after ≤ length (C.all characters) }
-    requires below { decided < DECIDED_COUNT }
-    ensures { result
-        ≡ mark_of_17 decided (bases_after (map (character_by V17_0) (drop after (C.all characters)))) }
-{
-    if decided < LB15B {
-        mark_alone_17(decided)
-    } else {
-        mark_asked(characters, after, decided)
-    }
-}
-
-// Does the same for a question: reads on until it is answered, past the marks of one or two bases.
-#[cold]
-#[inline(never)] // so that the loop over the characters has all registers
-fn mark_asked<C: Characters>(characters: C, after: usize, question: u8) -> Mark
-    requires place { after ≤ length (C.all characters) }
-    requires below { question < DECIDED_COUNT }
-    ensures { result
-        ≡ mark_of_17 question (bases_after (map (character_by V17_0) (drop after (C.all characters)))) }
-{
-    let mut asked = question;
-    for i in after..characters.len() {
-        if asked < LB15B {
-            return mark_alone_17(asked);
-        }
-        asked = answer(asked, characters.get(i));
-    }
-    mark_at_end(asked)
-}
-
-// Returns the answer to a question, given the next character: a mark, or a question about the characters
-// after it.
-fn answer(question: u8, next: Properties) -> u8
+/// Returns the answer to a question, given the next character: a mark, or a question about the characters
+/// after it.
+pub fn answer(question: u8, next: Properties) -> u8
     requires { (LB15B ≤ question) × (question < DECIDED_COUNT) }
     ensures said { (text : List Character)
         → mark_of_17 question (bases_after (character_by V17_0 next ∷ text))
@@ -87,18 +53,11 @@ fn answer_at(place: usize) -> u8
     ANSWERS[place]
 }
 
-// Returns the mark of an outcome that is a mark.
-fn mark_alone_17(decided: u8) -> Mark
-    requires { decided < LB15B }
-    ensures { (rest : List Base) → result ≡ mark_of_17 decided rest }
-{
-    MARKS[decided as usize]
-}
-
-// Returns the mark of an outcome if there is no base after the next one.
-fn mark_at_end(decided: u8) -> Mark
+/// Returns the mark of an outcome. That of a question is its answer at the end of a text.
+pub fn mark_17(decided: u8) -> Mark
     requires { decided < DECIDED_COUNT }
-    ensures { result ≡ mark_of_17 decided [] }
+    ensures end { result ≡ mark_of_17 decided [] }
+    ensures anywhere { decided < LB15B → (rest : List Base) → result ≡ mark_of_17 decided rest }
 {
     MARKS[decided as usize]
 }

@@ -1,20 +1,62 @@
-//! The single pass over the characters of a paragraph.
-ghost use Rattle.std.specs.Prelude.{◌≡◌, ◌<◌, ◌≤◌, ◌==◌, Bool, true, get_or, if◌then◌else◌, List, []};
-ghost use Rattle.breaks.specs.Bases.{Base, alone};
+//! The walk over the characters of a paragraph, with the rules of Unicode 15.0.
+ghost use Rattle.std.specs.Prelude.{◌≡◌, ◌<◌, ◌≤◌, ◌==◌, ◌&&◌, true, if◌then◌else◌};
 ghost use Rattle.ucd.specs.declared.version.Version.TheVariants.{V15_0};
-ghost use Rattle.breaks.specs.Symbols.{character_by};
-ghost use Rattle.breaks.specs.declared.mark.Mark.TheVariants.{Never};
-ghost use Rattle.breaks.specs.declared.table.TheConstants.{LAST_ROW};
-ghost use Rattle.breaks.specs.Walk.{FollowsOrdinary, Stands, Passes, decided_at, is_ordinary, marks_alone};
+ghost use Rattle.breaks.specs.declared.table.TheConstants.{LAST_ROW, WAITS};
+ghost use Rattle.breaks.specs.Walk.{Stands, decided_at, full_walk, is_ordinary, mark_given};
 
 use crate::mark::Mark;
-use crate::symbol::{JOINER, symbol_of};
-use crate::table::{NEVER, START, STAYS, UNLESS, next_row, outcome};
+use crate::rules::{Rules, Walk};
+use crate::symbol::{ATTACHED, DIGIT, JOINER, symbol_of};
+use crate::table::{MAY, NEVER, START, STAYS, UNLESS, WAITS, next_row, outcome};
 use ucd::Properties;
 
-/// The state of the pass: what the rules need to know about the bases before a position.
+/// The rules of Unicode 15.0.
 #[derive(Clone, Copy)]
-pub struct Walk {
+pub struct Rules15 {
+    /// Whether LB25 is applied to whole numbers.
+    pub whole_numbers: bool,
+}
+
+impl Rules for Rules15 {
+    ghost version = { V15_0 };
+
+    ghost whole_numbers = { λ rules. rules.whole_numbers };
+
+    ghost outcome_count = { 8 };
+
+    ghost is_question = { λ rules outcome. (outcome == WAITS) && rules.whole_numbers };
+
+    ghost mark_of = { λ rules. mark_given rules.whole_numbers };
+
+    fn mark(self, outcome: u8) -> Option<Mark> {
+        if !self.whole_numbers {
+            Some(MARKS[outcome as usize])
+        } else if outcome != WAITS {
+            Some(WHOLE_MARKS[outcome as usize])
+        } else {
+            None
+        }
+    }
+
+    fn answer(self, question: u8, next: Properties) -> u8 {
+        let symbol = symbol_of(next);
+        if symbol >= ATTACHED {
+            question
+        } else if symbol == DIGIT {
+            NEVER
+        } else {
+            MAY
+        }
+    }
+
+    fn answer_at_end(self, _question: u8) -> Mark {
+        Mark::May
+    }
+}
+
+/// The state of the walk over any characters.
+#[derive(Clone, Copy)]
+pub struct Walk15 {
     // The start of the state's row in the table.
     row: usize,
     // LB8a: whether the last character is a ZWJ.
@@ -23,31 +65,27 @@ pub struct Walk {
     is_pictograph: bool,
 }
 
-impl Walk {
-    /// Returns the state after the first character of a text.
-    pub fn start(first: Properties) -> Walk
-        ensures stands { (whole_numbers : Bool)
-            → Stands whole_numbers result (alone (character_by V15_0 first)) [] }
-        ensures ordinary { is_ordinary first ≡ true → FollowsOrdinary result }
-        ensures within { result.row ≤ LAST_ROW }
-    {
+impl Walk<Rules15> for Walk15 {
+    ghost stands = { λ rules. Stands rules.whole_numbers };
+
+    ghost within = { λ walk. walk.row ≤ LAST_ROW };
+
+    ghost accepts = { λ _. true };
+
+    fn accepts(_one: Properties) -> bool {
+        true
+    }
+
+    fn start(first: Properties) -> Walk15 {
         let symbol = symbol_of(first);
-        Walk {
+        Walk15 {
             row: next_row(START, symbol),
             is_joined: symbol == JOINER,
             is_pictograph: first.is_future_pictograph(),
         }
     }
 
-    /// Returns the outcome before the next character, and moves past that character.
-    pub fn pass(&mut self, next: Properties) -> u8
-        requires { self.old.row ≤ LAST_ROW }
-        ensures passes { (whole_numbers : Bool) (last : Base) (others : List Base)
-            → Stands whole_numbers self.old last others
-            → Passes whole_numbers self.new last others (character_by V15_0 next) result }
-        ensures within { self.new.row ≤ LAST_ROW }
-        ensures below { result < 8 }
-    {
+    fn pass(&mut self, next: Properties) -> u8 {
         let symbol = symbol_of(next);
         let outcome = outcome(self.row, symbol);
         let decided = decide(outcome, self.is_joined, self.is_pictograph);
@@ -57,31 +95,38 @@ impl Walk {
         self.is_pictograph = is_now_pictograph(outcome, self.is_pictograph, is_pictograph);
         decided
     }
+}
 
-    /// Does the same as `pass` between ordinary characters, for which the table decides alone.
-    pub fn pass_ordinary(&mut self, next: Properties) -> u8
-        requires row { self.old.row ≤ LAST_ROW }
-        requires before { FollowsOrdinary self.old }
-        requires next { is_ordinary next ≡ true }
-        ensures passes { (whole_numbers : Bool) (last : Base) (others : List Base)
-            → Stands whole_numbers self.old last others
-            → Passes whole_numbers self.new last others (character_by V15_0 next) result }
-        ensures before { FollowsOrdinary self.new }
-        ensures within { self.new.row ≤ LAST_ROW }
-        ensures below { result < 8 }
-    {
+/// The state of the walk over ordinary characters, between which the table decides alone. These are neither a
+/// ZWJ nor a future pictograph.
+#[derive(Clone, Copy)]
+pub struct OrdinaryWalk15 {
+    row: usize,
+}
+
+impl Walk<Rules15> for OrdinaryWalk15 {
+    ghost stands = { λ rules walk. Stands rules.whole_numbers (full_walk walk.row) };
+
+    ghost within = { λ walk. walk.row ≤ LAST_ROW };
+
+    ghost accepts = { is_ordinary };
+
+    fn accepts(one: Properties) -> bool {
+        (symbol_of(one) != JOINER) & !one.is_future_pictograph()
+    }
+
+    fn start(first: Properties) -> OrdinaryWalk15 {
+        OrdinaryWalk15 {
+            row: next_row(START, symbol_of(first)),
+        }
+    }
+
+    fn pass(&mut self, next: Properties) -> u8 {
         let symbol = symbol_of(next);
         let row = self.row;
         self.row = next_row(row, symbol);
         outcome(row, symbol)
     }
-}
-
-/// Returns whether a character is neither a ZWJ nor a future pictograph.
-pub fn is_ordinary(one: Properties) -> bool
-    ensures { result ≡ is_ordinary one }
-{
-    (symbol_of(one) != JOINER) & !one.is_future_pictograph()
 }
 
 // Returns whether the last base is a future pictograph after the next character has been read. An attached
@@ -106,18 +151,6 @@ fn decide(outcome: u8, is_joined: bool, is_pictograph: bool) -> u8
     }
 }
 
-/// Returns the mark before the next character if the base after that character is not NU or does not matter.
-pub fn mark_alone(decided: u8, whole_numbers: bool) -> Mark
-    requires { decided < 8 }
-    ensures { result ≡ get_or (marks_alone whole_numbers) decided Never }
-{
-    if whole_numbers {
-        WHOLE_MARKS[decided as usize]
-    } else {
-        MARKS[decided as usize]
-    }
-}
-
 // The mark for each outcome, with LB25 as a rule for two bases.
 static MARKS: [Mark; 8] = [
     Mark::Never,
@@ -130,7 +163,7 @@ static MARKS: [Mark; 8] = [
     Mark::Never,
 ];
 
-// The mark for each outcome, with whole numbers.
+// The mark for each outcome, with whole numbers. The last one, `WAITS`, has that before another base than NU.
 static WHOLE_MARKS: [Mark; 8] = [
     Mark::Never,
     Mark::Never,

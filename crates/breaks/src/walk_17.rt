@@ -1,13 +1,17 @@
-//! The single pass over the characters of a paragraph, with the rules of Unicode 17.0.
-ghost use Rattle.std.specs.Prelude.{◌≡◌, ◌<◌, ◌≤◌, true, ◌==◌, if◌then◌else◌, List, []};
+//! The walk over the characters of a paragraph, with the rules of Unicode 17.0.
+ghost use Rattle.std.specs.Prelude.{◌≡◌, ◌<◌, ◌≤◌, false, nat_le, true};
 ghost use Rattle.ucd.specs.declared.version.Version.TheVariants.{V17_0};
-ghost use Rattle.breaks.specs.Bases.{Base, alone, is_east_asian};
+ghost use Rattle.breaks.specs.Bases.{alone, is_east_asian};
 ghost use Rattle.breaks.specs.Symbols.{character_by, shown_17, told_17};
 ghost use Rattle.breaks.specs.declared.symbol_17.TheConstants.{SYMBOL_COUNT};
-ghost use Rattle.breaks.specs.declared.table_17.TheConstants.{DECIDED_COUNT, LAST_ROW, OUTCOME_COUNT};
-ghost use Rattle.breaks.specs.Walk17.{Stands17, Passes17, FollowsNarrow, bits_in, decided_17};
-ghost use Rattle.breaks.specs.Walk17.{decided_narrow, is_narrow_17};
+ghost use Rattle.breaks.specs.declared.table_17.TheConstants.{DECIDED_COUNT, LAST_ROW, LB15B};
+ghost use Rattle.breaks.specs.declared.table_17.TheConstants.{OUTCOME_COUNT};
+ghost use Rattle.breaks.specs.Walk17.{Stands17, bits_in, decided_17, decided_narrow};
+ghost use Rattle.breaks.specs.Walk17.{narrow_walk, is_narrow_17, mark_of_17};
 
+use crate::mark::Mark;
+use crate::questions::{answer, mark_17};
+use crate::rules::{Rules, Walk};
 use crate::symbol_17::{ATTACHED, JOINER, symbol_17};
 use crate::table_17::{
     FINAL, FINAL_INITIAL, FINAL_UNLESS, INITIAL, LB15B, LB15C, LB19A, LB25, LB25_IS, LB28A, MAY,
@@ -15,7 +19,40 @@ use crate::table_17::{
 };
 use ucd::Properties;
 
-/// The state of the pass: what the rules need to know about the bases before a position.
+/// The rules of Unicode 17.0.
+#[derive(Clone, Copy)]
+pub struct Rules17;
+
+impl Rules for Rules17 {
+    ghost version = { V17_0 };
+
+    // Both are the same.
+    ghost whole_numbers = { λ _. false };
+
+    ghost outcome_count = { DECIDED_COUNT };
+
+    ghost is_question = { λ _ outcome. nat_le LB15B outcome };
+
+    ghost mark_of = { λ _. mark_of_17 };
+
+    fn mark(self, outcome: u8) -> Option<Mark> {
+        if outcome < LB15B {
+            Some(mark_17(outcome))
+        } else {
+            None
+        }
+    }
+
+    fn answer(self, question: u8, next: Properties) -> u8 {
+        answer(question, next)
+    }
+
+    fn answer_at_end(self, question: u8) -> Mark {
+        mark_17(question)
+    }
+}
+
+/// The state of the walk over any characters.
 #[derive(Clone, Copy)]
 pub struct Walk17 {
     // The start of the state's row in the table.
@@ -30,13 +67,18 @@ pub struct Walk17 {
     was_wide: bool,
 }
 
-impl Walk17 {
-    /// Returns the state after the first character of a text.
-    pub fn start(first: Properties) -> Walk17
-        ensures stands { Stands17 result (alone (character_by V17_0 first)) [] }
-        ensures narrow { is_narrow_17 first ≡ true → FollowsNarrow result }
-        ensures within { result.row ≤ LAST_ROW }
-    {
+impl Walk<Rules17> for Walk17 {
+    ghost stands = { λ _. Stands17 };
+
+    ghost within = { λ walk. walk.row ≤ LAST_ROW };
+
+    ghost accepts = { λ _. true };
+
+    fn accepts(_one: Properties) -> bool {
+        true
+    }
+
+    fn start(first: Properties) -> Walk17 {
         let symbol = symbol_17(first);
         Walk17 {
             row: next_row(START, symbol),
@@ -47,16 +89,7 @@ impl Walk17 {
         }
     }
 
-    /// Returns the mark before the next character, or the question that decides it, and moves past that
-    /// character.
-    pub fn pass(&mut self, next: Properties) -> u8
-        requires { self.old.row ≤ LAST_ROW }
-        ensures passes { (last : Base) (others : List Base)
-            → Stands17 self.old last others
-            → Passes17 self.new last others (character_by V17_0 next) result }
-        ensures within { self.new.row ≤ LAST_ROW }
-        ensures below { result < DECIDED_COUNT }
-    {
+    fn pass(&mut self, next: Properties) -> u8 {
         let symbol = symbol_17(next);
         let outcome = outcome(self.row, symbol);
         let row = next_row(self.row, symbol);
@@ -77,25 +110,9 @@ impl Walk17 {
         };
         decided
     }
+}
 
-    /// Does the same as `pass` between narrow characters, for which the table decides alone.
-    pub fn pass_narrow(&mut self, next: Properties) -> u8
-        requires row { self.old.row ≤ LAST_ROW }
-        requires before { FollowsNarrow self.old }
-        requires next { is_narrow_17 next ≡ true }
-        ensures passes { (last : Base) (others : List Base)
-            → Stands17 self.old last others
-            → Passes17 self.new last others (character_by V17_0 next) result }
-        ensures before { FollowsNarrow self.new }
-        ensures within { self.new.row ≤ LAST_ROW }
-        ensures below { result < DECIDED_COUNT }
-    {
-        let symbol = symbol_17(next);
-        let row = self.row;
-        self.row = next_row(row, symbol);
-        decided_narrow(outcome(row, symbol))
-    }
-
+impl Walk17 {
     // Returns the mark or the question of an outcome: `NEVER` if the last character is a ZWJ (LB8a).
     fn decide(&self, outcome: u8, next_is_wide: bool) -> u8
         requires { outcome < OUTCOME_COUNT }
@@ -120,11 +137,36 @@ impl Walk17 {
     }
 }
 
-/// Returns whether a character is neither wide nor a ZWJ nor a future pictograph.
-pub fn is_narrow(one: Properties) -> bool
-    ensures { result ≡ is_narrow_17 one }
-{
-    (symbol_17(one) != JOINER) & (!one.is_future_pictograph() & !one.is_wide())
+/// The state of the walk over narrow characters, between which the table decides alone. These are neither
+/// wide nor a ZWJ nor a future pictograph.
+#[derive(Clone, Copy)]
+pub struct NarrowWalk17 {
+    row: usize,
+}
+
+impl Walk<Rules17> for NarrowWalk17 {
+    ghost stands = { λ _ walk. Stands17 (narrow_walk walk.row) };
+
+    ghost within = { λ walk. walk.row ≤ LAST_ROW };
+
+    ghost accepts = { is_narrow_17 };
+
+    fn accepts(one: Properties) -> bool {
+        (symbol_17(one) != JOINER) & (!one.is_future_pictograph() & !one.is_wide())
+    }
+
+    fn start(first: Properties) -> NarrowWalk17 {
+        NarrowWalk17 {
+            row: next_row(START, symbol_17(first)),
+        }
+    }
+
+    fn pass(&mut self, next: Properties) -> u8 {
+        let symbol = symbol_17(next);
+        let row = self.row;
+        self.row = next_row(row, symbol);
+        decided_narrow(outcome(row, symbol))
+    }
 }
 
 // Returns the mark or the question of an outcome between narrow characters.

@@ -1,35 +1,15 @@
-use Rattle.std.proofs.Common.{[], ◌<◌, length, refl, sym, ap, ◌∙◌, arith}
-use Rattle.ucd.specs.declared.version.Version.TheVariants.{V15_0}
-use Rattle.std.proofs.lemmas.List.{length-map, length-set, take_more_set}
-use Rattle.breaks.specs.Symbols.{character_by}
-use Rattle.breaks.proofs.WalkLemmas.{none_at_all, no_text, begins_read, one_longer, steps, ends}
+use Rattle.std.proofs.Common.{false, sym, ◌∙◌}
+use Rattle.ucd.specs.declared.version.Version.TheVariants.{V15_0, V17_0}
+use Rattle.breaks.proofs.WalkLemmas.{marks_read, whole_anyway}
 use Rattle.breaks.proofs.mark.mark_all.Goals as goal
 
--- the text is empty
-pub returns-in_default : goal.returns-in_default
-returns-in_default g c = none_at_all _ _ _ _ (no_text _ _ _ c.requires.characters c.in_default.ensures.cases) c.requires.len
+pub returns-in-V15_0 : goal.returns-in-V15_0
+returns-in-V15_0 g c =
+    c.mark_by.ensures ∙ marks_read V15_0 c.args.tables.now c.args.whole_numbers c.args.text.now _ (sym c.version.ensures ∙ c.in-V15_0.is) c.requires.characters
 
--- the loop invariant holds after the first character
-pub loop-i-init : goal.loop-i-init
-loop-i-init g c = record {
-  walks = (_, [], c.start-walk.ensures.stands c.args.whole_numbers, begins_read _ _ _ _ _ _ _ c.requires.version c.requires.characters c.in-Some.ensures.cases);
-  len = one_longer _ _ _ _ (c.requires.len ∙ sym (length-map _ _) ∙ sym (ap length c.requires.characters)) c.in-Some.ensures.cases;
-  within = c.start-walk.ensures.within;
-}
-
--- the loop invariant still holds after the next character
-pub loop-i-preserved : goal.loop-i-preserved
-loop-i-preserved g c =
-    let lt : c.loop-i.i < length c.loop-i.marks = omega arith in
-    record {
-      walks = steps (character_by V15_0) _ _ c.args.whole_numbers c.loop-i.i _ _ _ _ c.loop-i.marks _
-          c.mark_before.result c.pass-decided.result (omega arith) c.get.ensures refl c.loop-i.invariant.walks
-          c.pass-decided.ensures.passes c.mark_before.ensures
-          (take_more_set c.loop-i.marks c.loop-i.i c.mark_before.result lt);
-      len = length-set c.loop-i.marks c.loop-i.i c.mark_before.result ∙ c.loop-i.invariant.len;
-      within = c.pass-decided.ensures.within;
-    }
-
--- the mark after the last character completes the list
-pub returns : goal.returns
-returns g c = rw c.len-last.ensures (ends (character_by V15_0) _ _ c.args.whole_numbers c.loop-i.i _ c.loop-i.marks (omega arith) c.loop-i.invariant.len c.loop-i.invariant.walks)
+-- with 17.0, whole numbers change nothing
+pub returns-in-V17_0 : goal.returns-in-V17_0
+returns-in-V17_0 g c =
+    let version = sym c.version.ensures ∙ c.in-V17_0.is in
+    c.mark_all_17.ensures ∙ marks_read V17_0 c.args.tables.now false c.args.text.now _ version c.requires.characters
+    ∙ sym (whole_anyway c.args.tables.now c.args.whole_numbers c.args.text.now version)

@@ -1,5 +1,5 @@
 use Rattle.std.proofs.Common.{true}
-use Rattle.breaks.proofs.WalkLemmas17.{whole_anyway}
+use Rattle.breaks.proofs.WalkLemmas.{whole_anyway}
 use Rattle.breaks.proofs.mark.numbers_are_whole.Goals as goal
 
 pub returns : goal.returns

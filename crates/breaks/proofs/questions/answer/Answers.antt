@@ -2,7 +2,7 @@ use Rattle.ucd.specs.declared.version.Version.TheVariants.{V17_0}
 use Rattle.breaks.specs.Symbols.{character_by}
 use Rattle.breaks.specs.Walk17.{by_width}
 use Rattle.std.proofs.Common.{ap, ◌∙◌}
-use Rattle.breaks.proofs.QuestionLemmas.{answered, passed_over}
+use Rattle.breaks.proofs.QuestionLemmas17.{answered, passed_over}
 use Rattle.breaks.proofs.questions.answer.Goals as goal
 
 pub returns-then-symbol-ge-ATTACHED-clause-said : goal.returns-then-symbol-ge-ATTACHED-clause-said

@@ -1,6 +1,0 @@
-use Rattle.std.proofs.Common.{refl}
-use Rattle.breaks.proofs.OrdinaryLemmas.{ordinary_by}
-use Rattle.breaks.proofs.walk.is_ordinary.Goals as goal
-
-pub returns : goal.returns
-returns c = ordinary_by _ c.args.one _ _ c.symbol_of.ensures.below c.symbol_of.ensures.shown refl c.is_future_pictograph.ensures

@@ -1,0 +1,35 @@
+-- One step of the walk over the characters of a paragraph, with the rules of any version.
+use Rattle.std.specs.Prelude.{◌≡◌, Bool, List, [], ◌∷◌, ◌++◌, MatchBool, map, if◌then◌else◌}
+use Rattle.ucd.specs.declared.line_class.LineClass.TheVariants.{CM, ZWJ}
+use Rattle.ucd.specs.declared.properties.Properties.{Properties}
+use Rattle.ucd.specs.declared.version.Version.{Version}
+use Rattle.breaks.specs.Bases.{Base, Character, alone, bases_of, end_of, stays_with}
+use Rattle.breaks.specs.Classes.{is_one_of}
+use Rattle.breaks.specs.Marks.{marks_after}
+use Rattle.breaks.specs.Rules.{Rule, mark_by, rules}
+use Rattle.breaks.specs.Symbols.{character_by}
+use Rattle.breaks.specs.declared.mark.Mark.{Mark}
+use Rattle.breaks.specs.declared.mark.Mark.TheVariants.{Never}
+
+-- the last base after the next character has joined it
+abbrev pub with_attached : Base → Character → Base
+with_attached last c = record { first = last.first; attached = last.attached ++ c ∷ [] }
+
+-- the bases in these characters, without the first ones that join the base before them
+abbrev pub bases_after : List Character → List Base
+bases_after [] = []
+bases_after (c ∷ text) = if is_one_of (CM ∷ ZWJ ∷ []) c.class then bases_after text else bases_of (c ∷ text)
+
+-- The outcome before the character c gives the mark of the rules, and the new state belongs to the bases that include c.
+-- `mark` is the mark of the outcome, given the bases after the next one. `stands` says to which bases the new state
+-- belongs.
+abbrev pub Passes : List Rule → (List Base → Mark) → (Base → List Base → Type 0) → Base → List Base → Character → Type 0
+Passes some mark stands last others c =
+    MatchBool (stays_with (end_of last) c)
+    (((rest : List Base) → mark rest ≡ Never) × stands (with_attached last c) others)
+    (((text : List Character) → mark (bases_after text) ≡ mark_by some (last ∷ others) (bases_of (c ∷ text)))
+    × stands (alone c) (last ∷ others))
+
+-- the marks of a paragraph whose characters have these properties
+unfoldable pub marks_by : Version → Bool → List Properties → List Mark
+marks_by v whole_numbers all = marks_after (rules v whole_numbers) [] (bases_of (map (character_by v) all))
