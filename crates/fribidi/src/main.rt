@@ -14,7 +14,7 @@ use std::io;
 use std::io::{ErrorKind, Stdout};
 use std::process::ExitCode;
 use store::TreeStore;
-use tables::{FolderFault, in_folder_as, installed_as};
+use tables::{FolderFault, in_folder_as, installed, installed_as};
 use text_run::RunFault;
 use tool::{ProgramFault, ScriptOptions, open_text, run_script_in};
 use ucd::{Tables, Version};
@@ -59,25 +59,38 @@ fn run_words(rt: &HostRuntime, words: &[&str]) -> Result<(), ProgramFault> {
     }
 }
 
-// Executes arguments without `--ucd`, with the installed tables of the Unicode version that they name. An
-// empty name stands for the folder, since the arguments must be read before the version is known.
+// Executes arguments without `--ucd`, with the installed folder of tables if there is one.
 fn run_installed(rt: &HostRuntime, words: &[&str], fault: LineFault) -> Result<(), ProgramFault> {
-    let Ok(words) = with_folder(rt.alloc(), "", words) else {
+    match installed_folder(rt, Version::V15_0) {
+        Ok(Some(folder)) => run_over(rt, folder.as_str(), words, fault),
+        Ok(None) => Err(ProgramFault::Line(fault)),
+        Err(AllocError) => Err(ProgramFault::Run(RunFault::Memory)),
+    }
+}
+
+fn run_over(
+    rt: &HostRuntime,
+    folder: &str,
+    words: &[&str],
+    fault: LineFault,
+) -> Result<(), ProgramFault> {
+    let Ok(words) = with_folder(rt.alloc(), folder, words) else {
         return Err(ProgramFault::Line(LineFault::NoMemory));
     };
     let settings = settings(rt.alloc(), &words).map_err(ProgramFault::Line)?;
-    let tables = installed_tables(rt, settings.unicode, fault)?;
+    let tables = match settings.unicode {
+        Version::V15_0 => installed(rt, folder).map_err(table_fault)?,
+        Version::V17_0 => installed_17(rt, fault)?,
+    };
     run_tables(rt, tables, &settings)
 }
 
-// Reads the installed tables of a version. If there are none, the arguments lack a folder.
-fn installed_tables(
-    rt: &HostRuntime,
-    version: Version,
-    fault: LineFault,
-) -> Result<Tables, ProgramFault> {
-    match installed_folder(rt, version) {
-        Ok(Some(folder)) => installed_as(rt, version, folder.as_str()).map_err(table_fault),
+// Reads the installed tables of Unicode 17.0. If there are none, the arguments lack a folder.
+fn installed_17(rt: &HostRuntime, fault: LineFault) -> Result<Tables, ProgramFault> {
+    match installed_folder(rt, Version::V17_0) {
+        Ok(Some(folder)) => {
+            installed_as(rt, Version::V17_0, folder.as_str()).map_err(table_fault)
+        }
         Ok(None) => Err(ProgramFault::Line(fault)),
         Err(AllocError) => Err(ProgramFault::Run(RunFault::Memory)),
     }
