@@ -62,6 +62,8 @@ lib-bidi lib-breaks lib-reorder: lib-ucd
 lib-lines: lib-device lib-bidi lib-breaks lib-reorder lib-stream
 lib-session: lib-lines lib-store
 lib-stream: lib-device
+# Waits for ucd, so that reorder, which lines needs, does not wait for it.
+lib-script_commands: lib-ucd
 lib-command_line lib-text_run: lib-lines
 lib-program_input: lib-command_line lib-text_run
 lib-tool: lib-session lib-command_line lib-script_commands lib-text_run
