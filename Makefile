@@ -129,8 +129,8 @@ parallel:
 
 # tools/lint runs these.
 linters:
-	@for tool in shellcheck flake8 cppcheck sim_text; do command -v $$tool > /dev/null || missing=yes; done; \
-	[ -z "$$missing" ] || { apt-get update -q && apt-get install -qy shellcheck flake8 cppcheck similarity-tester; }
+	@for tool in shellcheck flake8 cppcheck rustfmt sim_text; do command -v $$tool > /dev/null || missing=yes; done; \
+	[ -z "$$missing" ] || { apt-get update -q && apt-get install -qy shellcheck flake8 cppcheck rustfmt similarity-tester; }
 
 test:
 	@tools/ci
@@ -214,6 +214,7 @@ bench: bench-program c fribidi ucd parallel
 	bench/strings
 	bench/memory
 	bench/python
+	bench/rust
 	bench/many
 	bench/callers
 	bench/hostile
