@@ -297,7 +297,7 @@ fn lines_are_iterated_from_both_ends() {
     assert_eq!(numbers(text.lines(1..=2)), [1, 2]);
     assert_eq!(numbers(text.lines(3..9)), [3]);
     assert!(numbers(text.lines(5..)).is_empty());
-    assert_eq!(text.lines(..).rev().next().unwrap().number(), 3);
+    assert_eq!(text.lines(..).next_back().unwrap().number(), 3);
     assert_eq!(text.lines(..).nth(2).unwrap().number(), 2);
     assert_eq!(text.lines(..).len(), 4);
 }
