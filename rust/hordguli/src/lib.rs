@@ -168,7 +168,6 @@
 //! `pkg-config` finds the library. Its packages are `libhordguli1` and `libhordguli-dev`. With the feature `vendored`, the crate links
 //! `libhordguli.a` from the folder that the environment variable `HORDGULI_DIR` names, such as an unpacked tarball.
 #![warn(missing_docs, missing_debug_implementations, unsafe_op_in_unsafe_fn)]
-#![warn(clippy::undocumented_unsafe_blocks)]
 #![deny(unsafe_code)]
 
 #[macro_use]

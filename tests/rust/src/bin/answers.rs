@@ -2,6 +2,7 @@
 //!
 //! Usage: `answers FIRST COUNT [print]`. Positions and ranges are passed in characters, bytes or UTF-16 code units, at random.
 use std::cell::{Cell, RefCell};
+use std::fmt::Write;
 use std::ops::Range;
 
 use hordguli::{
@@ -83,7 +84,7 @@ impl Teller {
         self.sum
             .set((self.sum.get() ^ value).wrapping_mul(0x100_0000_01B3));
         if let Some(printed) = &self.printed {
-            printed.borrow_mut().push_str(&format!("{name} {value}\n"));
+            let _ = writeln!(printed.borrow_mut(), "{name} {value}");
         }
     }
 
