@@ -8,7 +8,7 @@
 //! |---|---|
 //! | `BidiInfo::new(text, None)` | [`Session::new`], or [`levels`] and [`base_level`] for one paragraph |
 //! | `BidiInfo::new(text, Some(level))` | the same, with [`BaseDirection::Ltr`] or [`BaseDirection::Rtl`] |
-//! | `BidiInfo::new_with_data_source`, `BidiDataSource` | [`Tables::from_files`] and the other constructors of [`Tables`] |
+//! | `BidiInfo::new_with_data_source`, `BidiDataSource`, `HardcodedBidiData` | [`Tables::from_files`] and the other constructors of [`Tables`] |
 //! | `InitialInfo::new`, `info.paragraphs` | [`Session::paragraph`] for each of [`Counts::paragraphs`] |
 //! | `info.levels` | [`Paragraph::levels_and_breaks`], [`levels`] |
 //! | `info.original_classes`, `bidi_class(c)` | [`properties`], [`Character::bidi_class`] |
@@ -25,11 +25,13 @@
 //! | `Level::ltr()`, `LTR_LEVEL`; `Level::rtl()`, `RTL_LEVEL` | [`Level::LTR`]; [`Level::RTL`] |
 //! | `Level::new`, `new_explicit`, `Level::vec` | [`Level::new`] |
 //! | `Level::number`, `is_rtl`, `is_ltr` | [`Level::number`], [`Level::is_rtl`] |
-//! | `Level::raise`, `lower`, `new_explicit_next_ltr` and the like | arithmetic on [`Level::number`] |
-//! | `Level::max_implicit_depth()` | [`Level::MAX`] |
+//! | `Level::raise`, `raise_explicit`, `lower`, `new_explicit_next_ltr`, `new_explicit_next_rtl`, `new_lowest_ge_rtl` | arithmetic on [`Level::number`] |
+//! | `Level::bidi_class()` | [`BidiClass::R`] if [`Level::is_rtl`], else [`BidiClass::L`] |
+//! | `Level::max_implicit_depth()`, `MAX_IMPLICIT_DEPTH` | [`Level::MAX`] |
+//! | `Level::max_explicit_depth()`, `MAX_EXPLICIT_DEPTH` | 125 |
 //! | `LevelRun` | [`Run`] |
 //! | `BidiClass` | [`BidiClass`] |
-//! | `format_chars::RLM` and the like | the characters, such as `'\u{200f}'` |
+//! | constants of `format_chars` | the characters, such as `'\u{200f}'` for `RLM` |
 //! | `UNICODE_VERSION` | [`Tables::version`] |
 //!
 //! What differs:
