@@ -288,13 +288,14 @@ static void session_answers(uint64_t number) {
     static char text[4 * MOST], page[BYTES];
     static uint32_t characters[MOST];
     size_t version, direction, length, all, written, damaged;
-    uint32_t options, width, print;
+    uint32_t options, tab, width, print;
     state = (number + 1) * 0x9E3779B97F4A7C15;
     sum = 0xCBF29CE484222325;
     version = below(2);
     direction = below(4);
     options = (uint32_t)below(32) << 2;
-    options |= directions[direction] | HORDGULI_TAB_WIDTH(tabs[below(4)]);
+    tab = tabs[below(4)];
+    options |= directions[direction] | HORDGULI_TAB_WIDTH(tab);
     width = 1 + (uint32_t)below(20);
     print = 1 + (uint32_t)below(127);
     length = random_text(below(30), text);

@@ -163,10 +163,12 @@ fn breaks_follow_whole_numbers() {
 
 #[test]
 fn breaks_follow_the_version() {
-    let marks = |tables: Tables| breaks(&tables, &chars("a \u{201c}b"), Options::new()).unwrap();
+    let marks = |tables: Tables| {
+        breaks(&tables, &chars("\u{4e2d}\u{201c}\u{4e2d}"), Options::new()).unwrap()
+    };
     let of_17 = marks(Tables::builtin_with_version(UnicodeVersion::V17_0).unwrap());
-    assert_eq!(of_17.len(), 4);
-    assert_ne!(marks(tables())[1], of_17[1]);
+    assert_eq!(of_17[0], Break::May);
+    assert_eq!(marks(tables())[0], Break::Never);
 }
 
 #[test]

@@ -10,7 +10,7 @@ fn folder(name: &str) -> String {
 
 /// Text that Unicode 17.0 breaks otherwise than 15.0.
 fn sample() -> String {
-    "a \u{201c}b\u{201d} \u{5d0}-\u{5d1} 12,3 (\u{627})\n".repeat(3)
+    "\u{4e2d}\u{201c}\u{4e2d}\u{201d} \u{5d0}-\u{5d1} 12,3 (\u{627})\n".repeat(3)
 }
 
 fn printed(tables: &Tables) -> String {

@@ -77,7 +77,15 @@ impl Counts {
     fn each_of_session<T>(&mut self, name: &str, call: impl Fn(&mut Session) -> Result<T, Error>) {
         let tables = Tables::builtin().unwrap();
         let options = Options::new().tab_width(4);
-        let new = || Session::new(&tables, "a \u{5d0}\u{5d1} (c)\ne\u{301} f", 5, options).unwrap();
+        let new = || {
+            Session::new(
+                &tables,
+                "a \u{5d0}\u{1f1e9}\u{1f1ea}\u{1f1ea} (c)\ne\u{301} f",
+                5,
+                options,
+            )
+            .unwrap()
+        };
         let look = |session: &Session| {
             let lines = session.lines_to_string(.., Print::DEFAULT | Print::LEVELS);
             format!("{:?} {:?}", session.text(..), lines)
