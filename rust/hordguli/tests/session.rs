@@ -438,10 +438,11 @@ fn steps_meet_each_boundary() {
     let text = session(MIXED, 80);
     let mut edge = text.line_edges(0).unwrap().0;
     let mut columns = vec![text.edge_caret(edge).unwrap().column];
-    while let Some(next) = text.step(edge, Direction::Right).unwrap() {
-        edge = next;
+    for _ in 0..7 {
+        edge = text.step(edge, Direction::Right).unwrap().unwrap();
         columns.push(text.edge_caret(edge).unwrap().column);
     }
+    assert_eq!(text.step(edge, Direction::Right), Ok(None));
     assert_eq!(columns, (0..8).collect::<Vec<_>>());
     assert_eq!(text.step(before(0), Direction::Left), Ok(None));
     assert_eq!(
