@@ -80,45 +80,54 @@ static void tell_caret(hordguli_caret caret) {
     tell("caret.level", caret.level);
 }
 
-static void line_answers(size_t line) {
+static void shown_answers(size_t line) {
     static uint32_t characters[MOST], ltov[MOST], vtol[MOST];
     static uint8_t levels[MOST];
-    static size_t columns[MOST], ends[MOST];
+    static size_t columns[MOST];
+    hordguli_line_info info;
+    hordguli_line(&session, line, &info, MOST, characters, levels, ltov, vtol, columns);
+    tell("start", info.start);
+    tell("length", info.length);
+    tell("shown", info.shown);
+    tell("columns", info.columns);
+    tell("padding", info.padding);
+    tell("base", info.base);
+    tell("first", info.first);
+    TELL_ARRAY("characters", characters, info.shown);
+    TELL_ARRAY("levels", levels, info.shown);
+    TELL_ARRAY("ltov", ltov, info.shown);
+    TELL_ARRAY("vtol", vtol, info.shown);
+    TELL_ARRAY("columns", columns, info.shown);
+}
+
+static void part_answers(size_t line) {
+    static size_t ends[MOST];
     static hordguli_run runs[MOST];
     static hordguli_span spans[MOST];
-    hordguli_line_info info;
+    size_t count, from = below(counts.characters + 1), to = from + below(counts.characters + 1 - from);
+    below(3);
+    if (succeeds("runs", hordguli_runs(&session, line, MOST, runs, &count)))
+        for (size_t k = 0; k < count; k++) {
+            tell("run.start", runs[k].start);
+            tell("run.length", runs[k].length);
+            tell("run.level", runs[k].level);
+        }
+    if (succeeds("clusters", hordguli_line_clusters(&session, line, MOST, ends, &count))) TELL_ARRAY("end", ends, count);
+    if (succeeds("spans", hordguli_spans(&session, line, from, to, MOST, spans, &count)))
+        for (size_t k = 0; k < count; k++) {
+            tell("span.left", spans[k].left);
+            tell("span.right", spans[k].right);
+        }
+}
+
+static void line_answers(size_t line) {
     hordguli_edge edge, last;
     hordguli_hit hit;
-    size_t start, count, from, to;
-    if (succeeds("line_start", hordguli_line_start(&session, line, &start))) tell("start", start);
-    if (succeeds("line", hordguli_line(&session, line, &info, MOST, characters, levels, ltov, vtol, columns))) {
-        tell("start", info.start);
-        tell("length", info.length);
-        tell("shown", info.shown);
-        tell("columns", info.columns);
-        tell("padding", info.padding);
-        tell("base", info.base);
-        tell("first", info.first);
-        TELL_ARRAY("characters", characters, info.shown);
-        TELL_ARRAY("levels", levels, info.shown);
-        TELL_ARRAY("ltov", ltov, info.shown);
-        TELL_ARRAY("vtol", vtol, info.shown);
-        TELL_ARRAY("columns", columns, info.shown);
-        if (succeeds("runs", hordguli_runs(&session, line, MOST, runs, &count)))
-            for (size_t k = 0; k < count; k++) {
-                tell("run.start", runs[k].start);
-                tell("run.length", runs[k].length);
-                tell("run.level", runs[k].level);
-            }
-        if (succeeds("clusters", hordguli_line_clusters(&session, line, MOST, ends, &count))) TELL_ARRAY("end", ends, count);
-        from = below(counts.characters + 1);
-        to = from + below(counts.characters + 1 - from);
-        below(3);
-        if (succeeds("spans", hordguli_spans(&session, line, from, to, MOST, spans, &count)))
-            for (size_t k = 0; k < count; k++) {
-                tell("span.left", spans[k].left);
-                tell("span.right", spans[k].right);
-            }
+    size_t start;
+    if (succeeds("line_start", hordguli_line_start(&session, line, &start))) {
+        tell("start", start);
+        shown_answers(line);
+        part_answers(line);
     }
     if (succeeds("line_edges", hordguli_line_edges(&session, line, &edge, &last))) {
         tell_edge(edge);

@@ -8,7 +8,7 @@ use std::ops::Range;
 use hordguli::{
     base_level, breaks, count_utf8, layout, levels, properties, row, row_runs, valid_utf8,
     BaseDirection, Bracket, Break, BytePos, Caret, CharPos, Damage, Direction, Edge, Error, Level,
-    Options, Print, Row, Session, Side, Tables, UnicodeVersion, Utf16Pos,
+    Line, Options, Print, Row, Session, Side, Tables, UnicodeVersion, Utf16Pos,
 };
 
 const ALPHABET: [char; 48] = [
@@ -261,49 +261,56 @@ impl Run<'_> {
         self.tell("run.level", level);
     }
 
+    fn shown(&self, line: &Line) {
+        let start = line.range().start;
+        self.tell("start", start);
+        self.tell("length", line.range().end - start);
+        self.tell("shown", line.shown().end - start);
+        self.tell("columns", line.width());
+        self.tell("padding", line.padding());
+        self.tell("base", line.base());
+        self.tell("first", line.is_first());
+        self.row(
+            ["characters", "levels", "ltov", "vtol"],
+            &line.row().unwrap(),
+        );
+        self.teller
+            .tell_all("columns", line.columns().unwrap().into_iter());
+    }
+
+    fn parts(&self, line: &Line, model: &Model) {
+        let (teller, start) = (&self.teller, line.range().start);
+        let from = self.below(model.0.len() + 1);
+        let to = from + self.below(model.0.len() + 1 - from);
+        let unit = self.unit();
+        for run in teller.told("runs", line.runs()).unwrap() {
+            self.run(
+                run.range.start - start,
+                run.range.end - run.range.start,
+                run.level,
+            );
+        }
+        let clusters = teller.told("clusters", line.clusters()).unwrap();
+        teller.tell_all("end", clusters.map(|cluster| cluster.end - start));
+        let told = range_in_unit!(unit, model, from, to, |range| {
+            teller.told(
+                "spans",
+                line.spans(range).map(|spans| spans.collect::<Vec<_>>()),
+            )
+        });
+        for span in told.unwrap() {
+            self.tell("span.left", span.left);
+            self.tell("span.right", span.right);
+        }
+    }
+
     fn line(&self, session: &Session, model: &Model, number: usize) {
         let teller = &self.teller;
         if let Some(start) = teller.told("line_start", session.line_start(number)) {
             self.tell("start", start);
-        }
-        if let Some(line) = teller.told("line", session.line(number)) {
-            let start = line.range().start;
-            self.tell("start", start);
-            self.tell("length", line.range().end - start);
-            self.tell("shown", line.shown().end - start);
-            self.tell("columns", line.width());
-            self.tell("padding", line.padding());
-            self.tell("base", line.base());
-            self.tell("first", line.is_first());
-            self.row(
-                ["characters", "levels", "ltov", "vtol"],
-                &line.row().unwrap(),
-            );
-            teller.tell_all("columns", line.columns().unwrap().into_iter());
-            if let Some(runs) = teller.told("runs", line.runs()) {
-                for run in runs {
-                    self.run(
-                        run.range.start - start,
-                        run.range.end - run.range.start,
-                        run.level,
-                    );
-                }
-            }
-            if let Some(clusters) = teller.told("clusters", line.clusters()) {
-                teller.tell_all("end", clusters.map(|cluster| cluster.end - start));
-            }
-            let from = self.below(model.0.len() + 1);
-            let to = from + self.below(model.0.len() + 1 - from);
-            let told = range_in_unit!(self.unit(), model, from, to, |range| {
-                teller.told(
-                    "spans",
-                    line.spans(range).map(|spans| spans.collect::<Vec<_>>()),
-                )
-            });
-            for span in told.unwrap() {
-                self.tell("span.left", span.left);
-                self.tell("span.right", span.right);
-            }
+            let line = session.line(number).unwrap();
+            self.shown(&line);
+            self.parts(&line, model);
         }
         if let Some((first, last)) = teller.told("line_edges", session.line_edges(number)) {
             self.edge(first);
