@@ -94,24 +94,29 @@ const MOST_CHARACTERS: usize = 1 << 24;
 
 // ---- Texts of the library, and UTF-8 ----
 
-fn static_text(text: *const c_char) -> &'static str {
-    // SAFETY: the header says that the strings which the library returns are static. They end with a NUL.
+/// Returns a string of the library.
+///
+/// # Safety
+///
+/// The string must be static and end with a NUL.
+unsafe fn static_text(text: *const c_char) -> &'static str {
+    // SAFETY: as for this function.
     unsafe { CStr::from_ptr(text) }.to_str().unwrap_or_default()
 }
 
 pub fn status_text(status: hordguli_status) -> &'static str {
-    // SAFETY: the function has no requirements.
-    static_text(unsafe { hordguli_status_text(status) })
+    // SAFETY: the function has no requirements. The header says that its result is static.
+    unsafe { static_text(hordguli_status_text(status)) }
 }
 
 pub fn version() -> &'static str {
-    // SAFETY: the function has no requirements.
-    static_text(unsafe { hordguli_version() })
+    // SAFETY: as in `status_text`.
+    unsafe { static_text(hordguli_version()) }
 }
 
 pub fn unicode_version() -> &'static str {
-    // SAFETY: the function has no requirements.
-    static_text(unsafe { hordguli_unicode_version() })
+    // SAFETY: as in `status_text`.
+    unsafe { static_text(hordguli_unicode_version()) }
 }
 
 pub fn count_utf8(bytes: &[u8]) -> Result<usize, Error> {
