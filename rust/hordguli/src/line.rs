@@ -215,15 +215,13 @@ impl<'a> Line<'a> {
     ///
     /// The first edge is before the start of the line. The last one is as [`Session::line_edges`] says.
     ///
-    /// # Errors
-    ///
-    /// None that [`Session::line`] has not already returned.
-    ///
     /// # Cost
     ///
     /// O(log n) in a session of n paragraphs.
-    pub fn edges(&self) -> Result<(Edge, Edge), Error> {
-        self.session.line_edges(self.number)
+    #[must_use]
+    pub fn edges(&self) -> (Edge, Edge) {
+        // (the call fails for lines that do not exist only)
+        self.session.line_edges(self.number).unwrap_or_default()
     }
 }
 

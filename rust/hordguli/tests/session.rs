@@ -267,7 +267,7 @@ fn line_has_its_fields() {
     assert_eq!(row.visual, ['a', 'b', ' ', '\u{5d1}', '\u{5d0}']);
     assert_eq!(row.visual_to_logical, [3, 4, 2, 1, 0]);
     assert_eq!(line.columns().unwrap(), [1; 5]);
-    assert_eq!(line.edges().unwrap(), (before(0), before(5)));
+    assert_eq!(line.edges(), (before(0), before(5)));
     let second = text.line(1).unwrap();
     assert_eq!(
         (second.number(), second.padding(), second.base()),
