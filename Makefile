@@ -33,6 +33,7 @@
 #   make test-threads  Runs the C library's test of threads under ThreadSanitizer and helgrind, after make c: a minute.
 #   make test-draw  Tests examples/draw.c with HarfBuzz, cairo and Noto fonts (installs Debian packages): 20 seconds.
 #   make test-python  Tests the Python package, compares it with python-bidi and pyfribidi, and runs its mutants, after make c.
+#   make test-rust  Tests the Rust crates, also with Rust 1.63 (Debian 12), and runs their mutants, after make c.
 #   make test-hosts Runs examples/many on three hosts on the loopback address, and kills one during a run.
 #   make release    Checks the version, runs CI and make attack, builds and tests all packages, writes them to dist/, and tags the commit.
 #   make bench      Runs all benchmarks of bench/, which compare with Debian's fribidi, with ICU and with Rust crates.
@@ -43,7 +44,7 @@ TABLES = DerivedBidiClass BidiBrackets BidiMirroring LineBreak DerivedGeneralCat
 OPTIONS = --width 44 --basedir
 
 .PHONY: all program quick ucd ucd-17 ucd-tests image demo check tmux parallel linters test attack bench-program conformance-program conformance bench c fribidi fribidi-compare \
-	callers install uninstall python deb dist test-packages test-reproducible test-threads test-draw test-python test-hosts release
+	callers install uninstall python deb dist test-packages test-reproducible test-threads test-draw test-python test-rust test-hosts release
 
 DIST = dist
 
@@ -131,8 +132,8 @@ parallel:
 
 # tools/lint runs these.
 linters:
-	@for tool in shellcheck flake8 cppcheck sim_text; do command -v $$tool > /dev/null || missing=yes; done; \
-	[ -z "$$missing" ] || { apt-get update -q && apt-get install -qy shellcheck flake8 cppcheck similarity-tester; }
+	@for tool in shellcheck flake8 cppcheck rustfmt sim_text; do command -v $$tool > /dev/null || missing=yes; done; \
+	[ -z "$$missing" ] || { apt-get update -q && apt-get install -qy shellcheck flake8 cppcheck rustfmt similarity-tester; }
 
 test:
 	@tools/ci
@@ -189,6 +190,9 @@ test-draw: program c ucd
 test-python: ucd
 	tests/python/run --all
 
+test-rust: ucd
+	tests/rust/run --all
+
 test-hosts: parallel ucd
 	@tests/examples/many_hosts
 
@@ -216,6 +220,7 @@ bench: bench-program c fribidi ucd parallel
 	bench/strings
 	bench/memory
 	bench/python
+	bench/rust
 	bench/many
 	bench/callers
 	bench/hostile

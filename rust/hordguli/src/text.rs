@@ -1,0 +1,296 @@
+use crate::records::{breaks_of, levels_of};
+use crate::{ffi, BaseDirection, Break, Character, Error, Level, Options, Print, Row, Run, Tables};
+
+/// Lays out a text in lines of at most `width` columns, and returns what `print` selects for each line.
+///
+/// Each item of a line ends in U+000A. The result equals that of [`Session::lines_to_string`](crate::Session::lines_to_string) for
+/// all lines of a session.
+///
+/// ```
+/// use hordguli::{layout, Options, Print, Tables};
+///
+/// let tables = Tables::builtin()?;
+/// let lines = layout(&tables, "abc \u{5d0}\u{5d1}", 80, Options::new(), Print::DEFAULT)?;
+/// assert_eq!(lines, "abc \u{5d1}\u{5d0}\n");
+/// # Ok::<(), hordguli::Error>(())
+/// ```
+///
+/// # Errors
+///
+/// [`Error::WidthOutOfRange`], [`Error::TextTooLong`], [`Error::ParagraphTooLong`], [`Error::OutOfMemory`].
+///
+/// # Cost
+///
+/// Time and memory proportional to the text and the lines. The tables keep the memory that a call used, and a call that needs no
+/// more than that allocates only the result. Memory for texts or lines of more than 65,536 bytes is freed.
+pub fn layout(
+    tables: &Tables,
+    text: &str,
+    width: u16,
+    options: Options,
+    print: Print,
+) -> Result<String, Error> {
+    let mut lines = String::new();
+    layout_into(tables, text, width, options, print, &mut lines)?;
+    Ok(lines)
+}
+
+/// Appends to `buffer` what [`layout`] returns. Allocates nothing if the capacity of the buffer suffices for the lines, and for one
+/// and a half times the text and 64 bytes more.
+///
+/// # Errors
+///
+/// As [`layout`]. After an error, the buffer has the same text as before.
+pub fn layout_into(
+    tables: &Tables,
+    text: &str,
+    width: u16,
+    options: Options,
+    print: Print,
+    buffer: &mut String,
+) -> Result<(), Error> {
+    let (options, width, print) = (options.bits(), width.into(), print.bits());
+    tables.handle.layout(options, width, print, text, buffer)
+}
+
+/// Breaks a text into lines of at most `width` columns, and returns them in visual order, mirrored and padded.
+///
+/// ```
+/// use hordguli::{wrap, Options, Tables};
+///
+/// let tables = Tables::builtin()?;
+/// let lines = wrap(&tables, "The quick brown fox", 10, Options::new())?;
+/// assert_eq!(lines, ["The quick", "brown fox"]);
+/// # Ok::<(), hordguli::Error>(())
+/// ```
+///
+/// # Errors
+///
+/// As [`layout`].
+pub fn wrap(
+    tables: &Tables,
+    text: &str,
+    width: u16,
+    options: Options,
+) -> Result<Vec<String>, Error> {
+    let lines = layout(tables, text, width, options, Print::DEFAULT)?;
+    Ok(lines.split_terminator('\n').map(String::from).collect())
+}
+
+/// Returns the base level of a paragraph: [`Level::LTR`] or [`Level::RTL`]. The characters are not split at separators.
+///
+/// ```
+/// use hordguli::{base_level, BaseDirection, Level, Tables};
+///
+/// let tables = Tables::builtin()?;
+/// assert_eq!(base_level(&tables, &['1', '.', '\u{5d0}'], BaseDirection::WeakLtr)?, Level::RTL);
+/// assert_eq!(base_level(&tables, &['1', '.'], BaseDirection::WeakLtr)?, Level::LTR);
+/// # Ok::<(), hordguli::Error>(())
+/// ```
+///
+/// # Errors
+///
+/// [`Error::OutOfMemory`].
+///
+/// # Cost
+///
+/// Time and memory proportional to the number of characters.
+pub fn base_level(
+    tables: &Tables,
+    chars: &[char],
+    direction: BaseDirection,
+) -> Result<Level, Error> {
+    let base = tables.handle.base(direction.bits(), chars)?;
+    Ok(Level::of_u32(base))
+}
+
+/// Returns the level of each character of a paragraph, before L1 (UAX #9). The characters are not split at separators.
+///
+/// ```
+/// use hordguli::{levels, BaseDirection, Tables};
+///
+/// let tables = Tables::builtin()?;
+/// let chars: Vec<char> = "ab \u{5d0}\u{5d1} 12".chars().collect();
+/// let numbers: Vec<u8> = levels(&tables, &chars, BaseDirection::WeakLtr)?.into_iter().map(|level| level.number()).collect();
+/// assert_eq!(numbers, [0, 0, 0, 1, 1, 1, 2, 2]);
+/// # Ok::<(), hordguli::Error>(())
+/// ```
+///
+/// # Errors
+///
+/// [`Error::OutOfMemory`].
+///
+/// # Cost
+///
+/// Time and memory proportional to the number of characters.
+pub fn levels(
+    tables: &Tables,
+    chars: &[char],
+    direction: BaseDirection,
+) -> Result<Vec<Level>, Error> {
+    tables.handle.levels(direction.bits(), chars).map(levels_of)
+}
+
+/// Returns the break mark after each character of a paragraph (UAX #14). The characters are not split at separators.
+///
+/// Only [`Options::whole_numbers`] changes the result.
+///
+/// ```
+/// use hordguli::{breaks, Break, Options, Tables};
+///
+/// let tables = Tables::builtin()?;
+/// let marks = breaks(&tables, &['a', ' ', 'b', '\n'], Options::new())?;
+/// assert_eq!(marks, [Break::Never, Break::May, Break::Never, Break::Must]);
+/// # Ok::<(), hordguli::Error>(())
+/// ```
+///
+/// # Errors
+///
+/// [`Error::OutOfMemory`].
+///
+/// # Cost
+///
+/// Time and memory proportional to the number of characters.
+pub fn breaks(tables: &Tables, chars: &[char], options: Options) -> Result<Vec<Break>, Error> {
+    tables
+        .handle
+        .marks(options.break_bits(), chars)
+        .map(breaks_of)
+}
+
+/// Puts a row, whose start and end the caller has chosen, into visual order.
+///
+/// `base` is the base level of its paragraph ([`base_level`]), and `levels` are the levels of the row's characters in the whole
+/// paragraph ([`levels`]). L1 applies to the row as to a line: separators, and white space before them and at the end of the row, get
+/// the level `base`. Only [`Options::reorder_nsm`] and [`Options::reorder_clusters`] change the result. The clusters are those of
+/// these characters alone.
+///
+/// ```
+/// use hordguli::{base_level, levels, row, BaseDirection, Options, Tables};
+///
+/// let tables = Tables::builtin()?;
+/// let chars: Vec<char> = "ab \u{5d0}\u{5d1}\u{5d2}".chars().collect();
+/// let base = base_level(&tables, &chars, BaseDirection::WeakLtr)?;
+/// let levels = levels(&tables, &chars, BaseDirection::WeakLtr)?;
+/// // a terminal of five columns
+/// let first = row(&tables, &chars[..5], &levels[..5], base, Options::new())?;
+/// assert_eq!(first.visual, ['a', 'b', ' ', '\u{5d1}', '\u{5d0}']);
+/// assert_eq!(first.visual_to_logical, [0, 1, 2, 4, 3]);
+/// # Ok::<(), hordguli::Error>(())
+/// ```
+///
+/// # Errors
+///
+/// [`Error::OutOfRange`] if `base` is above 1, or for more than 4,294,967,295 characters; [`Error::OutOfMemory`].
+///
+/// # Panics
+///
+/// If `chars` and `levels` have different lengths.
+///
+/// # Cost
+///
+/// Memory proportional to the number of characters, and time proportional to that number times the highest level.
+pub fn row(
+    tables: &Tables,
+    chars: &[char],
+    levels: &[Level],
+    base: Level,
+    options: Options,
+) -> Result<Row, Error> {
+    let (options, base) = (options.row_bits(), base.number().into());
+    tables
+        .handle
+        .row(options, base, chars, levels)
+        .map(Row::new)
+}
+
+/// Returns the directional runs of a row, from left to right, for shaping text. The parameters are those of [`row`].
+///
+/// ```
+/// use hordguli::{levels, row_runs, BaseDirection, Level, Run, Tables};
+///
+/// let tables = Tables::builtin()?;
+/// let chars = ['a', 'b', '\u{5d0}', '\u{5d1}'];
+/// let levels = levels(&tables, &chars, BaseDirection::Ltr)?;
+/// let runs: Vec<_> = row_runs(&tables, &chars, &levels, Level::LTR)?.collect();
+/// assert_eq!(runs, [Run { range: 0..2, level: Level::LTR }, Run { range: 2..4, level: Level::RTL }]);
+/// # Ok::<(), hordguli::Error>(())
+/// ```
+///
+/// # Errors
+///
+/// As [`row`].
+///
+/// # Panics
+///
+/// As [`row`].
+///
+/// # Cost
+///
+/// As [`row`].
+pub fn row_runs(
+    tables: &Tables,
+    chars: &[char],
+    levels: &[Level],
+    base: Level,
+) -> Result<impl DoubleEndedIterator<Item = Run<usize>> + ExactSizeIterator, Error> {
+    let runs = tables
+        .handle
+        .row_runs(base.number().into(), chars, levels)?;
+    Ok(runs.into_iter().map(|run| Run {
+        range: run.start..run.start + run.length,
+        level: Level::of_u32(run.level),
+    }))
+}
+
+/// Returns the properties of each character.
+///
+/// ```
+/// use hordguli::{properties, BidiClass, Bracket, Tables};
+///
+/// let tables = Tables::builtin()?;
+/// let found = properties(&tables, &['(', '\u{4e2d}'])?;
+/// assert_eq!((found[0].mirror, found[0].bracket), (Some(')'), Some(Bracket::Open(')'))));
+/// assert_eq!((found[1].bidi_class, found[1].columns), (BidiClass::L, 2));
+/// # Ok::<(), hordguli::Error>(())
+/// ```
+///
+/// # Errors
+///
+/// [`Error::OutOfMemory`].
+///
+/// # Cost
+///
+/// Time and memory proportional to the number of characters.
+pub fn properties(tables: &Tables, chars: &[char]) -> Result<Vec<Character>, Error> {
+    let records = tables.handle.properties(chars)?;
+    Ok(records.into_iter().map(Character::new).collect())
+}
+
+/// Returns the number of characters in UTF-8 text.
+///
+/// # Errors
+///
+/// [`Error::NotUtf8`].
+///
+/// # Cost
+///
+/// Time proportional to the number of bytes.
+pub fn count_utf8(bytes: &[u8]) -> Result<usize, Error> {
+    ffi::count_utf8(bytes)
+}
+
+/// Returns the length of the longest prefix that is valid UTF-8, in bytes.
+///
+/// ```
+/// assert_eq!(hordguli::valid_utf8(b"ab\xff"), 2);
+/// ```
+///
+/// # Cost
+///
+/// Time proportional to the number of bytes.
+#[must_use]
+pub fn valid_utf8(bytes: &[u8]) -> usize {
+    // (it fails for NULL and overlapping parameters only)
+    ffi::valid_utf8(bytes).unwrap_or_default()
+}

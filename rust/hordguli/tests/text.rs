@@ -1,0 +1,315 @@
+//! The functions that need no session.
+use hordguli::{
+    base_level, breaks, count_utf8, layout, layout_into, levels, properties, row, row_runs,
+    valid_utf8, wrap, BaseDirection, BidiClass, Bracket, Break, Error, Level, LineClass, Options,
+    Print, Run, Tables, UnicodeVersion,
+};
+
+const HEBREW: &str = "\u{5d0}\u{5d1}\u{5d2}";
+
+fn tables() -> Tables {
+    Tables::builtin().unwrap()
+}
+
+fn chars(text: &str) -> Vec<char> {
+    text.chars().collect()
+}
+
+fn numbers(levels: &[Level]) -> Vec<u8> {
+    levels.iter().map(|level| level.number()).collect()
+}
+
+#[test]
+fn wrap_pads_lines_of_rtl_paragraphs() {
+    let lines = wrap(&tables(), &format!("{HEBREW} ab\ncd"), 8, Options::new()).unwrap();
+    assert_eq!(lines, ["  ab \u{5d2}\u{5d1}\u{5d0}", "cd"]);
+}
+
+#[test]
+fn wrap_keeps_empty_lines() {
+    let lines = wrap(&tables(), "\n\na\n", 8, Options::new()).unwrap();
+    assert_eq!(lines, ["", "", "a"]);
+    assert!(wrap(&tables(), "", 8, Options::new()).unwrap().is_empty());
+}
+
+#[test]
+fn layout_writes_what_print_selects() {
+    let print = Print::VISUAL | Print::BASEDIR | Print::LTOV | Print::LEVELS;
+    let text = format!("a {HEBREW}");
+    let lines = layout(&tables(), &text, 80, Options::new(), print).unwrap();
+    assert_eq!(
+        lines,
+        "a \u{5d2}\u{5d1}\u{5d0}\nLTR\n0 1 4 3 2\n0 0 1 1 1\n"
+    );
+    assert_eq!(
+        Print::default(),
+        Print::VISUAL | Print::PADDED | Print::MIRRORED
+    );
+}
+
+#[test]
+fn layout_into_appends() {
+    let (tables, mut buffer) = (tables(), String::from("> "));
+    for _ in 0..2 {
+        layout_into(
+            &tables,
+            "a",
+            80,
+            Options::new(),
+            Print::DEFAULT,
+            &mut buffer,
+        )
+        .unwrap();
+    }
+    assert_eq!(buffer, "> a\na\n");
+}
+
+#[test]
+fn layout_of_more_than_the_expected_size() {
+    let text = "\u{5d0}\n".repeat(100);
+    let lines = layout(&tables(), &text, 1000, Options::new(), Print::DEFAULT).unwrap();
+    assert_eq!(lines, format!("{:999}\u{5d0}\n", "").repeat(100));
+}
+
+#[test]
+fn layout_into_keeps_the_buffer_after_an_error() {
+    let mut buffer = String::from("> ");
+    let failed = layout_into(
+        &tables(),
+        "a",
+        0,
+        Options::new(),
+        Print::DEFAULT,
+        &mut buffer,
+    );
+    assert_eq!(
+        (failed, buffer.as_str()),
+        (Err(Error::WidthOutOfRange), "> ")
+    );
+}
+
+#[test]
+fn options_change_the_layout() {
+    let wrapped = |text: &str, options| wrap(&tables(), text, 4, options).unwrap();
+    assert_eq!(
+        wrapped("a b c d", Options::new().no_break(true)),
+        ["a b c d"]
+    );
+    assert_eq!(wrapped("a\tb", Options::new().tab_width(3)), ["a  b"]);
+    assert_eq!(
+        wrapped("a   bc", Options::new().show_spaces(true)),
+        ["a   ", "bc"]
+    );
+    assert_eq!(
+        wrapped("a", Options::new().base(BaseDirection::Rtl)),
+        ["   a"]
+    );
+    assert_eq!(
+        wrapped(" ", Options::new().base(BaseDirection::WeakRtl)),
+        ["    "]
+    );
+    assert_eq!(
+        wrapped(HEBREW, Options::new().base(BaseDirection::Ltr)),
+        ["\u{5d2}\u{5d1}\u{5d0}"]
+    );
+    let marked = "\u{5d0}\u{5b0}\u{5d1}";
+    let nsm = Options::new().base(BaseDirection::Ltr).reorder_nsm(true);
+    assert_eq!(wrapped(marked, nsm), ["\u{5d1}\u{5d0}\u{5b0}"]);
+    let clusters = Options::new()
+        .base(BaseDirection::Ltr)
+        .reorder_clusters(true);
+    assert_eq!(wrapped(marked, clusters), ["\u{5d1}\u{5d0}\u{5b0}"]);
+    assert_eq!(
+        wrapped(marked, Options::new().base(BaseDirection::Ltr)),
+        ["\u{5d1}\u{5b0}\u{5d0}"]
+    );
+}
+
+#[test]
+fn base_level_follows_the_direction() {
+    let of = |text, direction| base_level(&tables(), &chars(text), direction).unwrap();
+    assert_eq!(of(HEBREW, BaseDirection::WeakLtr), Level::RTL);
+    assert_eq!(of(HEBREW, BaseDirection::Ltr), Level::LTR);
+    assert_eq!(of("1", BaseDirection::WeakRtl), Level::RTL);
+    assert_eq!(of("", BaseDirection::WeakLtr), Level::LTR);
+    assert_eq!(of("a", BaseDirection::Rtl), Level::RTL);
+}
+
+#[test]
+fn levels_are_those_before_l1() {
+    let found = levels(&tables(), &chars("a \u{5d0} "), BaseDirection::Ltr).unwrap();
+    assert_eq!(numbers(&found), [0, 0, 1, 0]);
+    assert!(levels(&tables(), &[], BaseDirection::Ltr)
+        .unwrap()
+        .is_empty());
+}
+
+#[test]
+fn level_is_at_most_126() {
+    assert_eq!(Level::new(126), Some(Level::MAX));
+    assert_eq!(Level::new(127), None);
+    assert!(Level::RTL.is_rtl() && !Level::MAX.is_rtl());
+    assert_eq!(Level::RTL.to_string(), "1");
+}
+
+#[test]
+fn breaks_follow_whole_numbers() {
+    let of = |options| breaks(&tables(), &chars("1/%"), options).unwrap()[1];
+    assert_eq!(of(Options::new()), Break::May);
+    assert_eq!(of(Options::new().whole_numbers(true)), Break::Never);
+    // other options have no effect
+    assert_eq!(of(Options::new().no_break(true).tab_width(8)), Break::May);
+}
+
+#[test]
+fn breaks_follow_the_version() {
+    let marks = |tables: Tables| {
+        breaks(&tables, &chars("\u{4e2d}\u{201c}\u{4e2d}"), Options::new()).unwrap()
+    };
+    let of_17 = marks(Tables::builtin_with_version(UnicodeVersion::V17_0).unwrap());
+    assert_eq!(of_17[0], Break::May);
+    assert_eq!(marks(tables())[0], Break::Never);
+}
+
+#[test]
+fn row_applies_l1_to_its_end() {
+    let text = chars("\u{5d0} ");
+    let found = row(
+        &tables(),
+        &text,
+        &[Level::RTL; 2],
+        Level::LTR,
+        Options::new(),
+    )
+    .unwrap();
+    assert_eq!(numbers(&found.levels), [1, 0]);
+    assert_eq!(found.visual, ['\u{5d0}', ' ']);
+}
+
+#[test]
+fn row_is_mirrored_and_has_both_maps() {
+    let text = chars("(\u{5d0}b");
+    let given = [Level::RTL, Level::RTL, Level::new(2).unwrap()];
+    let found = row(&tables(), &text, &given, Level::RTL, Options::new()).unwrap();
+    assert_eq!(found.visual, ['b', '\u{5d0}', ')']);
+    assert_eq!(found.logical_to_visual, [2, 1, 0]);
+    assert_eq!(found.visual_to_logical, [2, 1, 0]);
+}
+
+#[test]
+fn row_follows_the_reorder_options() {
+    let text = chars("\u{5d0}\u{5b0}");
+    let visual = |options| {
+        row(&tables(), &text, &[Level::RTL; 2], Level::RTL, options)
+            .unwrap()
+            .visual
+    };
+    assert_eq!(visual(Options::new()), ['\u{5b0}', '\u{5d0}']);
+    assert_eq!(
+        visual(Options::new().reorder_nsm(true)),
+        ['\u{5d0}', '\u{5b0}']
+    );
+    assert_eq!(
+        visual(Options::new().reorder_clusters(true)),
+        ['\u{5d0}', '\u{5b0}']
+    );
+}
+
+#[test]
+fn base_of_a_row_is_0_or_1() {
+    let base = Level::new(2).unwrap();
+    let found = row(&tables(), &['a'], &[Level::LTR], base, Options::new());
+    assert_eq!(found, Err(Error::OutOfRange));
+    assert!(matches!(
+        row_runs(&tables(), &['a'], &[Level::LTR], base),
+        Err(Error::OutOfRange)
+    ));
+}
+
+#[test]
+#[should_panic(expected = "one level per character")]
+fn row_panics_without_a_level_for_each_character() {
+    let _ = row(
+        &tables(),
+        &['a', 'b'],
+        &[Level::LTR],
+        Level::LTR,
+        Options::new(),
+    );
+}
+
+#[test]
+#[should_panic(expected = "one level per character")]
+fn row_runs_panics_without_a_level_for_each_character() {
+    let _ = row_runs(&tables(), &['a', 'b'], &[Level::LTR], Level::LTR);
+}
+
+#[test]
+fn row_runs_are_in_visual_order() {
+    let text = chars("ab\u{5d0}\u{5d1}12");
+    let found = levels(&tables(), &text, BaseDirection::Ltr).unwrap();
+    let runs: Vec<_> = row_runs(&tables(), &text, &found, Level::LTR)
+        .unwrap()
+        .collect();
+    let run = |range, level| Run {
+        range,
+        level: Level::new(level).unwrap(),
+    };
+    assert_eq!(runs, [run(0..2, 0), run(4..6, 2), run(2..4, 1)]);
+}
+
+#[test]
+fn row_with_many_runs() {
+    let text = chars(&"a\u{5d0}".repeat(100));
+    let found = levels(&tables(), &text, BaseDirection::Ltr).unwrap();
+    assert_eq!(
+        row_runs(&tables(), &text, &found, Level::LTR)
+            .unwrap()
+            .len(),
+        200
+    );
+}
+
+#[test]
+fn properties_have_names() {
+    let found = properties(&tables(), &['(', ']', '\u{301}', '\u{627}', '\u{ac00}']).unwrap();
+    assert_eq!(
+        (found[0].mirror, found[0].bracket),
+        (Some(')'), Some(Bracket::Open(')')))
+    );
+    assert_eq!(
+        (found[1].mirror, found[1].bracket),
+        (Some('['), Some(Bracket::Close('[')))
+    );
+    assert_eq!(
+        (found[2].is_mark, found[2].mirror, found[2].bracket),
+        (true, None, None)
+    );
+    assert_eq!(
+        (found[3].bidi_class, found[3].line_class),
+        (BidiClass::AL, LineClass::AL)
+    );
+    assert_eq!(
+        (found[4].is_wide, found[4].columns, found[4].line_class),
+        (true, 2, LineClass::H2)
+    );
+    assert_eq!(found[3].bidi_class.to_string(), "AL");
+    assert_eq!(format!("{:?}", found[4].line_class), "LineClass::H2");
+}
+
+#[test]
+fn utf8_is_counted_and_checked() {
+    let bytes = "\u{5d0}b\u{1d11e}".as_bytes();
+    assert_eq!((count_utf8(bytes), valid_utf8(bytes)), (Ok(3), 7));
+    assert_eq!(
+        (count_utf8(&bytes[1..]), valid_utf8(&bytes[..5])),
+        (Err(Error::NotUtf8), 3)
+    );
+    assert_eq!((count_utf8(b""), valid_utf8(b"")), (Ok(0), 0));
+}
+
+#[test]
+fn versions_are_told() {
+    assert_eq!(hordguli::version(), env!("CARGO_PKG_VERSION"));
+    assert_eq!(hordguli::unicode_version(), tables().version().to_string());
+}
