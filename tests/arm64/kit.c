@@ -18,8 +18,11 @@ tried rattle_realloc(uint8_t *p, size_t kept, size_t n, size_t a);
 void rattle_dealloc(uint8_t *p);
 ptrdiff_t rattle_arg(size_t i, uint8_t *buf, size_t length);
 ptrdiff_t rattle_env(const uint8_t *name, uint8_t *buf, size_t length);
+ptrdiff_t rattle_env_at(size_t i, uint8_t *buf, size_t length);
 int32_t rattle_errno(void);
 void rattle_set_errno(int32_t error);
+
+extern char **environ;
 
 static long passed, failed;
 
@@ -138,6 +141,7 @@ static void is_copied(ptrdiff_t (*asked)(const void *, uint8_t *, size_t), const
 
 static ptrdiff_t ask_arg(const void *which, uint8_t *buf, size_t length) { return rattle_arg(*(const size_t *)which, buf, length); }
 static ptrdiff_t ask_env(const void *which, uint8_t *buf, size_t length) { return rattle_env(which, buf, length); }
+static ptrdiff_t ask_env_at(const void *which, uint8_t *buf, size_t length) { return rattle_env_at(*(const size_t *)which, buf, length); }
 
 static void arguments(size_t count, char **words) {
     uint8_t buf[1] = {7};
@@ -147,6 +151,7 @@ static void arguments(size_t count, char **words) {
 }
 
 static void environment(void) {
+    size_t count = 0;
     uint8_t name[4096] = "SET", buf[1] = {7};
     is_copied(ask_env, name, "value");
     memcpy(name, "EMPTY", 6);
@@ -155,6 +160,11 @@ static void environment(void) {
     HOLDS(rattle_env(name, buf, 1) == -1 && buf[0] == 7);
     memset(name, 'A', sizeof name - 1); /* the longest name */
     HOLDS(rattle_env(name, buf, 1) == -1);
+    for (; environ[count] != NULL; count++) is_copied(ask_env_at, &count, environ[count]);
+    HOLDS(rattle_env_at(count, buf, 1) == -1 && rattle_env_at(count + 1, buf, 1) == -1);
+    HOLDS(rattle_env_at(SIZE_MAX, buf, 1) == -1 && buf[0] == 7);
+    environ = NULL;
+    HOLDS(rattle_env_at(0, buf, 1) == -1 && buf[0] == 7);
 }
 
 static void errors(void) {
