@@ -20,7 +20,9 @@ void rattle_dealloc(uint8_t *p);
 static uint8_t nothing;
 
 static tried block_or_nothing(uint8_t *p) {
-    tried result = {p != NULL, p != NULL ? p : &nothing};
+    tried result;
+    result.ok = p != NULL;
+    result.p = result.ok ? p : &nothing;
     return result;
 }
 
