@@ -1,6 +1,6 @@
 /* Stands in for the kit's rattle_alloc, rattle_realloc and rattle_dealloc on ARM64: the kit has them for x86-64 only. Proved code
  * relies on the contracts below, which are those of the kit's crate `libc` (`src/heap.rt` and `specs/Heap.antt` there). Nothing
- * proves that these functions meet them. tests/arm64/kit.c tests them, and the kit's functions for x86-64 by the same checks. */
+ * proves that these functions meet them. tests/arm64/kit tests them, and the kit's functions for x86-64 by the same checks. */
 #include <stdbool.h>
 #include <stddef.h>
 #include <stdint.h>
