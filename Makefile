@@ -16,6 +16,10 @@
 #                   COMMAND=fribidi, ZSHDIR).
 #   make uninstall  Removes what make install has installed, with the same PREFIX, LIBDIR, DESTDIR and ZSHDIR.
 #
+#   make ARCH=arm64 program c fribidi
+#                   Proves as above, and builds for ARM64 in bin/arm64/, by Debian's gcc-aarch64-linux-gnu. With ARCH=arm64, the targets
+#                   python, install, deb, dist and test-packages are for what is there.
+#
 # For contributors
 #
 #   make            Proves and builds the command and the programs that make check runs.
@@ -30,6 +34,7 @@
 #   make dist       Builds hordguli-VERSION-linux-x86_64.tar.gz and the Python wheel from the same files (DIST=dist).
 #   make test-packages  Tests the packages in new Debian 12 and 13 systems (debootstrap, as root): four minutes.
 #   make test-reproducible  Compiles and builds all packages in two folders, and compares them byte by byte.
+#   make test-arm64 Tests bin/arm64 by qemu-user, and compares its output with that of bin: ten minutes.
 #   make test-threads  Runs the C library's test of threads under ThreadSanitizer and helgrind, after make c: a minute.
 #   make test-draw  Tests examples/draw.c with HarfBuzz, cairo and Noto fonts (installs Debian packages): 20 seconds.
 #   make test-python  Tests the Python package, compares it with python-bidi and pyfribidi, and runs its mutants, after make c.
@@ -43,21 +48,30 @@ JOBS := $(shell nproc)
 TABLES = DerivedBidiClass BidiBrackets BidiMirroring LineBreak DerivedGeneralCategory EastAsianWidth emoji-data
 OPTIONS = --width 44 --basedir
 
-.PHONY: all program quick ucd ucd-17 ucd-tests image demo check tmux parallel linters test attack bench-program conformance-program conformance bench c fribidi fribidi-compare \
-	callers install uninstall python deb dist test-packages test-reproducible test-threads test-draw test-python test-rust test-hosts release
+.PHONY: all program cross-compiler quick ucd ucd-17 ucd-tests image demo check tmux parallel linters test attack bench-program conformance-program conformance bench c fribidi fribidi-compare \
+	callers install uninstall python deb dist test-packages test-reproducible test-arm64 test-threads test-draw test-python test-rust test-hosts release
 
 DIST = dist
+ARCH = amd64
+for_arm64 = $(if $(filter arm64,$(ARCH)),$(1))
+$(if $(filter amd64 arm64,$(ARCH)),,$(error ARCH=$(ARCH) is neither amd64 nor arm64))
 
 all: programs = fribidi conformance oom_driver no_allocation table_tools
 program: programs = fribidi
 bench-program: programs = fribidi bench
 conformance-program: programs = conformance
 
+# Fails before anything is proved if the compiler for ARM64 is missing.
+program c fribidi: $(call for_arm64,cross-compiler)
+cross-compiler:
+	@bash -c '. tools/arch.sh && need_tools "$${CC%% *}"' make
+
 # Proves the crates that have changed, and proves independent ones in parallel. Runs the programs, which are kept in out/.
 all program bench-program conformance-program:
 	$(MAKE) --no-print-directory --jobs=$(JOBS) $(programs:%=run-%)
 	mkdir -p bin
 	for name in $(filter fribidi bench conformance,$(programs)); do cp crates/$$name/out/$$name bin/$$name; done
+	$(if $(filter fribidi,$(programs)),$(call for_arm64,tools/compile_arm64 fribidi && tools/build_command))
 
 lib-bidi lib-breaks lib-reorder: lib-ucd
 lib-lines: lib-device lib-bidi lib-breaks lib-reorder lib-stream
@@ -145,10 +159,12 @@ image: ucd ucd-17
 c: ucd ucd-17
 	$(MAKE) --no-print-directory --jobs=$(JOBS) run-table_tools lib-hordguli_c
 	tools/build_image
+	$(call for_arm64,tools/compile_arm64 hordguli_c)
 	tools/build_c
 
 fribidi: ucd
 	$(MAKE) --no-print-directory --jobs=$(JOBS) lib-hordguli_fribidi run-table_tools
+	$(call for_arm64,tools/compile_arm64 hordguli_fribidi)
 	tools/build_fribidi
 
 fribidi-compare: fribidi
@@ -180,6 +196,9 @@ test-packages: export DIST := $(DIST)
 
 test-reproducible:
 	@tests/packages/reproducible
+
+test-arm64: ucd ucd-17 ucd-tests
+	tests/arm64/run
 
 test-threads: c ucd
 	tests/c/thread_checks

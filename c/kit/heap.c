@@ -1,0 +1,61 @@
+/* Stands in for the kit's rattle_alloc, rattle_realloc and rattle_dealloc on ARM64: the kit has them for x86-64 only. Proved code
+ * relies on the contracts below, which are those of the kit's crate `libc` (`src/heap.rt` and `specs/Heap.antt` there). Nothing
+ * proves that these functions meet them. tests/arm64/kit tests them, and the kit's functions for x86-64 by the same checks. */
+#include <stdbool.h>
+#include <stddef.h>
+#include <stdint.h>
+#include <stdlib.h>
+
+/* Says whether there is a block, and where. If not, `p` is not NULL, and nothing is owned there. */
+typedef struct tried {
+    bool ok;
+    uint8_t *p;
+} tried;
+
+tried rattle_alloc(size_t n, size_t a);
+tried rattle_realloc(uint8_t *p, size_t kept, size_t n, size_t a);
+void rattle_dealloc(uint8_t *p);
+
+/* The address of blocks that do not exist. */
+static uint8_t nothing;
+
+static tried block_or_nothing(uint8_t *p) {
+    tried result;
+    result.ok = p != NULL;
+    result.p = result.ok ? p : &nothing;
+    return result;
+}
+
+/* malloc may return NULL for 0 bytes. A type without bytes gets a block of as many bytes as its alignment. */
+static size_t at_least_one(size_t n, size_t a) { return n == 0 ? a : n; }
+
+/* Tries to get a block for a value of a type.
+ *
+ *     requires size             n is the size of the type
+ *     requires align            a is its alignment
+ *     requires align_divides_16 a divides 16, so a block of malloc is aligned
+ *     requires size_fits        n < 2^63
+ *     ensures got               if ok, p is a new block for such a value, aligned to a, which rattle_dealloc may free; otherwise p
+ *                               is not NULL, and nothing is owned there
+ *
+ * Does not say when it fails. */
+tried rattle_alloc(size_t n, size_t a) { return block_or_nothing(malloc(at_least_one(n, a))); }
+
+/* Tries to make a block of rattle_alloc or rattle_realloc one of n bytes.
+ *
+ *     requires sizes    kept is the size of some first elements of an array, and n that of the new array, which has at least these;
+ *                       a is the alignment of an element, and divides 16; n < 2^63
+ *     requires block    p is a block for the old array, which has at least these elements, and may be freed
+ *     ensures regot     if ok, the block at the result's p is one for the new array, may be freed, and its first kept bytes are as
+ *                       before; p is no longer a block, unless it is the same; otherwise the block at p is as before
+ *
+ * realloc keeps as many bytes as both arrays have, so kept is not needed. */
+tried rattle_realloc(uint8_t *p, size_t kept, size_t n, size_t a) {
+    (void)kept;
+    return block_or_nothing(realloc(p, at_least_one(n, a)));
+}
+
+/* Frees a block.
+ *
+ *     requires    p is a block of rattle_alloc or rattle_realloc that may be freed */
+void rattle_dealloc(uint8_t *p) { free(p); }
