@@ -1,6 +1,6 @@
 """The Rust files that repeat the declarations of include/hordguli.h. tools/generate_declarations writes them.
 
-- rust/hordguli-sys/src/declarations.rs: the constants, structs and functions.
+- rust/hordguli-sys/src/declarations.rs: the constants, structs and functions, with their comments.
 - rust/hordguli/src/numbers.rs: the lists of numbers that have a type of their own, such as bidi classes.
 
 The files have the form that rustfmt gives them.
@@ -65,21 +65,45 @@ def constant(header, one):
     return line + comment
 
 
+def documentation(header, name, indent=""):
+    """Returns the comment above the declaration of a struct or function, as documentation of Rust."""
+    found = re.search(rf"/\* ((?:(?!\*/)[^~])*?) ?\*/\n[^\n;{{]*\b{name}\b(?: \{{|\()", header.text)
+    lines, is_code = [], False
+    for line in found[1].split("\n") if found else []:
+        text = line.removeprefix(" *").removeprefix(" ").rstrip()
+        is_indented = text.startswith("    ")
+        if is_indented and lines[-1:] == [""] and not is_code:  # (after other lines, it continues an item of a list)
+            is_code = True
+            lines.append("```c")
+        elif is_code and text and not is_indented:
+            is_code = False
+            lines[-1:] = ["```", ""]  # (an empty line is before it)
+        if re.match("(Errors|Cost):", text) and lines[-1:] != [""]:
+            lines.append("")
+        lines.append(text[4:] if is_code else re.sub(r"^  (\w+)  +", r"- `\1`: ", text))
+    lines += ["```"] * is_code
+    return "".join(f"{indent}///{' ' * (line != '')}{line}\n" for line in lines)
+
+
 def struct(header, name):
     members = header.members(name)
     is_handle = f"#define {name.upper()}_INIT " in header.text
     traits = ["Debug"] if is_handle else ["Clone", "Copy", "Debug"] + ["Default", "PartialEq", "Eq"] * (not any(one.is_pointer for one in members))
-    fields = "".join(f"    pub {one.name}: {rust_type(one.type)},\n" for one in members)
-    return f"#[derive({', '.join(traits)})]\n#[repr(C)]\npub struct {name} {{\n{fields}}}\n"
+    body = re.search(rf"typedef struct {name} \{{(.*?)\}} {name};", header.text, re.S)[1]
+    comments = dict(re.findall(r"(\w+); +/\* (.*?) \*/", body))
+    fields = "".join(f"    /// {comments.get(one.name)}\n" * (one.name in comments) + f"    pub {one.name}: {rust_type(one.type)},\n" for one in members)
+    return f"{documentation(header, name)}#[derive({', '.join(traits)})]\n#[repr(C)]\npub struct {name} {{\n{fields}}}\n"
 
 
-def function(name, declared):
+def function(header, name):
+    declared = header.functions[name]
     result = "" if declared.result == "void" else f" -> {rust_type(declared.result)}"
     parameters = [f"{one.name}: {rust_type(one.type)}" for one in declared.variables()]
     line = f"    pub fn {name}({', '.join(parameters)}){result};"
+    comment = documentation(header, name, "    ")
     if len(line) <= WIDTH:
-        return line
-    return f"    pub fn {name}(\n" + "".join(f"        {one},\n" for one in parameters) + f"    ){result};"
+        return comment + line
+    return f"{comment}    pub fn {name}(\n" + "".join(f"        {one},\n" for one in parameters) + f"    ){result};"
 
 
 def declarations(header, head):
@@ -91,7 +115,7 @@ def declarations(header, head):
         sections += [f"\n// {one.section}\n"] * (one.section != last) + [constant(header, one) + "\n"]
         last = one.section
     structs = "\n".join(struct(header, name) for name in header.structs)
-    functions = "\n".join(function(name, one) for name, one in header.functions.items())
+    functions = "\n".join(function(header, name) for name in header.functions)
     return f"""{head}
 use std::os::raw::{{c_char, c_void}};
 use std::ptr::null_mut;

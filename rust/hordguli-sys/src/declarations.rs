@@ -201,14 +201,22 @@ pub struct hordguli_bytes {
     pub length: usize,
 }
 
+/// The first malformed line, by file and then by line, or the fault of an image.
 #[derive(Clone, Copy, Debug, Default, PartialEq, Eq)]
 #[repr(C)]
 pub struct hordguli_table_fault {
+    /// 0 to 6, or HORDGULI_IMAGE
     pub file: usize,
+    /// from 1; 0 for an image, or if the file cannot be read
     pub line: usize,
+    /// one of the causes; 0 if the file cannot be read
     pub cause: usize,
 }
 
+/// What an edit replaced: `old_lines` lines from `first_line` on became `new_lines` lines, and likewise for paragraphs.
+/// All other lines are unchanged, except that the lines that follow are renumbered. An edit replaces all paragraphs that
+/// contain or touch its range, even if it inserts and deletes nothing. A caller that draws everything anew may pass NULL
+/// as `damage`.
 #[derive(Clone, Copy, Debug, Default, PartialEq, Eq)]
 #[repr(C)]
 pub struct hordguli_damage {
@@ -229,35 +237,51 @@ pub struct hordguli_counts {
     pub width: usize,
 }
 
+/// Work counters, for checking that edits stay incremental. They count characters since the session was opened, and
+/// saturate at UINT64_MAX.
 #[derive(Clone, Copy, Debug, Default, PartialEq, Eq)]
 #[repr(C)]
 pub struct hordguli_work {
+    /// levels and break marks computed
     pub analysed: u64,
+    /// line starts computed
     pub filled: u64,
+    /// put into visual order
     pub written: u64,
 }
 
 #[derive(Clone, Copy, Debug, Default, PartialEq, Eq)]
 #[repr(C)]
 pub struct hordguli_line_info {
+    /// position of its first character
     pub start: usize,
+    /// characters, including the tail
     pub length: usize,
+    /// characters in the shown part
     pub shown: usize,
+    /// columns of the shown part
     pub columns: usize,
+    /// spaces left of the shown part if it is padded
     pub padding: usize,
+    /// base level of its paragraph, 0 or 1
     pub base: u32,
+    /// 1 for the first line of a paragraph, else 0
     pub first: u32,
 }
 
+/// The `length` characters of a line from position `start` on, all at one level. `start` counts from the start of the
+/// line. The characters are read from left to right if the level is even, else from right to left.
 #[derive(Clone, Copy, Debug, Default, PartialEq, Eq)]
 #[repr(C)]
 pub struct hordguli_run {
     pub start: usize,
     pub length: usize,
     pub level: u32,
+    /// always 0
     pub zero: u32,
 }
 
+/// The character at `pos`, and how many of its bytes or code units come before an offset: 0 at its start.
 #[derive(Clone, Copy, Debug, Default, PartialEq, Eq)]
 #[repr(C)]
 pub struct hordguli_position {
@@ -268,11 +292,16 @@ pub struct hordguli_position {
 #[derive(Clone, Copy, Debug, Default, PartialEq, Eq)]
 #[repr(C)]
 pub struct hordguli_paragraph_info {
+    /// characters, including the separator
     pub length: usize,
     pub lines: usize,
+    /// base level, 0 or 1
     pub base: u32,
+    /// always 0
     pub zero: u32,
+    /// position of its first character
     pub start: usize,
+    /// index of its first line
     pub first_line: usize,
 }
 
@@ -281,6 +310,7 @@ pub struct hordguli_paragraph_info {
 pub struct hordguli_place {
     pub paragraph: usize,
     pub line: usize,
+    /// characters of the line before the place
     pub offset: usize,
 }
 
@@ -288,8 +318,11 @@ pub struct hordguli_place {
 #[repr(C)]
 pub struct hordguli_caret {
     pub line: usize,
+    /// columns left of the caret, without padding
     pub column: usize,
+    /// level of the character if shown, else base level
     pub level: u32,
+    /// always 0
     pub zero: u32,
 }
 
@@ -297,10 +330,13 @@ pub struct hordguli_caret {
 #[repr(C)]
 pub struct hordguli_hit {
     pub pos: usize,
+    /// 1 if the caret goes after the character, else 0
     pub trailing: u32,
+    /// always 0
     pub zero: u32,
 }
 
+/// The characters from `start` up to but not including `end`.
 #[derive(Clone, Copy, Debug, Default, PartialEq, Eq)]
 #[repr(C)]
 pub struct hordguli_cluster {
@@ -308,6 +344,9 @@ pub struct hordguli_cluster {
     pub end: usize,
 }
 
+/// The characters from `start` up to but not including `end`. `kind` is 1 if any of them is alphabetic or numeric, such as
+/// a letter, a digit, a vowel sign (U+05B8) or a fraction (U+00BD). Else it is 0, as for spaces and punctuation. `zero`
+/// is 0.
 #[derive(Clone, Copy, Debug, Default, PartialEq, Eq)]
 #[repr(C)]
 pub struct hordguli_word {
@@ -317,6 +356,7 @@ pub struct hordguli_word {
     pub zero: u32,
 }
 
+/// The columns from `left` up to but not including `right`, counted from the left edge of a line's shown part.
 #[derive(Clone, Copy, Debug, Default, PartialEq, Eq)]
 #[repr(C)]
 pub struct hordguli_span {
@@ -328,64 +368,143 @@ pub struct hordguli_span {
 #[repr(C)]
 pub struct hordguli_edge {
     pub pos: usize,
+    /// HORDGULI_BEFORE or HORDGULI_AFTER
     pub side: u32,
+    /// always 0 in results, and ignored in arguments
     pub zero: u32,
 }
 
+/// The properties of a character.
 #[derive(Clone, Copy, Debug, Default, PartialEq, Eq)]
 #[repr(C)]
 pub struct hordguli_character {
+    /// its mirror (UAX #9, L4), or 0
     pub mirror: u32,
+    /// the other bracket of its pair, or 0
     pub pair: u32,
+    /// HORDGULI_MARK and HORDGULI_WIDE
     pub flags: u32,
+    /// HORDGULI_BIDI_CLASS_..
     pub bidi_class: u8,
+    /// HORDGULI_LINE_CLASS_..
     pub line_class: u8,
+    /// its width, 0 to 3; 0 for a tab and other control characters
     pub columns: u8,
+    /// HORDGULI_BRACKET_..
     pub bracket: u8,
 }
 
 extern "C" {
+    /// Returns a short English description of a status, or "unknown status".
     pub fn hordguli_status_text(status: hordguli_status) -> *const c_char;
+    /// Returns the version of the library, such as "0.5.0".
     pub fn hordguli_version() -> *const c_char;
+    /// Returns "15.0", the Unicode version of tables that `hordguli_tables_open_builtin`, `hordguli_tables_open_folder` and
+    /// `hordguli_tables_read` open.
     pub fn hordguli_unicode_version() -> *const c_char;
+    /// Opens the tables of Unicode 15.0 that the library contains. Reads no file.
+    ///
+    /// Errors: NULL, ALREADY_OPEN, NO_MEMORY.
+    ///
+    /// Cost: as `hordguli_tables_open_image`.
     pub fn hordguli_tables_open_builtin(tables: *mut hordguli_tables) -> hordguli_status;
+    /// Opens the tables of `version` that the library contains, such as those of HORDGULI_UNICODE_17_0. Reads no file.
+    ///
+    /// Errors: NULL, UNKNOWN_OPTION (another version), ALREADY_OPEN, NO_MEMORY.
+    ///
+    /// Cost: as `hordguli_tables_open_image`.
     pub fn hordguli_tables_open_builtin_version(
         tables: *mut hordguli_tables,
         version: u32,
     ) -> hordguli_status;
+    /// Opens tables from a compiled image, such as the file `tables.image` that is installed with the table files. They have
+    /// the version of the image. `fault` may be NULL, and is set only on TABLE_FAULT. The causes up to HORDGULI_CAUSE_ENTRY
+    /// are ruled out before any memory is allocated. If memory runs out before a later cause is found, NO_MEMORY is returned.
+    ///
+    /// Errors: NULL, OVERLAP, ALREADY_OPEN, TABLE_FAULT, NO_MEMORY.
+    ///
+    /// Cost: O(`length`), plus a pass over the code points of the pages that have separators, brackets or mirrors.
     pub fn hordguli_tables_open_image(
         tables: *mut hordguli_tables,
         image: *const c_void,
         length: usize,
         fault: *mut hordguli_table_fault,
     ) -> hordguli_status;
+    /// Opens tables of Unicode 15.0 from the contents of the files. `fault` may be NULL, and is set only on TABLE_FAULT. NULL
+    /// and OVERLAP are checked for the parameters first, then for each file in turn. If memory runs out before the first
+    /// malformed line is found, NO_MEMORY is returned.
+    ///
+    /// Errors: NULL, OVERLAP, ALREADY_OPEN, TABLE_FAULT, NO_MEMORY.
+    ///
+    /// Cost: O(size of the files), plus passes over all code points.
     pub fn hordguli_tables_read(
         tables: *mut hordguli_tables,
         files: *const hordguli_bytes,
         fault: *mut hordguli_table_fault,
     ) -> hordguli_status;
+    /// As `hordguli_tables_read`, with the files of `version`.
+    ///
+    /// Errors: NULL, OVERLAP, UNKNOWN_OPTION (another version), ALREADY_OPEN, TABLE_FAULT, NO_MEMORY.
+    ///
+    /// Cost: as `hordguli_tables_read`.
     pub fn hordguli_tables_read_version(
         tables: *mut hordguli_tables,
         version: u32,
         files: *const hordguli_bytes,
         fault: *mut hordguli_table_fault,
     ) -> hordguli_status;
+    /// Opens tables of Unicode 15.0 from the files in a folder. `folder` is a NUL-terminated path. `fault` may be NULL, and is
+    /// set only on UNREAD_FILE or TABLE_FAULT. If memory runs out before either is found, NO_MEMORY is returned.
+    ///
+    /// Errors: NULL, OVERLAP, ALREADY_OPEN, UNREAD_FILE, TABLE_FAULT, NO_MEMORY.
+    ///
+    /// Cost: as `hordguli_tables_read`.
     pub fn hordguli_tables_open_folder(
         tables: *mut hordguli_tables,
         folder: *const c_char,
         fault: *mut hordguli_table_fault,
     ) -> hordguli_status;
+    /// As `hordguli_tables_open_folder`, with the files of `version`.
+    ///
+    /// Errors: NULL, OVERLAP, UNKNOWN_OPTION (another version), ALREADY_OPEN, UNREAD_FILE, TABLE_FAULT, NO_MEMORY.
+    ///
+    /// Cost: as `hordguli_tables_read`.
     pub fn hordguli_tables_open_folder_version(
         tables: *mut hordguli_tables,
         version: u32,
         folder: *const c_char,
         fault: *mut hordguli_table_fault,
     ) -> hordguli_status;
+    /// Stores the version of the tables, such as HORDGULI_UNICODE_15_0.
+    ///
+    /// Errors: NULL, OVERLAP, CLOSED.
+    ///
+    /// Cost: O(1).
     pub fn hordguli_tables_version(
         tables: *mut hordguli_tables,
         version: *mut u32,
     ) -> hordguli_status;
+    /// Closes the handle. Safe on a closed handle or NULL. The tables are freed once no open session uses them.
     pub fn hordguli_tables_close(tables: *mut hordguli_tables);
+    /// Lays out a text, and writes its lines to a buffer (see BUFFERS), as UTF-8. `*written` is the byte count. The bytes are
+    /// those that `hordguli_lines_utf8` writes for all lines of a session with these `options`, this `width` and this text.
+    /// `print` is as in that function. For example, the line of a log:
+    ///
+    /// ```c
+    /// status = hordguli_layout(&tables, HORDGULI_WEAK_LTR, 80, HORDGULI_PRINT_DEFAULT, line, strlen(line),
+    ///                          sizeof buffer, buffer, &written);
+    /// ```
+    ///
+    /// The handle keeps the memory that a call used, and a call that needs no more than that allocates nothing. The handle
+    /// keeps at most 5 MB: memory for a text or for lines of more than 65,536 bytes is freed. `hordguli_tables_close` frees
+    /// it. Calls at the same time in several threads need a handle of tables each.
+    ///
+    /// NO_MEMORY comes before NO_ROOM, because the lines are gathered before their size is known.
+    ///
+    /// Errors: NULL, OVERLAP, WIDTH_OUT_OF_RANGE (above 65,535), UNKNOWN_OPTION, NOT_UTF8, CLOSED, WIDTH_OUT_OF_RANGE (0),
+    /// TEXT_TOO_LONG, PARAGRAPH_TOO_LONG, NO_MEMORY, NO_ROOM.
+    ///
+    /// Cost: time and memory proportional to `length` and to the lines, even with capacity 0.
     pub fn hordguli_layout(
         tables: *mut hordguli_tables,
         options: u32,
@@ -397,16 +516,34 @@ extern "C" {
         buffer: *mut c_char,
         written: *mut usize,
     ) -> hordguli_status;
+    /// Stores in `*count` the number of characters in UTF-8 text of `length` bytes.
+    ///
+    /// Errors: NULL, OVERLAP, NOT_UTF8.
+    ///
+    /// Cost: O(length).
     pub fn hordguli_count_utf8(
         bytes: *const c_char,
         length: usize,
         count: *mut usize,
     ) -> hordguli_status;
+    /// Stores in `*valid` the length of the longest prefix of `bytes` that is valid UTF-8: `length` if all of it is, else
+    /// the index of the first byte that belongs to no character. An incomplete character at the end is not valid.
+    ///
+    /// Errors: NULL, OVERLAP.
+    ///
+    /// Cost: O(length).
     pub fn hordguli_valid_utf8(
         bytes: *const c_char,
         length: usize,
         valid: *mut usize,
     ) -> hordguli_status;
+    /// Opens a session on a text. `width` is in columns. The session shares the tables, so their handle may be closed
+    /// before the session. NO_MEMORY comes directly after CLOSED if 2^63 sessions share the tables.
+    ///
+    /// Errors: NULL, OVERLAP, WIDTH_OUT_OF_RANGE (above 65,535), UNKNOWN_OPTION, NOT_UTF8, ALREADY_OPEN (the session),
+    /// CLOSED (the tables), WIDTH_OUT_OF_RANGE (0), TEXT_TOO_LONG, PARAGRAPH_TOO_LONG, NO_MEMORY.
+    ///
+    /// Cost: time and memory proportional to `length`.
     pub fn hordguli_session_open(
         session: *mut hordguli_session,
         tables: *mut hordguli_tables,
@@ -415,7 +552,13 @@ extern "C" {
         text: *const c_char,
         length: usize,
     ) -> hordguli_status;
+    /// Frees the session and closes the handle. Safe on a closed handle or NULL.
     pub fn hordguli_session_close(session: *mut hordguli_session);
+    /// Inserts text before the character at `pos`, or at the end of the text. Stores in `*damage` which lines were replaced.
+    ///
+    /// Errors: NULL, OVERLAP, NOT_UTF8, CLOSED, OUT_OF_RANGE, TEXT_TOO_LONG, PARAGRAPH_TOO_LONG, NO_MEMORY.
+    ///
+    /// Cost: O(log n), plus O(1) per replaced paragraph, plus the layout of the new paragraphs.
     pub fn hordguli_insert(
         session: *mut hordguli_session,
         pos: usize,
@@ -423,12 +566,22 @@ extern "C" {
         length: usize,
         damage: *mut hordguli_damage,
     ) -> hordguli_status;
+    /// Deletes `count` characters, starting at `pos`. This can join paragraphs.
+    ///
+    /// Errors: NULL, OVERLAP, CLOSED, OUT_OF_RANGE, PARAGRAPH_TOO_LONG, NO_MEMORY.
+    ///
+    /// Cost: as `hordguli_insert`.
     pub fn hordguli_delete(
         session: *mut hordguli_session,
         pos: usize,
         count: usize,
         damage: *mut hordguli_damage,
     ) -> hordguli_status;
+    /// Replaces the `count` characters that start at `pos` with text, in one edit.
+    ///
+    /// Errors: NULL, OVERLAP, NOT_UTF8, CLOSED, OUT_OF_RANGE, TEXT_TOO_LONG, PARAGRAPH_TOO_LONG, NO_MEMORY.
+    ///
+    /// Cost: as `hordguli_insert`.
     pub fn hordguli_replace(
         session: *mut hordguli_session,
         pos: usize,
@@ -437,24 +590,58 @@ extern "C" {
         length: usize,
         damage: *mut hordguli_damage,
     ) -> hordguli_status;
+    /// Sets the width, in columns, and rewraps the paragraphs. The damage covers all lines, even if the width is the same.
+    ///
+    /// Errors: NULL, OVERLAP, WIDTH_OUT_OF_RANGE, CLOSED, NO_MEMORY.
+    ///
+    /// Cost: O(n), plus wrapping each paragraph, except those that are one line, fit the new width and, with
+    /// HORDGULI_SHOW_SPACES, hide no space that fits.
     pub fn hordguli_set_width(
         session: *mut hordguli_session,
         width: u32,
         damage: *mut hordguli_damage,
     ) -> hordguli_status;
+    /// Stores the size of a session in `*counts`.
+    ///
+    /// Errors: NULL, OVERLAP, CLOSED.
+    ///
+    /// Cost: O(1).
     pub fn hordguli_session_counts(
         session: *mut hordguli_session,
         counts: *mut hordguli_counts,
     ) -> hordguli_status;
+    /// Stores the work counters in `*work`. Calls that fail with NO_MEMORY can increase them too.
+    ///
+    /// Errors: NULL, OVERLAP, CLOSED.
+    ///
+    /// Cost: O(1).
     pub fn hordguli_session_work(
         session: *mut hordguli_session,
         work: *mut hordguli_work,
     ) -> hordguli_status;
+    /// Stores the position of a line's first character in `*start`.
+    ///
+    /// Errors: NULL, OVERLAP, CLOSED, OUT_OF_RANGE.
+    ///
+    /// Cost: O(log n).
     pub fn hordguli_line_start(
         session: *mut hordguli_session,
         line: usize,
         start: *mut usize,
     ) -> hordguli_status;
+    /// Stores information about a line in `*info`, and `info->shown` elements in each array. Each array has `capacity`
+    /// elements. NULL arrays are skipped. Positions count from the start of the line.
+    /// - `characters`: characters in visual order, mirrored
+    /// - `levels`: level of each character after L1, in logical order
+    /// - `ltov`: visual position of each logical position
+    /// - `vtol`: logical position of each visual position
+    /// - `columns`: columns at each visual position
+    ///
+    /// On NO_ROOM, `*info` is set and the arrays are unchanged.
+    ///
+    /// Errors: NULL, OVERLAP, CLOSED, OUT_OF_RANGE, NO_ROOM.
+    ///
+    /// Cost: O(log n), plus the elements written.
     pub fn hordguli_line(
         session: *mut hordguli_session,
         line: usize,
@@ -466,6 +653,20 @@ extern "C" {
         vtol: *mut u32,
         columns: *mut usize,
     ) -> hordguli_status;
+    /// Stores the directional runs of a line's shown part, from left to right, for shaping text: the longest ranges of
+    /// characters at one level after L1. They do not depend on HORDGULI_REORDER_NSM and HORDGULI_REORDER_CLUSTERS, which
+    /// move characters only inside runs. The number of runs is stored in `*count`, and the runs in an array of `capacity`
+    /// elements (see BUFFERS). Fails with OUT_OF_RANGE if the line does not exist. For the characters of a run, in logical
+    /// order:
+    ///
+    /// ```c
+    /// status = hordguli_line_start(&session, line, &start);
+    /// if (!status) status = hordguli_text_utf32(&session, start + run.start, run.length, 80, characters, &length);
+    /// ```
+    ///
+    /// Errors: NULL, OVERLAP, CLOSED, OUT_OF_RANGE, NO_ROOM.
+    ///
+    /// Cost: O(log n), plus O(length of the line) times its highest level.
     pub fn hordguli_runs(
         session: *mut hordguli_session,
         line: usize,
@@ -473,6 +674,20 @@ extern "C" {
         runs: *mut hordguli_run,
         count: *mut usize,
     ) -> hordguli_status;
+    /// Writes `count` lines, starting with line `first`, to a buffer (see BUFFERS), as UTF-8. `print` selects what is
+    /// written for each line, in the order VISUAL, BASEDIR, LTOV, VTOL, LEVELS. Each of these ends in U+000A. Numbers are
+    /// decimal, separated by spaces. For example, the lines that an edit changed:
+    ///
+    /// ```c
+    /// status = hordguli_lines_utf8(&session, damage.first_line, damage.new_lines,
+    ///                              HORDGULI_PRINT_DEFAULT, capacity, buffer, &length);
+    /// ```
+    ///
+    /// NO_MEMORY comes before NO_ROOM, because the output is gathered before its size is known.
+    ///
+    /// Errors: NULL, OVERLAP, UNKNOWN_OPTION, CLOSED, OUT_OF_RANGE, NO_MEMORY, NO_ROOM.
+    ///
+    /// Cost: O(log n) per paragraph, plus time and memory proportional to the output, even with capacity 0.
     pub fn hordguli_lines_utf8(
         session: *mut hordguli_session,
         first: usize,
@@ -482,6 +697,12 @@ extern "C" {
         buffer: *mut c_char,
         length: *mut usize,
     ) -> hordguli_status;
+    /// Writes `count` characters, starting at `pos`, to a buffer (see BUFFERS), as UTF-8. NO_MEMORY comes before NO_ROOM, as
+    /// in `hordguli_lines_utf8`.
+    ///
+    /// Errors: NULL, OVERLAP, CLOSED, OUT_OF_RANGE, NO_MEMORY, NO_ROOM.
+    ///
+    /// Cost: as `hordguli_lines_utf8`.
     pub fn hordguli_text(
         session: *mut hordguli_session,
         pos: usize,
@@ -490,6 +711,12 @@ extern "C" {
         buffer: *mut c_char,
         length: *mut usize,
     ) -> hordguli_status;
+    /// Stores `count` characters, starting at `pos`, in an array of `capacity` elements (see BUFFERS), in logical order and
+    /// not mirrored, as a shaper needs them. `*length` is `count`.
+    ///
+    /// Errors: NULL, OVERLAP, CLOSED, OUT_OF_RANGE, NO_ROOM.
+    ///
+    /// Cost: O(log n) per paragraph, plus O(count).
     pub fn hordguli_text_utf32(
         session: *mut hordguli_session,
         pos: usize,
@@ -498,32 +725,71 @@ extern "C" {
         characters: *mut u32,
         length: *mut usize,
     ) -> hordguli_status;
+    /// Stores in `*length` how many bytes of UTF-8 the `count` characters that start at `pos` need.
+    ///
+    /// Errors: NULL, OVERLAP, CLOSED, OUT_OF_RANGE.
+    ///
+    /// Cost: O(log n) per paragraph, plus O(count).
     pub fn hordguli_utf8_length(
         session: *mut hordguli_session,
         pos: usize,
         count: usize,
         length: *mut usize,
     ) -> hordguli_status;
+    /// Stores in `*byte` how many bytes of UTF-8 the text before `pos` needs. Fails with OUT_OF_RANGE if `pos` is past the
+    /// end.
+    ///
+    /// Errors: NULL, OVERLAP, CLOSED, OUT_OF_RANGE.
+    ///
+    /// Cost: O(log n), plus O(length of the paragraph) unless the paragraph is ASCII.
     pub fn hordguli_byte_of(
         session: *mut hordguli_session,
         pos: usize,
         byte: *mut usize,
     ) -> hordguli_status;
+    /// Stores in `*unit` how many UTF-16 code units the text before `pos` needs, which is how the Language Server Protocol
+    /// counts. Fails with OUT_OF_RANGE if `pos` is past the end.
+    ///
+    /// Errors: NULL, OVERLAP, CLOSED, OUT_OF_RANGE.
+    ///
+    /// Cost: O(log n), plus O(length of the paragraph) if the paragraph has a character above U+FFFF.
     pub fn hordguli_utf16_of(
         session: *mut hordguli_session,
         pos: usize,
         unit: *mut usize,
     ) -> hordguli_status;
+    /// Stores the position of a UTF-8 byte, counted from 0, in `*position`. At the end of the text, `pos` is the number of
+    /// characters and `rest` is 0. Fails with OUT_OF_RANGE if `byte` is past the end.
+    ///
+    /// Errors: NULL, OVERLAP, CLOSED, OUT_OF_RANGE.
+    ///
+    /// Cost: as `hordguli_byte_of`.
     pub fn hordguli_position_of_byte(
         session: *mut hordguli_session,
         byte: usize,
         position: *mut hordguli_position,
     ) -> hordguli_status;
+    /// Stores the position of a UTF-16 code unit, counted from 0, in `*position`. At the end of the text, `pos` is the number
+    /// of characters and `rest` is 0. Fails with OUT_OF_RANGE if `unit` is past the end.
+    ///
+    /// Errors: NULL, OVERLAP, CLOSED, OUT_OF_RANGE.
+    ///
+    /// Cost: as `hordguli_utf16_of`.
     pub fn hordguli_position_of_utf16(
         session: *mut hordguli_session,
         unit: usize,
         position: *mut hordguli_position,
     ) -> hordguli_status;
+    /// Stores information about a paragraph in `*info`, and `info->length` elements in each array, in logical order. Each
+    /// array has `capacity` elements. NULL arrays are skipped.
+    /// - `levels`: level of each character before L1
+    /// - `marks`: break mark after each character
+    ///
+    /// On NO_ROOM, `*info` is set and the arrays are unchanged.
+    ///
+    /// Errors: NULL, OVERLAP, CLOSED, OUT_OF_RANGE, NO_ROOM.
+    ///
+    /// Cost: O(log n), plus the elements written.
     pub fn hordguli_paragraph(
         session: *mut hordguli_session,
         paragraph: usize,
@@ -532,32 +798,102 @@ extern "C" {
         levels: *mut u8,
         marks: *mut u8,
     ) -> hordguli_status;
+    /// Stores the place of the character at `pos` in `*place`. If `pos` is the end of the text, the place is after the last
+    /// character. But if the text is empty or ends with a separator, the place is the start of the next paragraph, which
+    /// does not exist yet. Then `paragraph` and `line` are the numbers of paragraphs and lines in the text.
+    ///
+    /// Errors: NULL, OVERLAP, CLOSED, OUT_OF_RANGE.
+    ///
+    /// Cost: O(log n + log m) in a paragraph of m lines.
     pub fn hordguli_place_of(
         session: *mut hordguli_session,
         pos: usize,
         place: *mut hordguli_place,
     ) -> hordguli_status;
+    /// Stores in `*caret` where to draw the caret for `pos`:
+    ///   - Before a shown character: at its left edge if its level is even, else at its right edge. At an odd level, with
+    ///     HORDGULI_REORDER_CLUSTERS or HORDGULI_REORDER_NSM, that can be inside its cluster; `hordguli_edge_caret` stores the
+    ///     end of the cluster.
+    ///   - Before a character that is not shown, and at the end of the text: at the end of the line. That is right of all
+    ///     columns in an LTR paragraph, and column 0 in an RTL one.
+    ///   - At the start of a paragraph that does not exist yet (see `hordguli_place_of`): at column 0. `level` is then the
+    ///     base level of an empty paragraph. If it is odd, draw the caret at the right edge of the screen.
+    ///
+    /// Errors: NULL, OVERLAP, CLOSED, OUT_OF_RANGE.
+    ///
+    /// Cost: as `hordguli_place_of`, plus O(length of the line).
     pub fn hordguli_caret_at(
         session: *mut hordguli_session,
         pos: usize,
         caret: *mut hordguli_caret,
     ) -> hordguli_status;
+    /// Stores in `*hit` the character at a column of a line. Column 0 is the left edge of the shown part, right of padding.
+    ///   - In the shown part: the character that covers the column, with `trailing` 0.
+    ///   - Right of the shown part: the rightmost character of nonzero width, with `trailing` 1 if its level is even, else
+    ///     0.
+    ///   - In a line of width 0: the first character, with `trailing` 0.
+    ///
+    /// So `trailing` is 0 except right of the text. To place the caret at screen column `x` of a padded line:
+    ///
+    /// ```c
+    /// status = hordguli_hit_at(&session, line, x - info.padding, &hit);
+    /// if (!status) status = hordguli_cluster_at(&session, hit.pos, &cluster);
+    /// if (!status) pos = hit.trailing ? cluster.end : cluster.start;
+    /// ```
+    ///
+    /// If `x` is in the padding, use column 0. Then, if the width of the line is not 0 and the level of the character (see
+    /// `hordguli_caret_at`) is odd, set `trailing` to 1. `cluster.end` can be the start of the next line.
+    ///
+    /// Errors: NULL, OVERLAP, CLOSED, OUT_OF_RANGE.
+    ///
+    /// Cost: O(log n), plus O(length of the line).
     pub fn hordguli_hit_at(
         session: *mut hordguli_session,
         line: usize,
         column: usize,
         hit: *mut hordguli_hit,
     ) -> hordguli_status;
+    /// Stores the grapheme cluster of the character at `pos` in `*cluster`. Fails with OUT_OF_RANGE if `pos` is the end of
+    /// the text.
+    ///
+    /// Errors: NULL, OVERLAP, CLOSED, OUT_OF_RANGE, NO_MEMORY.
+    ///
+    /// Cost: O(log n), plus time and memory proportional to the characters around `pos`, up to the nearest places where a
+    /// cluster ends whatever comes before and after. At worst, as among flags, these are the whole paragraph.
     pub fn hordguli_cluster_at(
         session: *mut hordguli_session,
         pos: usize,
         cluster: *mut hordguli_cluster,
     ) -> hordguli_status;
+    /// Stores the word of the character at `pos` in `*word`: the segment between two word boundaries (UAX #29) of its
+    /// paragraph. Fails with OUT_OF_RANGE if `pos` is the end of the text.
+    ///
+    /// The next word starts at `word.end`, and the previous one holds the character at `word.start - 1`.
+    ///
+    /// Errors: NULL, OVERLAP, CLOSED, OUT_OF_RANGE, NO_MEMORY.
+    ///
+    /// Cost: O(log n), plus time and memory proportional to the whole paragraph.
     pub fn hordguli_word_at(
         session: *mut hordguli_session,
         pos: usize,
         word: *mut hordguli_word,
     ) -> hordguli_status;
+    /// Stores the columns that the characters from `from` up to but not including `to` cover in a line, for drawing a
+    /// selection: as few spans as possible, from left to right. Where the direction changes, a selection can have several.
+    /// `from` and `to` are positions in the text; those outside the line are ignored. The number of spans is stored in
+    /// `*count`, and the spans in an array of `capacity` elements (see BUFFERS). Fails with OUT_OF_RANGE if the line does not
+    /// exist.
+    ///
+    /// ```c
+    /// for (size_t line = first_line; line <= last_line; line++) {
+    ///     status = hordguli_spans(&session, line, from, to, 16, spans, &count);
+    ///     for (size_t k = 0; !status && k < count; k++) highlight(line, spans[k].left, spans[k].right);
+    /// }
+    /// ```
+    ///
+    /// Errors: NULL, OVERLAP, CLOSED, OUT_OF_RANGE, NO_ROOM.
+    ///
+    /// Cost: O(log n), plus O(length of the line).
     pub fn hordguli_spans(
         session: *mut hordguli_session,
         line: usize,
@@ -567,11 +903,39 @@ extern "C" {
         spans: *mut hordguli_span,
         count: *mut usize,
     ) -> hordguli_status;
+    /// Stores in `*caret` where to draw the caret at an edge. The edge before a position is on the line of the character at
+    /// it, and the edge after a position on the line of the character before it:
+    ///   - If a caret unit begins (or ends) with that character: at the start (or end) of the unit.
+    ///   - At another shown character: at its leading edge, which is the left one if its level is even, or its trailing edge.
+    ///   - At a character that is not shown, and before the end of the text: as in `hordguli_caret_at`.
+    ///
+    /// `level` is that of the character whose edge it is. Fails with OUT_OF_RANGE if the position is past the end of the
+    /// text, and for the edge after position 0.
+    ///
+    /// Errors: NULL, OVERLAP, UNKNOWN_OPTION, CLOSED, OUT_OF_RANGE, NO_MEMORY.
+    ///
+    /// Cost: as `hordguli_cluster_at`, plus O(length of the line).
     pub fn hordguli_edge_caret(
         session: *mut hordguli_session,
         edge: hordguli_edge,
         caret: *mut hordguli_caret,
     ) -> hordguli_status;
+    /// Moves a caret to the nearest boundary to the left or right on its line. Stores the edge there in `*next`, and 1 in
+    /// `*moved`. The stored edge is one of the caret unit that was passed. At the end of the line, stores 0 in `*moved`, and
+    /// leaves `*next` unchanged; `hordguli_edge_at` then gives the end of the next line. For the key Right:
+    ///
+    /// ```c
+    /// status = hordguli_step(&session, caret, HORDGULI_RIGHT, &caret, &moved);
+    /// if (!status && !moved && line + 1 < lines) status = hordguli_edge_at(&session, line + 1, 0, &caret);
+    /// ```
+    ///
+    /// Each step changes the column. Repeated, steps meet every boundary in their direction. With HORDGULI_REORDER_NSM and
+    /// without HORDGULI_REORDER_CLUSTERS, this holds if the marks of the text have no columns. Of the nonspacing marks of
+    /// Unicode 15.0, only U+2D7F and U+1171E have columns.
+    ///
+    /// Errors: NULL, OVERLAP, UNKNOWN_OPTION, CLOSED, OUT_OF_RANGE, NO_MEMORY.
+    ///
+    /// Cost: as `hordguli_edge_caret`.
     pub fn hordguli_step(
         session: *mut hordguli_session,
         edge: hordguli_edge,
@@ -579,24 +943,68 @@ extern "C" {
         next: *mut hordguli_edge,
         moved: *mut u32,
     ) -> hordguli_status;
+    /// Stores in `*edge` the edge at a column of a line, for mouse clicks and for moves to another line. Column 0 is the left
+    /// edge of the shown part, right of padding.
+    ///   - In the shown part: the left end of the caret unit that covers the column.
+    ///   - Right of the shown part: its right end. So columns 0 and SIZE_MAX are the two ends of the line on the screen.
+    ///   - In a line of width 0: before its start.
+    ///   - In the line where a new paragraph would start (see `hordguli_place_of`): before the end of the text.
+    ///
+    /// Fails with OUT_OF_RANGE for later lines.
+    ///
+    /// Errors: NULL, OVERLAP, CLOSED, OUT_OF_RANGE, NO_MEMORY.
+    ///
+    /// Cost: as `hordguli_edge_caret`.
     pub fn hordguli_edge_at(
         session: *mut hordguli_session,
         line: usize,
         column: usize,
         edge: *mut hordguli_edge,
     ) -> hordguli_status;
+    /// Stores in `*edge` the nearest edge to a column of a line, for mouse clicks that may hit either half of a character. In
+    /// the shown part, this is the nearer end of the caret unit that covers the column, and from the unit's middle the right
+    /// one. Elsewhere, and in a unit of one column, it is the edge that `hordguli_edge_at` stores.
+    ///
+    /// Fails with OUT_OF_RANGE for the same lines as `hordguli_edge_at`.
+    ///
+    /// Errors: NULL, OVERLAP, CLOSED, OUT_OF_RANGE, NO_MEMORY.
+    ///
+    /// Cost: as `hordguli_edge_caret`.
     pub fn hordguli_nearest_edge(
         session: *mut hordguli_session,
         line: usize,
         column: usize,
         edge: *mut hordguli_edge,
     ) -> hordguli_status;
+    /// Stores the first and the last edge of a line in logical order, for the keys Home and End. The first edge is before the
+    /// start of the line. The last one is
+    ///   - before the separator that ends the line, if there is one (bidi class B, or line class BK, CR, LF or NL). CR LF is
+    ///     one separator;
+    ///   - else, on the last line of the text, before the end of the text;
+    ///   - else before the first space that is not shown;
+    ///   - else after the last character of the line.
+    ///
+    /// In the line where a new paragraph would start, both are before the end of the text. Fails with OUT_OF_RANGE for later
+    /// lines.
+    ///
+    /// Errors: NULL, OVERLAP, CLOSED, OUT_OF_RANGE.
+    ///
+    /// Cost: O(log n).
     pub fn hordguli_line_edges(
         session: *mut hordguli_session,
         line: usize,
         first: *mut hordguli_edge,
         last: *mut hordguli_edge,
     ) -> hordguli_status;
+    /// Stores where the grapheme clusters of a line end, counted from the start of the line, in an array of `capacity`
+    /// elements, and their number in `*count` (see BUFFERS). The last one is the length of the line, also where a cluster
+    /// goes on in the next line. Fails with OUT_OF_RANGE if the line does not exist.
+    ///
+    /// NO_MEMORY comes before NO_ROOM.
+    ///
+    /// Errors: NULL, OVERLAP, CLOSED, OUT_OF_RANGE, NO_MEMORY, NO_ROOM.
+    ///
+    /// Cost: as `hordguli_cluster_at`, plus O(length of the line).
     pub fn hordguli_line_clusters(
         session: *mut hordguli_session,
         line: usize,
@@ -604,6 +1012,34 @@ extern "C" {
         ends: *mut usize,
         count: *mut usize,
     ) -> hordguli_status;
+    /// Puts a row of `count` characters into visual order. The caller chose where the row starts and ends. `base` is the
+    /// base level of its paragraph (`hordguli_base`), and `levels` are the levels of the row's characters in the whole
+    /// paragraph (`hordguli_levels`). `options` can have HORDGULI_REORDER_NSM and HORDGULI_REORDER_CLUSTERS. The clusters are
+    /// those of these characters alone. Stores `count` elements in each array. Each array has `capacity` elements. NULL
+    /// arrays are skipped. Positions count from the start of the row.
+    /// - `visual`: characters in visual order, mirrored (UAX #9, L4)
+    /// - `row_levels`: level of each character after L1, in logical order
+    /// - `ltov`: visual position of each logical position
+    /// - `vtol`: logical position of each visual position
+    ///
+    /// L1 applies to the row as to a line: separators, and white space before them and at the end of the row, get the level
+    /// `base`. All characters are shown, those at the end too. For example, a terminal that shows a paragraph in rows of 80
+    /// characters:
+    ///
+    /// ```c
+    /// status = hordguli_base(&tables, HORDGULI_WEAK_LTR, characters, count, &base);
+    /// if (!status) status = hordguli_levels(&tables, HORDGULI_WEAK_LTR, characters, count, count, levels);
+    /// for (size_t at = 0; !status && at < count; at += length) {
+    ///     length = count - at < 80 ? count - at : 80;
+    ///     status = hordguli_row(&tables, 0, base, length, characters + at, levels + at, 80, visual, NULL, NULL, NULL);
+    /// }
+    /// ```
+    ///
+    /// OUT_OF_RANGE means that `base` is above 1, a level is above 126, or `count` is above UINT32_MAX.
+    ///
+    /// Errors: NULL, OVERLAP, UNKNOWN_OPTION, CLOSED, NO_ROOM, NOT_A_CHARACTER, OUT_OF_RANGE, NO_MEMORY.
+    ///
+    /// Cost: memory proportional to `count`, and time proportional to `count` times the highest level of the row.
     pub fn hordguli_row(
         tables: *mut hordguli_tables,
         options: u32,
@@ -617,6 +1053,14 @@ extern "C" {
         ltov: *mut u32,
         vtol: *mut u32,
     ) -> hordguli_status;
+    /// Stores the directional runs of a row, from left to right, for shaping text (see `hordguli_runs`). Positions count
+    /// from the start of the row. `base`, `characters` and `levels` are as in `hordguli_row`. The number of runs is stored
+    /// in `*run_count`, and the runs in an array of `capacity` elements (see BUFFERS). NO_MEMORY comes before NO_ROOM,
+    /// because the levels after L1 are gathered first.
+    ///
+    /// Errors: NULL, OVERLAP, CLOSED, NOT_A_CHARACTER, OUT_OF_RANGE, NO_MEMORY, NO_ROOM.
+    ///
+    /// Cost: as `hordguli_row`.
     pub fn hordguli_row_runs(
         tables: *mut hordguli_tables,
         base: u32,
@@ -627,6 +1071,11 @@ extern "C" {
         runs: *mut hordguli_run,
         run_count: *mut usize,
     ) -> hordguli_status;
+    /// Stores in `*base` the base level of a paragraph, 0 or 1.
+    ///
+    /// Errors: NULL, OVERLAP, UNKNOWN_OPTION, CLOSED, NOT_A_CHARACTER, NO_MEMORY.
+    ///
+    /// Cost: time and memory proportional to `count`.
     pub fn hordguli_base(
         tables: *mut hordguli_tables,
         direction: u32,
@@ -634,6 +1083,11 @@ extern "C" {
         count: usize,
         base: *mut u32,
     ) -> hordguli_status;
+    /// Stores in `levels` the level of each character before L1.
+    ///
+    /// Errors: NULL, OVERLAP, UNKNOWN_OPTION, CLOSED, NO_ROOM, NOT_A_CHARACTER, NO_MEMORY.
+    ///
+    /// Cost: time and memory proportional to `count`.
     pub fn hordguli_levels(
         tables: *mut hordguli_tables,
         direction: u32,
@@ -642,6 +1096,11 @@ extern "C" {
         capacity: usize,
         levels: *mut u8,
     ) -> hordguli_status;
+    /// Stores in `marks` the break mark after each character. `options` is 0 or HORDGULI_WHOLE_NUMBERS.
+    ///
+    /// Errors: NULL, OVERLAP, UNKNOWN_OPTION, CLOSED, NO_ROOM, NOT_A_CHARACTER, NO_MEMORY.
+    ///
+    /// Cost: time and memory proportional to `count`.
     pub fn hordguli_marks(
         tables: *mut hordguli_tables,
         options: u32,
@@ -650,6 +1109,13 @@ extern "C" {
         capacity: usize,
         marks: *mut u8,
     ) -> hordguli_status;
+    /// Stores the properties of `count` characters in `records`, an array of `count` elements. All properties are from the
+    /// tables, except the columns (see COLUMNS). A character that no table names has line breaking class XX, and no mirror,
+    /// bracket or flags. Its bidi class is L, or with tables of Unicode 17.0 the default in DerivedBidiClass.txt.
+    ///
+    /// Errors: NULL, OVERLAP, CLOSED, NOT_A_CHARACTER.
+    ///
+    /// Cost: O(count).
     pub fn hordguli_properties(
         tables: *mut hordguli_tables,
         count: usize,
