@@ -1,5 +1,7 @@
 -- Boolean tests that can be computed, and the statements that they decide.
-use Rattle.std.proofs.Common.{◌≡◌, ◌∙◌, ℕ, zero, suc, ◌*◌, ◌<◌, ◌≤◌, ◌==◌, nat_lt, nat_le, Bool, true, false, not, ◌&&◌, List, [], ◌∷◌, get_or, refl, ap, arith}
+use Rattle.std.proofs.Common.{◌≡◌, ◌∙◌, ℕ, zero, suc, ◌+◌, ◌*◌, ◌<◌, ◌≤◌, ◌==◌, nat_lt, nat_le, Bool, true, false, not, ◌&&◌, List, [], ◌∷◌, get_or, drop, refl, sym, ap, arith}
+use Rattle.std.specs.List.{list_all}
+use Rattle.std.proofs.lemmas.List.{get_or-drop}
 use Rattle.std.proofs.lemmas.Bool.Decides.{nat_tests}
 use borrow.Author.Count.{below_more}
 
@@ -56,16 +58,27 @@ is_no_less a b h = grind (arith, nat_tests)
 pub is_within : (a b : ℕ) → nat_le a b ≡ true → a ≤ b
 is_within a b h = grind (arith, nat_tests)
 
--- the entries of a table are below a number, or at most a number, if the computed test says so
-pub entries_below : (table : List ℕ) (count limit : ℕ) → all_below count (λ place. nat_lt (get_or table place 0) limit) ≡ true
-    → (place entry : ℕ) → place < count → entry ≡ get_or table place 0 → entry < limit
-entries_below table count limit tested place entry lt reads =
-    is_below entry limit (ap (λ e. nat_lt e limit) reads ∙ below count (λ place. nat_lt (get_or table place 0) limit) tested place lt)
+-- if all numbers in a list pass a test, and 0 does, so does the number at any index
+pub passes_at : (test : ℕ → Bool) (xs : List ℕ) (k : ℕ) → test 0 ≡ true → list_all test xs ≡ true → test (get_or xs k 0) ≡ true
+passes_at test [] k default all = default
+passes_at test (x ∷ xs) zero default all = (both _ _ all).0
+passes_at test (x ∷ xs) (suc k) default all = passes_at test xs k default (both _ _ all).1
 
-pub entries_within : (table : List ℕ) (count limit : ℕ) → all_below count (λ place. nat_le (get_or table place 0) limit) ≡ true
-    → (place entry : ℕ) → place < count → entry ≡ get_or table place 0 → entry ≤ limit
-entries_within table count limit tested place entry lt reads =
-    is_within entry limit (ap (λ e. nat_le e limit) reads ∙ below count (λ place. nat_le (get_or table place 0) limit) tested place lt)
+-- the entries of a table are below a number, or at most a number, if the computed test says so
+pub entries_below : (table : List ℕ) (limit : ℕ) → nat_lt 0 limit ≡ true → list_all (λ entry. nat_lt entry limit) table ≡ true
+    → (place entry : ℕ) → entry ≡ get_or table place 0 → entry < limit
+entries_below table limit default tested place entry reads =
+    is_below entry limit (ap (λ e. nat_lt e limit) reads ∙ passes_at (λ e. nat_lt e limit) table place default tested)
+
+pub entries_within : (table : List ℕ) (limit : ℕ) → nat_le 0 limit ≡ true → list_all (λ entry. nat_le entry limit) table ≡ true
+    → (place entry : ℕ) → entry ≡ get_or table place 0 → entry ≤ limit
+entries_within table limit default tested place entry reads =
+    is_within entry limit (ap (λ e. nat_le e limit) reads ∙ passes_at (λ e. nat_le e limit) table place default tested)
+
+-- an entry of a table, from the part of the table that begins with its row
+pub entry_at : (table : List ℕ) (start row symbol entry : ℕ) → row ≡ start → entry ≡ get_or table (row + symbol) 0 → get_or (drop start table) symbol 0 ≡ entry
+entry_at table start row symbol entry begins reads =
+    get_or-drop start table symbol 0 ∙ sym (reads ∙ ap (λ r. get_or table (r + symbol) 0) begins)
 
 pub is_equal : (a b : ℕ) → (a == b) ≡ true → a ≡ b
 is_equal a b h = grind (arith, nat_tests)
@@ -82,6 +95,17 @@ next_of symbols states row next test tested =
     let row_and : ((row == next * symbols) ≡ true) × ((nat_lt next states && test next) ≡ true) = both _ _ tested in
     let next_and : (nat_lt next states ≡ true) × (test next ≡ true) = both _ _ row_and.1 in
     record { next = next; below = is_below _ _ next_and.0; row = is_equal _ _ row_and.0; leads = next_and.1 }
+
+-- the same for another test with the same results
+pub next_as : (symbols states row : ℕ) (test other : ℕ → Bool) → ((next : ℕ) → test next ≡ other next) → Next symbols states row test → Next symbols states row other
+next_as symbols states row test other same entry_next =
+    record { next = entry_next.next; below = entry_next.below; row = entry_next.row; leads = sym (same entry_next.next) ∙ entry_next.leads }
+
+pub same_four : {A B : Type 0} (f : A → A → A → A → B) (a a′ b b′ c c′ d d′ : A) → a ≡ a′ → b ≡ b′ → c ≡ c′ → d ≡ d′ → f a b c d ≡ f a′ b′ c′ d′
+same_four f a a′ b b′ c c′ d d′ p q r s = rw (p, q, r, s) refl
+
+pub same_two : {A B C : Type 0} (f : A → B → C) (a a′ : A) (b b′ : B) → a ≡ a′ → b ≡ b′ → f a b ≡ f a′ b′
+same_two f a a′ b b′ p q = rw (p, q) refl
 
 -- if two numbers are equal, or are not, so is their Boolean comparison
 pub equal_is : (a b : ℕ) → a ≡ b → (a == b) ≡ true

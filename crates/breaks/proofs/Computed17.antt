@@ -1,20 +1,22 @@
 -- Each entry of the break table of Unicode 17.0 agrees with the rules, which is checked by computation.
-use Rattle.std.proofs.Common.{◌≡◌, ℕ, ◌+◌, ◌*◌, ◌/◌, ◌==◌, nat_lt, nat_le, Bool, true, false, not, ◌&&◌, ◌||◌, List, [], ◌∷◌, map, get_or, refl, if◌then◌else◌}
+use Rattle.std.proofs.Common.{◌≡◌, ℕ, ◌+◌, ◌*◌, ◌/◌, ◌==◌, nat_lt, nat_le, Bool, true, false, not, ◌&&◌, ◌||◌, List, [], ◌∷◌, map, get_or, drop, refl, ap, ◌∙◌, if◌then◌else◌}
+use Rattle.std.specs.List.{list_all}
+use Rattle.std.proofs.Math.ListN.{get_or-map}
 use Rattle.ucd.specs.Answers.{line_answers_at}
 use Rattle.ucd.specs.declared.line_class.LineClass.{LineClass}
-use Rattle.ucd.specs.declared.line_class.LineClass.TheVariants.{AK, AL, AS, CM, CP, IS, NU, OP, QU, SP, VF, ZWJ}
+use Rattle.ucd.specs.declared.line_class.LineClass.TheVariants.{AK, AL, AS, CM, CP, IS, NU, OP, QU, SP, VF, XX, ZWJ}
 use Rattle.ucd.specs.declared.version.Version.TheVariants.{V17_0}
 use Rattle.breaks.specs.Bases.{Base, Character, alone, class_of, is_east_asian}
 use Rattle.breaks.specs.Classes.{is_same, is_one_of}
 use Rattle.breaks.specs.Rules.{rows_before_numbers, rows_of_numbers, rows_after_numbers, after_final, is, is_dotted_circle}
-use Rattle.breaks.specs.Symbols.{character_in, shown_17, told_17, wide}
+use Rattle.breaks.specs.Symbols.{character_in, narrow, shown_17, symbols_17, told_17, wide}
 use Rattle.breaks.specs.Walk.{base, unattached}
-use Rattle.breaks.specs.Walk17.{Bits, answered_17, answers_17, bases_at_17, by_width, carried_17, decided_17, mark_of_17, marks_17, rows_17}
+use Rattle.breaks.specs.Walk17.{Bits, answered_17, answers_17, bases_at_17, by_width, carried_17, decided_17, mark_of_17, marks_17, rows_17, states_17}
 use Rattle.breaks.specs.declared.mark.Mark.{Mark}
 use Rattle.breaks.specs.declared.mark.Mark.TheVariants.{Never, May}
 use Rattle.breaks.specs.declared.symbol_17.TheConstants.{ATTACHED, JOINER, SYMBOLS, SYMBOL_COUNT}
 use Rattle.breaks.specs.declared.entries_17.TheConstants.{ANSWERS, NEXT_ROWS, OUTCOMES}
-use Rattle.breaks.specs.declared.table_17.TheConstants.{ENTRY_COUNT, LAST_ROW, LB15B, LB25_IS, OUTCOME_COUNT, QUESTION_COUNT, STATE_COUNT, STAYS}
+use Rattle.breaks.specs.declared.table_17.TheConstants.{LAST_ROW, LB15B, LB25_IS, OUTCOME_COUNT, QUESTION_COUNT, STATE_COUNT, STAYS}
 use Rattle.breaks.proofs.BoolLemmas.{same, all_same, all_below}
 use Rattle.breaks.proofs.Computed.{is_character, is_mark}
 
@@ -34,7 +36,7 @@ answers_after_17 c rest = map (λ row. row.after (alone c ∷ rest)) rows_17
 
 -- Examples of the bases after the next one: none, and one of each kind that the rules distinguish, narrow and wide.
 -- The kinds are NU, IS before NU, other bases of LB15b, VF, and all others.
-abbrev rests : List (List Base)
+abbrev pub rests : List (List Base)
 rests =
     [] ∷
     (base NU ∷ []) ∷ (base IS ∷ base NU ∷ []) ∷ (base SP ∷ []) ∷ (base VF ∷ []) ∷ (base AL ∷ []) ∷
@@ -92,65 +94,122 @@ with_width c is_wide = record c { is_wide = is_wide }
 abbrev pub may_have : Character → Bool → Bool
 may_have c is_wide = not (is_one_of (CP ∷ OP ∷ []) c.class) || same c.is_wide is_wide
 
--- whether two lists of bases have the same `answers_17` and the same `carried_17`
-abbrev pub is_as_17 : List Base → List Base → Bool
-is_as_17 bases others = all_same (answers_17 bases) (answers_17 others) && all_same (carried_17 bases) (carried_17 others)
-
 -- Whether the outcome of an entry gives the same mark as the rules. `befores` are the results of the conditions on the
--- bases before the position, for each value of the bits. A character can be a ZWJ that joins the last base only if
--- characters may join that.
-module _ (befores : List (List Bool)) (outcome : ℕ) (is_unattached asked : Bool) (c_is_wide : Bool) where
+-- bases before the position, for each value of the bits. `after` are those on a character of each width and the example
+-- bases after it, and `marks` the marks of each outcome before these examples. A character can be a ZWJ that joins the
+-- last base only if characters may join that.
+module _ (befores : List (List Bool)) (by_row : List Mark) (after : Bool → ℕ → List Bool) (marks : ℕ → List Mark) (outcome : ℕ) (is_unattached asked : Bool) (c_is_wide : Bool) where
   abbrev pub gives_bits : List Bool → List Mark → ℕ → Bool
   gives_bits after marks index =
       let decided : ℕ = decided_17 outcome (bits_at index) c_is_wide in
       (is_unattached && (bits_at index).is_joined)
       || ((asked || nat_lt decided 4)
-      && is_mark (get_or marks decided Never) (decide_17 marks_by_row_17 (get_or befores index []) after))
+      && is_mark (get_or marks decided Never) (decide_17 by_row (get_or befores index []) after))
 
   abbrev pub gives_rest : List Bool → List Mark → Bool
   gives_rest after marks = all_below 16 (gives_bits after marks)
 
   abbrev pub gives_wide : Character → Bool
-  gives_wide c = all_below (kinds_after c) (λ kind. gives_rest (answers_after_17 (with_width c c_is_wide) (rest_at kind)) (marks_17 (rest_at kind)))
+  gives_wide c = all_below (kinds_after c) (λ kind. gives_rest (after c_is_wide kind) (marks kind))
 
-abbrev pub gives_17 : List (List Bool) → ℕ → Bool → Character → Bool
-gives_17 befores outcome is_unattached c =
-    (not (may_have c false) || gives_wide befores outcome is_unattached (asks c) false c)
-    && (not (may_have c true) || gives_wide befores outcome is_unattached (asks c) true c)
+abbrev pub gives_17 : List (List Bool) → List Mark → (Bool → ℕ → List Bool) → (ℕ → List Mark) → ℕ → Bool → Character → Bool
+gives_17 befores by_row after marks outcome is_unattached c =
+    (not (may_have c false) || gives_wide befores by_row after marks outcome is_unattached (asks c) false c)
+    && (not (may_have c true) || gives_wide befores by_row after marks outcome is_unattached (asks c) true c)
 
 -- the results of the conditions on the example bases of a state, for each value of the bits
+abbrev pub befores_from : List Bool → List (List Bool)
+befores_from here = map (λ b. answered_17 b here) all_bits
+
 abbrev pub befores_at : ℕ → List (List Bool)
-befores_at state = map (λ b. answered_17 b (answers_17 (bases_at_17 state))) all_bits
+befores_at state = befores_from (answers_17 (bases_at_17 state))
 
 -- whether the character of a symbol joins the last base of a state (LB9)
 abbrev pub stays_17 : ℕ → ℕ → Bool
 stays_17 state symbol = is_one_of (CM ∷ ZWJ ∷ []) (shown_17 symbol).class && not (is unattached (bases_at_17 state))
 
-abbrev pub leads_17 : Bool → List (List Bool) → ℕ → ℕ → ℕ → ℕ → Bool
-leads_17 true befores state symbol outcome next = (outcome == STAYS) && (next == state)
-leads_17 false befores state symbol outcome next =
-    not (outcome == STAYS)
-    && (is_as_17 (alone (shown_17 symbol) ∷ bases_at_17 state) (bases_at_17 next)
-    && (same (is_one_of unattached (shown_17 symbol).class) (is unattached (bases_at_17 next))
-    && gives_17 befores outcome (is unattached (bases_at_17 state)) (shown_17 symbol)))
+-- What many entries share: the results of the conditions on the example bases of each state, and on a character of each
+-- symbol and width before each example of the bases after it, and the marks before these examples.
+unfoldable pub heres_17 : List (List Bool)
+heres_17 = map answers_17 states_17
 
--- whether the start of the next row and the outcome are right for a state and a symbol
-abbrev pub row_leads_17 : List (List Bool) → ℕ → ℕ → ℕ → ℕ → ℕ → Bool
-row_leads_17 befores state symbol row outcome next =
-    (row == next * SYMBOL_COUNT)
-    && (nat_lt next STATE_COUNT && leads_17 (stays_17 state symbol) befores state symbol outcome next)
+unfoldable pub afters_17 : Bool → List (List (List Bool))
+afters_17 is_wide = map (λ c. map (answers_after_17 (with_width c is_wide)) rests) symbols_17
 
-abbrev pub is_right_17 : List (List Bool) → ℕ → ℕ → ℕ → ℕ → Bool
-is_right_17 befores state symbol row outcome = row_leads_17 befores state symbol row outcome (row / SYMBOL_COUNT)
+unfoldable pub rest_marks_17 : List (List Mark)
+rest_marks_17 = map marks_17 rests
 
-abbrev pub is_right_at_17 : List (List Bool) → ℕ → ℕ → ℕ → Bool
-is_right_at_17 befores state symbol place = is_right_17 befores state symbol (get_or NEXT_ROWS place 0) (get_or OUTCOMES place 0)
+pub here_at_17 : (state : ℕ) → get_or heres_17 state (answers_17 []) ≡ answers_17 (bases_at_17 state)
+unfolding heres_17
+here_at_17 state = get_or-map answers_17 states_17 state []
 
-abbrev pub row_right_17 : List (List Bool) → ℕ → Bool
-row_right_17 befores state = all_below SYMBOL_COUNT (λ symbol. is_right_at_17 befores state symbol (state * SYMBOL_COUNT + symbol))
+-- the results at a place of the shared lists
+abbrev pub after_in : Bool → List (List (List Bool)) → ℕ → ℕ → List Bool
+after_in is_wide lists symbol kind =
+    get_or (get_or lists symbol (map (answers_after_17 (with_width (narrow XX) is_wide)) rests)) kind (answers_after_17 (with_width (shown_17 symbol) is_wide) [])
 
-abbrev pub all_right_17 : ℕ → Bool
-all_right_17 state = row_right_17 (befores_at state) state
+pub after_at_17 : (is_wide : Bool) (symbol kind : ℕ) → after_in is_wide (afters_17 is_wide) symbol kind ≡ answers_after_17 (with_width (shown_17 symbol) is_wide) (rest_at kind)
+unfolding afters_17
+after_at_17 is_wide symbol kind =
+    ap (λ lists. get_or lists kind (answers_after_17 (with_width (shown_17 symbol) is_wide) []))
+    (get_or-map (λ c. map (answers_after_17 (with_width c is_wide)) rests) symbols_17 symbol (narrow XX))
+    ∙ get_or-map (answers_after_17 (with_width (shown_17 symbol) is_wide)) rests kind []
+
+abbrev pub marks_in : List (List Mark) → ℕ → List Mark
+marks_in lists kind = get_or lists kind (marks_17 [])
+
+pub marks_at_17 : (kind : ℕ) → marks_in rest_marks_17 kind ≡ marks_17 (rest_at kind)
+unfolding rest_marks_17
+marks_at_17 kind = get_or-map marks_17 rests kind []
+
+abbrev pub by_is_wide : List (List (List Bool)) → List (List (List Bool)) → Bool → List (List (List Bool))
+by_is_wide narrow wide true = wide
+by_is_wide narrow wide false = narrow
+
+-- the entries of a table are right, given what they share
+module _ (heres : List (List Bool)) (by_row : List Mark) (narrow_after wide_after : List (List (List Bool))) (rest_marks : List (List Mark)) where
+  abbrev pub leads_by_17 : Bool → List (List Bool) → List Bool → ℕ → ℕ → ℕ → ℕ → Bool
+  leads_by_17 true befores there state symbol outcome next = (outcome == STAYS) && (next == state)
+  leads_by_17 false befores there state symbol outcome next =
+      not (outcome == STAYS)
+      && ((all_same (answers_17 (alone (shown_17 symbol) ∷ bases_at_17 state)) there
+      && all_same (carried_17 (alone (shown_17 symbol) ∷ bases_at_17 state)) (carried_17 (bases_at_17 next)))
+      && (same (is_one_of unattached (shown_17 symbol).class) (is unattached (bases_at_17 next))
+      && gives_17 befores by_row (λ is_wide. after_in is_wide (by_is_wide narrow_after wide_after is_wide) symbol) (marks_in rest_marks)
+      outcome (is unattached (bases_at_17 state)) (shown_17 symbol)))
+
+  abbrev pub leads_at_17 : List (List Bool) → ℕ → ℕ → ℕ → ℕ → Bool
+  leads_at_17 befores state symbol outcome next =
+      leads_by_17 (stays_17 state symbol) befores (get_or heres next (answers_17 [])) state symbol outcome next
+
+  -- whether the start of the next row and the outcome are right for a state and a symbol
+  abbrev pub row_leads_17 : List (List Bool) → ℕ → ℕ → ℕ → ℕ → ℕ → Bool
+  row_leads_17 befores state symbol row outcome next =
+      (row == next * SYMBOL_COUNT) && (nat_lt next STATE_COUNT && leads_at_17 befores state symbol outcome next)
+
+  abbrev pub is_right_17 : List (List Bool) → ℕ → ℕ → ℕ → ℕ → Bool
+  is_right_17 befores state symbol row outcome = row_leads_17 befores state symbol row outcome (row / SYMBOL_COUNT)
+
+  -- the same for all symbols, given the entries from those of the state on
+  abbrev pub state_right_17 : ℕ → List (List Bool) → List ℕ → List ℕ → Bool
+  state_right_17 state befores rows outcomes =
+      all_below SYMBOL_COUNT (λ symbol. is_right_17 befores state symbol (get_or rows symbol 0) (get_or outcomes symbol 0))
+
+  abbrev pub right_from_17 : ℕ → Bool
+  right_from_17 state =
+      state_right_17 state (befores_from (get_or heres state (answers_17 []))) (drop (state * SYMBOL_COUNT) NEXT_ROWS) (drop (state * SYMBOL_COUNT) OUTCOMES)
+
+  -- the same for seven states, since the computation of each declaration is limited
+  abbrev pub right_by_17 : ℕ → Bool
+  right_by_17 part = all_below 7 (λ i. right_from_17 (7 * part + i))
+
+abbrev pub part : ℕ → Bool
+part k = right_by_17 heres_17 marks_by_row_17 (afters_17 false) (afters_17 true) rest_marks_17 k
+
+-- the same, with what the entries share computed for each
+abbrev pub leads_17 : Bool → ℕ → ℕ → ℕ → ℕ → Bool
+leads_17 stay state symbol outcome next =
+    leads_by_17 heres_17 marks_by_row_17 (afters_17 false) (afters_17 true) rest_marks_17 stay (befores_at state) (answers_17 (bases_at_17 next)) state symbol outcome next
 
 abbrev Holds : Bool → Type 0
 Holds true = Unit {0}
@@ -160,48 +219,44 @@ holds : (b : Bool) → Holds b → b ≡ true
 holds true h = refl
 holds false h = absurd h
 
--- The table in parts, since the computation of each is limited.
-abbrev pub part : ℕ → Bool
-part k = all_below 7 (λ i. all_right_17 (7 * k + i))
-
 pub part_0 : part 0 ≡ true
-unfolding rows_17 rows_before_numbers rows_of_numbers rows_after_numbers
+unfolding heres_17 afters_17 rest_marks_17 rows_17 rows_before_numbers rows_of_numbers rows_after_numbers
 part_0 = holds (part 0) tt
 
 pub part_1 : part 1 ≡ true
-unfolding rows_17 rows_before_numbers rows_of_numbers rows_after_numbers
+unfolding heres_17 afters_17 rest_marks_17 rows_17 rows_before_numbers rows_of_numbers rows_after_numbers
 part_1 = holds (part 1) tt
 
 pub part_2 : part 2 ≡ true
-unfolding rows_17 rows_before_numbers rows_of_numbers rows_after_numbers
+unfolding heres_17 afters_17 rest_marks_17 rows_17 rows_before_numbers rows_of_numbers rows_after_numbers
 part_2 = holds (part 2) tt
 
 pub part_3 : part 3 ≡ true
-unfolding rows_17 rows_before_numbers rows_of_numbers rows_after_numbers
+unfolding heres_17 afters_17 rest_marks_17 rows_17 rows_before_numbers rows_of_numbers rows_after_numbers
 part_3 = holds (part 3) tt
 
 pub part_4 : part 4 ≡ true
-unfolding rows_17 rows_before_numbers rows_of_numbers rows_after_numbers
+unfolding heres_17 afters_17 rest_marks_17 rows_17 rows_before_numbers rows_of_numbers rows_after_numbers
 part_4 = holds (part 4) tt
 
 pub part_5 : part 5 ≡ true
-unfolding rows_17 rows_before_numbers rows_of_numbers rows_after_numbers
+unfolding heres_17 afters_17 rest_marks_17 rows_17 rows_before_numbers rows_of_numbers rows_after_numbers
 part_5 = holds (part 5) tt
 
 pub part_6 : part 6 ≡ true
-unfolding rows_17 rows_before_numbers rows_of_numbers rows_after_numbers
+unfolding heres_17 afters_17 rest_marks_17 rows_17 rows_before_numbers rows_of_numbers rows_after_numbers
 part_6 = holds (part 6) tt
 
-pub rows_are_within_17 : all_below ENTRY_COUNT (λ place. nat_le (get_or NEXT_ROWS place 0) LAST_ROW) ≡ true
+pub rows_are_within_17 : list_all (λ entry. nat_le entry LAST_ROW) NEXT_ROWS ≡ true
 rows_are_within_17 = refl
 
-pub outcomes_are_within_17 : all_below ENTRY_COUNT (λ place. nat_lt (get_or OUTCOMES place 0) OUTCOME_COUNT) ≡ true
+pub outcomes_are_within_17 : list_all (λ entry. nat_lt entry OUTCOME_COUNT) OUTCOMES ≡ true
 outcomes_are_within_17 = refl
 
 pub symbols_are_right_17 : all_below 448 (λ index. is_character (shown_17 (get_or SYMBOLS index 0)) (told_17 (character_in V17_0 (line_answers_at index)))) ≡ true
 symbols_are_right_17 = refl
 
-pub symbols_are_within_17 : all_below 448 (λ place. nat_lt (get_or SYMBOLS place 0) SYMBOL_COUNT) ≡ true
+pub symbols_are_within_17 : list_all (λ entry. nat_lt entry SYMBOL_COUNT) SYMBOLS ≡ true
 symbols_are_within_17 = refl
 
 pub joiner_is_one_17 : all_below SYMBOL_COUNT (λ symbol. same (symbol == JOINER) (is_same (shown_17 symbol).class ZWJ)) ≡ true

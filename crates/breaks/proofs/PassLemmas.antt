@@ -1,5 +1,5 @@
 -- One step of the walk: the new state belongs to the bases so far, and the mark agrees with the rules.
-use Rattle.std.proofs.Common.{◌≡◌, ℕ, ◌+◌, ◌*◌, ◌<◌, ◌≤◌, ◌==◌, Bool, true, false, not, ◌&&◌, ◌||◌, List, [], ◌∷◌, ◌++◌, map, get_or, refl, sym, ap, ◌∙◌, arith, if◌then◌else◌, inl, inr}
+use Rattle.std.proofs.Common.{◌≡◌, ℕ, ◌+◌, ◌*◌, ◌<◌, ◌≤◌, ◌==◌, Bool, true, false, not, ◌&&◌, ◌||◌, List, [], ◌∷◌, ◌++◌, map, get_or, drop, refl, sym, ap, ◌∙◌, arith, if◌then◌else◌, inl, inr}
 use Rattle.ucd.specs.declared.version.Version.TheVariants.{V15_0}
 use Rattle.std.proofs.lemmas.Bool.{cases_Bool}
 use Rattle.ucd.specs.declared.line_class.LineClass.{LineClass}
@@ -16,8 +16,8 @@ use Rattle.breaks.specs.declared.symbol.TheConstants.{JOINER, SYMBOL_COUNT}
 use Rattle.breaks.specs.declared.entries.TheConstants.{NEXT_ROWS, OUTCOMES}
 use Rattle.breaks.specs.declared.table.TheConstants.{ENTRY_COUNT, LAST_ROW, NEVER, STATE_COUNT, STAYS, UNLESS, WAITS}
 use Rattle.breaks.specs.declared.walk.Walk15.{Walk15}
-use Rattle.breaks.proofs.BoolLemmas.{Next, next_of, both, same, same_is, all_same, all_same_is, below, entries_below, entries_within, is_equal}
-use Rattle.breaks.proofs.Computed.{all_right, decide, marks_by_row, answers_after, answered_with, is_mark, stays, is_as, gives_both, gives_each, leads, is_right, is_right_at, table_is_right, table_is_right_whole, rows_are_within, outcomes_are_within, waits_for_base}
+use Rattle.breaks.proofs.BoolLemmas.{Next, next_of, next_as, entry_at, same_four, both, same, same_is, all_same, all_same_is, below, entries_below, entries_within, is_equal}
+use Rattle.breaks.proofs.Computed.{after_at, afters, before_at, befores, decide, marks_by_row, answers_after, answered_with, is_mark, stays, gives_both, gives_each, leads, leads_at, leads_by, is_right, right_by, right_from, table_right, table_is_right, table_is_right_whole, rows_are_within, outcomes_are_within, waits_for_base}
 use Rattle.breaks.proofs.StepLemmas.{end_attached, marked, answers_attached, carried_attached, answers_same, carried_same, answers_told, carried_told}
 use Rattle.breaks.proofs.SymbolLemmas.{is_joiner, answers_after_told}
 
@@ -88,18 +88,34 @@ given whole_numbers state symbol outcome true is_pictograph before_digit free ea
 abbrev pub Leads : Bool → ℕ → ℕ → ℕ → ℕ → Type 0
 Leads whole_numbers state symbol next_row outcome = Next SYMBOL_COUNT STATE_COUNT next_row (leads whole_numbers (stays state symbol) state symbol outcome)
 
-state_is_right : (whole_numbers : Bool) (state : ℕ) → state < STATE_COUNT → all_right whole_numbers state ≡ true
-state_is_right true state state_lt = below STATE_COUNT (all_right true) table_is_right_whole state state_lt
-state_is_right false state state_lt = below STATE_COUNT (all_right false) table_is_right state state_lt
+-- the entry is right if the table is, given what its entries share
+entry_of : (whole_numbers : Bool) (heres after digit_after : List (List Bool)) (state symbol row next_row outcome : ℕ) → state < STATE_COUNT → symbol < SYMBOL_COUNT
+    → row ≡ state * SYMBOL_COUNT → next_row ≡ get_or NEXT_ROWS (row + symbol) 0 → outcome ≡ get_or OUTCOMES (row + symbol) 0
+    → right_by whole_numbers heres after digit_after ≡ true
+    → Next SYMBOL_COUNT STATE_COUNT next_row (leads_at whole_numbers heres after digit_after (get_or heres state (answers whole_numbers [])) state symbol outcome)
+entry_of whole_numbers heres after digit_after state symbol row next_row outcome state_lt symbol_lt begins reads_row reads_outcome table =
+    let here : List Bool = get_or heres state (answers whole_numbers []) in
+    let row_at : get_or (drop (state * SYMBOL_COUNT) NEXT_ROWS) symbol 0 ≡ next_row = entry_at NEXT_ROWS (state * SYMBOL_COUNT) row symbol next_row begins reads_row in
+    let outcome_at : get_or (drop (state * SYMBOL_COUNT) OUTCOMES) symbol 0 ≡ outcome = entry_at OUTCOMES (state * SYMBOL_COUNT) row symbol outcome begins reads_outcome in
+    let at_state = below STATE_COUNT (right_from whole_numbers heres after digit_after) table state state_lt in
+    let at_symbol = below SYMBOL_COUNT (λ symbol. is_right whole_numbers heres after digit_after here state symbol
+    (get_or (drop (state * SYMBOL_COUNT) NEXT_ROWS) symbol 0) (get_or (drop (state * SYMBOL_COUNT) OUTCOMES) symbol 0)) at_state symbol symbol_lt in
+    let right : is_right whole_numbers heres after digit_after here state symbol next_row outcome ≡ true = rw (← row_at, ← outcome_at) at_symbol in
+    next_of _ _ _ _ _ right
+
+table_is : (whole_numbers : Bool) → table_right whole_numbers ≡ true
+table_is true = table_is_right_whole
+table_is false = table_is_right
 
 pub entry_is_right : (whole_numbers : Bool) (state symbol row next_row outcome : ℕ) → state < STATE_COUNT → symbol < SYMBOL_COUNT
     → row ≡ state * SYMBOL_COUNT → next_row ≡ get_or NEXT_ROWS (row + symbol) 0 → outcome ≡ get_or OUTCOMES (row + symbol) 0
     → Leads whole_numbers state symbol next_row outcome
 entry_is_right whole_numbers state symbol row next_row outcome state_lt symbol_lt begins reads_row reads_outcome =
-    let at_state = state_is_right whole_numbers state state_lt in
-    let at_symbol = below SYMBOL_COUNT (λ symbol. is_right_at whole_numbers state symbol (state * SYMBOL_COUNT + symbol)) at_state symbol symbol_lt in
-    let right : is_right whole_numbers state symbol next_row outcome ≡ true = rw (reads_row, reads_outcome, begins) at_symbol in
-    next_of _ _ _ _ _ right
+    next_as SYMBOL_COUNT STATE_COUNT next_row _ _
+    (λ next. same_four (leads_by whole_numbers (stays state symbol) state symbol outcome next) _ _ _ _ _ _ _ _
+    (before_at whole_numbers state) (before_at whole_numbers next) (after_at whole_numbers false symbol) (after_at whole_numbers true symbol))
+    (entry_of whole_numbers (befores whole_numbers) (afters whole_numbers false) (afters whole_numbers true) state symbol row next_row outcome
+    state_lt symbol_lt begins reads_row reads_outcome (table_is whole_numbers))
 
 -- the entry is right for a character that begins a base
 record Begins (whole_numbers : Bool) (state symbol outcome next : ℕ) : Type 0 where
@@ -116,8 +132,9 @@ beginning whole_numbers state symbol outcome next led =
     let attaching : Bool = same (is_one_of unattached (shown symbol).class) (is unattached there) in
     let waiting : Bool = waits_for_base symbol outcome in
     let giving : Bool = gives_each whole_numbers state symbol outcome in
-    let rest : (not (outcome == STAYS) ≡ true) × ((is_as whole_numbers after there && (attaching && (waiting && giving))) ≡ true) = both _ _ led in
-    let facts : (is_as whole_numbers after there ≡ true) × ((attaching && (waiting && giving)) ≡ true) = both _ _ rest.1 in
+    let likes : Bool = all_same (answers whole_numbers after) (answers whole_numbers there) && all_same (carried after) (carried there) in
+    let rest : (not (outcome == STAYS) ≡ true) × ((likes && (attaching && (waiting && giving))) ≡ true) = both _ _ led in
+    let facts : (likes ≡ true) × ((attaching && (waiting && giving)) ≡ true) = both _ _ rest.1 in
     let as_next : (all_same (answers whole_numbers after) (answers whole_numbers there) ≡ true) × (all_same (carried after) (carried there) ≡ true) = both _ _ facts.0 in
     let attaches : (attaching ≡ true) × ((waiting && giving) ≡ true) = both _ _ facts.1 in
     let waits : (waiting ≡ true) × (giving ≡ true) = both _ _ attaches.1 in
@@ -172,8 +189,9 @@ attached whole_numbers walk last others stands symbol next_row outcome c symbol_
     let here : List Base = bases_at stands.state in
     let next : List Base = bases_at entry_leads.next in
     let attaching : Bool = same (is unattached here) (is unattached next) in
-    let facts : ((outcome == STAYS) ≡ true) × ((is_as whole_numbers here next && attaching) ≡ true) = both _ _ led in
-    let likes : (is_as whole_numbers here next ≡ true) × (attaching ≡ true) = both _ _ facts.1 in
+    let alike : Bool = all_same (answers whole_numbers here) (answers whole_numbers next) && all_same (carried here) (carried next) in
+    let facts : ((outcome == STAYS) ≡ true) × ((alike && attaching) ≡ true) = both _ _ led in
+    let likes : (alike ≡ true) × (attaching ≡ true) = both _ _ facts.1 in
     let as_next : (all_same (answers whole_numbers here) (answers whole_numbers next) ≡ true) × (all_same (carried here) (carried next) ≡ true) = both _ _ likes.0 in
     let mark_and : (is_one_of (CM ∷ ZWJ ∷ []) (shown symbol).class ≡ true) × (not (is unattached here) ≡ true) = both _ _ stay in
     let ends : end_of (with_attached last c) ≡ c = end_attached last.first last.attached c in
@@ -401,8 +419,8 @@ passes_as walk symbol next_row outcome c is_pictograph decided symbol_lt shows r
 
 -- the next row in each entry is a row of the table
 pub row_within : (place next_row : ℕ) → place < ENTRY_COUNT → next_row ≡ get_or NEXT_ROWS place 0 → next_row ≤ LAST_ROW
-row_within = entries_within NEXT_ROWS ENTRY_COUNT LAST_ROW rows_are_within
+row_within place next_row lt = entries_within NEXT_ROWS LAST_ROW refl rows_are_within place next_row
 
 -- the outcome in each entry is one of the eight
 pub outcome_below : (place outcome : ℕ) → place < ENTRY_COUNT → outcome ≡ get_or OUTCOMES place 0 → outcome < 8
-outcome_below = entries_below OUTCOMES ENTRY_COUNT 8 outcomes_are_within
+outcome_below place outcome lt = entries_below OUTCOMES 8 refl outcomes_are_within place outcome

@@ -1,5 +1,5 @@
 -- One step of the walk, with the rules of Unicode 17.0.
-use Rattle.std.proofs.Common.{◌≡◌, ℕ, zero, suc, ◌+◌, ◌*◌, ◌/◌, ◌%◌, ◌<◌, ◌≤◌, ◌==◌, nat_lt, Bool, true, false, not, ◌&&◌, ◌||◌, List, [], ◌∷◌, ◌++◌, map, get_or, refl, sym, ap, ap₂, subst, ◌∙◌, arith, inl, inr}
+use Rattle.std.proofs.Common.{◌≡◌, ℕ, zero, suc, ◌+◌, ◌*◌, ◌/◌, ◌%◌, ◌<◌, ◌≤◌, ◌==◌, nat_lt, Bool, true, false, not, ◌&&◌, ◌||◌, List, [], ◌∷◌, ◌++◌, map, get_or, drop, refl, sym, ap, ap₂, subst, ◌∙◌, arith, inl, inr}
 use Rattle.std.proofs.lemmas.Bool.{cases_Bool}
 use Rattle.ucd.specs.declared.line_class.LineClass.{LineClass}
 use Rattle.ucd.specs.declared.line_class.LineClass.TheVariants.{AK, AL, AS, CM, IS, NU, OP, QU, VF, ZWJ}
@@ -13,14 +13,15 @@ use Rattle.breaks.specs.Symbols.{shown_17, told_17}
 use Rattle.breaks.specs.Passes.{Passes, bases_after, with_attached}
 use Rattle.breaks.specs.Walk.{unattached}
 use Rattle.breaks.specs.Walk17.{Bits, Stands17, answered_17, answers_17, bases_at_17, bits_in, bits_of, carried_17, decided_17, is_stop_digit, is_wide_base, mark_of_17, marks_17, rows_17}
+use Rattle.breaks.specs.declared.mark.Mark.{Mark}
 use Rattle.breaks.specs.declared.mark.Mark.TheVariants.{Never}
 use Rattle.breaks.specs.declared.entries_17.TheConstants.{NEXT_ROWS, OUTCOMES}
 use Rattle.breaks.specs.declared.symbol_17.TheConstants.{JOINER, SYMBOL_COUNT}
 use Rattle.breaks.specs.declared.table_17.TheConstants.{ENTRY_COUNT, LAST_ROW, NEVER, OUTCOME_COUNT, STATE_COUNT, STAYS}
 use Rattle.breaks.specs.declared.walk_17.Walk17.{Walk17}
-use Rattle.breaks.proofs.BoolLemmas.{Next, next_of, all_same, all_same_is, below, both, entries_below, entries_within, is_below, is_equal, same, same_is}
+use Rattle.breaks.proofs.BoolLemmas.{Next, next_of, next_as, entry_at, same_two, all_same, all_same_is, below, both, entries_below, entries_within, is_below, is_equal, same, same_is}
 use Rattle.breaks.proofs.Computed.{is_mark}
-use Rattle.breaks.proofs.Computed17.{bits, all_right_17, answers_after_17, asks, befores_at, bits_at, decide_17, gives_17, gives_bits, gives_rest, gives_wide, index_of, is_as_17, is_right_at_17, is_right_17, kind, kind_of, kinds_after, leads_17, marks_by_row_17, may_have, outcomes_are_within_17, part, part_0, part_1, part_2, part_3, part_4, part_5, part_6, rest_at, rows_are_within_17, stays_17, with_width}
+use Rattle.breaks.proofs.Computed17.{after_at_17, after_in, afters_17, answers_after_17, asks, befores_at, befores_from, bits, bits_at, by_is_wide, decide_17, gives_17, gives_bits, gives_rest, gives_wide, here_at_17, heres_17, index_of, is_right_17, kind, kind_of, kinds_after, leads_17, leads_at_17, leads_by_17, marks_at_17, marks_by_row_17, marks_in, may_have, outcomes_are_within_17, rest_at, rest_marks_17, right_by_17, right_from_17, rows_are_within_17, stays_17, part, part_0, part_1, part_2, part_3, part_4, part_5, part_6, with_width}
 use Rattle.breaks.proofs.PassLemmas.{and_false, first_base, is_mark_is, joiner_attaches, mark_attaches, not_true, second_bases}
 use Rattle.breaks.proofs.StepLemmas.{end_attached}
 use Rattle.breaks.proofs.StepLemmas17.{circle_told, answers_after_told_17, answers_attached_17, answers_same_17, answers_told_17, carried_attached_17, carried_same_17, carried_told_17, marked_17}
@@ -38,40 +39,59 @@ part_is (suc (suc (suc (suc (suc zero))))) lt = part_5
 part_is (suc (suc (suc (suc (suc (suc zero)))))) lt = part_6
 part_is (suc (suc (suc (suc (suc (suc (suc n))))))) lt = absurd (omega arith)
 
-state_is_right_17 : (state : ℕ) → state < STATE_COUNT → all_right_17 state ≡ true
-state_is_right_17 state lt =
-    let k : ℕ = state / 7 in
-    let whole : 7 * (state / 7) + state % 7 ≡ state = omega arith in
-    subst (λ s. all_right_17 s ≡ true) whole (below 7 (λ i. all_right_17 (7 * (state / 7) + i)) (part_is (state / 7) (omega arith)) (state % 7) (omega arith))
-
 -- the entry for a state and a symbol is right
 abbrev pub Leads17 : ℕ → ℕ → ℕ → ℕ → Type 0
-Leads17 state symbol next_row outcome = Next SYMBOL_COUNT STATE_COUNT next_row (leads_17 (stays_17 state symbol) (befores_at state) state symbol outcome)
+Leads17 state symbol next_row outcome = Next SYMBOL_COUNT STATE_COUNT next_row (leads_17 (stays_17 state symbol) state symbol outcome)
+
+-- the entry is right if the table is, given what its entries share
+entry_of_17 : (heres : List (List Bool)) (by_row : List Mark) (narrow wide : List (List (List Bool))) (marks : List (List Mark))
+    (state symbol row next_row outcome : ℕ) → state < STATE_COUNT → symbol < SYMBOL_COUNT
+    → row ≡ state * SYMBOL_COUNT → next_row ≡ get_or NEXT_ROWS (row + symbol) 0 → outcome ≡ get_or OUTCOMES (row + symbol) 0
+    → right_by_17 heres by_row narrow wide marks (state / 7) ≡ true
+    → Next SYMBOL_COUNT STATE_COUNT next_row (leads_at_17 heres by_row narrow wide marks (befores_from (get_or heres state (answers_17 []))) state symbol outcome)
+entry_of_17 heres by_row narrow wide marks state symbol row next_row outcome state_lt symbol_lt begins reads_row reads_outcome table =
+    let befores : List (List Bool) = befores_from (get_or heres state (answers_17 [])) in
+    let row_at : get_or (drop (state * SYMBOL_COUNT) NEXT_ROWS) symbol 0 ≡ next_row = entry_at NEXT_ROWS (state * SYMBOL_COUNT) row symbol next_row begins reads_row in
+    let outcome_at : get_or (drop (state * SYMBOL_COUNT) OUTCOMES) symbol 0 ≡ outcome = entry_at OUTCOMES (state * SYMBOL_COUNT) row symbol outcome begins reads_outcome in
+    let whole : 7 * (state / 7) + state % 7 ≡ state = omega arith in
+    let at_state : right_from_17 heres by_row narrow wide marks state ≡ true =
+    subst (λ s. right_from_17 heres by_row narrow wide marks s ≡ true) whole (below 7 (λ i. right_from_17 heres by_row narrow wide marks (7 * (state / 7) + i)) table (state % 7) (omega arith)) in
+    let at_symbol = below SYMBOL_COUNT (λ symbol. is_right_17 heres by_row narrow wide marks befores state symbol
+    (get_or (drop (state * SYMBOL_COUNT) NEXT_ROWS) symbol 0) (get_or (drop (state * SYMBOL_COUNT) OUTCOMES) symbol 0)) at_state symbol symbol_lt in
+    let right : is_right_17 heres by_row narrow wide marks befores state symbol next_row outcome ≡ true = rw (← row_at, ← outcome_at) at_symbol in
+    next_of _ _ _ _ _ right
 
 pub entry_is_right_17 : (state symbol row next_row outcome : ℕ) → state < STATE_COUNT → symbol < SYMBOL_COUNT
     → row ≡ state * SYMBOL_COUNT → next_row ≡ get_or NEXT_ROWS (row + symbol) 0 → outcome ≡ get_or OUTCOMES (row + symbol) 0
     → Leads17 state symbol next_row outcome
 entry_is_right_17 state symbol row next_row outcome state_lt symbol_lt begins reads_row reads_outcome =
-    let at_state = state_is_right_17 state state_lt in
-    let at_symbol = below SYMBOL_COUNT (λ symbol. is_right_at_17 (befores_at state) state symbol (state * SYMBOL_COUNT + symbol)) at_state symbol symbol_lt in
-    let right : is_right_17 (befores_at state) state symbol next_row outcome ≡ true = rw (reads_row, reads_outcome, begins) at_symbol in
-    next_of _ _ _ _ _ right
+    next_as SYMBOL_COUNT STATE_COUNT next_row _ _
+    (λ next. same_two (λ befores there. leads_by_17 heres_17 marks_by_row_17 (afters_17 false) (afters_17 true) rest_marks_17 (stays_17 state symbol) befores there state symbol outcome next) _ _ _ _
+    (ap befores_from (here_at_17 state)) (here_at_17 next))
+    (entry_of_17 heres_17 marks_by_row_17 (afters_17 false) (afters_17 true) rest_marks_17 state symbol row next_row outcome
+    state_lt symbol_lt begins reads_row reads_outcome (part_is (state / 7) (omega arith)))
+
+-- whether the outcome gives the marks of the rules, from what the entries share
+abbrev pub given_by_17 : (befores : List (List Bool)) (symbol outcome : ℕ) (is_unattached : Bool) → Character → Bool
+given_by_17 befores symbol outcome is_unattached c =
+    gives_17 befores marks_by_row_17 (λ is_wide. after_in is_wide (by_is_wide (afters_17 false) (afters_17 true) is_wide) symbol) (marks_in rest_marks_17) outcome is_unattached c
 
 -- the entry is right for a character that begins a base
 record Begins17 (state symbol outcome next : ℕ) : Type 0 where
   answered : answers_17 (alone (shown_17 symbol) ∷ bases_at_17 state) ≡ answers_17 (bases_at_17 next)
   carries : carried_17 (alone (shown_17 symbol) ∷ bases_at_17 state) ≡ carried_17 (bases_at_17 next)
   attaches : is_one_of unattached (shown_17 symbol).class ≡ is unattached (bases_at_17 next)
-  gives : gives_17 (befores_at state) outcome (is unattached (bases_at_17 state)) (shown_17 symbol) ≡ true
+  gives : given_by_17 (befores_at state) symbol outcome (is unattached (bases_at_17 state)) (shown_17 symbol) ≡ true
 
-beginning_17 : (state symbol outcome next : ℕ) → leads_17 false (befores_at state) state symbol outcome next ≡ true → Begins17 state symbol outcome next
+beginning_17 : (state symbol outcome next : ℕ) → leads_17 false state symbol outcome next ≡ true → Begins17 state symbol outcome next
 beginning_17 state symbol outcome next led =
     let after : List Base = alone (shown_17 symbol) ∷ bases_at_17 state in
     let there : List Base = bases_at_17 next in
     let attaching : Bool = same (is_one_of unattached (shown_17 symbol).class) (is unattached there) in
-    let giving : Bool = gives_17 (befores_at state) outcome (is unattached (bases_at_17 state)) (shown_17 symbol) in
-    let rest : (not (outcome == STAYS) ≡ true) × ((is_as_17 after there && (attaching && giving)) ≡ true) = both _ _ led in
-    let facts : (is_as_17 after there ≡ true) × ((attaching && giving) ≡ true) = both _ _ rest.1 in
+    let giving : Bool = given_by_17 (befores_at state) symbol outcome (is unattached (bases_at_17 state)) (shown_17 symbol) in
+    let alike : Bool = all_same (answers_17 after) (answers_17 there) && all_same (carried_17 after) (carried_17 there) in
+    let rest : (not (outcome == STAYS) ≡ true) × ((alike && (attaching && giving)) ≡ true) = both _ _ led in
+    let facts : (alike ≡ true) × ((attaching && giving) ≡ true) = both _ _ rest.1 in
     let as_next : (all_same (answers_17 after) (answers_17 there) ≡ true) × (all_same (carried_17 after) (carried_17 there) ≡ true) = both _ _ facts.0 in
     let attaches : (attaching ≡ true) × (giving ≡ true) = both _ _ facts.1 in
     record {
@@ -116,7 +136,7 @@ attached_17 : (walk : Walk17) (last : Base) (others : List Base) (stands : Stand
     → shown_17 symbol ≡ told_17 c → Leads17 stands.state symbol next_row outcome → stays_17 stands.state symbol ≡ true
     → Stands17 (record walk { row = next_row; is_joined = symbol == JOINER }) (with_attached last c) others
 attached_17 walk last others stands symbol next_row outcome c symbol_lt shows entry_leads stay =
-    let led : leads_17 true (befores_at stands.state) stands.state symbol outcome entry_leads.next ≡ true = rw stay at entry_leads.leads in
+    let led : leads_17 true stands.state symbol outcome entry_leads.next ≡ true = rw stay at entry_leads.leads in
     let facts : ((outcome == STAYS) ≡ true) × ((entry_leads.next == stands.state) ≡ true) = both _ _ led in
     let next : entry_leads.next ≡ stands.state = is_equal _ _ facts.1 in
     let mark_and : (is_one_of (CM ∷ ZWJ ∷ []) (shown_17 symbol).class ≡ true) × (not (is unattached (bases_at_17 stands.state)) ≡ true) = both _ _ stay in
@@ -275,16 +295,32 @@ at_bits state false false true false = (refl, refl, refl)
 at_bits state false false false true = (refl, refl, refl)
 at_bits state false false false false = (refl, refl, refl)
 
-with_given_width : (befores : List (List Bool)) (outcome : ℕ) (is_unattached : Bool) (c : Character) (wide : Bool) → may_have c wide ≡ true
-    → gives_17 befores outcome is_unattached c ≡ true → gives_wide befores outcome is_unattached (asks c) wide c ≡ true
-with_given_width befores outcome is_unattached c false may h =
-    let narrow : Bool = gives_wide befores outcome is_unattached (asks c) false c in
-    let parts : ((not (may_have c false) || narrow) ≡ true) × ((not (may_have c true) || gives_wide befores outcome is_unattached (asks c) true c) ≡ true) = both _ _ h in
-    ap (λ m. not m || narrow) (sym may) ∙ parts.0
-with_given_width befores outcome is_unattached c true may h =
-    let wide : Bool = gives_wide befores outcome is_unattached (asks c) true c in
-    let parts : ((not (may_have c false) || gives_wide befores outcome is_unattached (asks c) false c) ≡ true) × ((not (may_have c true) || wide) ≡ true) = both _ _ h in
-    ap (λ m. not m || wide) (sym may) ∙ parts.1
+module _ (befores : List (List Bool)) (by_row : List Mark) (after : Bool → ℕ → List Bool) (marks : ℕ → List Mark) (outcome : ℕ) (is_unattached : Bool) (c : Character) where
+  abbrev Gives : Bool → Bool
+  Gives wide = gives_wide befores by_row after marks outcome is_unattached (asks c) wide c
+
+  with_given_width : (wide : Bool) → may_have c wide ≡ true → gives_17 befores by_row after marks outcome is_unattached c ≡ true → Gives wide ≡ true
+  with_given_width false may h =
+      let parts : ((not (may_have c false) || Gives false) ≡ true) × ((not (may_have c true) || Gives true) ≡ true) = both _ _ h in
+      ap (λ m. not m || Gives false) (sym may) ∙ parts.0
+  with_given_width true may h =
+      let parts : ((not (may_have c false) || Gives false) ≡ true) × ((not (may_have c true) || Gives true) ≡ true) = both _ _ h in
+      ap (λ m. not m || Gives true) (sym may) ∙ parts.1
+
+  -- for one example of the bases after the position, and one value of the bits
+  given_at_bits : (wide : Bool) (place index : ℕ) → may_have c wide ≡ true → gives_17 befores by_row after marks outcome is_unattached c ≡ true
+      → place < kinds_after c → index < 16
+      → gives_bits befores by_row after marks outcome is_unattached (asks c) wide (after wide place) (marks place) index ≡ true
+  given_at_bits wide place index may h lt index_lt =
+      below 16 (gives_bits befores by_row after marks outcome is_unattached (asks c) wide (after wide place) (marks place))
+      (below (kinds_after c) (λ kind. gives_rest befores by_row after marks outcome is_unattached (asks c) wide (after wide kind) (marks kind)) (with_given_width wide may h) place lt)
+      index index_lt
+
+-- the shared list for a width
+after_of_17 : (is_wide : Bool) (symbol kind : ℕ)
+    → after_in is_wide (by_is_wide (afters_17 false) (afters_17 true) is_wide) symbol kind ≡ answers_after_17 (with_width (shown_17 symbol) is_wide) (rest_at kind)
+after_of_17 true symbol kind = after_at_17 true symbol kind
+after_of_17 false symbol kind = after_at_17 false symbol kind
 
 unjoined : (is_unattached is_joined : Bool) → (is_joined ≡ true → is_unattached ≡ false) → (is_unattached && is_joined) ≡ false
 unjoined is_unattached true free = ap (λ b. b && true) (free refl)
@@ -295,7 +331,7 @@ given_17 : (state symbol outcome : ℕ) (b : Bits) (wide : Bool) (place : ℕ)
     → AtBits state b
     → may_have (shown_17 symbol) wide ≡ true
     → (b.is_joined ≡ true → is unattached (bases_at_17 state) ≡ false)
-    → gives_17 (befores_at state) outcome (is unattached (bases_at_17 state)) (shown_17 symbol) ≡ true
+    → given_by_17 (befores_at state) symbol outcome (is unattached (bases_at_17 state)) (shown_17 symbol) ≡ true
     → place < kinds_after (shown_17 symbol)
     → ((asks (shown_17 symbol) || nat_lt (decided_17 outcome b wide) 4) ≡ true)
     × (mark_of_17 (decided_17 outcome b wide) (rest_at place)
@@ -304,16 +340,12 @@ given_17 state symbol outcome b wide place here may free gives lt =
     let c : Character = shown_17 symbol in
     let un : Bool = is unattached (bases_at_17 state) in
     let asked : Bool = asks (shown_17 symbol) in
-    let at_width = with_given_width (befores_at state) outcome un c wide may gives in
-    let at_rest = below (kinds_after c)
-    (λ kind. gives_rest (befores_at state) outcome un asked wide (answers_after_17 (with_width c wide) (rest_at kind)) (marks_17 (rest_at kind))) at_width place lt in
-    let at_index = below 16
-    (gives_bits (befores_at state) outcome un asked wide (answers_after_17 (with_width c wide) (rest_at place)) (marks_17 (rest_at place)))
-    at_rest (index_of b) (is_below _ _ here.0) in
+    let at_index = given_at_bits (befores_at state) marks_by_row_17 (λ is_wide. after_in is_wide (by_is_wide (afters_17 false) (afters_17 true) is_wide) symbol) (marks_in rest_marks_17)
+    outcome un c wide place (index_of b) may gives lt (is_below _ _ here.0) in
     let said : ((un && b.is_joined) || ((asked || nat_lt (decided_17 outcome b wide) 4)
     && is_mark (get_or (marks_17 (rest_at place)) (decided_17 outcome b wide) Never)
     (decide_17 marks_by_row_17 (answered_17 b (answers_17 (bases_at_17 state))) (answers_after_17 (with_width c wide) (rest_at place))))) ≡ true =
-    rw (here.1, here.2) at at_index in
+    rw (here.1, here.2, after_of_17 wide symbol place, marks_at_17 place) at at_index in
     let parts = both _ _ (rw (unjoined un b.is_joined free) at said) in
     (parts.0, is_mark_is _ _ parts.1)
 
@@ -389,10 +421,10 @@ outcome_stays_17 : (state symbol next_row outcome : ℕ) → Leads17 state symbo
 outcome_stays_17 state symbol next_row outcome entry_leads =
     elim (cases_Bool (stays_17 state symbol)) [
       | inl stay ↦
-          let led : leads_17 true (befores_at state) state symbol outcome entry_leads.next ≡ true = rw stay at entry_leads.leads in
+          let led : leads_17 true state symbol outcome entry_leads.next ≡ true = rw stay at entry_leads.leads in
           (both _ _ led).0 ∙ sym stay
       | inr begun ↦
-          let led : leads_17 false (befores_at state) state symbol outcome entry_leads.next ≡ true = rw begun at entry_leads.leads in
+          let led : leads_17 false state symbol outcome entry_leads.next ≡ true = rw begun at entry_leads.leads in
           not_true _ (both _ _ led).0 ∙ sym begun
     ]
 
@@ -453,7 +485,7 @@ starts_17 symbol next_row is_pictograph is_wide c symbol_lt shows reads_row pict
 
 -- the next row in each entry is a row of the table, and the outcome is one of the outcomes
 pub row_within_17 : (place next_row : ℕ) → place < ENTRY_COUNT → next_row ≡ get_or NEXT_ROWS place 0 → next_row ≤ LAST_ROW
-row_within_17 = entries_within NEXT_ROWS ENTRY_COUNT LAST_ROW rows_are_within_17
+row_within_17 place next_row lt = entries_within NEXT_ROWS LAST_ROW refl rows_are_within_17 place next_row
 
 pub outcome_below_17 : (place outcome : ℕ) → place < ENTRY_COUNT → outcome ≡ get_or OUTCOMES place 0 → outcome < OUTCOME_COUNT
-outcome_below_17 = entries_below OUTCOMES ENTRY_COUNT OUTCOME_COUNT outcomes_are_within_17
+outcome_below_17 place outcome lt = entries_below OUTCOMES OUTCOME_COUNT refl outcomes_are_within_17 place outcome

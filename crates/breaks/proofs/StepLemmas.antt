@@ -40,10 +40,14 @@ pub more_rows : (some more : List Row) (mark : Mark) (before after : List Base) 
 more_rows [] more mark before after = refl
 more_rows (row ∷ some) more mark before after = ap (λ rest. if row.before before && row.after after then row.mark else rest) (more_rows some more mark before after)
 
+pub chosen : (b : Bool) (mark one other : Mark) → one ≡ other → (if b then mark else one) ≡ elim b as (λ _. Mark) [ true ↦ mark | false ↦ other ]
+chosen true mark one other same = refl
+chosen false mark one other same = same
+
 -- the rows give the mark that `decide` gives for the results of their conditions
 decides : (some : List Row) (before after : List Base) → row_mark some May before after ≡ decide (map (λ row. row.mark) some) (map (λ row. row.before before) some) (map (λ row. row.after after) some)
 decides [] before after = refl
-decides (row ∷ some) before after = ap (λ rest. if row.before before && row.after after then row.mark else rest) (decides some before after)
+decides (row ∷ some) before after = chosen (row.before before && row.after after) row.mark _ _ (decides some before after)
 
 four : (a b c d : Bool) (mark : Mark) → (if a || (b || (c || d)) then Never else mark) ≡ (if a then Never else if b then Never else if c then Never else if d then Never else mark)
 four true b c d mark = refl

@@ -10,17 +10,12 @@ use Rattle.breaks.specs.Classes.{is_detail, is_same, is_one_of}
 use Rattle.breaks.specs.Rules.{Row, rules, rows_before_numbers, rows_of_numbers, rows_after_numbers, mark_by, before_initial, before_word, begins_quotation, ends_in_number, ends_in_odd_run, is, is_aksara, is_dotted_circle, is_not_east_asian, is_pair, is_spaced, or_edge, spaced, without_spaces}
 use Rattle.breaks.specs.Symbols.{told_17}
 use Rattle.breaks.specs.Walk17.{answered_17, answers_17, bits_of, carried_17, is_wide_base, rows_17}
-use Rattle.breaks.specs.declared.mark.Mark.{Mark}
 use Rattle.breaks.specs.declared.mark.Mark.TheVariants.{May}
-use Rattle.breaks.proofs.StepLemmas.{last_rules_of_rows, more_rows, odd_after, odd_same, pair_after, pair_same, row_mark, rules_of_rows, spaced_same, spaced_same_class}
+use Rattle.breaks.proofs.StepLemmas.{chosen, last_rules_of_rows, more_rows, odd_after, odd_same, pair_after, pair_same, row_mark, rules_of_rows, spaced_same, spaced_same_class}
 use Rattle.breaks.proofs.SymbolLemmas.{narrow_before}
 use Rattle.breaks.proofs.Computed17.{answers_after_17, decide_17, marks_by_row_17, with_width}
 
 -- ---- the rules as rows
-
-chosen : (holds : Bool) (mark one other : Mark) → one ≡ other → (if holds then mark else one) ≡ elim holds as (λ _. Mark) [ true ↦ mark | false ↦ other ]
-chosen true mark one other same = refl
-chosen false mark one other same = same
 
 -- the rows give the mark that `decide_17` gives for the results of their conditions
 decides_17 : (some : List Row) (before after : List Base) → row_mark some May before after

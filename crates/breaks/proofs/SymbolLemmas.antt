@@ -67,4 +67,4 @@ symbol_shown p index symbol lt is reads =
     ∙ ap (λ a. told (character_in V15_0 a)) (sym is)
 
 pub symbol_below : (index symbol : ℕ) → index < 448 → symbol ≡ get_or SYMBOLS index 0 → symbol < SYMBOL_COUNT
-symbol_below = entries_below SYMBOLS 448 SYMBOL_COUNT symbols_are_within
+symbol_below index symbol lt = entries_below SYMBOLS SYMBOL_COUNT refl symbols_are_within index symbol

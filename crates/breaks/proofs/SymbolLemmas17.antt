@@ -38,7 +38,7 @@ symbol_shown_17 p index symbol lt is reads =
     ∙ ap (λ a. told_17 (character_in V17_0 a)) (sym is)
 
 pub symbol_below_17 : (index symbol : ℕ) → index < 448 → symbol ≡ get_or SYMBOLS index 0 → symbol < SYMBOL_COUNT
-symbol_below_17 = entries_below SYMBOLS 448 SYMBOL_COUNT symbols_are_within_17
+symbol_below_17 index symbol lt = entries_below SYMBOLS SYMBOL_COUNT refl symbols_are_within_17 index symbol
 
 -- the width of a base is one that the symbol of its first character allows
 width_possible : (class : LineClass) (wide : Bool)
