@@ -29,7 +29,7 @@ pub record HoldsLines {V : Type 0} (form : Form V) (lines : List (List ℕ)) (k 
   pub values : (c : ℕ) → IsScalar c → value_at es c ≡ value_in form (take k lines) c
 
 -- the lines of the remaining text are its first line, and the lines left after it
-first_left : (text front : List ℕ) (rest : Option (List ℕ)) → lines_of text ≡ parts_of 10 front rest → lines_of text ≡ front ∷ lines_left rest
+pub first_left : (text front : List ℕ) (rest : Option (List ℕ)) → lines_of text ≡ parts_of 10 front rest → lines_of text ≡ front ∷ lines_left rest
 first_left text front None is = is
 first_left text front (Some rest) is = is
 

@@ -4,6 +4,7 @@ pub mod Parts
 pub mod PlainLines
 pub mod Ranges
 pub mod FileLines
+pub mod HexLemmas
 pub mod Setting
 pub mod ImageFaults
 pub mod ImageParts

@@ -1,5 +1,6 @@
 //! The line breaking classes (UAX #14, section 5.1, table 1), and how LineBreak.txt names them.
-ghost use Rattle.std.specs.Prelude.{◌≡◌, ◌<◌, IfSome, Some, codes, slice_index_or};
+ghost use Rattle.std.specs.Prelude.{◌≡◌, ◌<◌, IfSome, Some, codes, find, slice_index_or};
+ghost use Rattle.std.specs.Str.{bytes_eq};
 ghost use Rattle.ucd.specs.LineClasses.{name_of, class_named, class_named_15};
 ghost use Rattle.ucd.specs.LineNumbers.{numbered_classes};
 ghost use Rattle.ucd.specs.declared.line_class.LineClass.TheVariants.{BK};
@@ -131,7 +132,7 @@ impl LineClass {
         if let Some(class) = frequent(name) {
             return Some(class);
         }
-        ALL.iter().copied().find(|class| class.name() == name)
+        named(&ALL, name)
     }
 
     /// Returns the class of Unicode 15.0 with this short name, or `None` if there is none.
@@ -141,7 +142,7 @@ impl LineClass {
         if let Some(class) = frequent(name) {
             return Some(class);
         }
-        ALL_15.iter().copied().find(|class| class.name() == name)
+        named(&ALL_15, name)
     }
 
     /// Returns the class in a line number.
@@ -167,6 +168,13 @@ impl LineClass {
     {
         NAMES[self as usize].as_bytes()
     }
+}
+
+// Returns the first of these classes that has this short name.
+fn named(classes: &[LineClass], name: &[u8]) -> Option<LineClass>
+    ensures { result ≡ find (λ c. bytes_eq (name_of c) name.now) classes.now }
+{
+    classes.iter().copied().find(|class| class.name() == name)
 }
 
 // Returns the class with this short name, if it is one of those that nearly all lines of LineBreak.txt name.

@@ -16,3 +16,19 @@ returns-clause-distinct c =
     c.in_ok-pages.pages.index.items c.in_ok-pages.pages.entries.items c.in_ok-brackets.brackets.items c.in_ok-mirrors.mirrors.items c.in_ok-image.image.items
     (c.in_ok-pages.ensures c.self.inside.version c.self.invariant.entry) c.in_ok-brackets.ensures.points c.in_ok-brackets.ensures.values c.in_ok-mirrors.ensures.points c.in_ok-mirrors.ensures.values
     (rw (c.deref.ensures.value, c.deref-2.ensures.value, c.deref-3.ensures.value, c.deref-4.ensures.value) at c.in_ok-image.ensures)
+
+pub joined-requires-clause-brackets : goal.joined-requires-clause-brackets
+joined-requires-clause-brackets c = rw c.deref-3.ensures.value (c.in_ok-brackets.ensures.whole, c.in_ok-brackets.ensures.room)
+
+pub joined-requires-clause-mirrors : goal.joined-requires-clause-mirrors
+joined-requires-clause-mirrors c = rw c.deref-4.ensures.value (c.in_ok-mirrors.ensures.whole, c.in_ok-mirrors.ensures.room)
+
+pub joined-requires-clause-index : goal.joined-requires-clause-index
+joined-requires-clause-index c =
+    let pages = c.in_ok-pages.ensures c.self.inside.version c.self.invariant.entry in
+    rw c.deref.ensures.value pages.places
+
+pub joined-requires-clause-pages : goal.joined-requires-clause-pages
+joined-requires-clause-pages c =
+    let pages = c.in_ok-pages.ensures c.self.inside.version c.self.invariant.entry in
+    rw c.deref-2.ensures.value (pages.whole, pages.room)
