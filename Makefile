@@ -34,7 +34,7 @@
 #   make dist       Builds hordguli-VERSION-linux-x86_64.tar.gz and the Python wheel from the same files (DIST=dist).
 #   make test-packages  Tests the packages in new Debian 12 and 13 systems (debootstrap, as root): four minutes.
 #   make test-reproducible  Compiles and builds all packages in two folders, and compares them byte by byte.
-#   make test-arm64 Tests bin/arm64 by qemu-user, and compares its output with that of bin: ten minutes.
+#   make test-arm64 Tests bin/arm64 by qemu-user, and compares its output with that of bin: 20 processor minutes.
 #   make test-threads  Runs the C library's test of threads under ThreadSanitizer and helgrind, after make c: a minute.
 #   make test-draw  Tests examples/draw.c with HarfBuzz, cairo and Noto fonts (installs Debian packages): 20 seconds.
 #   make test-python  Tests the Python package, compares it with python-bidi and pyfribidi, and runs its mutants, after make c.
