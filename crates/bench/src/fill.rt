@@ -171,7 +171,7 @@ fn lay_out_text(
         bail!("that is no paragraph");
     }
     let start = Instant::now(rt)?;
-    let Ok(laid) = engine.lay_out(rt.alloc(), text, width) else {
+    let Ok(laid) = engine.lay_out(rt.alloc(), text, u32::from(width)) else {
         bail!("out of memory");
     };
     Ok((since(rt, start)?, laid))
@@ -197,6 +197,6 @@ fn time_to_refill(rt: &HostRuntime, engine: &mut Engine, laid: &Laid, width: u16
     ensures { SameRules engine.old engine.new }
 {
     let start = Instant::now(rt)?;
-    let _ = engine.refill(rt.alloc(), laid, width)?;
+    let _ = engine.refill(rt.alloc(), laid, u32::from(width))?;
     since(rt, start)
 }

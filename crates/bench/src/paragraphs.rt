@@ -101,7 +101,7 @@ pub fn lay_out(alloc: Global, engine: &mut Engine, text: Vec<char>, width: u16) 
     if text.is_empty() || is_long || engine.first_cut(&text).is_some() {
         bail!("that is no paragraph");
     }
-    match engine.lay_out(alloc, text, width) {
+    match engine.lay_out(alloc, text, u32::from(width)) {
         Ok(laid) => Ok(laid),
         Err(_) => bail!("out of memory"),
     }

@@ -249,7 +249,7 @@ fn refill_all(rt: &HostRuntime, engine: &mut Engine, all: &[Laid], width: u16) -
 {
     let mut fills = Vec::new(rt.alloc());
     for laid in all {
-        fills.push(engine.refill(rt.alloc(), laid, width)?)?;
+        fills.push(engine.refill(rt.alloc(), laid, u32::from(width))?)?;
     }
     Ok(fills)
 }

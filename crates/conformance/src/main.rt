@@ -264,7 +264,7 @@ fn write_starts<W: Write>(
         bail!("at which width?");
     }
     let mut laid = laid;
-    let mut fill = engine.refill(alloc, &laid, width)?;
+    let mut fill = engine.refill(alloc, &laid, u32::from(width))?;
     laid.exchange(&mut fill);
     write_places(output, laid.line_starts())
 }
@@ -291,7 +291,7 @@ fn lay_out(alloc: Global, engine: &mut Engine, text: Vec<char>) -> Result<Laid>
     if text.is_empty() || is_long || engine.first_cut(&text).is_some() {
         bail!("that is no paragraph");
     }
-    match engine.lay_out(alloc, text, u16::MAX) {
+    match engine.lay_out(alloc, text, u32::from(u16::MAX)) {
         Ok(laid) => Ok(laid),
         Err(_) => bail!("out of memory"),
     }

@@ -79,7 +79,7 @@ fn line_out(line: &VisualLine<'_>, width: u16, start: usize) -> LineOut
         length: line.len(),
         shown: line.vtol().len(),
         columns: line.columns() as usize,
-        padding: line.padding(width) as usize,
+        padding: line.padding(width as u32) as usize,
         base: u32::from(line.base()),
         first: flag(line.is_first()),
     }

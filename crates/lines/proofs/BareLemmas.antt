@@ -65,11 +65,11 @@ range_bare xs s e = ap (take (e - s)) (drop-map bare s xs) ∙ take-map bare (e 
 
 -- ---- searches with equal tests find the same number
 
-greatest_same : (p q : ℕ → Bool) (n : ℕ) → ((k : ℕ) → p k ≡ q k) → greatest p n ≡ greatest q n
+pub greatest_same : (p q : ℕ → Bool) (n : ℕ) → ((k : ℕ) → p k ≡ q k) → greatest p n ≡ greatest q n
 greatest_same p q zero same = refl
 greatest_same p q (suc n) same = rw (same n, greatest_same p q n same) refl
 
-least_same : (p q : ℕ → Bool) (low count : ℕ) → ((k : ℕ) → p k ≡ q k) → least p low count ≡ least q low count
+pub least_same : (p q : ℕ → Bool) (low count : ℕ) → ((k : ℕ) → p k ≡ q k) → least p low count ≡ least q low count
 least_same p q low zero same = refl
 least_same p q low (suc count) same = rw (same low, least_same p q (suc low) count same) refl
 

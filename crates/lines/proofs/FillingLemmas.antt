@@ -213,7 +213,7 @@ misfits_here width rest n sum next within read e counts wide =
 
 -- one more character that fits, and after which the line need not end
 pub fits_more : (width : ℕ) (rest : List CharInfo) (n sum next : ℕ) → n < length rest → FitsUpTo width rest n sum → next ≡ advance sum (place_at rest n)
-    → next ≤ sum + 255 → fits_to width rest n ≡ true → must_end rest n ≡ false → FitsUpTo width rest (n + 1) next
+    → next ≤ sum + 4294967295 → fits_to width rest n ≡ true → must_end rest n ≡ false → FitsUpTo width rest (n + 1) next
 fits_more width rest n sum next within read e most fit must =
     let more : suc n ≡ n + 1 = omega arith in
     subst (λ m. FitsUpTo width rest m next) more (record {
@@ -258,7 +258,7 @@ columns_group rest n m sum more piece forward is before total =
 
 -- a group of characters that fits, and after none of which the line must end
 pub fits_group : (width : ℕ) (rest : List CharInfo) (n m sum more : ℕ) (piece : List CharInfo) → FitsUpTo width rest n sum → n ≤ m → m ≤ length rest
-    → piece ≡ slice_range rest n m → fold advance sum piece ≡ sum + more → more ≤ 255 * (m - n) → sum + more ≤ width → list_any (λ p. is_must p.mark) piece ≡ false
+    → piece ≡ slice_range rest n m → fold advance sum piece ≡ sum + more → more ≤ 4294967295 * (m - n) → sum + more ≤ width → list_any (λ p. is_must p.mark) piece ≡ false
     → FitsUpTo width rest m (sum + more)
 fits_group width rest n m sum more piece read forward within is total most narrow none =
     let sum_is : sum + more ≡ columns (take m rest) = columns_group rest n m sum more piece forward is read.sum_is total in

@@ -1,12 +1,12 @@
 -- Conditions under which a layout is a fresh layout: after it is built from its parts, or after its lines are
 -- exchanged.
-use Rattle.std.proofs.Common.{◌≡◌, ℕ, Bool, List, Option, Result, Ok, Err, IfOk, length, refl, ap, ap₂, subst, sym, ◌∙◌}
+use Rattle.std.proofs.Common.{◌≡◌, ℕ, Bool, List, Option, None, Result, Ok, Err, IfOk, length, refl, ap, ap₂, subst, sym, ◌∙◌}
 use Rattle.bidi.specs.Levels.{levels_of}
 use Rattle.breaks.specs.declared.mark.Mark.{Mark}
 use Rattle.lines.specs.Extents.{extents_of, reflowed, LineExtents}
 use Rattle.lines.specs.CharInfos.{infos_of}
 use Rattle.lines.specs.Filling.{line_starts_of}
-use Rattle.lines.specs.Layouts.{base_of, fill_of, layout_of, AreLinesOf, Exchanges, Filled, IsLaidOut, IsParagraph, Layout, Rules}
+use Rattle.lines.specs.Layouts.{base_of, fill_of, layout_of, lines_of, with_advances, AreLinesOf, Exchanges, Filled, IsLaidOut, IsParagraph, Layout, Rules}
 use Rattle.lines.specs.ShownParts.{margin_of}
 use Rattle.lines.specs.Visual.{Line}
 use Rattle.lines.specs.declared.char_info.CharInfo.{CharInfo}
@@ -77,3 +77,12 @@ pub reflowed_laid_out : (rules : Rules) (width : ℕ) (old new : Layout) (extent
     → new ≡ reflowed rules old extents → IsLaidOut rules new
 reflowed_laid_out rules width old new extents laid is put =
     rw (put ∙ reflowed_by rules width old extents laid is) (record { width = width; paragraph = laid.paragraph; from_scratch = refl })
+
+-- the rules for a paragraph that is not measured are those of the engine
+pub own_rules : (rules : Rules) → rules.advances ≡ None → with_advances rules None ≡ rules
+own_rules rules none = ap (with_advances rules) (sym none)
+
+-- the same lines by equal rules
+pub lines_with : (advances : Option (List ℕ)) {rules same : Rules} (width : ℕ) (text : List ℕ) (lines : List Line) → rules ≡ same
+    → lines ≡ lines_of (with_advances rules advances) width text → lines ≡ lines_of (with_advances same advances) width text
+lines_with advances width text lines e is = is ∙ ap (λ (r : Rules). lines_of (with_advances r advances) width text) e

@@ -19,6 +19,7 @@ pub mod KeptLemmas
 mod KnownWidthLemmas
 pub mod LayoutLemmas
 mod LengthLemmas
+mod MeasureLemmas
 mod OneLineLemmas
 mod OrderedLemmas
 pub mod PageLemmas
@@ -30,6 +31,7 @@ pub mod ReorderingLemmas
 pub mod ShowLemmas
 mod ShownColumnLemmas
 pub mod ShownPartLemmas
+mod SizedLemmas
 pub mod SkippedLemmas
 mod SpanLemmas
 mod SplitLemmas

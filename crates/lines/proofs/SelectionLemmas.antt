@@ -176,12 +176,12 @@ module _ (s : Selection) where
   -- ---- the iterator
 
   module _ (place column columns : ℕ) (at : IsReached line (record { place = place; column = column })) (within : place < length s.vtol.now)
-      (value : columns ≡ columns_on line place) (few : columns ≤ 255) where
+      (value : columns ≡ columns_on line place) (few : columns < 4294967296) where
     pub reached_more : IsReached line (record { place = place + 1; column = column + columns })
     reached_more =
         let e : suc place ≡ place + 1 = omega arith in
         let old : column ≡ columns_left line place = at.column in
-        let low : column ≤ 255 * place = at.few in
+        let low : column ≤ 4294967295 * place = at.few in
         record {
           within = omega arith;
           column = omega (arith, old, value, next_left line place within, ap (columns_left line) e);

@@ -118,11 +118,11 @@ shown_within margin n infos starts parts k e part d are below e_is is this =
 
 -- ---- ranges of a list after a write to one range
 
-kept : (a k : ℕ) (xs ys : List ℕ) (i m : ℕ) → m ≤ a → a ≤ length xs → slice_range (put_mid a k xs ys) i m ≡ slice_range xs i m
+pub kept : (a k : ℕ) (xs ys : List ℕ) (i m : ℕ) → m ≤ a → a ≤ length xs → slice_range (put_mid a k xs ys) i m ≡ slice_range xs i m
 kept a k xs ys i m below within =
     between_is (put_mid a k xs ys) i m ∙ ap (drop i) (take-put_mid_below a k xs ys m below within) ∙ sym (between_is xs i m)
 
-written : (a k : ℕ) (xs ys : List ℕ) (m : ℕ) → a ≤ length xs → length ys ≡ k → m ≤ k → slice_range (put_mid a k xs ys) a (a + m) ≡ take m ys
+pub written : (a k : ℕ) (xs ys : List ℕ) (m : ℕ) → a ≤ length xs → length ys ≡ k → m ≤ k → slice_range (put_mid a k xs ys) a (a + m) ≡ take m ys
 written a k xs ys m within size below =
     let zs : List ℕ = put_mid a k xs ys in
     let whole : take (a + k - a) (drop a zs) ≡ ys = between-put_mid a k xs ys (a + k) within (omega (arith, size)) in

@@ -38,12 +38,11 @@ pub record AreSpacesTo (margin : ℕ) (line : List CharInfo) (k columns_shown : 
   pub within : k ≤ length line
   pub spaces : (j : ℕ) → text_len line ≤ j → j < k → is_space_within margin line j ≡ true
   pub columns_are : columns_shown ≡ columns (take k line)
-  pub most : columns_shown ≤ 255 * k
 
 pub spaces_next : (margin : ℕ) (line : List CharInfo) (k columns_shown : ℕ) → AreSpacesTo margin line k columns_shown → k < length line
-    → (is_space (place_at line k).trailing && nat_le (advance columns_shown (place_at line k)) margin) ≡ true → advance columns_shown (place_at line k) ≤ columns_shown + 255
+    → (is_space (place_at line k).trailing && nat_le (advance columns_shown (place_at line k)) margin) ≡ true
     → AreSpacesTo margin line (k + 1) (advance columns_shown (place_at line k))
-spaces_next margin line k columns_shown so_far below here few =
+spaces_next margin line k columns_shown so_far below here =
     let next : k + 1 ≡ suc k = omega arith in
     let sum : advance columns_shown (place_at line k) ≡ columns (take (suc k) line) =
     ap (λ n. advance n (place_at line k)) so_far.columns_are ∙ sym (columns_after line k below) in
@@ -56,7 +55,6 @@ spaces_next margin line k columns_shown so_far below here few =
             | inr ne ↦ so_far.spaces j above (omega (arith, to, ne))
           ];
       columns_are = sum ∙ ap (λ m. columns (take m line)) (sym next);
-      most = omega (arith, so_far.most, few);
     }
 
 -- the characters before the tail are shown, so a shown part is no narrower than they are

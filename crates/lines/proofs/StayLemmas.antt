@@ -215,19 +215,17 @@ hides t tab_width advances width text line ps n size sum below within info =
     && nat_le (line.columns + width_from tab_width line.columns d (get_or sizes (length line.levels) 0)) width) o false) found)
 
 -- whether the first hidden character is a space that fits, given its `CharInfo`
-pub hidden_is : (t : Tables) (tab_width width c : ℕ) (text : List ℕ) (line : Line) (mark : Mark) (b : Bool) → slice_get text (length line.levels) ≡ Some c
-    → b ≡ (is_space (info t tab_width c mark false).trailing && nat_le (advance line.columns (info t tab_width c mark false)) width)
-    → b ≡ hides_space_within t tab_width None width text line
-hidden_is t tab_width width c text line mark b found is =
-    let sizes : List ℕ = sizes_of tab_width None text in
-    let n : ℕ = length line.levels in
-    let size : get_or sizes n 0 ≡ size_in tab_width c =
-    get_or-map (size_in tab_width) text n 0 0 (slice_get_within text n c found) ∙ ap (size_in tab_width) (get_or_from_slice_get text n c 0 found) in
+pub hidden_is : (t : Tables) (tab_width width c size : ℕ) (advances : Option (List ℕ)) (text : List ℕ) (line : Line) (mark : Mark) (b : Bool) → slice_get text (length line.levels) ≡ Some c
+    → size ≡ get_or (sizes_of tab_width advances text) (length line.levels) 0
+    → b ≡ (is_space (info t tab_width c mark false).trailing && nat_le (advance line.columns (record (info t tab_width c mark false) { columns = size })) width)
+    → b ≡ hides_space_within t tab_width advances width text line
+hidden_is t tab_width width c size advances text line mark b found size_is is =
+    let sizes : List ℕ = sizes_of tab_width advances text in
     is
-    ∙ ap (λ m. is_space (trailing_with t tab_width c) && nat_le m width) (advance_info t tab_width line.columns c mark false)
-    ∙ ap (λ s. is_space (trailing_with t tab_width c) && nat_le (line.columns + width_from tab_width line.columns c s) width) (sym size)
+    ∙ ap (λ m. is_space (trailing_with t tab_width c) && nat_le m width) (advance_measured t tab_width line.columns c size mark false)
+    ∙ ap (λ s. is_space (trailing_with t tab_width c) && nat_le (line.columns + width_from tab_width line.columns c s) width) size_is
     ∙ sym (ap (λ (o : Option ℕ). option_map_or (λ d. is_space (trailing_with t tab_width d)
-    && nat_le (line.columns + width_from tab_width line.columns d (get_or sizes n 0)) width) o false) found)
+    && nat_le (line.columns + width_from tab_width line.columns d (get_or sizes (length line.levels) 0)) width) o false) found)
 
 lines_stay : EndsAtMust → (rules : Rules) (old width : ℕ) (text : List ℕ) → 0 < length text → keeps_lines rules width (layout_of rules old text) ≡ true
     → lines_of rules width text ≡ lines_of rules old text

@@ -11,6 +11,7 @@ use Rattle.lines.specs.Clusters.{cluster_ends}
 use Rattle.lines.specs.Extents.{extents_of}
 use Rattle.lines.specs.Filling.{line_len, line_starts_of, starts}
 use Rattle.lines.specs.Kept.{AreStarts}
+use Rattle.lines.specs.Measures.{FollowFrom}
 use Rattle.lines.specs.Layouts.{AreWithin, Rules, base_of, lines_of}
 use Rattle.lines.specs.CharInfos.{infos, infos_of}
 use Rattle.reorder.specs.Spaces.{line_levels}
@@ -106,6 +107,27 @@ lines_within rules width text =
     from_within rules.tables rules.options (margin_of rules.options width) (base_of rules text) text (levels_of rules.tables text rules.options.base) ps 0 (length text) (line_starts_of rules.options.nobreak width ps) refl
     (rise_to 0 (length ps) (length text) (line_starts_of rules.options.nobreak width ps) (few_infos rules text)
     (starts_rise rules.options.nobreak width 0 0 (length ps) ps (omega arith)))
+
+-- the shown parts of a paragraph's lines follow one another
+follow_line : (tables : Tables) (options : Options) (margin : Option ℕ) (base : ℕ) (text levels : List ℕ) (ps : List CharInfo) (low bound s n : ℕ) (at : List ℕ)
+    → bound ≤ s → Rise low n (s ∷ at) → FollowFrom bound (lines_from tables options margin base text levels ps (s ∷ at))
+follow_line tables options margin base text levels ps low bound s n [] from rise = (from, tt)
+follow_line tables options margin base text levels ps low bound s n (t ∷ at) from rise = (
+  from,
+  follow_line tables options margin base text levels ps (suc s) (s + length (line_between tables options margin base text levels ps s t).levels) t n at
+      (omega (arith, levels_most tables options margin base text levels ps s t, rise.2.0)) rise.2,
+)
+
+follow_all : (tables : Tables) (options : Options) (margin : Option ℕ) (base : ℕ) (text levels : List ℕ) (ps : List CharInfo) (n : ℕ) (at : List ℕ)
+    → Rise 0 n at → FollowFrom 0 (lines_from tables options margin base text levels ps at)
+follow_all tables options margin base text levels ps n [] rise = tt
+follow_all tables options margin base text levels ps n (s ∷ at) rise = follow_line tables options margin base text levels ps 0 0 s n at (omega arith) rise
+
+pub lines_follow : (rules : Rules) (width : ℕ) (text : List ℕ) → FollowFrom 0 (lines_of rules width text)
+lines_follow rules width text =
+    let ps : List CharInfo = infos_of rules.tables rules.options rules.advances text in
+    follow_all rules.tables rules.options (margin_of rules.options width) (base_of rules text) text (levels_of rules.tables text rules.options.base) ps (length text)
+    (line_starts_of rules.options.nobreak width ps) (starts_in rules width text)
 
 -- if `Rise` holds for a list of numbers, they are below n and each is less than the next one
 rise_below : (low n : ℕ) (xs : List ℕ) (k : ℕ) → Rise low n xs → k < length xs → slice_index xs k < n

@@ -23,7 +23,7 @@ use Rattle.lines.specs.declared.char_info.CharInfo.{CharInfo}
 
 -- ---- lists of widths
 
-length-advances_on : (advances text : List ℕ) → length (advances_on advances text) ≡ length text
+pub length-advances_on : (advances text : List ℕ) → length (advances_on advances text) ≡ length text
 length-advances_on advances [] = refl
 length-advances_on [] (c ∷ text) = ap suc (length-advances_on [] text)
 length-advances_on (size ∷ advances) (c ∷ text) = ap suc (length-advances_on advances text)
@@ -70,7 +70,7 @@ width_is n k advances text within =
     from_at n 0 k text sizes (length-sizes n advances text) within ∙ ap (λ m. width_from n m (get_or text k 0) (get_or sizes k 0)) e
 
 -- the size of a character of a paragraph that is not measured
-size_is : (n k : ℕ) (text : List ℕ) → k < length text → get_or (sizes_of n None text) k 0 ≡ size_in n (get_or text k 0)
+pub size_is : (n k : ℕ) (text : List ℕ) → k < length text → get_or (sizes_of n None text) k 0 ≡ size_in n (get_or text k 0)
 size_is n k text within = get_or-map (size_in n) text k 0 0 within
 
 -- there, a character that is not a tab has its own columns, and a tab has the tab width

@@ -5,7 +5,7 @@ use Rattle.std.specs.List.{join_with_byte}
 use Rattle.reorder.specs.Order.{is_odd}
 use Rattle.lines.specs.Columns.{width_at}
 use Rattle.lines.specs.Tabs.{is_tab}
-use Rattle.lines.specs.Visual.{Visual}
+use Rattle.lines.specs.Visual.{Visual, is_measured}
 use Rattle.lines.specs.declared.printing.print.Print.{Print}
 
 -- the line that names the base direction, which is RTL if the base level is odd and LTR otherwise
@@ -16,10 +16,11 @@ direction_line base = if is_odd base then codes "RTL\n" else codes "LTR\n"
 abbrev pub numbers_line : List ℕ → List ℕ
 numbers_line numbers = join_with_byte 32 (map decimal numbers) ++ codes "\n"
 
--- the spaces before a line that is narrower than the width, in a right-to-left paragraph; none with `nopad`
+-- the spaces before a line that is narrower than the width, in a right-to-left paragraph; none with `nopad`, and none in a measured
+-- paragraph
 abbrev pub padding : ℕ → Print → Visual → List ℕ
 padding width print visual =
-    if is_odd visual.base && not print.nopad then replicate (width - visual.columns) 32 else []
+    if is_odd visual.base && (not print.nopad && not (is_measured visual)) then replicate (width - visual.columns) 32 else []
 
 -- the characters in visual order, mirrored or unchanged
 abbrev pub ordered_chars : Print → Visual → List ℕ
@@ -34,9 +35,10 @@ abbrev pub expanded : Visual → List ℕ → List ℕ → List ℕ
 expanded visual (c ∷ chars) (k ∷ vtol) = cells visual c k ++ expanded visual chars vtol
 expanded visual chars vtol = []
 
+-- in a measured paragraph, tabs are printed as they are
 abbrev pub shown_chars : Print → Visual → List ℕ
 shown_chars print visual =
-    if nat_lt 0 visual.tab_width then expanded visual (ordered_chars print visual) visual.vtol else ordered_chars print visual
+    if nat_lt 0 visual.tab_width && not (is_measured visual) then expanded visual (ordered_chars print visual) visual.vtol else ordered_chars print visual
 
 abbrev pub visual_line : ℕ → Print → Visual → List ℕ
 visual_line width print visual = padding width print visual ++ encode_utf8_all (shown_chars print visual) ++ codes "\n"

@@ -7,6 +7,6 @@ use Rattle.lines.specs.declared.char_info.CharInfo.{CharInfo}
 pub record FitsUpTo (width : ℕ) (rest : List CharInfo) (n sum : ℕ) : Type 0 where
   pub within : n ≤ length rest
   pub sum_is : sum ≡ columns (take n rest)
-  pub most : sum ≤ 255 * n
+  pub most : sum ≤ 4294967295 * n
   pub fits : (k : ℕ) → k < n → fits_to width rest k ≡ true
   pub no_must : (k : ℕ) → k < n → must_end rest k ≡ false

@@ -1,5 +1,5 @@
 -- The layout of a paragraph.
-use Rattle.std.specs.Prelude.{◌≡◌, ℕ, ◌+◌, ◌≤◌, nat_le, Bool, false, ◌&&◌, not, List, [], ◌∷◌, length, map, slice_get, slice_index, All, Option, None}
+use Rattle.std.specs.Prelude.{◌≡◌, ℕ, ◌+◌, ◌^◌, ◌<◌, ◌≤◌, nat_le, sum, IfSome, Bool, false, ◌&&◌, not, List, [], ◌∷◌, length, map, slice_get, slice_index, All, Option, None}
 use Rattle.std.specs.List.{enumerate_from}
 use Rattle.std.specs.Option.{option_map_or}
 use Rattle.ucd.specs.Tables.{class_of}
@@ -29,6 +29,14 @@ pub record Rules : Type 0 where
 -- the rules for a paragraph that is not measured
 abbrev pub unmeasured : Tables → Options → Rules
 unmeasured tables options = record { tables = tables; options = options; advances = None }
+
+-- the same rules for a paragraph with these advances
+abbrev pub with_advances : Rules → Option (List ℕ) → Rules
+with_advances rules advances = record rules { advances = advances }
+
+-- whether the advances of a paragraph, if it is measured, add up to less than 2^32
+abbrev pub HaveRoom : Option (List ℕ) → Type 0
+HaveRoom advances = IfSome advances (λ list. sum list < 2 ^ 32)
 
 -- a paragraph: its characters, their advances if it is measured, its base level, its tab width, the level and the mark of each character, its
 -- cluster ends if its lines are ordered by clusters, and its lines

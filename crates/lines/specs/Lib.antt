@@ -17,8 +17,10 @@ pub mod Extents
 pub mod Filling
 pub mod Kept
 pub mod KnownWidths
+pub mod LaidTexts
 pub mod Layouts
 pub mod OneLine
+pub mod Measures
 pub mod Ordered
 pub mod Pages
 pub mod Paragraphs

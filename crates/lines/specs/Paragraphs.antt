@@ -1,6 +1,6 @@
 -- What is known about a paragraph, or about one of its lines, before the lines are reordered. No contract of
 -- an exported function uses these definitions.
-use Rattle.std.specs.Prelude.{◌≡◌, ℕ, ◌≤◌, List, length, map, take, drop, None}
+use Rattle.std.specs.Prelude.{◌≡◌, ℕ, ◌≤◌, List, length, map, take, drop, Option, None, option_map}
 use Rattle.ucd.specs.Properties.{properties_of}
 use Rattle.ucd.specs.Tables.{class_of}
 use Rattle.reorder.specs.Spaces.{line_levels}
@@ -9,7 +9,7 @@ use Rattle.breaks.specs.Marks.{marks_of}
 use Rattle.lines.specs.Asked.{visual_part}
 use Rattle.lines.specs.CharInfos.{infos_of}
 use Rattle.lines.specs.Filling.{line_starts_of}
-use Rattle.lines.specs.Layouts.{Rules, base_of, unmeasured}
+use Rattle.lines.specs.Layouts.{HaveRoom, Rules, base_of, unmeasured, with_advances}
 use Rattle.lines.specs.Reordering.{ends_by}
 use Rattle.lines.specs.ShownParts.{margin_of}
 use Rattle.lines.specs.Tabs.{tab_width_in}
@@ -41,17 +41,25 @@ pub record IsResolved (text : Text) (levels : List ℕ) : Type 0 where
   pub levels_are : levels ≡ levels_of text.rules.tables.now text.characters.now text.rules.options.base
   pub len : length levels ≡ length text.characters.now
 
--- a paragraph with its base level, its levels before L1 and its break marks
+-- the advances of a paragraph, if it is measured, and the rules for it
+abbrev pub advances_in : Paragraph → Option (List ℕ)
+advances_in paragraph = option_map (λ advances. advances.now) paragraph.advances
+
+abbrev pub rules_by : Paragraph → Rules
+rules_by paragraph = with_advances (rules_in paragraph.text.rules) (advances_in paragraph)
+
+-- a paragraph with its base level, its levels before L1, its break marks, and if it is measured its advances
 pub record IsPrepared (paragraph : Paragraph) : Type 0 where
   pub text : IsResolved paragraph.text paragraph.levels.now
+  pub room : HaveRoom (advances_in paragraph)
   pub marks : paragraph.marks.now ≡ marks_of paragraph.text.rules.tables.now paragraph.text.rules.options.whole_numbers paragraph.text.characters.now
 
--- the lines of a text at a width, given the levels of its characters before L1
-abbrev pub lines_at : Text → List ℕ → ℕ → List Line
-lines_at text levels width =
+-- the lines of a text at a width, given its advances, if it is measured, and the levels of its characters before L1
+abbrev pub lines_at : Option (List ℕ) → Text → List ℕ → ℕ → List Line
+lines_at advances text levels width =
     let tables = text.rules.tables.now in
     let options = text.rules.options in
-    let infos = infos_of tables options None text.characters.now in
+    let infos = infos_of tables options advances text.characters.now in
     lines_from tables options (margin_of options width) text.base text.characters.now levels infos (line_starts_of options.nobreak width infos)
 
 -- the visual line of a logical line, given the levels of its shown part after L1

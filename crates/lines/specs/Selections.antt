@@ -1,7 +1,8 @@
 -- How the spans of a range are found, one after the other. No contract of an exported function uses these
 -- definitions.
-use Rattle.std.specs.Prelude.{◌≡◌, ℕ, ◌*◌, ◌<◌, ◌≤◌, Bool, false, not, [], length, slice_index, None}
+use Rattle.std.specs.Prelude.{◌≡◌, ℕ, ◌*◌, ◌<◌, ◌≤◌, Bool, false, not, [], length, slice_index}
 use Rattle.lines.specs.Columns.{columns_left, width_at}
+use Rattle.lines.specs.Measures.{given_if, AreMeasured}
 use Rattle.lines.specs.Spans.{is_covered, is_left_edge, is_selected}
 use Rattle.lines.specs.Visual.{Visual}
 use Rattle.lines.specs.declared.engine.TheConstants.{PARAGRAPH_LIMIT}
@@ -16,13 +17,17 @@ selected_in s = record {
   tab_width = s.tab_width;
   len = 0;
   text = s.text.now;
-  advances = None;
+  advances = given_if s.is_measured s.advances.now;
   columns = 0;
   levels = [];
   ltov = [];
   vtol = s.vtol.now;
   chars = [];
 }
+
+-- whether the widths of a selection are those of its characters, if the line is measured
+abbrev pub IsMeasured : Selection → Type 0
+IsMeasured s = AreMeasured s.tab_width s.text.now s.is_measured s.advances.now s.widths.now
 
 -- the columns of the character at a visual position
 abbrev pub columns_on : Visual → ℕ → ℕ
@@ -32,7 +37,7 @@ columns_on line place = width_at line (slice_index line.vtol place)
 pub record IsReached (line : Visual) (at : Reached) : Type 0 where
   pub within : at.place ≤ length line.vtol
   pub column : at.column ≡ columns_left line at.place
-  pub few : at.column ≤ 255 * at.place
+  pub few : at.column ≤ 4294967295 * at.place
   pub limit : length line.vtol ≤ PARAGRAPH_LIMIT
 
 -- whether the characters from one visual position to the next, if they take columns, are selected or not as

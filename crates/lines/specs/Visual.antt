@@ -1,5 +1,6 @@
 -- The lines of a paragraph as they are shown: the order, the levels and the characters of each line's shown part.
 use Rattle.std.specs.Prelude.{ℕ, zero, suc, ◌+◌, ◌-◌, ◌==◌, Bool, List, [], ◌∷◌, length, map, take, slice_range, Option, option_map}
+use Rattle.std.specs.Option.{is_some}
 use Rattle.ucd.specs.Tables.{class_of}
 use Rattle.ucd.specs.declared.tables.Tables.{Tables}
 use Rattle.lines.specs.Filling.{columns}
@@ -69,6 +70,10 @@ pub record Visual : Type 0 where
   pub ltov : List ℕ
   pub vtol : List ℕ
   pub chars : List ℕ
+
+-- whether the paragraph of a line is measured
+abbrev pub is_measured : Visual → Bool
+is_measured line = is_some line.advances
 
 -- the visual line of the n-th line of a paragraph
 abbrev pub visual_of : ℕ → ℕ → Option (List ℕ) → List ℕ → List Line → ℕ → Line → Visual

@@ -94,24 +94,26 @@ impl CharInfo {
         }
     }
 
-    /// Returns the columns of a line up to the end of the character, given those before it.
-    pub(crate) fn advance(self, before: usize) -> usize
-        requires { before < 2 ^ 40 }
-        ensures columns { result ≡ advance before self }
-        ensures most { result ≤ before + 255 }
+    /// Returns the width of a line up to the end of the character, given the character's size and the width
+    /// before it.
+    pub(crate) fn advance(self, size: u32, before: usize) -> usize
+        requires { before < 2 ^ 60 }
+        ensures columns { result ≡ advance before (record self { columns = size }) }
+        ensures most { result ≤ before + size }
     {
         if self.trailing.moves() {
-            return next_stop(before, self.columns as usize);
+            return next_stop(before, size as usize);
         }
-        before + self.columns as usize
+        before + size as usize
     }
 
-    /// Returns whether the character is a space, and the line is no wider than the margin up to its end.
-    /// `before` are the columns of the line before it.
-    pub(crate) fn is_space_within(self, before: u32, margin: u16) -> bool
-        ensures { result ≡ (is_space self.trailing && nat_le (advance before self) margin) }
+    /// Returns whether the character is a space, and the line is no wider than the margin up to its end,
+    /// given the character's size and the width before it.
+    pub(crate) fn is_space_within(self, size: u32, before: u32, margin: u32) -> bool
+        ensures { result ≡ (is_space self.trailing
+            && nat_le (advance before (record self { columns = size })) margin) }
     {
-        self.trailing.is_space() && self.advance(before as usize) <= margin as usize
+        self.trailing.is_space() && self.advance(size, before as usize) <= margin as usize
     }
 }
 

@@ -17,7 +17,7 @@ use crate::counting::char_count;
 use crate::counts::Counts;
 use crate::extents::Extents;
 use crate::fill::Fill;
-use crate::laid::Laid;
+use crate::laid::{Laid, put_all_widths, with_room};
 use crate::options::Options;
 use crate::paragraph::LentRules;
 use crate::printing::bytes::{WriteFault, write_base};
@@ -94,13 +94,14 @@ impl Model for Engine {
 }
 
 impl Engine {
-    ghost use Rattle.std.specs.Prelude.{None};
+    ghost use Rattle.std.specs.Prelude.{◌^◌, List, None, Option, Some, option_map, sum};
     ghost use Rattle.bidi.specs.Cuts.{first_cut, SplitsAt};
     ghost use Rattle.bidi.specs.TextCuts.{FindsEndAfter};
     ghost use Rattle.bidi.specs.Levels.{levels_of};
     ghost use Rattle.lines.specs.Extents.{extents_in, extents_of, reflowed};
     ghost use Rattle.lines.specs.Layouts.{base_of, cut_by, fill_of, keeps_lines, layout_of, lines_of};
-    ghost use Rattle.lines.specs.Layouts.{AreLinesOf, AreWithin, IsLaidOut, IsParagraph, unmeasured};
+    ghost use Rattle.lines.specs.Layouts.{AreLinesOf, AreWithin, HaveRoom, IsLaidOut, IsParagraph};
+    ghost use Rattle.lines.specs.Layouts.{unmeasured, with_advances};
     ghost use Rattle.lines.specs.Engine.{rules_of, analysed_of, filled_of, written_of, counted};
     ghost use Rattle.lines.specs.Engine.{Fills, FillsAtMost, FindsExtents, FindsExtentsAtMost};
     ghost use Rattle.lines.specs.Engine.{LaysOut, LaysOutAtMost, Prints, Rewrites, RewritesAtMost};
@@ -209,10 +210,11 @@ impl Engine {
     /// Returns whether a paragraph has exactly one line, which is the same at this width, because it fits. If
     /// spaces at the end of lines are shown, it also hides no space that fits. The paragraph must have been
     /// laid out with this engine's tables and options.
-    pub fn keeps_lines(&self, laid: &Laid, width: u16) -> bool
+    pub fn keeps_lines(&self, laid: &Laid, width: u32) -> bool
         ensures value { result ≡ keeps_lines (rules_of self.now) width laid.now }
-        ensures lines { IsTrue result → IsLaidOut (rules_of self.now) laid.now
-            → lines_of (rules_of self.now) width laid.now.text ≡ laid.now.lines }
+        ensures lines { (advances : Option (List ℕ)) → IsTrue result
+            → IsLaidOut (with_advances (rules_of self.now) advances) laid.now
+            → lines_of (with_advances (rules_of self.now) advances) width laid.now.text ≡ laid.now.lines }
     {
         // By this theorem, a line of the whole paragraph may end after the last character.
         paragraphs_end_at_must();
@@ -220,7 +222,7 @@ impl Engine {
     }
 
     // Returns whether a paragraph's only line fits and, if spaces are shown, hides none that fits.
-    fn is_kept(&self, laid: &Laid, width: u16) -> bool
+    fn is_kept(&self, laid: &Laid, width: u32) -> bool
         ensures { result ≡ keeps_lines (rules_of self.now) width laid.now }
     {
         if !laid.is_line_within(width) {
@@ -235,7 +237,7 @@ impl Engine {
         &mut self,
         alloc: Global,
         text: Vec<char>,
-        width: u16,
+        width: u32,
     ) -> Result<Laid, (Vec<char>, AllocError)>
         requires paragraph { IsParagraph (rules_of self.old) text.items }
         requires width { 0 < width }
@@ -246,16 +248,21 @@ impl Engine {
         ensures unwritten { OnErr result (written_of self.new ≡ written_of self.old) }
         ensures at_most { LaysOutAtMost (length text.items) self.old self.new }
 
+        // The engine's own rules are those for text that is not measured.
+        ensures unmeasured { (rules_of self.old).advances ≡ None }
+
         // Even after an allocation failure, the characters count as analysed and filled.
         ensures analysed { analysed_of self.new ≡ counted (analysed_of self.old) (length text.items) }
         ensures filled { filled_of self.new ≡ counted (filled_of self.old) (length text.items) }
         ensures rules { SameRules self.old self.new }
     {
-        match self.parts(alloc, &text, width) {
+        match self.parts(alloc, &text, None, width) {
             Ok(parts) => Ok(Laid {
                 text,
                 base: parts.base,
                 tab_width: parts.tab_width,
+                is_measured: false,
+                sizes: Vec::new(alloc),
                 levels: parts.levels,
                 marks: parts.marks,
                 ends: parts.ends,
@@ -265,13 +272,52 @@ impl Engine {
         }
     }
 
+    /// Lays out one paragraph that is measured: each character has an advance in a unit of the caller's, and
+    /// the width is in that unit. The width must not be 0, and the advances must add up to less than 2^32.
+    pub fn lay_out_measured(
+        &mut self,
+        alloc: Global,
+        text: Vec<char>,
+        advances: Vec<u32>,
+        width: u32,
+    ) -> Result<Laid, AllocError>
+        requires paragraph { IsParagraph (rules_of self.old) text.items }
+        requires width { 0 < width }
+        requires len { length advances.items ≡ length text.items }
+        requires room { sum advances.items < 2 ^ 32 }
+        ensures ok { IfOk result (λ laid. laid
+            ≡ layout_of (with_advances (rules_of self.old) (Some advances.items)) width text.items) }
+        ensures laid_out { IfOk result
+            (IsLaidOut (with_advances (rules_of self.new) (Some advances.items))) }
+        ensures counts { IfOk result (λ laid. LaysOut (length text.items) self.old self.new) }
+        ensures at_most { LaysOutAtMost (length text.items) self.old self.new }
+        ensures rules { SameRules self.old self.new }
+    {
+        let parts = self.parts(alloc, &text, Some(&advances), width)?;
+        let mut sizes = with_room(advances, parts.tab_width)?;
+        put_all_widths(true, &text, parts.tab_width, &parts.lines, &mut sizes);
+        Ok(Laid {
+            text,
+            base: parts.base,
+            tab_width: parts.tab_width,
+            is_measured: true,
+            sizes,
+            levels: parts.levels,
+            marks: parts.marks,
+            ends: parts.ends,
+            lines: parts.lines,
+        })
+    }
+
     /// Finds the lines of a paragraph at another width, which must not be 0. The paragraph must have been
     /// laid out with this engine's tables and options.
-    pub fn refill(&mut self, alloc: Global, laid: &Laid, width: u16) -> Result<Fill, AllocError>
-        requires laid { IsLaidOut (rules_of self.old) laid.now }
+    pub fn refill(&mut self, alloc: Global, laid: &Laid, width: u32) -> Result<Fill, AllocError>
+        requires laid { IsLaidOut (with_advances (rules_of self.old) laid.now.advances) laid.now }
         requires width { 0 < width }
-        ensures ok { IfOk result (λ fill. fill ≡ fill_of (rules_of self.old) width laid.now.text) }
-        ensures lines { IfOk result (AreLinesOf (rules_of self.new) laid.now.text) }
+        ensures ok { IfOk result (λ fill. fill
+            ≡ fill_of (with_advances (rules_of self.old) laid.now.advances) width laid.now.text) }
+        ensures lines { IfOk result (AreLinesOf
+            (with_advances (rules_of self.new) laid.now.advances) laid.now.text) }
         ensures counts { IfOk result (λ fill. Fills (length laid.now.text) self.old self.new) }
         ensures unwritten { OnErr result (written_of self.new ≡ written_of self.old) }
         ensures at_most { FillsAtMost (length laid.now.text) self.old self.new }
@@ -292,7 +338,7 @@ impl Engine {
         &mut self,
         alloc: Global,
         text: &[char],
-        width: u16,
+        width: u32,
         print: &Print,
         writer: &mut W,
     ) -> Result<(), PrintFault>
@@ -373,11 +419,11 @@ impl Engine {
 
     /// Finds where each line of a paragraph starts at another width, which must not be 0, and how much of
     /// each line is shown. The paragraph must have been laid out with this engine's tables and options.
-    pub fn extents(&mut self, alloc: Global, laid: &Laid, width: u16) -> Result<Extents, AllocError>
-        requires laid { IsLaidOut (rules_of self.old) laid.now }
+    pub fn extents(&mut self, alloc: Global, laid: &Laid, width: u32) -> Result<Extents, AllocError>
+        requires laid { IsLaidOut (with_advances (rules_of self.old) laid.now.advances) laid.now }
         requires width { 0 < width }
         ensures ok { IfOk result (λ extents. extents
-            ≡ extents_of (rules_of self.old) width laid.now.text) }
+            ≡ extents_of (with_advances (rules_of self.old) laid.now.advances) width laid.now.text) }
         ensures counts { IfOk result (λ extents.
             FindsExtents (length laid.now.text) self.old self.new) }
         ensures at_most { FindsExtentsAtMost (length laid.now.text) self.old self.new }
@@ -405,12 +451,12 @@ impl Engine {
     /// this engine's tables and options. `scratch` must have capacity for the paragraph's characters, and
     /// counts them. Allocates nothing.
     pub fn reflow(&self, laid: &mut Laid, extents: &mut Extents, scratch: &mut ReflowScratch)
-        requires laid { IsLaidOut (rules_of self.now) laid.old }
-        requires extents { (width : ℕ)
-            × (extents.old ≡ extents_of (rules_of self.now) width laid.old.text) }
+        requires laid { IsLaidOut (with_advances (rules_of self.now) laid.old.advances) laid.old }
+        requires extents { (width : ℕ) × (extents.old
+            ≡ extents_of (with_advances (rules_of self.now) laid.old.advances) width laid.old.text) }
         requires scratch { length laid.old.text ≤ scratch.old.len }
         ensures laid { laid.new ≡ reflowed (rules_of self.now) laid.old extents.old }
-        ensures laid_out { IsLaidOut (rules_of self.now) laid.new }
+        ensures laid_out { IsLaidOut (with_advances (rules_of self.now) laid.old.advances) laid.new }
         ensures extents { extents.new ≡ extents_in laid.old.lines }
         ensures scratch { scratch.new ≡ record scratch.old {
           written = counted scratch.old.written (length laid.old.text);
@@ -485,8 +531,15 @@ impl Engine {
     }
 
     // Finds the layout of a paragraph, without its text.
-    fn parts(&mut self, alloc: Global, text: &[char], width: u16) -> Result<Parts, AllocError>
-        requires { length text.now ≤ PARAGRAPH_LIMIT }
+    fn parts(
+        &mut self,
+        alloc: Global,
+        text: &[char],
+        advances: Option<&[u32]>,
+        width: u32,
+    ) -> Result<Parts, AllocError>
+        requires limit { length text.now ≤ PARAGRAPH_LIMIT }
+        requires room { HaveRoom (option_map (λ list. list.now) advances) }
         ensures base { IfOk result (λ parts.
             parts.base ≡ (layout_of (rules_of self.old) width text.now).base) }
         ensures tab_width { IfOk result (λ parts.
@@ -498,7 +551,8 @@ impl Engine {
         ensures ends { IfOk result (λ parts.
             parts.ends.items ≡ (layout_of (rules_of self.old) width text.now).ends) }
         ensures lines { IfOk result (λ parts.
-            parts.lines ≡ fill_of (rules_of self.old) width text.now) }
+            parts.lines ≡ fill_of (with_advances (rules_of self.old)
+            (option_map (λ list. list.now) advances.entry)) width text.now) }
         ensures unmeasured { (rules_of self.old).advances ≡ None }
         ensures len { IfOk result (λ parts. length parts.levels.items ≡ length text.now) }
         ensures within { IfOk result (λ parts. AreWithin (length text.now) parts.lines.lines) }
@@ -516,7 +570,7 @@ impl Engine {
             tables: &self.tables,
             options: self.options,
         };
-        let base = work.lay_out(&rules, text, width, &mut kept, counts)?;
+        let base = work.lay_out(&rules, text, advances, width, &mut kept, counts)?;
         Ok(Parts {
             base,
             tab_width: rules.tab_width(),

@@ -1,6 +1,8 @@
 //! Where each line of a paragraph starts at a width, and how much of it is shown.
-ghost use Rattle.std.specs.Prelude.{◌≡◌, ◌<◌, ◌≤◌, [], ◌∷◌, length, OnOk, slice_index, slice_index_or};
+ghost use Rattle.std.specs.Prelude.{◌≡◌, ◌^◌, ◌<◌, ◌≤◌, ℕ, [], ◌∷◌, length, sum, option_map, IfSome, OnOk};
+ghost use Rattle.std.specs.Prelude.{slice_index, slice_index_or};
 ghost use Rattle.lines.specs.Bare.{with_ends};
+ghost use Rattle.lines.specs.CharInfos.{sized};
 ghost use Rattle.lines.specs.Clusters.{cluster_ends};
 ghost use Rattle.lines.specs.Extents.{shown_from};
 ghost use Rattle.lines.specs.Filling.{line_starts_of};
@@ -18,6 +20,7 @@ use crate::filling::line_starts;
 use crate::options::Options;
 use crate::reserve::reserve;
 use crate::shown_parts::fill_shown;
+use crate::sizes::{ByAdvances, ByColumns, Ruler, Sizes};
 use std::alloc::{AllocError, Global};
 use std::marker::Model;
 
@@ -74,30 +77,85 @@ impl Extents {
         self.items.extend_from_slice(&[0, shown.len, shown.columns])
     }
 
-    /// Finds where each line of a paragraph starts, and how much of it is shown. `infos` need not contain the
-    /// cluster ends.
+    /// Finds where each line of a paragraph starts, and how much of it is shown. The paragraph is measured if
+    /// there are advances. `infos` need not contain the cluster ends.
     pub(crate) fn find(
         &mut self,
         clusters: &mut ClusterBuffers,
         text: &[char],
         infos: &mut [CharInfo],
-        width: u16,
+        advances: Option<&[u32]>,
+        width: u32,
         options: Options,
         filled: Counted,
     ) -> Result<(), AllocError>
         requires counted { filled ≡ length text.now }
         requires len { length infos.old ≡ length text.now }
         requires within { length text.now ≤ PARAGRAPH_LIMIT }
-        ensures starts { OnOk result (self.new.starts
-            ≡ line_starts_of options.nobreak width (with_ends infos.old (cluster_ends text.now))) }
+        requires room { IfSome advances (λ list. sum list.now < 2 ^ 32) }
+        ensures starts { OnOk result (self.new.starts ≡ line_starts_of options.nobreak width
+            (sized (option_map (λ list. list.now) advances.entry) (with_ends infos.old (cluster_ends text.now)))) }
         ensures shown { OnOk result (self.new.shown
             ≡ shown_from (margin_of options width) (length text.now)
-            (with_ends infos.old (cluster_ends text.now)) self.new.starts) }
+            (sized (option_map (λ list. list.now) advances.entry) (with_ends infos.old (cluster_ends text.now)))
+            self.new.starts) }
         ensures ordered { OnOk result (AreStarts (length text.now) self.new.starts) }
     {
-        let (items, nobreak) = (&mut self.items, options.nobreak);
-        line_starts(clusters, text, infos, width, nobreak, items, filled)?;
-        fill_shown(infos, options.margin(width), &mut self.items)
+        match advances {
+            None => {
+                let sizes = ByColumns;
+                self.find_by(
+                    clusters,
+                    text,
+                    infos,
+                    Ruler { sizes, width },
+                    options,
+                    filled,
+                )
+            }
+            Some(advances) => {
+                let sizes = ByAdvances { advances };
+                self.find_by(
+                    clusters,
+                    text,
+                    infos,
+                    Ruler { sizes, width },
+                    options,
+                    filled,
+                )
+            }
+        }
+    }
+
+    // Does the work of `find`.
+    fn find_by<S: Sizes>(
+        &mut self,
+        clusters: &mut ClusterBuffers,
+        text: &[char],
+        infos: &mut [CharInfo],
+        ruler: Ruler<S>,
+        options: Options,
+        filled: Counted,
+    ) -> Result<(), AllocError>
+        requires counted { filled ≡ length text.now }
+        requires len { length infos.old ≡ length text.now }
+        requires within { length text.now ≤ PARAGRAPH_LIMIT }
+        requires room { (k : ℕ) → k ≤ length text.now → S.most ruler.sizes k < 2 ^ 32 }
+        ensures starts { OnOk result (self.new.starts ≡ line_starts_of options.nobreak ruler.width
+            (sized (S.given ruler.sizes) (with_ends infos.old (cluster_ends text.now)))) }
+        ensures shown { OnOk result (self.new.shown
+            ≡ shown_from (margin_of options ruler.width) (length text.now)
+            (sized (S.given ruler.sizes) (with_ends infos.old (cluster_ends text.now))) self.new.starts) }
+        ensures ordered { OnOk result (AreStarts (length text.now) self.new.starts) }
+    {
+        let items = &mut self.items;
+        line_starts(clusters, text, infos, ruler, options.nobreak, items, filled)?;
+        fill_shown(
+            infos,
+            ruler.sizes,
+            options.margin(ruler.width),
+            &mut self.items,
+        )
     }
 }
 

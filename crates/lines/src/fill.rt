@@ -1,7 +1,7 @@
 //! The lines of a paragraph at a width: reading them, replacing them with the lines at another width, and
 //! printing them.
 ghost use Rattle.std.specs.Prelude.{◌≡◌, ◌+◌, ◌≤◌, ℕ, List, Option, length, map, option_map, slice_get};
-ghost use Rattle.std.specs.Prelude.{None, IfErr, IfOk, IfSome};
+ghost use Rattle.std.specs.Prelude.{IfErr, IfOk, IfSome};
 ghost use Rattle.ucd.specs.Within.{AreWithin};
 ghost use Rattle.lines.specs.Engine.{counted};
 ghost use Rattle.lines.specs.Extents.{extents_in, shown_from};
@@ -75,6 +75,7 @@ impl Model for Fill {
 impl Fill {
     ghost use Rattle.lines.specs.Buffers.{held_in, AreSound};
     ghost use Rattle.lines.specs.Layouts.{is_line_within, start_of};
+    ghost use Rattle.lines.specs.LaidTexts.{advances_in, IsMeasuredText};
     ghost use Rattle.lines.specs.Pages.{lines_bytes};
     ghost use Rattle.lines.specs.Parts.{line_of};
     ghost use Rattle.lines.specs.Visual.{visual_of};
@@ -137,13 +138,13 @@ impl Fill {
     }
 
     /// Returns whether there is exactly one line, at most `width` columns wide.
-    pub(crate) fn is_line_within(&self, width: u16) -> bool
+    pub(crate) fn is_line_within(&self, width: u32) -> bool
         ensures { result ≡ is_line_within width self.now.lines }
     {
         if self.extents.starts().len() != 1 {
             return false;
         }
-        self.extents.shown(0).columns <= u32::from(width)
+        self.extents.shown(0).columns <= width
     }
 
     /// Returns line `n`, or `None` past the last line.
@@ -171,20 +172,31 @@ impl Fill {
     pub(crate) fn line<'a>(&'a self, of: &LaidText<'a>, n: usize) -> Option<VisualLine<'a>>
         requires within { Layouts.AreWithin (length of.now.text.now) self.now.lines }
         requires limit { length of.now.text.now ≤ PARAGRAPH_LIMIT }
+        requires measures { IsMeasuredText of.now self.now.lines }
         ensures { result
-            ≡ option_map (visual_of of.now.base of.now.tab_width None of.now.text.now self.now.lines n)
+            ≡ option_map (visual_of of.now.base of.now.tab_width (advances_in of.now)
+            of.now.text.now self.now.lines n)
             (slice_get self.now.lines n) }
     {
         let text = of.text;
         let part = self.part(n)?;
         let start = part.start as usize;
         let end = end_of(self.starts(), n, text.len());
+        let shown_end = start + part.levels.len();
+        let (advances, widths) = if of.is_measured {
+            (&of.advances[start..shown_end], &of.widths[start..shown_end])
+        } else {
+            (of.advances, of.widths)
+        };
         Some(VisualLine {
             is_first: n == 0,
             base: of.base,
             tab_width: of.tab_width,
             len: end.saturating_sub(start),
-            text: &text[start..start + part.levels.len()],
+            text: &text[start..shown_end],
+            is_measured: of.is_measured,
+            advances,
+            widths,
             columns: part.columns,
             levels: part.levels,
             ltov: part.ltov,
@@ -200,19 +212,20 @@ impl Fill {
         of: &LaidText<'a>,
         writer: &mut W,
         before: u64,
-        width: u16,
+        width: u32,
         print: &Print,
     ) -> Result<u64, WriteFault>
         requires within { Layouts.AreWithin (length of.now.text.now) self.now.lines }
         requires limit { length of.now.text.now ≤ PARAGRAPH_LIMIT }
+        requires measures { IsMeasuredText of.now self.now.lines }
         requires before { before ≤ (W.state writer.old).passed }
         ensures ok { IfOk result (λ n.
-            PassedOn (lines_bytes width print.now of.now.base of.now.tab_width None of.now.text.now
-            self.now.lines) before
+            PassedOn (lines_bytes width print.now of.now.base of.now.tab_width
+            (advances_in of.now) of.now.text.now self.now.lines) before
             (W.state writer.old) (W.state writer.new) n) }
         ensures err { IfErr result (λ fault.
-            StoppedIn (lines_bytes width print.now of.now.base of.now.tab_width None of.now.text.now
-            self.now.lines) before
+            StoppedIn (lines_bytes width print.now of.now.base of.now.tab_width
+            (advances_in of.now) of.now.text.now self.now.lines) before
             (W.state writer.old) (W.state writer.new) fault.written) }
         ensures counted { IfOk result (λ n. n ≤ (W.state writer.new).passed) }
     {
@@ -231,6 +244,9 @@ impl Fill {
 #[derive(Clone, Copy)]
 pub(crate) struct LaidText<'a> {
     pub(crate) text: &'a [char],
+    pub(crate) is_measured: bool,
+    pub(crate) advances: &'a [u32],
+    pub(crate) widths: &'a [u32],
     pub(crate) base: u8,
     pub(crate) tab_width: u8,
 }

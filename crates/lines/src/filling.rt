@@ -3,6 +3,7 @@ ghost use Rattle.std.specs.Prelude.{◌≡◌, ◌+◌, ◌&&◌, ◌||◌, ◌<
 ghost use Rattle.std.specs.Prelude.{false, IsTrue, None, IfOk, IfSome, OnErr, OnOk};
 ghost use Rattle.bidi.specs.Brackets.{greatest};
 ghost use Rattle.lines.specs.Bare.{AreAlike, with_ends};
+ghost use Rattle.lines.specs.CharInfos.{sized};
 ghost use Rattle.lines.specs.Clusters.{cluster_ends};
 ghost use Rattle.lines.specs.Filling.{by_break, cluster_ends_at, first_end, fits_to, is_break, line_end};
 ghost use Rattle.lines.specs.Filling.{line_len, line_starts_of, may_end, stop};
@@ -11,19 +12,20 @@ ghost use Rattle.lines.specs.Kept.{AreStarts};
 ghost use Rattle.lines.specs.declared.char_info.CharInfo.{CharInfo};
 ghost use Rattle.lines.specs.declared.engine.TheConstants.{PARAGRAPH_LIMIT};
 
-use crate::char_info::{CharInfo, GROUP, Sum, is_must};
+use crate::char_info::{CharInfo, GROUP, is_must};
 use crate::clusters::ClusterBuffers;
 use crate::counts::Counted;
+use crate::sizes::{Ruler, Sizes};
 use breaks::Mark;
 use std::alloc::AllocError;
 
 /// Replaces the contents of `starts` with the start of each line of a paragraph at a width. `infos` need not
 /// contain the cluster ends. The cluster ends are found and stored in `infos` when a line first needs them.
-pub fn line_starts(
+pub(crate) fn line_starts<S: Sizes>(
     clusters: &mut ClusterBuffers,
     text: &[char],
     infos: &mut [CharInfo],
-    width: u16,
+    ruler: Ruler<S>,
     nobreak: bool,
     starts: &mut Vec<u32>,
     _filled: Counted,
@@ -32,7 +34,8 @@ pub fn line_starts(
     requires len { length infos.old ≡ length text.now }
     requires within { length infos.old ≤ PARAGRAPH_LIMIT }
     ensures lines { OnOk result (starts.new.items
-        ≡ line_starts_of nobreak width (with_ends infos.old (cluster_ends text.now))) }
+        ≡ line_starts_of nobreak ruler.width
+        (sized (S.given ruler.sizes) (with_ends infos.old (cluster_ends text.now)))) }
     ensures starts { OnOk result (AreStarts (length text.now) starts.new.items) }
     ensures alike { OnOk result (AreAlike infos.new infos.old) }
 {
@@ -41,7 +44,7 @@ pub fn line_starts(
     let mut is_known = false;
     while start < infos.len() {
         starts.push(start as u32)?;
-        let (len, known) = line_len(clusters, text, infos, is_known, start, width, nobreak)?;
+        let (len, known) = line_len(clusters, text, infos, is_known, start, ruler, nobreak)?;
         start += len;
         is_known = known;
     }
@@ -49,48 +52,51 @@ pub fn line_starts(
 }
 
 // Returns the length of the line that begins at `start`, and whether `infos` now contains the cluster ends.
-fn line_len(
+fn line_len<S: Sizes>(
     clusters: &mut ClusterBuffers,
     text: &[char],
     infos: &mut [CharInfo],
     is_known: bool,
     start: usize,
-    width: u16,
+    ruler: Ruler<S>,
     nobreak: bool,
 ) -> Result<(usize, bool), AllocError>
     requires start { (start < length infos.old) × (length infos.old ≤ PARAGRAPH_LIMIT) }
     requires len { length infos.old ≡ length text.now }
     requires known { IsTrue is_known → infos.old ≡ with_ends infos.old (cluster_ends text.now) }
     ensures line { IfOk result (λ line.
-        line.0 ≡ line_len nobreak width (drop start (with_ends infos.old (cluster_ends text.now)))) }
+        line.0 ≡ line_len nobreak ruler.width
+        (drop start (sized (S.given ruler.sizes) (with_ends infos.old (cluster_ends text.now))))) }
     ensures within { IfOk result (λ line. (0 < line.0) × (start + line.0 ≤ length infos.old)) }
     ensures known { IfOk result (λ line.
         IsTrue line.1 → infos.new ≡ with_ends infos.new (cluster_ends text.now)) }
     ensures alike { OnOk result (AreAlike infos.new infos.old) }
-    ensures memory { OnErr result ((nobreak ≡ false) × (by_break width (drop start infos.old) ≡ None)) }
+    ensures memory { OnErr result ((nobreak ≡ false) × (by_break ruler.width
+        (drop start (sized (S.given ruler.sizes) infos.old)) ≡ None)) }
 {
-    if let Some(len) = broken_len(&infos[start..], width, nobreak) {
+    if let Some(len) = broken_len(&infos[start..], ruler.from(start), nobreak) {
         return Ok((len, is_known));
     }
     if !is_known {
         clusters.mark(text, infos)?;
     }
-    Ok((line_end(&infos[start..], width) + 1, true))
+    Ok((line_end(&infos[start..], ruler.from(start)) + 1, true))
 }
 
 // Returns the length of the first line, or `None` if the length depends on clusters. It does not depend on
 // clusters if the line ends at a break opportunity or `nobreak` is set.
-fn broken_len(rest: &[CharInfo], width: u16, nobreak: bool) -> Option<usize>
+fn broken_len<S: Sizes>(rest: &[CharInfo], ruler: Ruler<S>, nobreak: bool) -> Option<usize>
     requires { (0 < length rest.now) × (length rest.now ≤ PARAGRAPH_LIMIT) }
     ensures len { (known : List CharInfo) → AreAlike rest.now known
-        → IfSome result (λ len. len ≡ line_len nobreak width known) }
+        → IfSome result (λ len. len ≡ line_len nobreak ruler.width (sized (S.given ruler.sizes) known)) }
     ensures within { IfSome result (λ len. (0 < len) × (len ≤ length rest.now)) }
-    ensures none { result ≡ None → (nobreak ≡ false) × (by_break width rest.now ≡ None) }
+    ensures none { result ≡ None
+        → (nobreak ≡ false) × (by_break ruler.width (sized (S.given ruler.sizes) rest.now) ≡ None) }
 {
     if nobreak {
         return Some(first_must(rest) + 1);
     }
-    let k = last_break(rest, fitting_len(rest, width))?;
+    let k = last_break(rest, fitting_len(rest, ruler))?;
     Some(k + 1)
 }
 
@@ -139,12 +145,12 @@ fn first_end(rest: &[CharInfo]) -> usize
 }
 
 // Returns the index of the last character of the first line.
-fn line_end(rest: &[CharInfo], width: u16) -> usize
+fn line_end<S: Sizes>(rest: &[CharInfo], ruler: Ruler<S>) -> usize
     requires { (0 < length rest.now) × (length rest.now ≤ PARAGRAPH_LIMIT) }
-    ensures end { result ≡ line_end width rest.now }
+    ensures end { result ≡ line_end ruler.width (sized (S.given ruler.sizes) rest.now) }
     ensures within { result < length rest.now }
 {
-    let len = fitting_len(rest, width);
+    let len = fitting_len(rest, ruler);
     if let Some(k) = last_break(rest, len) {
         return k;
     }
@@ -186,30 +192,33 @@ fn last_cluster_end(rest: &[CharInfo], len: usize) -> Option<usize>
 
 // Returns the number of characters at the start of the paragraph up to each of which the first line fits, and
 // after none of which it must end, except after the last one.
-fn fitting_len(rest: &[CharInfo], width: u16) -> usize
+fn fitting_len<S: Sizes>(rest: &[CharInfo], ruler: Ruler<S>) -> usize
     requires { (0 < length rest.now) × (length rest.now ≤ PARAGRAPH_LIMIT) }
-    ensures last { (test : ℕ → Bool) → greatest (λ k. test k && fits_to width rest.now k)
-        (suc (stop rest.now)) ≡ greatest test result }
+    ensures last { (test : ℕ → Bool)
+        → greatest (λ k. test k && fits_to ruler.width (sized (S.given ruler.sizes) rest.now) k)
+        (suc (stop (sized (S.given ruler.sizes) rest.now))) ≡ greatest test result }
     ensures within { result ≤ length rest.now }
 {
-    let width = width as usize;
-    let (len, columns) = fitting_groups(rest, width);
-    fitting_after(rest, width, len, columns)
+    let (len, columns) = fitting_groups(rest, ruler);
+    fitting_after(rest, ruler, len, columns)
 }
 
 // Reads groups of characters as long as they fit in the first line, which must end after none of them.
 // Returns the number of characters and their columns.
-fn fitting_groups(rest: &[CharInfo], width: usize) -> (usize, usize)
+fn fitting_groups<S: Sizes>(rest: &[CharInfo], ruler: Ruler<S>) -> (usize, usize)
     requires { length rest.now ≤ PARAGRAPH_LIMIT }
-    ensures { FitsUpTo width rest.now result.0 result.1 }
+    ensures { FitsUpTo ruler.width (sized (S.given ruler.sizes) rest.now) result.0 result.1 }
 {
+    let (sizes, width) = (ruler.sizes, ruler.width as usize);
     let mut columns = 0;
     let mut k = 0;
     // Most characters have at least one column, so a group does not fit in less than `GROUP` columns.
     while k + GROUP <= rest.len() && columns + GROUP <= width && !is_must(rest[k].mark) {
-        let sum = Sum::of(&rest[k..k + GROUP]);
-        let next = columns + sum.columns as usize;
-        if sum.has_tab | (sum.has_must | (next > width)) {
+        let Some(group) = sizes.group(rest, k) else {
+            break;
+        };
+        let next = columns + group.columns as usize;
+        if group.has_tab | (group.has_must | (next > width)) {
             break;
         }
         columns = next;
@@ -219,18 +228,20 @@ fn fitting_groups(rest: &[CharInfo], width: usize) -> (usize, usize)
 }
 
 // Does the work of `fitting_len`, given the number of characters already read, and their columns.
-fn fitting_after(rest: &[CharInfo], width: usize, len: usize, columns: usize) -> usize
+fn fitting_after<S: Sizes>(rest: &[CharInfo], ruler: Ruler<S>, len: usize, columns: usize) -> usize
     requires some { (0 < length rest.now) × (length rest.now ≤ PARAGRAPH_LIMIT) }
-    requires fits { FitsUpTo width rest.now len columns }
-    ensures last { (test : ℕ → Bool) → greatest (λ k. test k && fits_to width rest.now k)
-        (suc (stop rest.now)) ≡ greatest test result }
+    requires fits { FitsUpTo ruler.width (sized (S.given ruler.sizes) rest.now) len columns }
+    ensures last { (test : ℕ → Bool)
+        → greatest (λ k. test k && fits_to ruler.width (sized (S.given ruler.sizes) rest.now) k)
+        (suc (stop (sized (S.given ruler.sizes) rest.now))) ≡ greatest test result }
     ensures within { result ≤ length rest.now }
 {
+    let (sizes, width) = (ruler.sizes, ruler.width as usize);
     let mut columns = columns;
     let mut k = len;
     while k < rest.len() {
         let info = rest[k];
-        columns = info.advance(columns);
+        columns = info.advance(sizes.size(rest, k), columns);
         if columns > width && !info.trailing.may_trail() {
             return k;
         }

@@ -1,6 +1,9 @@
 //! The layout of a paragraph.
 ghost use Rattle.std.specs.Prelude.{◌≡◌, ◌<◌, ◌≤◌, ℕ, false, length, map, option_map, slice_get};
-ghost use Rattle.std.specs.Prelude.{None, IfErr, IfOk, OnErr, OnOk};
+ghost use Rattle.std.specs.Prelude.{true, List, take, IfErr, IfOk, IfSome, OnErr, OnOk};
+ghost use Rattle.lines.specs.Layouts;
+ghost use Rattle.lines.specs.Measures.{kept_len, kept_widths, AreWidthsOf, FollowFrom};
+ghost use Rattle.lines.specs.declared.engine.TheConstants.{PARAGRAPH_LIMIT};
 ghost use Rattle.device.specs.Device.{StoppedAt, Wrote};
 
 use crate::char_info::CharInfo;
@@ -12,9 +15,10 @@ use crate::paragraph::{LentRules, Text};
 use crate::printing::bytes::WriteFault;
 use crate::printing::print::Print;
 use crate::visual_line::VisualLine;
-use crate::widths::columns;
+use crate::widths::{columns, put_widths};
 use breaks::{Mark, paragraphs_end_at_must};
 use device::Sink;
+use std::alloc::AllocError;
 use std::marker::Model;
 use ucd::{Properties, Tables};
 
@@ -25,6 +29,10 @@ pub struct Laid {
     pub(crate) text: Vec<char>,
     pub(crate) base: u8,
     pub(crate) tab_width: u8,
+    pub(crate) is_measured: bool,
+    // In a measured paragraph the advance of each character, and with tab stops behind them the width of each
+    // shown character on its line. One list saves memory in each paragraph.
+    pub(crate) sizes: Vec<u32>,
     pub(crate) levels: Vec<u8>,
     pub(crate) marks: Vec<Mark>,
     pub(crate) ends: Vec<bool>,
@@ -37,6 +45,8 @@ impl Drop for Laid {
             text: _,
             base: _,
             tab_width: _,
+            is_measured: _,
+            sizes: _,
             levels: _,
             marks: _,
             ends: _,
@@ -46,15 +56,16 @@ impl Drop for Laid {
 }
 
 impl Model for Laid {
-    ghost use Rattle.std.specs.Prelude.{◌≡◌, ◌≤◌, None, length};
+    ghost use Rattle.std.specs.Prelude.{◌≡◌, ◌≤◌, true, length};
     ghost use Rattle.lines.specs.Layouts.{AreWithin, Layout};
+    ghost use Rattle.lines.specs.Measures.{kept_advances, KeepsSizes};
     ghost use Rattle.lines.specs.declared.engine.TheConstants.{PARAGRAPH_LIMIT};
 
     ghost Value = { Layout };
 
     ghost view = { λ l. record {
       text = l.text.items;
-      advances = None;
+      advances = kept_advances l.is_measured l.text.items l.sizes.items;
       base = l.base;
       tab_width = l.tab_width;
       levels = l.levels.items;
@@ -66,7 +77,8 @@ impl Model for Laid {
     ghost invariant = { λ l.
         (length l.levels.items ≡ length l.text.items)
         × (l.lines.len ≡ length l.text.items) × AreWithin (length l.text.items) l.lines.lines
-        × (length l.text.items ≤ PARAGRAPH_LIMIT) };
+        × (length l.text.items ≤ PARAGRAPH_LIMIT)
+        × (l.is_measured ≡ true → KeepsSizes l.tab_width l.text.items l.sizes.items l.lines.lines) };
 }
 
 impl Laid {
@@ -74,7 +86,9 @@ impl Laid {
     ghost use Rattle.lines.specs.Extents.{extents_in, extents_of, reflowed};
     ghost use Rattle.std.specs.Option.{option_map_or};
     ghost use Rattle.lines.specs.Layouts.{hides_space_within, is_line_within, start_of, visuals};
-    ghost use Rattle.lines.specs.Layouts.{AreLinesOf, Exchanges, IsLaidOut, Rules, unmeasured};
+    ghost use Rattle.lines.specs.LaidTexts.{advances_in, IsMeasuredText};
+    ghost use Rattle.lines.specs.Layouts.{AreLinesOf, Exchanges, HaveRoom, IsLaidOut, Rules};
+    ghost use Rattle.lines.specs.Layouts.{unmeasured, with_advances};
     ghost use Rattle.lines.specs.Pages.{layout_bytes};
     ghost use Rattle.lines.specs.Visual.{visual_of};
     ghost use Rattle.lines.specs.Writing.{PassedOn, StoppedIn};
@@ -115,6 +129,19 @@ impl Laid {
         &self.ends
     }
 
+    /// Returns the advances, if the paragraph is measured.
+    pub fn advances(&self) -> Option<&[u32]>
+        ensures advances { option_map (λ list. list.now) result ≡ self.now.advances }
+        ensures len { IfSome result (λ list. length list.now ≡ length self.now.text) }
+        ensures room { HaveRoom self.now.advances }
+    {
+        if self.is_measured {
+            Some(&self.sizes[..self.text.len()])
+        } else {
+            None
+        }
+    }
+
     /// Returns where each line starts, in characters from the start of the paragraph.
     pub fn line_starts(&self) -> &[u32]
         ensures { result.now ≡ map start_of self.now.lines }
@@ -130,7 +157,7 @@ impl Laid {
     }
 
     // Returns whether the paragraph has exactly one line, at most `width` columns wide.
-    pub(crate) fn is_line_within(&self, width: u16) -> bool
+    pub(crate) fn is_line_within(&self, width: u32) -> bool
         ensures { result ≡ is_line_within width self.now.lines }
     {
         self.lines.is_line_within(width)
@@ -138,7 +165,7 @@ impl Laid {
 
     // Returns whether the first character that the first line does not show is a space that fits the width,
     // too.
-    pub(crate) fn hides_space_within(&self, tables: &Tables, width: u16) -> bool
+    pub(crate) fn hides_space_within(&self, tables: &Tables, width: u32) -> bool
         ensures { result ≡ option_map_or
             (hides_space_within tables.now self.now.tab_width self.now.advances width self.now.text)
             (slice_get self.now.lines 0) false }
@@ -158,7 +185,11 @@ impl Laid {
             Mark::Never,
             self.tab_width,
         );
-        info.is_space_within(line.columns, width)
+        let size = match self.advances() {
+            Some(advances) => advances[shown],
+            None => u32::from(info.columns),
+        };
+        info.is_space_within(size, line.columns, width)
     }
 
     /// Returns line `n`, or `None` past the last line.
@@ -175,7 +206,7 @@ impl Laid {
     pub fn write<W: Sink>(
         &self,
         writer: &mut W,
-        width: u16,
+        width: u32,
         print: &Print,
     ) -> Result<(), WriteFault>
         ensures ok { OnOk result (Wrote (layout_bytes width print.now self.now)
@@ -194,7 +225,7 @@ impl Laid {
         &self,
         writer: &mut W,
         before: u64,
-        width: u16,
+        width: u32,
         print: &Print,
     ) -> Result<u64, WriteFault>
         requires { before ≤ (W.state writer.old).passed }
@@ -213,9 +244,22 @@ impl Laid {
         ensures text { result.text.now ≡ self.now.text }
         ensures base { result.base ≡ self.now.base }
         ensures tab_width { result.tab_width ≡ self.now.tab_width }
+        ensures advances { advances_in result ≡ self.now.advances }
+        ensures measures { IsMeasuredText result self.now.lines }
     {
+        let len = self.text.len();
+        let (advances, widths) = if !self.is_measured {
+            (&self.sizes[..0], &self.sizes[..0])
+        } else if self.tab_width == 0 {
+            (&self.sizes[..len], &self.sizes[..len])
+        } else {
+            (&self.sizes[..len], &self.sizes[len..2 * len])
+        };
         LaidText {
             text: &self.text,
+            is_measured: self.is_measured,
+            advances,
+            widths,
             base: self.base,
             tab_width: self.tab_width,
         }
@@ -231,9 +275,9 @@ impl Laid {
         properties: &mut Vec<Properties>,
         written: &mut Count,
     )
-        requires laid { IsLaidOut (unmeasured tables.now options) self.old }
-        requires extents { (width : ℕ) × (extents.old
-            ≡ extents_of (unmeasured tables.now options) width self.old.text) }
+        requires laid { IsLaidOut (with_advances (unmeasured tables.now options) self.old.advances) self.old }
+        requires extents { (width : ℕ) × (extents.old ≡ extents_of
+            (with_advances (unmeasured tables.now options) self.old.advances) width self.old.text) }
         requires room { length self.old.text ≤ length properties.old.items }
         ensures laid { self.new ≡ reflowed (unmeasured tables.now options) self.old extents.old }
         ensures extents { extents.new ≡ extents_in self.old.lines }
@@ -252,6 +296,13 @@ impl Laid {
             base: self.base,
         };
         self.lines.reflow(&text, &self.levels, extents, written);
+        put_all_widths(
+            self.is_measured,
+            &self.text,
+            self.tab_width,
+            &self.lines,
+            &mut self.sizes,
+        );
     }
 
     /// Swaps the lines with those at another width, found with the same tables and options.
@@ -260,6 +311,13 @@ impl Laid {
         ensures { Exchanges self.old self.new fill.old fill.new }
     {
         std::mem::swap(&mut self.lines, fill);
+        put_all_widths(
+            self.is_measured,
+            &self.text,
+            self.tab_width,
+            &self.lines,
+            &mut self.sizes,
+        );
     }
 }
 
@@ -341,5 +399,69 @@ impl Laid {
         ensures memory { OnErr result (0 < length self.now.text) }
     {
         crate::clusters::word_ends(alloc, &self.text)
+    }
+}
+
+/// Returns the list that a measured paragraph keeps: its advances, with room for widths if there are tab
+/// stops.
+pub(crate) fn with_room(advances: Vec<u32>, tab_width: u8) -> Result<Vec<u32>, AllocError>
+    requires { length advances.items ≤ PARAGRAPH_LIMIT }
+    ensures advances { IfOk result (λ sizes. take (length advances.items) sizes.items ≡ advances.items) }
+    ensures len { IfOk result (λ sizes. (text : List ℕ) → length text ≡ length advances.items
+        → kept_len tab_width text ≤ length sizes.items) }
+{
+    let mut sizes = advances;
+    if tab_width > 0 {
+        let len = sizes.len();
+        sizes.resize(2 * len, 0)?;
+    }
+    Ok(sizes)
+}
+
+/// Replaces the widths that a measured paragraph keeps with those on its lines.
+pub(crate) fn put_all_widths(
+    is_measured: bool,
+    text: &[char],
+    tab_width: u8,
+    lines: &Fill,
+    sizes: &mut [u32],
+)
+    requires limit { length text.now ≤ PARAGRAPH_LIMIT }
+    requires len { is_measured ≡ true → kept_len tab_width text.now ≤ length sizes.old }
+    requires within { Layouts.AreWithin (length text.now) lines.now.lines }
+    requires lines { FollowFrom 0 lines.now.lines }
+    ensures advances { take (length text.now) sizes.new ≡ take (length text.now) sizes.old }
+    ensures len { length sizes.new ≡ length sizes.old }
+    ensures widths { is_measured ≡ true → AreWidthsOf tab_width text.now (take (length text.now) sizes.new)
+        (kept_widths tab_width text.now sizes.new) lines.now.lines }
+{
+    if !is_measured || tab_width == 0 {
+        return;
+    }
+    let (advances, rest) = sizes.split_at_mut(text.len());
+    put_each_width(text, tab_width, lines, advances, &mut rest[..text.len()]);
+}
+
+// Replaces `widths` with the widths of the shown characters of each line. Other items stay.
+fn put_each_width(text: &[char], tab_width: u8, lines: &Fill, advances: &[u32], widths: &mut [u32])
+    requires limit { length text.now ≤ PARAGRAPH_LIMIT }
+    requires advances { length advances.now ≡ length text.now }
+    requires widths { length widths.old ≡ length text.now }
+    requires within { Layouts.AreWithin (length text.now) lines.now.lines }
+    requires lines { FollowFrom 0 lines.now.lines }
+    ensures { AreWidthsOf tab_width text.now advances.now widths.new lines.now.lines }
+{
+    for n in 0..lines.starts().len() {
+        let Some(line) = lines.part(n) else {
+            unreachable!()
+        };
+        let start = line.start as usize;
+        let end = start + line.levels.len();
+        put_widths(
+            &text[start..end],
+            tab_width,
+            &advances[start..end],
+            &mut widths[start..end],
+        );
     }
 }

@@ -5,9 +5,10 @@ ghost use Rattle.lines.specs.Buffers.{held_lines, AreSound};
 ghost use Rattle.lines.specs.CharInfos.{infos_of};
 ghost use Rattle.lines.specs.Clusters.{cluster_ends};
 ghost use Rattle.lines.specs.Engine.{counted, RisesBy};
-ghost use Rattle.lines.specs.Layouts.{AreWithin, lines_of};
+ghost use Rattle.lines.specs.Layouts.{AreWithin, HaveRoom, lines_of};
 ghost use Rattle.lines.specs.OneLine.{IsOneLine};
-ghost use Rattle.lines.specs.Paragraphs.{HasEnds, IsLookedUp, IsPrepared, lines_at, rules_in};
+ghost use Rattle.lines.specs.Paragraphs.{HasEnds, IsLookedUp, IsPrepared, advances_in, lines_at};
+ghost use Rattle.lines.specs.Paragraphs.{rules_by};
 ghost use Rattle.lines.specs.declared.engine.TheConstants.{PARAGRAPH_LIMIT};
 
 use crate::buffers::{LayoutBuffers, LineBuffers};
@@ -24,9 +25,13 @@ use std::alloc::{AllocError, Global};
 impl Workspace {
     ghost use Rattle.lines.specs.Counts.{LaysOutAll, LaysOutSome};
     ghost use Rattle.lines.specs.Engine.{counted};
-    ghost use Rattle.lines.specs.Layouts.{AreWithin, layout_of};
+    ghost use Rattle.std.specs.Prelude.{option_map};
+    ghost use Rattle.bidi.specs.Levels.{levels_of};
+    ghost use Rattle.breaks.specs.Marks.{marks_of};
+    ghost use Rattle.lines.specs.Layouts.{AreWithin, HaveRoom, base_of, lines_of, with_advances};
     ghost use Rattle.lines.specs.Buffers.{held_lines, AreSound};
     ghost use Rattle.lines.specs.Paragraphs.{rules_in};
+    ghost use Rattle.lines.specs.Reordering.{ends_by};
 
     /// Lays out a paragraph. Returns its base level, and replaces the contents of `kept` with the rest of its
     /// layout.
@@ -34,21 +39,22 @@ impl Workspace {
         &mut self,
         rules: &LentRules<'_>,
         text: &[char],
-        width: u16,
+        advances: Option<&[u32]>,
+        width: u32,
         kept: &mut LayoutBuffers,
         counts: &mut Counts,
     ) -> Result<u8, AllocError>
-        requires { length text.now ≤ PARAGRAPH_LIMIT }
-        ensures base { IfOk result (λ base.
-            base ≡ (layout_of (rules_in rules.now) width text.now).base) }
-        ensures levels { OnOk result
-            (kept.new.levels.items ≡ (layout_of (rules_in rules.now) width text.now).levels) }
-        ensures marks { OnOk result
-            (kept.new.marks.items ≡ (layout_of (rules_in rules.now) width text.now).marks) }
-        ensures ends { OnOk result
-            (kept.new.ends.items ≡ (layout_of (rules_in rules.now) width text.now).ends) }
-        ensures lines { OnOk result
-            (held_lines kept.new.lines ≡ (layout_of (rules_in rules.now) width text.now).lines) }
+        requires limit { length text.now ≤ PARAGRAPH_LIMIT }
+        requires room { HaveRoom (option_map (λ list. list.now) advances) }
+        ensures base { IfOk result (λ base. base ≡ base_of (rules_in rules.now) text.now) }
+        ensures levels { OnOk result (kept.new.levels.items
+            ≡ levels_of rules.now.tables.now text.now rules.now.options.base) }
+        ensures marks { OnOk result (kept.new.marks.items
+            ≡ marks_of rules.now.tables.now rules.now.options.whole_numbers text.now) }
+        ensures ends { OnOk result (kept.new.ends.items ≡ ends_by rules.now.options text.now) }
+        ensures lines { OnOk result (held_lines kept.new.lines
+            ≡ lines_of (with_advances (rules_in rules.now) (option_map (λ list. list.now) advances.entry))
+            width text.now) }
         ensures len { OnOk result (length kept.new.levels.items ≡ length text.now) }
         ensures sound { OnOk result (AreSound kept.new.lines) }
         ensures within { OnOk result (AreWithin (length text.now) (held_lines kept.new.lines)) }
@@ -73,6 +79,7 @@ impl Workspace {
         fill_marks(&text, &mut kept.marks)?;
         let paragraph = Paragraph {
             text,
+            advances,
             levels: &kept.levels,
             marks: &kept.marks,
         };
@@ -88,7 +95,7 @@ pub(crate) fn fill_lines(
     clusters: &mut ClusterBuffers,
     paragraph: &Paragraph<'_>,
     infos: &mut InfoBuffers,
-    width: u16,
+    width: u32,
     lines: &mut LineBuffers,
     filled: Counted,
     written: &mut Count,
@@ -96,7 +103,7 @@ pub(crate) fn fill_lines(
     requires counted { filled ≡ length paragraph.now.text.characters.now }
     requires paragraph { IsPrepared paragraph.now }
     ensures lines { OnOk result (held_lines lines.new
-        ≡ lines_of (rules_in paragraph.now.text.rules) width paragraph.now.text.characters.now) }
+        ≡ lines_of (rules_by paragraph.now) width paragraph.now.text.characters.now) }
     ensures sound { OnOk result (AreSound lines.new) }
     ensures within { OnOk result
         (AreWithin (length paragraph.now.text.characters.now) (held_lines lines.new)) }
@@ -108,19 +115,22 @@ pub(crate) fn fill_lines(
     ensures at_most { RisesBy (length paragraph.now.text.characters.now) written.old written.new }
 {
     infos.cache.prepare()?;
-    if let Some(shown) = one_line(&paragraph.text, width, &mut infos.cache) {
-        return show_one_line(paragraph, shown, width, lines, filled, written);
+    if paragraph.advances.is_none() {
+        if let Some(shown) = one_line(&paragraph.text, width, &mut infos.cache) {
+            return show_one_line(paragraph, shown, width, lines, filled, written);
+        }
     }
     infos.fill(&paragraph.text, paragraph.marks)?;
     let infos = &mut infos.infos[..paragraph.text.characters.len()];
     fill_lines_by(clusters, paragraph, infos, width, lines, filled, written)
 }
 
-// Replaces the contents of `lines` with the line of a paragraph that is one line at a width.
+// Replaces the contents of `lines` with the line of a paragraph that is not measured and is one line at a
+// width.
 fn show_one_line(
     paragraph: &Paragraph<'_>,
     shown: Shown,
-    _width: u16,
+    _width: u32,
     lines: &mut LineBuffers,
     filled: Counted,
     written: &mut Count,
@@ -130,7 +140,7 @@ fn show_one_line(
     requires some { 0 < length paragraph.now.text.characters.now }
     requires shown { IsOneLine paragraph.now.text _width shown }
     ensures lines { OnOk result (held_lines lines.new
-        ≡ lines_at paragraph.now.text paragraph.now.levels.now _width) }
+        ≡ lines_at None paragraph.now.text paragraph.now.levels.now _width) }
     ensures sound { OnOk result (AreSound lines.new) }
     ensures within { OnOk result
         (AreWithin (length paragraph.now.text.characters.now) (held_lines lines.new)) }
@@ -150,7 +160,7 @@ fn fill_lines_by(
     clusters: &mut ClusterBuffers,
     paragraph: &Paragraph<'_>,
     infos: &mut [CharInfo],
-    width: u16,
+    width: u32,
     lines: &mut LineBuffers,
     filled: Counted,
     written: &mut Count,
@@ -164,8 +174,9 @@ fn fill_lines_by(
     requires infos_len { length infos.old ≡ length paragraph.now.text.characters.now }
     requires levels_len { length paragraph.now.levels.now ≡ length paragraph.now.text.characters.now }
     requires within { length paragraph.now.text.characters.now ≤ PARAGRAPH_LIMIT }
+    requires room { HaveRoom (advances_in paragraph.now) }
     ensures lines { OnOk result (held_lines lines.new
-        ≡ lines_at paragraph.now.text paragraph.now.levels.now width) }
+        ≡ lines_at (advances_in paragraph.now) paragraph.now.text paragraph.now.levels.now width) }
     ensures sound { OnOk result (AreSound lines.new) }
     ensures within { OnOk result
         (AreWithin (length paragraph.now.text.characters.now) (held_lines lines.new)) }
@@ -177,8 +188,9 @@ fn fill_lines_by(
     ensures at_most { RisesBy (length paragraph.now.text.characters.now) written.old written.new }
 {
     let (text, options) = (paragraph.text.characters, paragraph.text.rules.options);
+    let advances = paragraph.advances;
     lines
         .extents
-        .find(clusters, text, infos, width, options, filled)?;
+        .find(clusters, text, infos, advances, width, options, filled)?;
     show_lines(paragraph, lines, written)
 }

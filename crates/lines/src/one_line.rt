@@ -3,6 +3,7 @@
 ghost use Rattle.std.specs.Prelude.{◌≡◌, ◌<◌, ◌≤◌, true, false, length, IfSome};
 ghost use Rattle.lines.specs.OneLine.{IsOneLine};
 ghost use Rattle.lines.specs.Paragraphs.{IsLookedUp};
+ghost use Rattle.lines.specs.declared.engine.TheConstants.{PARAGRAPH_LIMIT};
 
 use crate::column_cache::ColumnCache;
 use crate::fill::Shown;
@@ -12,8 +13,9 @@ use breaks::{marks_are_as_many, paragraphs_end_at_must};
 
 /// Returns how much of a paragraph is shown, if a quick test shows that the paragraph is one line: it has no
 /// mandatory break before its end, and its shown part fits in the width.
-pub(crate) fn one_line(text: &Text<'_>, width: u16, cache: &mut ColumnCache) -> Option<Shown>
-    requires { IsLookedUp text.now }
+pub(crate) fn one_line(text: &Text<'_>, width: u32, cache: &mut ColumnCache) -> Option<Shown>
+    requires text { IsLookedUp text.now }
+    requires limit { length text.now.characters.now ≤ PARAGRAPH_LIMIT }
     ensures some { IfSome result (λ part. 0 < length text.now.characters.now) }
     ensures line { IfSome result (λ part. IsOneLine text.now width part) }
 {
@@ -28,7 +30,7 @@ pub(crate) fn one_line(text: &Text<'_>, width: u16, cache: &mut ColumnCache) -> 
     paragraphs_end_at_must();
     let len = shown_len(text);
     let columns = cache.sum(&text.characters[..len]);
-    if columns > u32::from(width) {
+    if columns > width {
         return None;
     }
     Some(Shown {
@@ -39,7 +41,7 @@ pub(crate) fn one_line(text: &Text<'_>, width: u16, cache: &mut ColumnCache) -> 
 
 // Returns whether it is worth trying `one_line`. A paragraph with more characters than columns rarely fits.
 // The columns of a shown part are a simple sum if there are no tab stops and no shown spaces.
-fn may_be_one_line(text: &Text<'_>, width: u16) -> bool
+fn may_be_one_line(text: &Text<'_>, width: u32) -> bool
     ensures some { result ≡ true → 0 < length text.now.characters.now }
     ensures few { result ≡ true → length text.now.characters.now ≤ width }
     ensures hidden { result ≡ true → text.now.rules.options.show_spaces ≡ false }

@@ -57,7 +57,7 @@ impl Options {
 
     // Returns the margin up to which spaces at the end of a line are shown, in columns, or `None` if they are
     // hidden.
-    pub(crate) fn margin(self, width: u16) -> Option<u16>
+    pub(crate) fn margin(self, width: u32) -> Option<u32>
         ensures { result ≡ margin_of self width }
     {
         if self.show_spaces { Some(width) } else { None }

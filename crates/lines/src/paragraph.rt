@@ -40,11 +40,12 @@ pub(crate) struct Text<'a> {
     pub(crate) base: u8,
 }
 
-/// A paragraph with what filling needs: the level of each character before L1, and the break mark after each
-/// character.
+/// A paragraph with what filling needs: the level of each character before L1, the break mark after each
+/// character, and in a measured paragraph the advances.
 #[derive(Clone, Copy)]
 pub(crate) struct Paragraph<'a> {
     pub(crate) text: Text<'a>,
+    pub(crate) advances: Option<&'a [u32]>,
     pub(crate) levels: &'a [u8],
     pub(crate) marks: &'a [Mark],
 }

@@ -170,7 +170,7 @@ fn fill_spans(
     text: &Text<'_>,
     marks: &mut Vec<Mark>,
     infos: &mut InfoBuffers,
-    width: u16,
+    width: u32,
     lines: &mut LineBuffers,
     filled: Counted,
 ) -> Result<(), AllocError>
@@ -191,7 +191,7 @@ fn fill_spans(
     let infos = &mut infos.infos[..text.len()];
     lines
         .extents
-        .find(clusters, text, infos, width, options, filled)
+        .find(clusters, text, infos, None, width, options, filled)
 }
 
 // Writes the lines of a paragraph, whose extents are in `lines`.

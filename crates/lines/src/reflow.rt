@@ -1,22 +1,13 @@
 //! Finds the lines of a paragraph at another width.
 ghost use Rattle.std.specs.Prelude.{◌≡◌, ◌<◌, ◌≤◌, [], ◌∷◌, length, IfOk, OnErr, OnOk};
-ghost use Rattle.lines.specs.Bare.{with_ends};
-ghost use Rattle.lines.specs.Clusters.{cluster_ends};
-ghost use Rattle.lines.specs.Extents.{shown_from};
-ghost use Rattle.lines.specs.Filling.{line_starts_of};
-ghost use Rattle.lines.specs.ShownParts.{margin_of};
-ghost use Rattle.lines.specs.declared.engine.TheConstants.{PARAGRAPH_LIMIT};
 
 use crate::buffers::LineBuffers;
-use crate::char_info::CharInfo;
-use crate::clusters::ClusterBuffers;
 use crate::counts::{Count, Counted, Counts};
 use crate::extents::Extents;
 use crate::fill::{Fill, Shown};
 use crate::laid::Laid;
 use crate::layout::fill_lines;
 use crate::one_line::one_line;
-use crate::options::Options;
 use crate::paragraph::{LentRules, Paragraph, Text};
 use crate::properties::fill_properties;
 use crate::workspace::Workspace;
@@ -75,7 +66,7 @@ impl Workspace {
     ghost use Rattle.lines.specs.Counts.{FillsAll, FillsSome, FindsAll, FindsSome};
     ghost use Rattle.lines.specs.Engine.{counted};
     ghost use Rattle.lines.specs.Extents.{extents_of};
-    ghost use Rattle.lines.specs.Layouts.{AreWithin, IsLaidOut, fill_of};
+    ghost use Rattle.lines.specs.Layouts.{AreWithin, IsLaidOut, fill_of, with_advances};
     ghost use Rattle.lines.specs.Paragraphs.{rules_in};
 
     /// Finds the extents of the lines of a laid-out paragraph at another width.
@@ -84,12 +75,12 @@ impl Workspace {
         alloc: Global,
         rules: &LentRules<'_>,
         laid: &Laid,
-        width: u16,
+        width: u32,
         counts: &mut Counts,
     ) -> Result<Extents, AllocError>
-        requires { IsLaidOut (rules_in rules.now) laid.now }
-        ensures extents { IfOk result (λ extents.
-            extents ≡ extents_of (rules_in rules.now) width laid.now.text) }
+        requires { IsLaidOut (with_advances (rules_in rules.now) laid.now.advances) laid.now }
+        ensures extents { IfOk result (λ extents. extents
+            ≡ extents_of (with_advances (rules_in rules.now) laid.now.advances) width laid.now.text) }
         ensures counts { OnOk result (FindsAll (length laid.now.text) counts.old counts.new) }
         ensures at_most { FindsSome (length laid.now.text) counts.old counts.new }
         ensures filled { counts.new.filled ≡ counted counts.old.filled (length laid.now.text) }
@@ -106,13 +97,17 @@ impl Workspace {
             base: laid.base(),
         };
         self.infos.cache.prepare()?;
-        if let Some(shown) = one_line(&known, width, &mut self.infos.cache) {
-            return extents_of_line(alloc, shown, filled);
+        if laid.advances().is_none() {
+            if let Some(shown) = one_line(&known, width, &mut self.infos.cache) {
+                return extents_of_line(alloc, shown, filled);
+            }
         }
         self.infos.fill(&known, laid.marks())?;
-        let infos = &mut self.infos.infos[..text.len()];
-        let (clusters, options) = (&mut self.clusters, rules.options);
-        extents_by(alloc, clusters, text, infos, width, options, filled)
+        let (clusters, infos) = (&mut self.clusters, &mut self.infos.infos[..text.len()]);
+        let (advances, options) = (laid.advances(), rules.options);
+        let mut extents = Extents::new(alloc);
+        extents.find(clusters, text, infos, advances, width, options, filled)?;
+        Ok(extents)
     }
 
     /// Finds the lines of a laid-out paragraph at another width.
@@ -121,11 +116,12 @@ impl Workspace {
         alloc: Global,
         rules: &LentRules<'_>,
         laid: &Laid,
-        width: u16,
+        width: u32,
         counts: &mut Counts,
     ) -> Result<Fill, AllocError>
-        requires { IsLaidOut (rules_in rules.now) laid.now }
-        ensures lines { IfOk result (λ fill. fill ≡ fill_of (rules_in rules.now) width laid.now.text) }
+        requires { IsLaidOut (with_advances (rules_in rules.now) laid.now.advances) laid.now }
+        ensures lines { IfOk result (λ fill. fill
+            ≡ fill_of (with_advances (rules_in rules.now) laid.now.advances) width laid.now.text) }
         ensures within { IfOk result (λ fill. AreWithin (length laid.now.text) fill.lines) }
         ensures counts { OnOk result (FillsAll (length laid.now.text) counts.old counts.new) }
         ensures unwritten { OnErr result (counts.new.written ≡ counts.old.written) }
@@ -144,6 +140,7 @@ impl Workspace {
                 ends: laid.ends(),
                 base: laid.base(),
             },
+            advances: laid.advances(),
             levels: laid.levels(),
             marks: laid.marks(),
         };
@@ -163,29 +160,5 @@ fn extents_of_line(alloc: Global, shown: Shown, filled: Counted) -> Result<Exten
 {
     let mut extents = Extents::new(alloc);
     extents.put_line(shown, filled)?;
-    Ok(extents)
-}
-
-// Finds the extents of the lines of a paragraph. `infos` need not contain the cluster ends.
-fn extents_by(
-    alloc: Global,
-    clusters: &mut ClusterBuffers,
-    text: &[char],
-    infos: &mut [CharInfo],
-    width: u16,
-    options: Options,
-    filled: Counted,
-) -> Result<Extents, AllocError>
-    requires counted { filled ≡ length text.now }
-    requires len { length infos.old ≡ length text.now }
-    requires within { length text.now ≤ PARAGRAPH_LIMIT }
-    ensures starts { IfOk result (λ extents. extents.starts
-        ≡ line_starts_of options.nobreak width (with_ends infos.old (cluster_ends text.now))) }
-    ensures shown { IfOk result (λ extents. extents.shown
-        ≡ shown_from (margin_of options width) (length text.now)
-        (with_ends infos.old (cluster_ends text.now)) extents.starts) }
-{
-    let mut extents = Extents::new(alloc);
-    extents.find(clusters, text, infos, width, options, filled)?;
     Ok(extents)
 }

@@ -1,7 +1,7 @@
 //! The columns that a range of a line's characters covers, as maximal intervals.
 ghost use Rattle.std.specs.Prelude.{◌≡◌, ◌<◌, length};
 ghost use Rattle.ucd.specs.Within.{AreWithin};
-ghost use Rattle.lines.specs.Selections.{selected_in, IsReached, Passes};
+ghost use Rattle.lines.specs.Selections.{selected_in, IsMeasured, IsReached, Passes};
 ghost use Rattle.lines.specs.Spans.{is_selected};
 
 use crate::visual_line::columns_at;
@@ -27,9 +27,33 @@ pub struct Spans<'a> {
 pub(crate) struct Selection<'a> {
     pub(crate) text: &'a [char],
     pub(crate) tab_width: u8,
+    pub(crate) is_measured: bool,
+    pub(crate) advances: &'a [u32],
+    pub(crate) widths: &'a [u32],
     pub(crate) vtol: &'a [u32],
     pub(crate) start: usize,
     pub(crate) end: usize,
+}
+
+impl<'a> Selection<'a> {
+    ghost use Rattle.std.specs.Prelude.{None, option_map, IfSome};
+    ghost use Rattle.lines.specs.Columns.{widths};
+    ghost use Rattle.lines.specs.Measures.{known_or};
+    ghost use Rattle.lines.specs.Widths.{widths_of};
+
+    // Returns the widths of the characters, if the line is measured.
+    fn known(&self) -> Option<&'a [u32]>
+        requires { IsMeasured self.now }
+        ensures widths { known_or (option_map (λ list. list.now) result)
+            (widths_of self.now.tab_width None self.now.text.now) ≡ widths (selected_in self.now) }
+        ensures len { IfSome result (λ list. length list.now ≡ length self.now.text.now) }
+    {
+        if self.is_measured {
+            Some(self.widths)
+        } else {
+            None
+        }
+    }
 }
 
 /// A visual position, and the number of columns to its left.
@@ -42,7 +66,7 @@ pub(crate) struct Reached {
 impl<'a> Model for Spans<'a> {
     ghost use Rattle.std.specs.Prelude.{List, length};
     ghost use Rattle.ucd.specs.Within.{AreWithin};
-    ghost use Rattle.lines.specs.Selections.{selected_in, IsFresh, IsReached};
+    ghost use Rattle.lines.specs.Selections.{selected_in, IsFresh, IsMeasured, IsReached};
     ghost use Rattle.lines.specs.Spans.{spans_from};
     ghost use Rattle.lines.specs.declared.spans.Span.{Span};
 
@@ -51,6 +75,7 @@ impl<'a> Model for Spans<'a> {
     ghost view = { λ s. spans_from (selected_in s.selection) s.selection.start s.selection.end s.at.column };
 
     ghost invariant = { λ s. AreWithin (length s.selection.text.now) s.selection.vtol.now
+        × IsMeasured s.selection
         × IsReached (selected_in s.selection) s.at × IsFresh s.selection s.at.column };
 }
 
@@ -62,6 +87,7 @@ impl<'a> Spans<'a> {
     /// Returns the spans of a selection.
     pub(crate) fn new(selection: Selection<'a>) -> Spans<'a>
         requires within { AreWithin (length selection.text.now) selection.vtol.now }
+        requires measures { IsMeasured selection }
         requires limit { length selection.vtol.now ≤ PARAGRAPH_LIMIT }
         ensures { result
             ≡ spans_from (selected_in selection.entry) selection.entry.start selection.entry.end 0 }
@@ -104,15 +130,16 @@ impl<'a> Iterator for Spans<'a> {
 // not selected if `inside` is true.
 fn pass(selection: &Selection<'_>, at: Reached, inside: bool) -> Reached
     requires within { AreWithin (length selection.now.text.now) selection.now.vtol.now }
+    requires measures { IsMeasured selection.now }
     requires at { IsReached (selected_in selection.now) at }
     ensures at { IsReached (selected_in selection.now) result }
     ensures passes { Passes selection.now inside at.place result.place }
 {
-    let (text, vtol) = (selection.text, selection.vtol);
+    let (text, known, vtol) = (selection.text, selection.known(), selection.vtol);
     let mut place = at.place;
     let mut column = at.column;
     while place < vtol.len() {
-        let columns = columns_at(text, selection.tab_width, vtol, place);
+        let columns = columns_at(text, selection.tab_width, known, vtol, place);
         if columns > 0 && is_selected(selection, place) != inside {
             return Reached { place, column };
         }

@@ -1,13 +1,16 @@
 //! Visual lines, which borrow from their paragraph.
 ghost use Rattle.std.specs.Prelude.{◌≡◌, false, ◌^◌, ◌<◌, ◌≤◌, true, length, slice_index, sum, sum_by};
-ghost use Rattle.std.specs.Prelude.{None, OnOk, IfOk, IfErr};
+ghost use Rattle.std.specs.Prelude.{None, option_map, OnOk, IfOk, IfErr, IfSome};
+ghost use Rattle.std.specs.Option.{is_some};
 ghost use Rattle.device.specs.Device.{Wrote, StoppedAt};
 ghost use Rattle.ucd.specs.Within.{AreWithin};
 ghost use Rattle.reorder.specs.Runs.{runs_of, AreRuns};
 ghost use Rattle.lines.specs.Bytes.{line_bytes, padding};
 ghost use Rattle.lines.specs.Columns.{columns_at, columns_between, columns_left};
 ghost use Rattle.lines.specs.Columns.{covering, padding_of, run_columns, widths};
+ghost use Rattle.lines.specs.Measures.{known_or};
 ghost use Rattle.lines.specs.Spans.{is_covered, spans_of, AreMaximal};
+ghost use Rattle.lines.specs.Visual.{is_measured};
 ghost use Rattle.lines.specs.Widths.{widths_of};
 ghost use Rattle.lines.specs.Writing.{PassedOn, StoppedIn};
 ghost use Rattle.lines.specs.declared.printing.print.Print.{Print};
@@ -24,6 +27,7 @@ use std::marker::Model;
 
 /// A visual line. All methods except `is_first`, `base` and `len` are about the shown part, which is the line
 /// without the spaces and separators at its end. Positions are counted from the start of the shown part.
+/// Columns are the caller's units in a measured paragraph.
 #[derive(Debug, Drop)]
 pub struct VisualLine<'a> {
     pub(crate) is_first: bool,
@@ -31,6 +35,10 @@ pub struct VisualLine<'a> {
     pub(crate) tab_width: u8,
     pub(crate) len: usize,
     pub(crate) text: &'a [char],
+    pub(crate) is_measured: bool,
+    // The advances and the widths of the shown characters, in a measured paragraph.
+    pub(crate) advances: &'a [u32],
+    pub(crate) widths: &'a [u32],
     pub(crate) columns: u32,
     pub(crate) levels: &'a [u8],
     pub(crate) ltov: &'a [u32],
@@ -39,8 +47,9 @@ pub struct VisualLine<'a> {
 }
 
 impl<'a> Model for VisualLine<'a> {
-    ghost use Rattle.std.specs.Prelude.{◌≤◌, None, length};
+    ghost use Rattle.std.specs.Prelude.{◌≤◌, length};
     ghost use Rattle.ucd.specs.Within.{AreWithin};
+    ghost use Rattle.lines.specs.Measures.{given_if, AreMeasured};
     ghost use Rattle.lines.specs.Visual.{Visual};
     ghost use Rattle.lines.specs.declared.engine.TheConstants.{PARAGRAPH_LIMIT};
 
@@ -52,7 +61,7 @@ impl<'a> Model for VisualLine<'a> {
       tab_width = l.tab_width;
       len = l.len;
       text = l.text.now;
-      advances = None;
+      advances = given_if l.is_measured l.advances.now;
       columns = l.columns;
       levels = l.levels.now;
       ltov = l.ltov.now;
@@ -62,10 +71,25 @@ impl<'a> Model for VisualLine<'a> {
 
     // Each logical position is an index into the text, and the columns of all characters fit in a `usize`.
     ghost invariant = { λ l. AreWithin (length l.text.now) l.vtol.now
-        × (length l.text.now ≤ PARAGRAPH_LIMIT) × (length l.vtol.now ≤ PARAGRAPH_LIMIT) };
+        × (length l.text.now ≤ PARAGRAPH_LIMIT) × (length l.vtol.now ≤ PARAGRAPH_LIMIT)
+        × AreMeasured l.tab_width l.text.now l.is_measured l.advances.now l.widths.now };
 }
 
 impl<'a> VisualLine<'a> {
+    // Returns the widths of the shown characters, if the line is measured.
+    pub(crate) fn known(&self) -> Option<&'a [u32]>
+        ensures widths { known_or (option_map (λ list. list.now) result)
+            (widths_of self.now.tab_width None self.now.text) ≡ widths self.now }
+        ensures len { IfSome result (λ list. length list.now ≡ length self.now.text) }
+        ensures measured { is_some result ≡ is_measured self.now }
+    {
+        if self.is_measured {
+            Some(self.widths)
+        } else {
+            None
+        }
+    }
+
     pub fn is_first(&self) -> bool
         ensures { result ≡ self.now.is_first }
     {
@@ -127,9 +151,10 @@ impl<'a> VisualLine<'a> {
         ensures value { result ≡ columns_left self.now place }
         ensures fits { result < 2 ^ 63 }
     {
+        let known = self.known();
         let mut columns = 0;
         for k in 0..place.min(self.vtol.len()) {
-            columns += columns_at(self.text, self.tab_width, self.vtol, k);
+            columns += columns_at(self.text, self.tab_width, known, self.vtol, k);
         }
         columns
     }
@@ -140,7 +165,7 @@ impl<'a> VisualLine<'a> {
         ensures { result ≡ columns_at self.now place }
     {
         if place < self.vtol.len() {
-            columns_at(self.text, self.tab_width, self.vtol, place)
+            columns_at(self.text, self.tab_width, self.known(), self.vtol, place)
         } else {
             0
         }
@@ -154,9 +179,10 @@ impl<'a> VisualLine<'a> {
     {
         let past = end.min(self.text.len());
         let first = start.min(past);
+        let known = self.known();
         let mut columns = 0;
         for k in first..past {
-            columns += width_at(self.text, self.tab_width, k);
+            columns += width_at(self.text, self.tab_width, known, k);
         }
         columns
     }
@@ -166,9 +192,10 @@ impl<'a> VisualLine<'a> {
     pub fn covering(&self, column: usize) -> Option<usize>
         ensures { result ≡ covering self.now column }
     {
+        let known = self.known();
         let mut columns = 0;
         for k in 0..self.vtol.len() {
-            columns += columns_at(self.text, self.tab_width, self.vtol, k);
+            columns += columns_at(self.text, self.tab_width, known, self.vtol, k);
             if column < columns {
                 return Some(k);
             }
@@ -187,6 +214,9 @@ impl<'a> VisualLine<'a> {
         Spans::new(Selection {
             text: self.text,
             tab_width: self.tab_width,
+            is_measured: self.is_measured,
+            advances: self.advances,
+            widths: self.widths,
             vtol: self.vtol,
             start,
             end,
@@ -206,14 +236,14 @@ impl<'a> VisualLine<'a> {
     }
 
     /// Returns the number of columns of padding that the line has at a width, unless printing omits padding.
-    /// Only lines of right-to-left paragraphs have padding.
-    pub fn padding(&self, width: u16) -> u32
+    /// Only lines of right-to-left paragraphs have padding. In a measured paragraph it is not printed.
+    pub fn padding(&self, width: u32) -> u32
         ensures value { result ≡ padding_of width self.now }
-        ensures spaces { (print : Print) → print.nopad ≡ false
+        ensures spaces { (print : Print) → print.nopad ≡ false → is_measured self.now ≡ false
             → result ≡ length (padding width print self.now) }
     {
         if self.base % 2 == 1 {
-            return u32::from(width).saturating_sub(self.columns);
+            return width.saturating_sub(self.columns);
         }
         0
     }
@@ -222,7 +252,7 @@ impl<'a> VisualLine<'a> {
     pub fn write<W: Sink>(
         &self,
         writer: &mut W,
-        width: u16,
+        width: u32,
         print: &Print,
     ) -> Result<(), WriteFault>
         ensures ok { OnOk result (Wrote (line_bytes width print.now self.now)
@@ -241,7 +271,7 @@ impl<'a> VisualLine<'a> {
         &self,
         writer: &mut W,
         before: u64,
-        width: u16,
+        width: u32,
         print: &Print,
     ) -> Result<u64, WriteFault>
         requires { before ≤ (W.state writer.old).passed }
@@ -260,11 +290,20 @@ impl<'a> VisualLine<'a> {
 }
 
 /// Returns the width in columns of the character at a visual position.
-pub(crate) fn columns_at(text: &[char], tab_width: u8, vtol: &[u32], place: usize) -> usize
+pub(crate) fn columns_at(
+    text: &[char],
+    tab_width: u8,
+    known: Option<&[u32]>,
+    vtol: &[u32],
+    place: usize,
+) -> usize
     requires within { AreWithin (length text.now) vtol.now }
+    requires known { IfSome known (λ list. length list.now ≡ length text.now) }
     requires place { place < length vtol.now }
-    ensures value { result ≡ slice_index (widths_of tab_width None text.now) (slice_index vtol.now place) }
-    ensures few { result ≤ 255 }
+    ensures value { result ≡ slice_index
+        (known_or (option_map (λ list. list.now) known.entry) (widths_of tab_width None text.now))
+        (slice_index vtol.now place) }
+    ensures few { result < 2 ^ 32 }
 {
-    width_at(text, tab_width, vtol[place] as usize)
+    width_at(text, tab_width, known, vtol[place] as usize)
 }

@@ -117,11 +117,11 @@ pub(crate) fn write_whole<W: Sink>(
     requires visual { CanHold (length text.now.characters.now) visual.old }
     ensures ok { IfOk result (λ n. PassedOn (lines_bytes form.now.width form.now.print.now text.now.base
         (tab_width_in text.now.rules.tables.now text.now.rules.options) None
-        text.now.characters.now (lines_at text.now levels.now form.now.width)) 0
+        text.now.characters.now (lines_at None text.now levels.now form.now.width)) 0
         (W.state writer.old) (W.state writer.new) n) }
     ensures err { IfErr result (λ fault. StoppedIn (lines_bytes form.now.width form.now.print.now
         text.now.base (tab_width_in text.now.rules.tables.now text.now.rules.options) None
-        text.now.characters.now (lines_at text.now levels.now form.now.width)) 0
+        text.now.characters.now (lines_at None text.now levels.now form.now.width)) 0
         (W.state writer.old) (W.state writer.new) fault.written) }
     ensures counts { written.new ≡ counted written.old (length text.now.characters.now) }
     ensures least { written.old ≤ written.new }

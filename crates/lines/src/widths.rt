@@ -1,12 +1,14 @@
 //! The columns of characters and of the tabs of a line, and tests for characters that have one column.
-ghost use Rattle.std.specs.Prelude.{◌≡◌, ◌+◌, ◌*◌, ◌%◌, ◌^◌, ◌<◌, ◌≤◌, ℕ, None, length};
+ghost use Rattle.std.specs.Prelude.{◌≡◌, ◌+◌, ◌*◌, ◌%◌, ◌^◌, ◌<◌, ◌≤◌, ℕ, None, Some, length, option_map, IfSome};
 ghost use Rattle.std.specs.Prelude.{slice_index, sum, take};
 ghost use Rattle.std.specs.List.{list_all};
 ghost use Rattle.lines.specs.CharInfos.{columns_of};
 ghost use Rattle.lines.specs.Clusters.{lies_in};
 ghost use Rattle.lines.specs.KnownWidths.{is_common, is_printable};
+ghost use Rattle.lines.specs.Measures.{known_or};
 ghost use Rattle.lines.specs.Tabs.{is_tab, to_stop};
 ghost use Rattle.lines.specs.Widths.{widths_of};
+ghost use Rattle.lines.specs.declared.engine.TheConstants.{PARAGRAPH_LIMIT};
 
 use unicode_width::UnicodeWidthChar;
 
@@ -27,9 +29,45 @@ pub(crate) fn columns(c: char) -> u8
     }
 }
 
-/// Returns the columns of the character at index `k` of a line. For a tab, reads the characters back to the
-/// tab before it.
-pub(crate) fn width_at(text: &[char], tab_width: u8, k: usize) -> usize
+/// Replaces `widths` with the widths of the characters of a measured line.
+pub(crate) fn put_widths(text: &[char], tab_width: u8, advances: &[u32], widths: &mut [u32])
+    requires limit { length text.now ≤ PARAGRAPH_LIMIT }
+    requires advances { length advances.now ≡ length text.now }
+    requires widths { length widths.old ≡ length text.now }
+    ensures { widths.new ≡ widths_of tab_width (Some advances.now) text.now }
+{
+    let mut column = 0;
+    let mut k = 0;
+    while k < text.len() {
+        let size = advances[k] as usize;
+        let end = if is_tab(tab_width, text[k]) {
+            next_stop(column, size)
+        } else {
+            column + size
+        };
+        widths[k] = (end - column) as u32;
+        column = end;
+        k += 1;
+    }
+}
+
+/// Returns the width of the character at index `k` of a line. `known` are the widths of a measured line. For
+/// a tab of another line, reads the characters back to the tab before it.
+pub(crate) fn width_at(text: &[char], tab_width: u8, known: Option<&[u32]>, k: usize) -> usize
+    requires within { k < length text.now }
+    requires known { IfSome known (λ list. length list.now ≡ length text.now) }
+    ensures value { result ≡ slice_index
+        (known_or (option_map (λ list. list.now) known.entry) (widths_of tab_width None text.now)) k }
+    ensures few { result < 2 ^ 32 }
+{
+    match known {
+        Some(widths) => widths[k] as usize,
+        None => columns_at(text, tab_width, k),
+    }
+}
+
+// Does the work of `width_at` for a line that is not measured.
+fn columns_at(text: &[char], tab_width: u8, k: usize) -> usize
     requires { k < length text.now }
     ensures value { result ≡ slice_index (widths_of tab_width None text.now) k }
     ensures few { result ≤ 255 }
@@ -68,10 +106,10 @@ fn since_stop(text: &[char], k: usize) -> usize
 /// Returns the next tab stop, or the column itself if there are no tab stops.
 #[inline(never)] // so that the loops over characters have all registers
 pub(crate) fn next_stop(column: usize, tab_width: usize) -> usize
-    requires columns { column < 2 ^ 40 }
-    requires width { tab_width ≤ 255 }
+    requires columns { column < 2 ^ 60 }
+    requires width { tab_width < 2 ^ 32 }
     ensures stop { result ≡ column + to_stop tab_width column }
-    ensures most { result ≤ column + 255 }
+    ensures most { result ≤ column + tab_width }
 {
     if tab_width == 0 {
         column

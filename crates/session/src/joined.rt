@@ -137,7 +137,7 @@ fn lay_out_owned(
     ensures rules { SameRules engine.old engine.new }
     ensures counts { LaysOutAtMost (length text.items) engine.old engine.new }
 {
-    match engine.lay_out(alloc, text, width) {
+    match engine.lay_out(alloc, text, width as u32) {
         Ok(laid) => Ok(Kept::new(alloc, laid)?),
         Err((_, error)) => Err(error),
     }

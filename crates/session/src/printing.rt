@@ -51,7 +51,7 @@ fn write_part<W: Sink>(
         let Some(line) = laid.line(from + n) else {
             unreachable!()
         };
-        written = line.write_after(writer, written, width, print)?;
+        written = line.write_after(writer, written, width as u32, print)?;
     }
     Ok(written)
 }

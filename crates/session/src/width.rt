@@ -41,10 +41,10 @@ fn find_one(
 {
     // The contract of `filled` bounds the count.
     let _filled = engine.filled();
-    if engine.keeps_lines(laid, width) {
+    if engine.keeps_lines(laid, width as u32) {
         return Ok(None);
     }
-    Ok(Some(engine.extents(alloc, laid, width)?))
+    Ok(Some(engine.extents(alloc, laid, width as u32)?))
 }
 
 // Returns the extents of each paragraph's lines at another width, or `None` for a paragraph whose lines do

@@ -51,10 +51,10 @@ fn lay_out_characters(
     if text.is_empty() || is_long || engine.first_cut(&text).is_some() || width == 0 {
         return Err(Fail::new("no paragraph"));
     }
-    match engine.lay_out(alloc, text, width) {
+    match engine.lay_out(alloc, text, u32::from(width)) {
         Ok(laid) => Ok(laid),
         // After an allocation failure, the text is returned.
-        Err((text, _)) => match engine.lay_out(alloc, text, width) {
+        Err((text, _)) => match engine.lay_out(alloc, text, u32::from(width)) {
             Ok(laid) => Ok(laid),
             Err((_, error)) => Err(Fail::from(error)),
         },
@@ -169,7 +169,7 @@ fn refill(alloc: Global, engine: &mut Engine, laid: &Laid, width: u16) -> Result
     requires width { 0 < width }
     ensures { IfOk result (AreLinesOf (rules_of engine.old) laid.now.text) }
 {
-    Ok(engine.refill(alloc, laid, width)?)
+    Ok(engine.refill(alloc, laid, u32::from(width))?)
 }
 
 // Whether the engine has counted this many analysed and filled characters, and as many written as filled
@@ -224,9 +224,9 @@ fn extents(alloc: Global, engine: &mut Engine, laid: &Laid, width: u16) -> Resul
         extents ≡ extents_of (rules_of engine.old) width laid.now.text) }
     ensures rules { SameRules engine.old engine.new }
 {
-    match engine.extents(alloc, laid, width) {
+    match engine.extents(alloc, laid, u32::from(width)) {
         Ok(extents) => Ok(extents),
-        Err(_) => Ok(engine.extents(alloc, laid, width)?),
+        Err(_) => Ok(engine.extents(alloc, laid, u32::from(width))?),
     }
 }
 

@@ -33,7 +33,7 @@ fn lay_out(alloc: Global, engine: &mut lines::Engine, text: &str, width: u16) ->
     if text.is_empty() || text.len() > lines::PARAGRAPH_LIMIT || engine.first_cut(&text).is_some() {
         return None;
     }
-    let laid: Result<lines::Laid, (Vec<char>, AllocError)> = engine.lay_out(alloc, text, width);
+    let laid: Result<lines::Laid, (Vec<char>, AllocError)> = engine.lay_out(alloc, text, u32::from(width));
     match laid {
         Ok(laid) => Some(laid),
         Err(_) => None,
@@ -161,7 +161,7 @@ fn refill(
     requires width { 0 < width }
     ensures { IfSome result (AreLinesOf (rules_of engine.old) laid.now.text) }
 {
-    let fill: Result<lines::Fill, AllocError> = engine.refill(alloc, laid, width);
+    let fill: Result<lines::Fill, AllocError> = engine.refill(alloc, laid, u32::from(width));
     match fill {
         Ok(fill) => Some(fill),
         Err(_) => None,

@@ -31,7 +31,7 @@ pub fn push_paragraph(
     ensures at_most { PrintsAtMost (length paragraph.now) print.now engine.old engine.new }
     ensures rules { SameRules engine.old engine.new }
 {
-    match engine.write_paragraph(alloc, paragraph, width, print, page) {
+    match engine.write_paragraph(alloc, paragraph, width as u32, print, page) {
         Ok(()) => Ok(()),
         Err(_) => Err(AllocError),
     }

@@ -34,7 +34,7 @@ fn screen_left(line: &VisualLine<'_>, width: u16, print: &Print) -> usize
     if print.nopad {
         0
     } else {
-        line.padding(width) as usize
+        line.padding(width as u32) as usize
     }
 }
 

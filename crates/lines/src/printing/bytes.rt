@@ -257,7 +257,7 @@ pub(crate) fn write_shown<W: Sink>(
     writer: &mut W,
     before: u64,
     line: &VisualLine<'_>,
-    width: u16,
+    width: u32,
     print: &Print,
 ) -> Result<u64, WriteFault>
     requires { before ≤ (W.state writer.old).passed }
@@ -293,7 +293,7 @@ fn write_shown_chars<W: Sink>(
         (W.state writer.old) (W.state writer.new) fault.written) }
     ensures counted { IfOk result (λ n. n ≤ (W.state writer.new).passed) }
 {
-    if line.tab_width == 0 {
+    if line.tab_width == 0 || line.is_measured {
         let len = ordered_len(line, print);
         return write_between(writer, before, line, print, 0, len);
     }
@@ -413,7 +413,7 @@ fn write_cells<W: Sink>(
     ensures counted { IfOk result (λ n. n ≤ (W.state writer.new).passed) }
 {
     if is_tab_at(line, start) {
-        let width = columns_at(line.text, line.tab_width, line.vtol, start);
+        let width = columns_at(line.text, line.tab_width, line.known(), line.vtol, start);
         write_spaces(writer, before, width)
     } else {
         write_between(writer, before, line, print, start, end)
@@ -421,10 +421,10 @@ fn write_cells<W: Sink>(
 }
 
 // Returns the number of spaces before a line.
-fn padding(line: &VisualLine<'_>, width: u16, print: &Print) -> usize
+fn padding(line: &VisualLine<'_>, width: u32, print: &Print) -> usize
     ensures { replicate result 32 ≡ padding width print.now line.now }
 {
-    if line.base % 2 == 1 && !print.nopad {
+    if line.base % 2 == 1 && !print.nopad && !line.is_measured {
         (width as usize).saturating_sub(line.columns as usize)
     } else {
         0

@@ -31,7 +31,7 @@ use device::Sink;
 /// What to print for each line, and the width.
 #[derive(Clone, Copy)]
 pub(crate) struct Form<'a> {
-    pub(crate) width: u16,
+    pub(crate) width: u32,
     pub(crate) print: &'a Print,
 }
 
@@ -273,6 +273,9 @@ fn write_visual<W: Sink>(
         tab_width: line.text.rules.tab_width(),
         len: line.text.characters.len(),
         text: &line.text.characters[..levels.len()],
+        is_measured: false,
+        advances: &[],
+        widths: &[],
         columns: line.shown.columns,
         levels,
         ltov,
@@ -312,6 +315,9 @@ fn write_ordered<W: Sink>(
         tab_width: line.text.rules.tab_width(),
         len: line.text.characters.len(),
         text: &line.text.characters[..levels.len()],
+        is_measured: false,
+        advances: &[],
+        widths: &[],
         columns: line.shown.columns,
         levels,
         ltov: &[],

@@ -80,7 +80,7 @@ fn write_lines(laid: &Laid, width: u16, print: &Print, taken: &mut [u8]) -> bool
     let mut all_right = true;
     for n in 0..laid.line_count() {
         match laid.line(n) {
-            Some(line) => all_right &= line.write(&mut writer, width, print).is_ok(),
+            Some(line) => all_right &= line.write(&mut writer, u32::from(width), print).is_ok(),
             None => all_right = false,
         }
     }
@@ -89,7 +89,7 @@ fn write_lines(laid: &Laid, width: u16, print: &Print, taken: &mut [u8]) -> bool
 
 fn write_laid(laid: &Laid, width: u16, print: &Print, taken: &mut [u8]) -> bool {
     let mut writer = ToWrite::new(taken);
-    laid.write(&mut writer, width, print).is_ok()
+    laid.write(&mut writer, u32::from(width), print).is_ok()
 }
 
 fn write_paragraph(
@@ -105,9 +105,9 @@ fn write_paragraph(
         return Err(PrintFault::Memory);
     }
     let mut writer = ToWrite::new(taken);
-    match engine.write_paragraph(alloc, text, width, print, &mut writer) {
+    match engine.write_paragraph(alloc, text, u32::from(width), print, &mut writer) {
         // After an allocation failure, nothing was written.
-        Err(PrintFault::Memory) => engine.write_paragraph(alloc, text, width, print, &mut writer),
+        Err(PrintFault::Memory) => engine.write_paragraph(alloc, text, u32::from(width), print, &mut writer),
         result => result,
     }
 }

@@ -1,17 +1,24 @@
 use Rattle.std.proofs.Common.{◌≡◌, ◌||◌, drop, ◌+◌, ◌-◌, nat_lt, arith, length, refl, sym, ◌∙◌}
-use Rattle.std.specs.Prelude.{slice_range}
 use Rattle.std.proofs.lemmas.Bool.{ltb-false, or_parts}
-use Rattle.std.proofs.lemmas.List.{length-drop, length-take-le}
-use Rattle.lines.proofs.FillingLemmas.{fits_group}
+use Rattle.lines.specs.CharInfos.{sized}
+use Rattle.lines.proofs.FillingLemmas.{fits_group, fits_none}
+use Rattle.lines.proofs.WidthLemmas.{length-sized}
 use Rattle.lines.proofs.filling.fitting_groups.Goals as goal
 
+pub loop-k-init : goal.loop-k-init
+loop-k-init g c = fits_none _ _
+
 pub loop-k-preserved : goal.loop-k-preserved
-loop-k-preserved c =
+loop-k-preserved g c =
+    let width = c.args.ruler.width in
+    let given = g.S.Sizes.given c.args.ruler.sizes in
     let k = c.loop-k.k in
-    let sum = c.of-sum.result in
-    let tests = or_parts sum.has_tab (sum.has_must || nat_lt c.args.width (c.loop-k.columns + sum.columns)) c.if-sum-next.false in
-    let others = or_parts sum.has_must (nat_lt c.args.width (c.loop-k.columns + sum.columns)) tests.1 in
-    let size : length (slice_range c.args.rest.now k (k + 8)) ≡ 8 =
-    length-take-le (k + 8 - k) (drop k c.args.rest.now) (omega (arith, c.loop-k-test.true, length-drop k c.args.rest.now)) ∙ omega arith in
-    fits_group c.args.width c.args.rest.now k (k + 8) c.loop-k.columns sum.columns (slice_range c.args.rest.now k (k + 8)) c.loop-k.invariant (omega arith) c.loop-k-test.true refl
-    (c.of-sum.ensures.columns tests.0 c.loop-k.columns) (omega (arith, c.of-sum.ensures.most, size)) (ltb-false c.args.width (c.loop-k.columns + sum.columns) others.1) (sym c.of-sum.ensures.must ∙ others.0)
+    let group = c.in-Some.group in
+    let tests = or_parts group.has_tab (group.has_must || nat_lt width (c.loop-k.columns + group.columns)) c.if-group-next.false in
+    let others = or_parts group.has_must (nat_lt width (c.loop-k.columns + group.columns)) tests.1 in
+    fits_group width (sized given c.args.rest.now) k (k + 8) c.loop-k.columns group.columns _ c.loop-k.invariant (omega arith)
+    (omega (arith, c.loop-k-test.true, length-sized given c.args.rest.now)) refl
+    (c.in-Some.ensures.columns tests.0 c.loop-k.columns) (omega arith) (ltb-false width (c.loop-k.columns + group.columns) others.1) (sym c.in-Some.ensures.must ∙ others.0)
+
+pub overflow_add-k : goal.overflow_add-k
+overflow_add-k g c = omega (arith, c.loop-k.invariant.within, length-sized (g.S.Sizes.given c.args.ruler.sizes) c.args.rest.now, c.requires)

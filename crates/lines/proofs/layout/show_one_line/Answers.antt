@@ -36,7 +36,7 @@ returns-clause-lines c =
     let starts_are = ap (λ (e : LineExtents). e.starts) put in
     let shown = ap (λ (e : LineExtents). e.shown) put ∙ sym c.requires.shown.shown
     ∙ ap (shown_from margin (length chars) infos) (sym starts_are) in
-    let lines : lines_shown tables options text.base chars levels starts c.put_line.new.self.shown ≡ lines_at text levels c.args._width =
+    let lines : lines_shown tables options text.base chars levels starts c.put_line.new.self.shown ≡ lines_at None text levels c.args._width =
     ap (lines_shown tables options text.base chars levels starts) shown ∙ shown_lines tables options text.base chars levels margin infos starts
     ∙ ap (lines_from tables options margin text.base chars levels infos) (starts_are ∙ sym c.requires.shown.starts) in
     subst (λ (ls : List Line). OnOk c.show_lines.result (held_lines c.show_lines.new.lines ≡ ls)) lines c.show_lines.ensures.lines

@@ -14,7 +14,7 @@ returns-clause-line c =
     let width = c.args.width in
     let worth = c.if-not-may_be_one_line.ensures in
     let whole = c.is_whole.ensures.yes c.if-not-is_whole.false in
-    let fit : sum (map columns_of (take len chars)) ≤ width = omega (arith, c.sum-columns.ensures, c.if-columns-from.false) in
+    let fit : sum (map columns_of (take len chars)) ≤ width = omega (arith, c.sum-columns.ensures, c.if-columns-width.false) in
     let ends = c.paragraphs_end_at_must.ensures t options.whole_numbers chars (worth.some refl) in
     record {
       starts = one_start_of t options chars len width (worth.hidden refl) (worth.tabs refl) (worth.some refl) c.marks_are_as_many.ensures ends whole c.shown_len-len.ensures fit;

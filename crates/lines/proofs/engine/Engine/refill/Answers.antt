@@ -1,16 +1,17 @@
 use Rattle.std.proofs.Common.{◌≡◌, IfOk, ap, subst, sym}
 use Rattle.lines.specs.Engine.{rules_of}
-use Rattle.lines.specs.Layouts.{fill_of, IsLaidOut, Rules}
+use Rattle.lines.specs.Layouts.{fill_of, IsLaidOut, Rules, with_advances}
 use Rattle.lines.proofs.LayoutLemmas.{all_lines_by}
 use Rattle.lines.proofs.engine.Engine.refill.Goals as goal
 
 pub fill-requires : goal.fill-requires
-fill-requires c = subst (λ (rules : Rules). IsLaidOut rules c.args.laid.now) (sym (ap rules_of c.self.view_is)) c.requires.laid
+fill-requires c = subst (λ (rules : Rules). IsLaidOut (with_advances rules c.args.laid.now.advances) c.args.laid.now) (sym (ap rules_of c.self.view_is)) c.requires.laid
 
 pub returns-clause-ok : goal.returns-clause-ok
 returns-clause-ok c =
-    subst (λ (rules : Rules). IfOk c.fill.result (λ fill. fill ≡ fill_of rules c.args.width c.args.laid.now.text)) (ap rules_of c.self.view_is) c.fill.ensures.lines
+    subst (λ (rules : Rules). IfOk c.fill.result (λ fill. fill ≡ fill_of (with_advances rules c.args.laid.now.advances) c.args.width c.args.laid.now.text)) (ap rules_of c.self.view_is) c.fill.ensures.lines
 
 pub returns-clause-lines : goal.returns-clause-lines
 returns-clause-lines c =
-    all_lines_by (rules_of c.args.self.now) _ c.args.width c.args.laid.now.text c.fill.result (ap rules_of c.self.view_is) (returns-clause-ok c)
+    all_lines_by (with_advances (rules_of c.args.self.now) c.args.laid.now.advances) _ c.args.width c.args.laid.now.text c.fill.result
+    (ap (λ (rules : Rules). with_advances rules c.args.laid.now.advances) (ap rules_of c.self.view_is)) (returns-clause-ok c)

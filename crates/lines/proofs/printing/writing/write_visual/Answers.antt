@@ -1,5 +1,6 @@
 use Rattle.std.proofs.Common.{◌≡◌, ◌∙◌, ℕ, List, length, take, drop, ap, subst, sym, arith}
 use Rattle.std.proofs.lemmas.List.{length-take, length-take-le}
+use Rattle.std.proofs.lemmas.Bool.{true≢false}
 use Rattle.ucd.specs.Within.{AreWithin}
 use Rattle.lines.proofs.printing.writing.write_visual.Goals as goal
 
@@ -15,4 +16,5 @@ invariant_of-view g c =
       λ k below. let here = within k below in omega (arith, here, size, text),
       omega (arith, text, size, c.requires.shown, c.requires.limit),
       omega (arith, length-take n c.split_at.result.1.now, c.requires.shown, c.requires.limit),
+      λ measured. absurd (true≢false (sym measured)),
     )

@@ -8,6 +8,7 @@ use Rattle.lines.proofs.spans.SpansIterator.next.Goals as goal
 pub invariant_of-self : goal.invariant_of-self
 invariant_of-self c = (
   c.self.invariant.0,
+  c.self.invariant.1,
   c.pass-right.ensures.at,
   found_fresh c.self.inside.selection c.pass-left.result c.pass-right.result c.pass-right.ensures.passes c.pass-right.ensures.at,
 )
@@ -15,20 +16,21 @@ invariant_of-self c = (
 pub invariant_of-self-2 : goal.invariant_of-self-2
 invariant_of-self-2 c = (
   c.self.invariant.0,
+  c.self.invariant.1,
   c.pass-right.ensures.at,
   found_fresh c.self.inside.selection c.pass-left.result c.pass-right.result c.pass-right.ensures.passes c.pass-right.ensures.at,
 )
 
 pub returns-then-left-selection-clause-steps : goal.returns-then-left-selection-clause-steps
 returns-then-left-selection-clause-steps c =
-    let none = found_none c.self.inside.selection c.self.inside.at c.pass-left.result c.pass-right.result c.self.invariant.1 c.pass-left.ensures.at c.pass-left.ensures.passes c.if-left-selection.true c.pass-right.ensures.passes c.pass-right.ensures.at in
+    let none = found_none c.self.inside.selection c.self.inside.at c.pass-left.result c.pass-right.result c.self.invariant.2 c.pass-left.ensures.at c.pass-left.ensures.passes c.if-left-selection.true c.pass-right.ensures.passes c.pass-right.ensures.at in
     (sym c.self.view_is ∙ none.0, none.1)
 
 pub returns-clause-steps : goal.returns-clause-steps
 returns-clause-steps c =
     let within : c.pass-left.result.place < length c.self.inside.selection.vtol.now = omega (arith, c.pass-left.ensures.at.within, c.if-left-selection.false) in
     sym c.self.view_is
-    ∙ found_one c.self.inside.selection c.self.inside.at c.pass-left.result c.pass-right.result c.self.invariant.1 c.self.invariant.2 c.pass-left.ensures.at
+    ∙ found_one c.self.inside.selection c.self.inside.at c.pass-left.result c.pass-right.result c.self.invariant.2 c.self.invariant.3 c.pass-left.ensures.at
     c.pass-left.ensures.passes within c.pass-right.ensures.passes c.pass-right.ensures.at
 
 pub returns-clause-goes : goal.returns-clause-goes

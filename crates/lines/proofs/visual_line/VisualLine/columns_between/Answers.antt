@@ -1,6 +1,8 @@
 use Rattle.std.proofs.Common.{◌≡◌, ◌∙◌, ◌+◌, suc, ◌<◌, length, sum, ap, arith}
-use Rattle.lines.specs.Columns.{columns_between, width_at, widths}
+use Rattle.std.specs.Prelude.{option_map}
+use Rattle.lines.specs.Columns.{columns_between, widths}
 use Rattle.lines.specs.Visual.{Visual}
+use Rattle.lines.proofs.MeasureLemmas.{known_width}
 use Rattle.lines.proofs.AdjoinLemmas.{between_more}
 use Rattle.lines.proofs.WidthLemmas.{length-widths, range_clipped}
 use Rattle.lines.proofs.visual_line.VisualLine.columns_between.Goals as goal
@@ -9,7 +11,7 @@ pub loop-k-preserved : goal.loop-k-preserved
 loop-k-preserved c =
     let line = c.args.self.now in
     let k = c.loop-k.k in
-    let value = c.width_at-columns.ensures.value ∙ ap (λ (v : Visual). width_at v k) c.self.view_is in
+    let value = known_width (option_map (λ list. list.now) c.known-known.result) k c.self.view_is c.known-known.ensures.widths c.width_at-columns.ensures.value in
     let text = ap (λ (v : Visual). length v.text) c.self.view_is in
     let within : k < length (widths line) = omega (arith, c.loop-k-test.true, c.min-past.ensures, text, length-widths line) in
     let next : suc k ≡ k + 1 = omega arith in

@@ -6,6 +6,6 @@ use Rattle.lines.proofs.visual_line.VisualLine.covering.Given as goal
 abbrev pub invariant-loop-k : goal.invariant-loop-k
 invariant-loop-k l = record {
   left : l.columns ≡ columns_left l.self l.k;
-  few : l.columns ≤ 255 * l.k;
+  few : l.columns ≤ 4294967295 * l.k;
   passed : IsLeft l.self l.column l.k;
 }

@@ -1,7 +1,7 @@
-use Rattle.std.proofs.Common.{◌≡◌, ◌∙◌, List, ℕ, ◌≤◌, length, take, ap, subst, sym}
+use Rattle.std.proofs.Common.{◌≡◌, ◌∙◌, List, Option, ℕ, ◌≤◌, length, take, ap, subst, sym}
 use Rattle.bidi.specs.Levels.{levels_of}
 use Rattle.breaks.specs.Marks.{marks_of}
-use Rattle.lines.specs.Layouts.{base_of, fill_of, Layout}
+use Rattle.lines.specs.Layouts.{base_of, fill_of, lines_of, with_advances, HaveRoom, Layout}
 use Rattle.lines.specs.Paragraphs.{rules_in}
 use Rattle.lines.specs.Reordering.{ends_by}
 use Rattle.lines.specs.declared.engine.TheConstants.{PARAGRAPH_LIMIT}
@@ -22,10 +22,13 @@ fill_lines-requires-clause-paragraph c =
         levels_are = c.levels.ensures.levels ∙ ap (λ (l : Layout). l.levels) is ∙ ap (λ (text : List ℕ). levels_of rules.tables.now text rules.options.base) text;
         len = c.levels.ensures.len ∙ ap length text;
       };
+      room = subst HaveRoom (sym c.advances.ensures.advances) c.advances.ensures.room;
       marks = c.marks.ensures ∙ ap (λ (l : Layout). l.marks) is ∙ ap (marks_of rules.tables.now rules.options.whole_numbers) text;
     }
 
 pub returns-clause-lines : goal.returns-clause-lines
 returns-clause-lines c =
-    subst (λ (text : List ℕ). c.of.result ≡ fill_of (rules_in c.args.rules.now) c.args.width text) c.text-text.ensures
-    (c.of.ensures ∙ filled_as _ _ _ _ c.in_ok-fill_lines.ensures.lines c.in_ok-fill_lines.ensures.lines_len)
+    subst (λ (text : List ℕ). c.of.result ≡ fill_of (with_advances (rules_in c.args.rules.now) c.args.laid.now.advances) c.args.width text) c.text-text.ensures
+    (c.of.ensures ∙ filled_as _ _ _ _
+    (c.in_ok-fill_lines.ensures.lines ∙ ap (λ (o : Option (List ℕ)). lines_of (with_advances (rules_in c.args.rules.now) o) c.args.width c.text-text.result.now) c.advances.ensures.advances)
+    c.in_ok-fill_lines.ensures.lines_len)

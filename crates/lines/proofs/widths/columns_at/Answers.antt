@@ -4,7 +4,7 @@ use Rattle.lines.specs.CharInfos.{columns_of}
 use Rattle.lines.specs.Tabs.{is_tab, to_stop}
 use Rattle.lines.specs.Widths.{widths_of}
 use Rattle.lines.proofs.WidthLemmas.{tab_size, tab_wide, width_plain, width_tab}
-use Rattle.lines.proofs.widths.width_at.Goals as goal
+use Rattle.lines.proofs.widths.columns_at.Goals as goal
 
 pub returns-then-not-is_tab-clause-value : goal.returns-then-not-is_tab-clause-value
 returns-then-not-is_tab-clause-value c =
