@@ -77,31 +77,31 @@ impl Extents {
         self.items.extend_from_slice(&[0, shown.len, shown.columns])
     }
 
-    /// Finds where each line of a paragraph starts, and how much of it is shown. The paragraph is measured if
-    /// there are advances. `infos` need not contain the cluster ends.
+    /// Finds where each line of a paragraph starts, and how much of it is shown. The ruler's sizes are the
+    /// advances, if the paragraph is measured. `infos` need not contain the cluster ends.
     pub(crate) fn find(
         &mut self,
         clusters: &mut ClusterBuffers,
         text: &[char],
         infos: &mut [CharInfo],
-        advances: Option<&[u32]>,
-        width: u32,
+        ruler: Ruler<Option<&[u32]>>,
         options: Options,
         filled: Counted,
     ) -> Result<(), AllocError>
         requires counted { filled ≡ length text.now }
         requires len { length infos.old ≡ length text.now }
         requires within { length text.now ≤ PARAGRAPH_LIMIT }
-        requires room { IfSome advances (λ list. sum list.now < 2 ^ 32) }
-        ensures starts { OnOk result (self.new.starts ≡ line_starts_of options.nobreak width
-            (sized (option_map (λ list. list.now) advances.entry) (with_ends infos.old (cluster_ends text.now)))) }
+        requires room { IfSome ruler.sizes (λ list. sum list.now < 2 ^ 32) }
+        ensures starts { OnOk result (self.new.starts ≡ line_starts_of options.nobreak ruler.entry.width
+            (sized (option_map (λ list. list.now) ruler.entry.sizes) (with_ends infos.old (cluster_ends text.now)))) }
         ensures shown { OnOk result (self.new.shown
-            ≡ shown_from (margin_of options width) (length text.now)
-            (sized (option_map (λ list. list.now) advances.entry) (with_ends infos.old (cluster_ends text.now)))
+            ≡ shown_from (margin_of options ruler.entry.width) (length text.now)
+            (sized (option_map (λ list. list.now) ruler.entry.sizes) (with_ends infos.old (cluster_ends text.now)))
             self.new.starts) }
         ensures ordered { OnOk result (AreStarts (length text.now) self.new.starts) }
     {
-        match advances {
+        let width = ruler.width;
+        match ruler.sizes {
             None => {
                 let sizes = ByColumns;
                 self.find_by(

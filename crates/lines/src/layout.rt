@@ -19,6 +19,7 @@ use crate::fill::Shown;
 use crate::one_line::one_line;
 use crate::paragraph::{LentRules, Paragraph, Text};
 use crate::showing::show_lines;
+use crate::sizes::Ruler;
 use crate::workspace::{Workspace, fill_ends, fill_marks};
 use std::alloc::{AllocError, Global};
 
@@ -189,8 +190,12 @@ fn fill_lines_by(
 {
     let (text, options) = (paragraph.text.characters, paragraph.text.rules.options);
     let advances = paragraph.advances;
+    let ruler = Ruler {
+        sizes: advances,
+        width,
+    };
     lines
         .extents
-        .find(clusters, text, infos, advances, width, options, filled)?;
+        .find(clusters, text, infos, ruler, options, filled)?;
     show_lines(paragraph, lines, written)
 }

@@ -21,6 +21,7 @@ use crate::one_line::one_line;
 use crate::paragraph::{LentRules, Text};
 use crate::printing::print::PrintFault;
 use crate::printing::writing::{Form, write_each};
+use crate::sizes::Ruler;
 use crate::whole::{is_whole, write_whole};
 use crate::workspace::{Workspace, fill_ends, fill_marks};
 use breaks::Mark;
@@ -189,9 +190,10 @@ fn fill_spans(
     let options = text.rules.options;
     let text = text.characters;
     let infos = &mut infos.infos[..text.len()];
+    let ruler = Ruler { sizes: None, width };
     lines
         .extents
-        .find(clusters, text, infos, None, width, options, filled)
+        .find(clusters, text, infos, ruler, options, filled)
 }
 
 // Writes the lines of a paragraph, whose extents are in `lines`.

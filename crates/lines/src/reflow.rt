@@ -10,6 +10,7 @@ use crate::layout::fill_lines;
 use crate::one_line::one_line;
 use crate::paragraph::{LentRules, Paragraph, Text};
 use crate::properties::fill_properties;
+use crate::sizes::Ruler;
 use crate::workspace::Workspace;
 use std::alloc::{AllocError, Global};
 use std::marker::Model;
@@ -105,8 +106,12 @@ impl Workspace {
         self.infos.fill(&known, laid.marks())?;
         let (clusters, infos) = (&mut self.clusters, &mut self.infos.infos[..text.len()]);
         let (advances, options) = (laid.advances(), rules.options);
+        let ruler = Ruler {
+            sizes: advances,
+            width,
+        };
         let mut extents = Extents::new(alloc);
-        extents.find(clusters, text, infos, advances, width, options, filled)?;
+        extents.find(clusters, text, infos, ruler, options, filled)?;
         Ok(extents)
     }
 
