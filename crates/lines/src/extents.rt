@@ -93,10 +93,12 @@ impl Extents {
         requires within { length text.now ≤ PARAGRAPH_LIMIT }
         requires room { IfSome ruler.sizes (λ list. sum list.now < 2 ^ 32) }
         ensures starts { OnOk result (self.new.starts ≡ line_starts_of options.nobreak ruler.entry.width
-            (sized (option_map (λ list. list.now) ruler.entry.sizes) (with_ends infos.old (cluster_ends text.now)))) }
+            (sized (option_map (λ list. list.now) ruler.entry.sizes)
+            (with_ends infos.old (cluster_ends text.now)))) }
         ensures shown { OnOk result (self.new.shown
             ≡ shown_from (margin_of options ruler.entry.width) (length text.now)
-            (sized (option_map (λ list. list.now) ruler.entry.sizes) (with_ends infos.old (cluster_ends text.now)))
+            (sized (option_map (λ list. list.now) ruler.entry.sizes)
+            (with_ends infos.old (cluster_ends text.now)))
             self.new.starts) }
         ensures ordered { OnOk result (AreStarts (length text.now) self.new.starts) }
     {

@@ -1,6 +1,6 @@
 //! The columns of characters and of the tabs of a line, and tests for characters that have one column.
-ghost use Rattle.std.specs.Prelude.{◌≡◌, ◌+◌, ◌*◌, ◌%◌, ◌^◌, ◌<◌, ◌≤◌, ℕ, None, Some, length, option_map, IfSome};
-ghost use Rattle.std.specs.Prelude.{slice_index, sum, take};
+ghost use Rattle.std.specs.Prelude.{◌≡◌, ◌+◌, ◌*◌, ◌%◌, ◌^◌, ◌<◌, ◌≤◌, ℕ, None, Some, length, option_map};
+ghost use Rattle.std.specs.Prelude.{slice_index, sum, take, IfSome};
 ghost use Rattle.std.specs.List.{list_all};
 ghost use Rattle.lines.specs.CharInfos.{columns_of};
 ghost use Rattle.lines.specs.Clusters.{lies_in};
