@@ -5,4 +5,5 @@ mod JoinLemmas
 pub mod ListLemmas
 mod SubtreeLemmas
 mod SumsLemmas
+mod SwapLemmas
 mod TreeLemmas

@@ -29,6 +29,7 @@ mod paragraph_store;
 mod search;
 mod subtree;
 mod sums;
+mod swapping;
 mod tree_store;
 mod vec_store;
 

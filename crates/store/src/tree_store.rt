@@ -6,7 +6,7 @@ ghost use Rattle.std.specs.Prelude.{IfOk, IfErr, OnOk, OnErr};
 ghost use Rattle.std.specs.List.{splice, AllZip};
 ghost use Rattle.store.specs.Exchanging.{pairwise};
 ghost use Rattle.store.specs.Finding.{CountsBefore, Finds, FindsItem};
-ghost use Rattle.store.specs.Sums.{measure};
+ghost use Rattle.store.specs.Sums.{measure, SumsFit};
 ghost use Rattle.store.specs.Trees.{fewest_nodes, height, in_order, IsBalanced, nodes_to, Tree};
 
 use crate::found::Found;
@@ -14,7 +14,7 @@ use crate::joining::{move_items, put_in};
 use crate::measured::{Exchanger, Measured};
 use crate::paragraph_store::ParagraphStore;
 use crate::subtree::{DetachedNode, Subtree};
-use crate::sums::Unit;
+use crate::sums::{Sums, Unit};
 use std::alloc::{AllocError, Global};
 use std::fmt::{Debug, Formatter};
 use std::marker::Model;
@@ -75,6 +75,20 @@ impl<P: Measured> TreeStore<P> {
     {
         self.stays_balanced();
         self.root.find(unit, n).found()
+    }
+
+    // Exchanges the item at an index for the only item of a list. Allocates nothing.
+    fn replace_one(&mut self, index: usize, items: &mut Vec<P>)
+        requires within { index < length (in_order self.old) }
+        requires one { length items.old.items ≡ 1 }
+        requires fit { SumsFit P.Measured
+            (splice (in_order self.old) index (index + 1) items.old.items) }
+        ensures items { in_order self.new
+            ≡ splice (in_order self.old) index (index + 1) items.old.items }
+        ensures out { items.new.items ≡ slice_range (in_order self.old) index (index + 1) }
+    {
+        let (less, more) = (self.root.sizes_at(index), Sums::of(&items[0]));
+        self.root.swap_item(index, &mut items[0], less, more);
     }
 }
 
@@ -260,6 +274,10 @@ impl<P: Measured> ParagraphStore<P> for TreeStore<P> {
     {
         let mut new_items = new_items;
         let removed = range.end - range.start;
+        if removed == 1 && new_items.len() == 1 {
+            self.replace_one(range.start, &mut new_items);
+            return Ok(new_items);
+        }
         let kept = self.root.count() - removed;
         let Ok((mut old, nodes)) = take_memory(self.alloc, kept, removed, &mut new_items) else {
             return Err((new_items, AllocError));

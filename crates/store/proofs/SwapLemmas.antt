@@ -1,0 +1,142 @@
+-- Exchanging one item of a tree for another: where the item is, and the sums that follow.
+use Rattle.std.proofs.Common.{◌≡◌, ℕ, suc, ◌+◌, ◌-◌, ◌^◌, ◌<◌, ◌≤◌, List, [], ◌∷◌, ◌++◌, length, take, drop, get_or, slice_range, sum_by, Some, refl, ap, sym, ◌∙◌, subst, arith, append_assoc, length-drop}
+use Rattle.std.specs.List.{slice_get, splice}
+use Rattle.std.proofs.Math.Seq.{take-append_seam, drop-append_seam, take-append-add, drop-append-add}
+use Rattle.std.proofs.lemmas.List.{take-append-le, drop-append-le, drop_more}
+use Rattle.std.proofs.lemmas.List.Sums.{sum_by-append, sum_by-cons}
+use Rattle.std.proofs.lemmas.Option.{get_or_from_slice_get, slice_get_within}
+use Rattle.store.specs.Subtrees.{tree_of_node, IsSummed}
+use Rattle.store.specs.Sums.{measure, part, AreSums, SumsFit}
+use Rattle.store.specs.Trees.{Tree, in_order}
+use Rattle.store.specs.declared.measured.Measured.{Ghosts}
+use Rattle.store.specs.declared.subtree.Node.{Node}
+use Rattle.store.specs.declared.sums.Sums.{Sums}
+use Rattle.store.specs.declared.sums.Unit.{Unit as Counted}
+use Rattle.store.proofs.FitsLemmas.{sums_less}
+use Rattle.store.proofs.SubtreeLemmas.{summed_again, IsLike}
+use Rattle.store.proofs.SumsLemmas.{new_are, new_fit, old_within, AreAdded, AreSizes}
+
+-- the list with one item exchanged
+abbrev pub swapped : {A : Type 0} → List A → ℕ → A → List A
+swapped xs i y = splice xs i (i + 1) (y ∷ [])
+
+module _ {A : Type 0} where
+  -- the range of one item
+  pub range_at : (xs : List A) (i : ℕ) (x : A) → slice_get xs i ≡ Some x → slice_range xs i (i + 1) ≡ x ∷ []
+  range_at xs i x e =
+      let n : i + 1 - i ≡ 1 = omega arith in
+      ap (λ (m : ℕ). take m (drop i xs)) n ∙ ap (λ ys. take 1 ys) (drop_more xs i x (slice_get_within xs i x e))
+      ∙ ap (λ y. y ∷ []) (get_or_from_slice_get xs i x x e)
+
+  -- a list of one item
+  pub only : (xs : List A) (x : A) → length xs ≡ 1 → x ≡ get_or xs 0 x → xs ≡ x ∷ []
+  only [] x l e = absurd (omega arith)
+  only (y ∷ []) x l e = ap (λ z. z ∷ []) (sym e)
+  only (y ∷ z ∷ zs) x l e = absurd (omega arith)
+
+  -- the index of the exchanged item in the items of a node is that of an item before the node's own item, of
+  -- this item, or of one after it
+  module _ (l r : List A) (x y : A) (i : ℕ) where
+    pub swapped_before : i < length l → swapped (l ++ x ∷ r) i y ≡ swapped l i y ++ x ∷ r
+    swapped_before h =
+        let front : i ≤ length l = omega arith in
+        let back : i + 1 ≤ length l = omega arith in
+        rw (take-append-le i l (x ∷ r) front, drop-append-le (i + 1) l (x ∷ r) back) (simp append_assoc)
+
+    pub range_before : i < length l → slice_range (l ++ x ∷ r) i (i + 1) ≡ slice_range l i (i + 1)
+    range_before h =
+        let front : i ≤ length l = omega arith in
+        let within : i + 1 - i ≤ length (drop i l) = omega (arith, length-drop i l) in
+        ap (λ zs. take (i + 1 - i) zs) (drop-append-le i l (x ∷ r) front) ∙ take-append-le (i + 1 - i) (drop i l) (x ∷ r) within
+
+    pub swapped_here : i ≡ length l → swapped (l ++ x ∷ r) i y ≡ l ++ y ∷ r
+    swapped_here e = rw e (rw (take-append_seam l (x ∷ r), drop-append-add l (x ∷ r) 1) (λ k. l ++ y ∷ r))
+
+    pub range_here : i ≡ length l → slice_range (l ++ x ∷ r) i (i + 1) ≡ x ∷ []
+    range_here e =
+        let n : length l + 1 - length l ≡ 1 = omega arith in
+        rw e (rw (n, drop-append_seam l (x ∷ r)) (λ k. x ∷ []))
+
+    pub swapped_after : (k : ℕ) → i ≡ length l + 1 + k → swapped (l ++ x ∷ r) i y ≡ l ++ x ∷ swapped r k y
+    swapped_after k e =
+        let h : i ≡ length l + suc k = omega arith in
+        let j : i + 1 ≡ length l + suc (k + 1) = omega arith in
+        let front : take i (l ++ x ∷ r) ≡ l ++ x ∷ take k r = ap (λ (m : ℕ). take m (l ++ x ∷ r)) h ∙ take-append-add l (x ∷ r) (suc k) in
+        let back : drop (i + 1) (l ++ x ∷ r) ≡ drop (k + 1) r = ap (λ (m : ℕ). drop m (l ++ x ∷ r)) j ∙ drop-append-add l (x ∷ r) (suc (k + 1)) in
+        rw (front, back) (append_assoc l (x ∷ take k r) (y ∷ drop (k + 1) r))
+
+    pub range_after : (k : ℕ) → i ≡ length l + 1 + k → slice_range (l ++ x ∷ r) i (i + 1) ≡ slice_range r k (k + 1)
+    range_after k e =
+        let h : i ≡ length l + suc k = omega arith in
+        let n : i + 1 - i ≡ k + 1 - k = omega arith in
+        let back : drop i (l ++ x ∷ r) ≡ drop k r = ap (λ (m : ℕ). drop m (l ++ x ∷ r)) h ∙ drop-append-add l (x ∷ r) (suc k) in
+        ap (λ (m : ℕ). take m (drop i (l ++ x ∷ r))) n ∙ ap (λ zs. take (k + 1 - k) zs) back
+
+module _ {P : Type 0} (G : Ghosts P) where
+  -- the sizes of an item are the sums of the list with this item alone
+  pub one_sum : (x : P) (sums : Sums) → AreSizes G x sums → AreSums G (x ∷ []) sums
+  one_sum x sums are = record { each = λ (u : Counted). omega (arith, are u, sum_by-cons (measure G u) x []) }
+
+  -- if the sums of a node's items fit after an exchange, so do those of the part in which the item is
+  pub fit_before : (l r : List P) (x y : P) (i : ℕ) → i < length l → SumsFit G (swapped (l ++ x ∷ r) i y) → SumsFit G (swapped l i y)
+  fit_before l r x y i h f =
+      sums_less G (swapped (l ++ x ∷ r) i y) (swapped l i y)
+      (λ (size : P → ℕ). omega (arith, ap (sum_by size) (swapped_before l r x y i h), sum_by-append size (swapped l i y) (x ∷ r)))
+      f
+
+  pub fit_after : (l r : List P) (x y : P) (i k : ℕ) → i ≡ length l + 1 + k → SumsFit G (swapped (l ++ x ∷ r) i y) → SumsFit G (swapped r k y)
+  fit_after l r x y i k e f =
+      sums_less G (swapped (l ++ x ∷ r) i y) (swapped r k y)
+      (λ (size : P → ℕ).
+      omega (arith, ap (sum_by size) (swapped_after l r x y i k e), sum_by-append size l (x ∷ swapped r k y), sum_by-cons size x (swapped r k y)))
+      f
+
+-- A node whose item at an index is exchanged for y: the sizes of the old and of the new item are known, and the
+-- sums fit.
+pub record Swaps {P : Type 0} (G : Ghosts P) (n : Node P) (i : ℕ) (y : P) (less more : Sums) : Type 0 where
+  pub summed : IsSummed G n
+  pub within : i < length (in_order (tree_of_node n))
+  pub less_are : AreSums G (slice_range (in_order (tree_of_node n)) i (i + 1)) less
+  pub more_are : AreSums G (y ∷ []) more
+  pub fit : SumsFit G (swapped (in_order (tree_of_node n)) i y)
+
+module _ {P : Type 0} (G : Ghosts P) where
+  -- the exchange in a tree is one in its root
+  pub swaps_in : (tree : Tree P) (n : Node P) (i : ℕ) (y : P) (less more : Sums) → tree ≡ tree_of_node n → IsSummed G n → i < length (in_order tree)
+      → AreSums G (slice_range (in_order tree) i (i + 1)) less → AreSums G (y ∷ []) more → SumsFit G (swapped (in_order tree) i y) → Swaps G n i y less more
+  swaps_in tree n i y less more e summed within less_are more_are fit = record {
+    summed = summed;
+    within = subst (λ t. i < length (in_order t)) e within;
+    less_are = subst (λ t. AreSums G (slice_range (in_order t) i (i + 1)) less) e less_are;
+    more_are = more_are;
+    fit = subst (λ t. SumsFit G (swapped (in_order t) i y)) e fit;
+  }
+
+  module _ (n : Node P) (i : ℕ) (y : P) (less more : Sums) (s : Swaps G n i y less more) where
+    abbrev items : List P
+    items = in_order (tree_of_node n)
+
+    abbrev IsLess : Sums → Type 0
+    IsLess rest = (u : Counted) → part rest u ≡ part n.sums u - part less u
+
+    pub swap_less : (u : Counted) → part less u ≤ part n.sums u
+    swap_less = old_within G items (y ∷ []) i (i + 1) (omega arith) n.sums less more more more s.summed.sums_are s.less_are
+
+    pub swap_more : (rest : Sums) → IsLess rest → (u : Counted) → part rest u + part more u < 2 ^ 64
+    swap_more rest is =
+        new_fit G items (y ∷ []) i (i + 1) (omega arith) n.sums less more rest rest s.summed.sums_are s.less_are s.more_are is s.fit
+
+    -- the node with its sums corrected and its items exchanged
+    pub swap_summed : (m : Node P) (rest : Sums) → IsLess rest → AreAdded rest more m.sums → IsLike n.left m.left → IsLike n.right m.right
+        → m.height ≡ n.height → m.count ≡ n.count → in_order (tree_of_node m) ≡ swapped items i y → IsSummed G m
+    swap_summed m rest less_is more_is l r h k items_are =
+        summed_again G n m s.summed l r h k
+        (subst (λ xs. AreSums G xs m.sums) (sym items_are)
+        (new_are G items (y ∷ []) i (i + 1) (omega arith) n.sums less more rest m.sums s.summed.sums_are s.less_are s.more_are less_is more_is))
+
+    -- a subtree that stays the same
+    pub same_left : IsLike n.left n.left
+    same_left = record { balanced = s.summed.balanced.0; height_is = refl; count_is = refl }
+
+    pub same_right : IsLike n.right n.right
+    same_right = record { balanced = s.summed.balanced.1; height_is = refl; count_is = refl }
