@@ -3,8 +3,9 @@
 ghost use Rattle.std.specs.Prelude.{◌≡◌, ◌<◌, IfOk, OnOk};
 ghost use Rattle.lines.specs.Engine.{rules_of, SameRules};
 ghost use Rattle.lines.specs.Extents.{extents_of};
-ghost use Rattle.lines.specs.Layouts.{AreLinesOf, IsLaidOut};
+ghost use Rattle.lines.specs.Layouts.{AreLinesOf, IsLaidOut, with_advances};
 
+mod measured;
 mod orders;
 mod printed;
 mod spans;
@@ -217,16 +218,16 @@ fn lines_at_another_width_are_exchanged_and_exchanged_back(rt: HostRuntime) -> R
 }
 
 // Finds the extents of a paragraph's lines at another width, and tries again after an allocation failure.
-fn extents(alloc: Global, engine: &mut Engine, laid: &Laid, width: u16) -> Result<Extents, Fail>
-    requires laid { IsLaidOut (rules_of engine.old) laid.now }
+fn extents(alloc: Global, engine: &mut Engine, laid: &Laid, width: u32) -> Result<Extents, Fail>
+    requires laid { IsLaidOut (with_advances (rules_of engine.old) laid.now.advances) laid.now }
     requires width { 0 < width }
-    ensures extents { IfOk result (λ extents.
-        extents ≡ extents_of (rules_of engine.old) width laid.now.text) }
+    ensures extents { IfOk result (λ extents. extents
+        ≡ extents_of (with_advances (rules_of engine.old) laid.now.advances) width laid.now.text) }
     ensures rules { SameRules engine.old engine.new }
 {
-    match engine.extents(alloc, laid, u32::from(width)) {
+    match engine.extents(alloc, laid, width) {
         Ok(extents) => Ok(extents),
-        Err(_) => Ok(engine.extents(alloc, laid, u32::from(width))?),
+        Err(_) => Ok(engine.extents(alloc, laid, width)?),
     }
 }
 
@@ -241,10 +242,11 @@ fn scratch(alloc: Global, engine: &Engine, len: usize) -> Result<ReflowScratch, 
 }
 
 // Overwrites a paragraph's lines with those at another width.
-fn reflow(alloc: Global, engine: &mut Engine, laid: &mut Laid, width: u16) -> Result<(), Fail>
-    requires laid { IsLaidOut (rules_of engine.old) laid.old }
+fn reflow(alloc: Global, engine: &mut Engine, laid: &mut Laid, width: u32) -> Result<(), Fail>
+    requires laid { IsLaidOut (with_advances (rules_of engine.old) laid.old.advances) laid.old }
     requires width { 0 < width }
-    ensures laid { OnOk result (IsLaidOut (rules_of engine.new) laid.new) }
+    ensures laid { OnOk result
+        (IsLaidOut (with_advances (rules_of engine.new) laid.new.advances) laid.new) }
     ensures rules { SameRules engine.old engine.new }
 {
     let mut extents = extents(alloc, engine, laid, width)?;
@@ -256,7 +258,7 @@ fn reflow(alloc: Global, engine: &mut Engine, laid: &mut Laid, width: u16) -> Re
 
 // Whether the paragraph gets the right lines at three widths, one after another.
 fn reflows(alloc: Global, engine: &mut Engine, laid: &mut Laid) -> Result<bool, Fail>
-    requires laid { IsLaidOut (rules_of engine.old) laid.old }
+    requires laid { IsLaidOut (with_advances (rules_of engine.old) laid.old.advances) laid.old }
 {
     reflow(alloc, engine, laid, 2)?;
     let is_first = starts_at(laid, &[0, 3]) & shows_lines(laid, &SHOWN);

@@ -22,7 +22,7 @@ fn of_engine<F: FnOnce(&mut lines::Engine) -> bool>(alloc: Global, check: F) -> 
 }
 
 // Lays out a paragraph of an allowed length, or returns `None` after an allocation failure.
-fn lay_out(alloc: Global, engine: &mut lines::Engine, text: &str, width: u16) -> Option<lines::Laid>
+fn lay_out(alloc: Global, engine: &mut lines::Engine, text: &str, width: u32) -> Option<lines::Laid>
     requires { 0 < width }
     ensures laid { IfSome result (IsLaidOut (rules_of engine.new)) }
     ensures rules { SameRules engine.old engine.new }
@@ -33,7 +33,7 @@ fn lay_out(alloc: Global, engine: &mut lines::Engine, text: &str, width: u16) ->
     if text.is_empty() || text.len() > lines::PARAGRAPH_LIMIT || engine.first_cut(&text).is_some() {
         return None;
     }
-    let laid: Result<lines::Laid, (Vec<char>, AllocError)> = engine.lay_out(alloc, text, u32::from(width));
+    let laid: Result<lines::Laid, (Vec<char>, AllocError)> = engine.lay_out(alloc, text, width);
     match laid {
         Ok(laid) => Some(laid),
         Err(_) => None,
@@ -155,13 +155,13 @@ fn refill(
     alloc: Global,
     engine: &mut lines::Engine,
     laid: &lines::Laid,
-    width: u16,
+    width: u32,
 ) -> Option<lines::Fill>
     requires laid { IsLaidOut (rules_of engine.old) laid.now }
     requires width { 0 < width }
     ensures { IfSome result (AreLinesOf (rules_of engine.old) laid.now.text) }
 {
-    let fill: Result<lines::Fill, AllocError> = engine.refill(alloc, laid, u32::from(width));
+    let fill: Result<lines::Fill, AllocError> = engine.refill(alloc, laid, width);
     match fill {
         Ok(fill) => Some(fill),
         Err(_) => None,

@@ -107,13 +107,19 @@ fn write_paragraph(
     let mut writer = ToWrite::new(taken);
     match engine.write_paragraph(alloc, text, u32::from(width), print, &mut writer) {
         // After an allocation failure, nothing was written.
-        Err(PrintFault::Memory) => engine.write_paragraph(alloc, text, u32::from(width), print, &mut writer),
+        Err(PrintFault::Memory) => engine.write_paragraph(
+            alloc,
+            text,
+            u32::from(width),
+            print,
+            &mut writer,
+        ),
         result => result,
     }
 }
 
 // Whether a layout's lines are these bytes, line by line and all at once.
-fn is_written(laid: &Laid, width: u16, print: &Print, bytes: &[u8]) -> bool {
+pub(super) fn is_written(laid: &Laid, width: u16, print: &Print, bytes: &[u8]) -> bool {
     let mut by_lines = [b'?'; 64];
     let mut at_once = [b'?'; 64];
     write_lines(laid, width, print, &mut by_lines)

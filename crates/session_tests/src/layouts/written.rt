@@ -7,7 +7,7 @@ use std::alloc::Global;
 use std::test::Fail;
 
 // Whether exactly these bytes are written, and writing to a smaller buffer fails once the buffer is full.
-fn writes(line: &VisualLine<'_>, width: u16, print: &Print, bytes: &[u8]) -> bool {
+fn writes(line: &VisualLine<'_>, width: u32, print: &Print, bytes: &[u8]) -> bool {
     let mut all_right = bytes.len() <= 64;
     for room in 0..65usize {
         let mut taken = [b'?'; 64];
@@ -29,7 +29,7 @@ fn writes(line: &VisualLine<'_>, width: u16, print: &Print, bytes: &[u8]) -> boo
 }
 
 // A width, what is printed, and the bytes of the line.
-static ROWS: [(u16, Print, &str); 5] = [
+static ROWS: [(u32, Print, &str); 5] = [
     (4, PLAIN, "12)\u{5D0}\n"),
     (7, PLAIN, "   12)\u{5D0}\n"),
     (6, ALL, "  12)\u{5D0}\nRTL\n3 2 0 1\n2 3 1 0\n1 1 2 2\n"),
@@ -37,7 +37,7 @@ static ROWS: [(u16, Print, &str); 5] = [
     (80, LEVELS, "1 1 2 2\n"),
 ];
 
-fn writes_all(laid: &Laid, rows: &[(u16, Print, &str)]) -> bool {
+fn writes_all(laid: &Laid, rows: &[(u32, Print, &str)]) -> bool {
     let Some(line) = laid.line(0) else {
         return false;
     };
