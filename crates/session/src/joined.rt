@@ -173,7 +173,7 @@ fn lay_out(
     match engine.first_cut(&text) {
         Some(_) => lay_out_each(alloc, engine, &text, width),
         None => {
-            let mut kept = Vec::new(alloc);
+            let mut kept = Vec::with_capacity(alloc, 1)?;
             kept.push(lay_out_owned(alloc, engine, trim(text), width)?)?;
             Ok(kept)
         }

@@ -12,6 +12,6 @@ returns-in_ok-push-in-None-clause-ok c =
     let by = rules_of c.args.engine.now in
     let text = c.args.text.items in
     let whole : SplitsAt (cut_by by) text None = subst (λ t. SplitsAt (cut_by by) t None) c.deref.ensures.value c.in-None.ensures.paragraphs in
-    layouts_last by c.args.width (layouts_of by c.args.width text) text c.new-kept.result.items _ _ (whole c.requires.some)
+    layouts_last by c.args.width (layouts_of by c.args.width text) text c.in_ok-kept-in-None.kept.items _ _ (whole c.requires.some)
     (c.in_ok-lay_out_owned-in-None.ensures.ok ∙ ap (layout_of by c.args.width) c.trim.ensures) c.in_ok-push-in-None.ensures.items
-    (ap (λ kept. kept ++ layouts_of by c.args.width text) c.new-kept.ensures.items)
+    (ap (λ kept. kept ++ layouts_of by c.args.width text) c.in_ok-kept-in-None.ensures.items)
