@@ -1,6 +1,6 @@
 -- Conditions under which a layout is a fresh layout: after it is built from its parts, or after its lines are
 -- exchanged.
-use Rattle.std.proofs.Common.{◌≡◌, ℕ, Bool, List, Option, None, Result, Ok, Err, IfOk, length, refl, ap, ap₂, subst, sym, ◌∙◌}
+use Rattle.std.proofs.Common.{◌≡◌, ℕ, Bool, List, Option, None, Some, Result, Ok, Err, IfOk, length, refl, ap, ap₂, subst, sym, ◌∙◌}
 use Rattle.bidi.specs.Levels.{levels_of}
 use Rattle.breaks.specs.declared.mark.Mark.{Mark}
 use Rattle.lines.specs.Extents.{extents_of, reflowed, LineExtents}
@@ -86,3 +86,11 @@ own_rules rules none = ap (with_advances rules) (sym none)
 pub lines_with : (advances : Option (List ℕ)) {rules same : Rules} (width : ℕ) (text : List ℕ) (lines : List Line) → rules ≡ same
     → lines ≡ lines_of (with_advances rules advances) width text → lines ≡ lines_of (with_advances same advances) width text
 lines_with advances width text lines e is = is ∙ ap (λ (r : Rules). lines_of (with_advances r advances) width text) e
+
+-- a paragraph with other advances, and with the lines that are found with these, is laid out
+pub remeasured : (rules : Rules) (width : ℕ) (old : Layout) (list : List ℕ) (fill : Filled) → IsLaidOut (with_advances rules old.advances) old
+    → fill ≡ fill_of (with_advances rules (Some list)) width old.text → record old { advances = Some list; lines = fill.lines } ≡ layout_of (with_advances rules (Some list)) width old.text
+remeasured rules width old list fill laid is =
+    let own : Rules = with_advances rules (Some list) in
+    ap (λ (f : Filled). let l : Layout = record old { advances = Some list; lines = f.lines } in l) is
+    ∙ subst (λ (m : Layout). let l : Layout = record m { advances = Some list; lines = lines_of own width m.text } in l ≡ layout_of own width m.text) (sym laid.from_scratch) refl

@@ -329,7 +329,50 @@ impl Engine {
             tables: &self.tables,
             options: self.options,
         };
-        work.fill(alloc, &rules, laid, width, &mut self.counts)
+        work.fill(
+            alloc,
+            &rules,
+            laid,
+            laid.advances(),
+            width,
+            &mut self.counts,
+        )
+    }
+
+    /// Lays out a paragraph with other advances at a width, which must not be 0. Levels and break marks are
+    /// copied, and nothing is analysed. The advances must add up to less than 2^32, and the paragraph must
+    /// have been laid out with this engine's tables and options.
+    pub fn remeasure(
+        &mut self,
+        alloc: Global,
+        laid: &Laid,
+        advances: Vec<u32>,
+        width: u32,
+    ) -> Result<Laid, AllocError>
+        requires laid { IsLaidOut (with_advances (rules_of self.old) laid.now.advances) laid.now }
+        requires width { 0 < width }
+        requires len { length advances.items ≡ length laid.now.text }
+        requires room { sum advances.items < 2 ^ 32 }
+        ensures ok { IfOk result (λ new. new
+            ≡ layout_of (with_advances (rules_of self.old) (Some advances.items)) width laid.now.text) }
+        ensures counts { IfOk result (λ new. Fills (length laid.now.text) self.old self.new) }
+        ensures at_most { FillsAtMost (length laid.now.text) self.old self.new }
+        ensures rules { SameRules self.old self.new }
+    {
+        let work = self.work.get_or_insert_with(|| Workspace::new(alloc));
+        let rules = LentRules {
+            tables: &self.tables,
+            options: self.options,
+        };
+        let lines = work.fill(
+            alloc,
+            &rules,
+            laid,
+            Some(&advances),
+            width,
+            &mut self.counts,
+        )?;
+        laid.with_lines(alloc, advances, lines)
     }
 
     /// Writes the lines of one paragraph at a width in columns, which must not be 0, without keeping them. If

@@ -18,7 +18,7 @@ use crate::visual_line::VisualLine;
 use crate::widths::{columns, put_widths};
 use breaks::{Mark, paragraphs_end_at_must};
 use device::Sink;
-use std::alloc::AllocError;
+use std::alloc::{AllocError, Global};
 use std::marker::Model;
 use ucd::{Properties, Tables};
 
@@ -88,7 +88,8 @@ impl Laid {
     ghost use Rattle.lines.specs.Layouts.{hides_space_within, is_line_within, start_of, visuals};
     ghost use Rattle.lines.specs.LaidTexts.{advances_in, IsMeasuredText};
     ghost use Rattle.lines.specs.Layouts.{AreLinesOf, Exchanges, HaveRoom, IsLaidOut, Rules};
-    ghost use Rattle.lines.specs.Layouts.{unmeasured, with_advances};
+    ghost use Rattle.lines.specs.Layouts.{fill_of, unmeasured, with_advances};
+    ghost use Rattle.std.specs.Prelude.{◌^◌, sum, Some};
     ghost use Rattle.lines.specs.Pages.{layout_bytes};
     ghost use Rattle.lines.specs.Visual.{visual_of};
     ghost use Rattle.lines.specs.Writing.{PassedOn, StoppedIn};
@@ -303,6 +304,38 @@ impl Laid {
             &self.lines,
             &mut self.sizes,
         );
+    }
+
+    // Copies the paragraph with other advances, and with the lines that were found with these.
+    pub(crate) fn with_lines(
+        &self,
+        alloc: Global,
+        advances: Vec<u32>,
+        lines: Fill,
+    ) -> Result<Laid, AllocError>
+        requires len { length advances.items ≡ length self.now.text }
+        requires room { sum advances.items < 2 ^ 32 }
+        requires lines { (rules : Rules) × (width : ℕ) × (lines ≡ fill_of rules width self.now.text) }
+        ensures { IfOk result (λ laid. laid
+            ≡ record self.now { advances = Some advances.items; lines = lines.lines }) }
+    {
+        let text = Vec::from_slice(alloc, &self.text)?;
+        let levels = Vec::from_slice(alloc, &self.levels)?;
+        let marks = Vec::from_slice(alloc, &self.marks)?;
+        let ends = Vec::from_slice(alloc, &self.ends)?;
+        let mut sizes = with_room(advances, self.tab_width)?;
+        put_all_widths(true, &text, self.tab_width, &lines, &mut sizes);
+        Ok(Laid {
+            text,
+            base: self.base,
+            tab_width: self.tab_width,
+            is_measured: true,
+            sizes,
+            levels,
+            marks,
+            ends,
+            lines,
+        })
     }
 
     /// Swaps the lines with those at another width, found with the same tables and options.

@@ -1,5 +1,5 @@
 //! Finds the lines of a paragraph at another width.
-ghost use Rattle.std.specs.Prelude.{◌≡◌, ◌<◌, ◌≤◌, [], ◌∷◌, length, IfOk, OnErr, OnOk};
+ghost use Rattle.std.specs.Prelude.{◌≡◌, ◌<◌, ◌≤◌, [], ◌∷◌, length, option_map, IfOk, OnErr, OnOk};
 
 use crate::buffers::LineBuffers;
 use crate::counts::{Count, Counted, Counts};
@@ -67,7 +67,7 @@ impl Workspace {
     ghost use Rattle.lines.specs.Counts.{FillsAll, FillsSome, FindsAll, FindsSome};
     ghost use Rattle.lines.specs.Engine.{counted};
     ghost use Rattle.lines.specs.Extents.{extents_of};
-    ghost use Rattle.lines.specs.Layouts.{AreWithin, IsLaidOut, fill_of, with_advances};
+    ghost use Rattle.lines.specs.Layouts.{AreWithin, HaveRoom, IsLaidOut, fill_of, with_advances};
     ghost use Rattle.lines.specs.Paragraphs.{rules_in};
 
     /// Finds the extents of the lines of a laid-out paragraph at another width.
@@ -115,18 +115,20 @@ impl Workspace {
         Ok(extents)
     }
 
-    /// Finds the lines of a laid-out paragraph at another width.
+    /// Finds the lines of a laid-out paragraph at another width, or with other advances.
     pub(crate) fn fill(
         &mut self,
         alloc: Global,
         rules: &LentRules<'_>,
         laid: &Laid,
+        advances: Option<&[u32]>,
         width: u32,
         counts: &mut Counts,
     ) -> Result<Fill, AllocError>
-        requires { IsLaidOut (with_advances (rules_in rules.now) laid.now.advances) laid.now }
-        ensures lines { IfOk result (λ fill. fill
-            ≡ fill_of (with_advances (rules_in rules.now) laid.now.advances) width laid.now.text) }
+        requires laid { IsLaidOut (with_advances (rules_in rules.now) laid.now.advances) laid.now }
+        requires room { HaveRoom (option_map (λ list. list.now) advances) }
+        ensures lines { IfOk result (λ fill. fill ≡ fill_of (with_advances (rules_in rules.now)
+            (option_map (λ list. list.now) advances.entry)) width laid.now.text) }
         ensures within { IfOk result (λ fill. AreWithin (length laid.now.text) fill.lines) }
         ensures counts { OnOk result (FillsAll (length laid.now.text) counts.old counts.new) }
         ensures unwritten { OnErr result (counts.new.written ≡ counts.old.written) }
@@ -145,7 +147,7 @@ impl Workspace {
                 ends: laid.ends(),
                 base: laid.base(),
             },
-            advances: laid.advances(),
+            advances,
             levels: laid.levels(),
             marks: laid.marks(),
         };
