@@ -13,7 +13,7 @@ use Rattle.store.specs.Finding.{Finds}
 use Rattle.store.specs.declared.found.Found.{Found}
 use Rattle.session.specs.Borders.{IsFrontBorder, IsBackBorder}
 use Rattle.lines.specs.Layouts.{visuals}
-use Rattle.session.specs.Kept.{pars_of, text_of, lines_in}
+use Rattle.session.specs.Kept.{advance_lists, pars_of, text_of, lines_in}
 use Rattle.session.specs.Touched.{start_of}
 use Rattle.session.proofs.TouchedLemmas.{start_of-le, start_of-le-length}
 
@@ -45,6 +45,13 @@ start_of-is kept i = ap (λ ps. length (concat ps)) (take-map (λ l. l.text) i k
 pub text_read : (kept : List Layout) (i : ℕ) (read : Option Layout) → read ≡ slice_get kept i → get_or (pars_of kept) i [] ≡ unwrap_or (option_map (λ l. l.text) read) []
 text_read kept i read e =
     sym (unwrap_or-slice_get (pars_of kept) i []) ∙ ap (λ o. unwrap_or o []) (slice_get-map (λ l. l.text) kept i) ∙ ap (λ o. unwrap_or (option_map (λ l. l.text) o) []) (sym e)
+
+-- the same of its advances
+pub list_read : (kept : List Layout) (i : ℕ) (read : Option Layout) → read ≡ slice_get kept i
+    → get_or (advance_lists kept) i [] ≡ unwrap_or (option_map (λ (l : Layout). unwrap_or l.advances []) read) []
+list_read kept i read e =
+    sym (unwrap_or-slice_get (advance_lists kept) i []) ∙ ap (λ o. unwrap_or o []) (slice_get-map (λ (l : Layout). unwrap_or l.advances []) kept i)
+    ∙ ap (λ o. unwrap_or (option_map (λ (l : Layout). unwrap_or l.advances []) o) []) (sym e)
 
 -- the item that a search finds is the item at the returned index
 slice_get_at : {A : Type 0} (before : List A) (x : A) (after : List A) → slice_get (before ++ x ∷ after) (length before) ≡ Some x

@@ -1,18 +1,18 @@
 -- A text that is given in three parts, and the layout of a text one paragraph at a time.
-use Rattle.std.proofs.Common.{◌≡◌, ℕ, ◌+◌, ◌<◌, ◌≤◌, Bool, true, false, not, ◌&&◌, ◌==◌, List, [], ◌∷◌, ◌++◌, length, map, take, drop, Some, None, nat_lt, nat_le, ⊎_elim, refl, sym, ap, ap₂, subst, ◌∙◌, arith}
+use Rattle.std.proofs.Common.{◌≡◌, ℕ, ◌+◌, ◌<◌, ◌≤◌, Bool, true, false, not, ◌&&◌, ◌==◌, List, [], ◌∷◌, ◌++◌, length, take, drop, Option, Some, None, nat_lt, nat_le, ⊎_elim, refl, sym, ap, ap₂, subst, ◌∙◌, arith}
 use Rattle.std.specs.List.{concat}
 use Rattle.std.specs.Str.{chars, IsUtf8}
 use Rattle.std.proofs.Math.Utf8.{encodes, scalars}
 use Rattle.std.proofs.lemmas.Str.{chars-encodes, chars-nil}
 use Rattle.std.proofs.lemmas.Bool.{and_parts, both_ways, eqb-true, cases_lt, le-leb, le-ltb, leb-true, lt-leb, lt-ltb, not-false, not-true}
-use Rattle.std.proofs.lemmas.List.{append-nil, append_assoc, length-append, nil_from_length}
+use Rattle.std.proofs.lemmas.List.{append-nil, append_assoc, length-append, nil_from_length, take_all}
 use Rattle.bidi.specs.Cuts.{paragraphs, SplitsAt}
 use Rattle.bidi.specs.TextCuts.{EndsAfter}
 use Rattle.bidi.proofs.TextCutLemmas.{ends_parts}
 use Rattle.bidi.specs.Pieces.{ArePieces, ParagraphsArePieces}
-use Rattle.lines.specs.Layouts.{Layout, Rules, cut_by, layout_of, IsParagraph}
+use Rattle.lines.specs.Layouts.{Layout, Rules, cut_by, layout_of, with_advances, IsParagraph}
 use Rattle.session.specs.Edits.{are_within, is_within_limit}
-use Rattle.session.specs.Kept.{layouts_of}
+use Rattle.session.specs.Kept.{back_advances, front_advances, layouts_from, AreForEach}
 use Rattle.session.specs.Scans.{HasScanned}
 use Rattle.session.specs.declared.scan.Scan.{Scan}
 use Rattle.lines.specs.declared.engine.TheConstants.{PARAGRAPH_LIMIT}
@@ -80,10 +80,11 @@ module _ (law : ParagraphsArePieces) (rules : Rules) (text first after : List �
   pub others_within : is_within_limit (cut_by rules) text ≡ true → is_within_limit (cut_by rules) after ≡ true
   others_within within = (within_parts (cut_by rules) text first (paragraphs (cut_by rules) after) split within).1
 
+  pub text_parts : text ≡ first ++ after
+  text_parts = sym (law.whole (cut_by rules) text) ∙ ap concat split ∙ ap (λ b. first ++ b) (law.whole (cut_by rules) after)
+
   pub split_length : length text ≡ length first + length after
-  split_length =
-      ap length (sym (law.whole (cut_by rules) text) ∙ ap concat split ∙ ap (λ b. first ++ b) (law.whole (cut_by rules) after))
-      ∙ length-append first after
+  split_length = ap length text_parts ∙ length-append first after
 
 module _ (law : ParagraphsArePieces) (rules : Rules) (text : List ℕ) (within : is_within_limit (cut_by rules) text ≡ true) where
   pub paragraph_in_front : (k : ℕ) → SplitsAt (cut_by rules) text (Some k) → IsParagraph rules (take k text)
@@ -101,27 +102,33 @@ module _ (law : ParagraphsArePieces) (rules : Rules) (text : List ℕ) (within :
     within = (within_parts (cut_by rules) text text [] (split some) within).0;
   }
 
--- if the layouts so far, followed by those of the remaining text, are all layouts, this stays true after one
--- more paragraph is laid out
-pub layouts_more : (rules : Rules) (width : ℕ) (all : List Layout) (rest first after : List ℕ) (kept more : List Layout) (one : Layout)
-    → paragraphs (cut_by rules) rest ≡ first ∷ paragraphs (cut_by rules) after
-    → one ≡ layout_of rules width first → more ≡ kept ++ one ∷ [] → kept ++ layouts_of rules width rest ≡ all
-    → more ++ layouts_of rules width after ≡ all
-layouts_more rules width all rest first after kept more one split one-is more-is so_far =
-    ap (λ ks. ks ++ layouts_of rules width after) more-is
-    ∙ append_assoc kept (one ∷ []) (layouts_of rules width after)
-    ∙ ap (λ k. kept ++ k ∷ layouts_of rules width after) one-is
-    ∙ ap (λ ps. kept ++ map (layout_of rules width) ps) (sym split)
-    ∙ so_far
+-- If the layouts so far, followed by those of the remaining text, are all layouts, this stays true after one
+-- more paragraph is laid out. The rest has its own advances, if the text is measured.
+module _ (rules : Rules) (width : ℕ) (all : List Layout) (rest : List ℕ) (advances : Option (List ℕ)) (kept : List Layout)
+    (so_far : kept ++ layouts_from rules width advances (paragraphs (cut_by rules) rest) ≡ all) where
+  pub layouts_more : (first after : List ℕ) (others : Option (List ℕ)) (more : List Layout) (one : Layout)
+      → paragraphs (cut_by rules) rest ≡ first ∷ paragraphs (cut_by rules) after → others ≡ back_advances (length first) advances
+      → one ≡ layout_of (with_advances rules (front_advances (length first) advances)) width first → more ≡ kept ++ one ∷ []
+      → more ++ layouts_from rules width others (paragraphs (cut_by rules) after) ≡ all
+  layouts_more first after others more one split others-is one-is more-is =
+      ap₂ (λ (ks : List Layout) (a : Option (List ℕ)). ks ++ layouts_from rules width a (paragraphs (cut_by rules) after)) more-is others-is
+      ∙ append_assoc kept (one ∷ []) (layouts_from rules width (back_advances (length first) advances) (paragraphs (cut_by rules) after))
+      ∙ ap (λ k. kept ++ k ∷ layouts_from rules width (back_advances (length first) advances) (paragraphs (cut_by rules) after)) one-is
+      ∙ ap (λ ps. kept ++ layouts_from rules width advances ps) (sym split)
+      ∙ so_far
 
-pub layouts_last : (rules : Rules) (width : ℕ) (all : List Layout) (rest : List ℕ) (kept more : List Layout) (one : Layout) → paragraphs (cut_by rules) rest ≡ rest ∷ []
-    → one ≡ layout_of rules width rest → more ≡ kept ++ one ∷ [] → kept ++ layouts_of rules width rest ≡ all → more ≡ all
-layouts_last rules width all rest kept more one split one-is more-is so_far =
-    more-is ∙ ap (λ k. kept ++ k ∷ []) one-is ∙ ap (λ ps. kept ++ map (layout_of rules width) ps) (sym split) ∙ so_far
+  pub layouts_last : (more : List Layout) (one : Layout) → paragraphs (cut_by rules) rest ≡ rest ∷ []
+      → one ≡ layout_of (with_advances rules (front_advances (length rest) advances)) width rest → more ≡ kept ++ one ∷ [] → more ≡ all
+  layouts_last more one split one-is more-is =
+      more-is ∙ ap (λ k. kept ++ k ∷ []) one-is ∙ ap (λ ps. kept ++ layouts_from rules width advances ps) (sym split) ∙ so_far
 
-pub layouts_none : (rules : Rules) (width : ℕ) (all : List Layout) (rest : List ℕ) (kept : List Layout) → rest ≡ [] → kept
-    ++ layouts_of rules width rest ≡ all → kept ≡ all
-layouts_none rules width all rest kept none so_far = sym (append-nil kept) ∙ ap (λ r. kept ++ layouts_of rules width r) (sym none) ∙ so_far
+  pub layouts_none : rest ≡ [] → kept ≡ all
+  layouts_none none = sym (append-nil kept) ∙ ap (λ r. kept ++ layouts_from rules width advances (paragraphs (cut_by rules) r)) (sym none) ∙ so_far
+
+-- the advances for all characters of a text
+pub front_all : (text : List ℕ) (advances : Option (List ℕ)) → AreForEach advances text → front_advances (length text) advances ≡ advances
+front_all text None each = refl
+front_all text (Some list) each = ap Some (take_all (length text) list (omega (arith, each)))
 
 -- a list has items if and only if the test for an empty list fails
 pub some_left : (xs : List ℕ) (b : Bool) → b ≡ (length xs == 0) → b ≡ false → 0 < length xs

@@ -1,10 +1,10 @@
 -- What holds of each line of a text that is laid out: its place, its order and its clusters.
-use Rattle.std.proofs.Common.{◌≡◌, ℕ, ◌+◌, ◌-◌, ◌<◌, ◌≤◌, Bool, true, false, List, [], ◌∷◌, ◌++◌, length, map, get_or, sum_by, Some, refl, sym, ap, subst, ◌∙◌, ◌⊎◌, inl, inr, arith}
+use Rattle.std.proofs.Common.{◌≡◌, ℕ, ◌+◌, ◌-◌, ◌<◌, ◌≤◌, Bool, true, false, List, [], ◌∷◌, ◌++◌, length, map, get_or, sum_by, Option, None, Some, refl, sym, ap, subst, ◌∙◌, ◌⊎◌, inl, inr, arith}
 use Rattle.std.specs.List.{concat, slice_get, All}
 use Rattle.std.specs.Option.{option_map}
 use Rattle.std.proofs.lemmas.Bool.{both_ways, cases_Bool, cases_lt}
 use Rattle.std.proofs.lemmas.List.{drop_at, length-map, take_at}
-use Rattle.std.proofs.lemmas.List.Elements.{All-cons, All-drop, All-map, All-nil, All-take}
+use Rattle.std.proofs.lemmas.List.Elements.{All-cons, All-drop, All-head, All-nil, All-tail, All-take}
 use Rattle.std.proofs.lemmas.List.Sums.{sum_by-append, sum_by-cons}
 use Rattle.std.proofs.lemmas.Option.{get_or_from_slice_get, same_Some, slice_get-map, slice_get_within}
 use Rattle.bidi.specs.Cuts.{paragraphs}
@@ -19,14 +19,14 @@ use Rattle.lines.specs.Beginnings.{BeginInOrder}
 use Rattle.lines.specs.CharInfos.{columns_of}
 use Rattle.lines.specs.Clusters.{after, cluster_begin, cluster_end, cluster_ends, ends_at}
 use Rattle.lines.specs.Columns.{run_columns}
-use Rattle.lines.specs.Layouts.{Layout, Rules, cut_by, layout_of, lines_of as lines_at, start_of as begins, visuals}
+use Rattle.lines.specs.Layouts.{Layout, Rules, cut_by, layout_of, lines_of as lines_at, start_of as begins, visuals, with_advances}
 use Rattle.lines.specs.Ordered.{ClustersAdjoin, IsOrdered, MarksStay, RunsAdjoin}
 use Rattle.lines.specs.Visual.{Line, Visual, end_of, visual_of}
 use Rattle.store.specs.Finding.{Finds}
 use Rattle.store.specs.declared.found.Found.{Found}
 use Rattle.session.specs.Clusters.{cluster_at, cluster_in}
 use Rattle.session.specs.Edges.{line_at}
-use Rattle.session.specs.Kept.{layouts_of, lines_in, text_of}
+use Rattle.session.specs.Kept.{back_advances, front_advances, layouts_from, layouts_of, lines_in, text_of}
 use Rattle.session.specs.Places.{count_to, line_starts, place_in, IsLined}
 use Rattle.session.specs.Steps.{StepsAreNearest}
 use Rattle.session.specs.declared.clusters.Cluster.{Cluster}
@@ -346,6 +346,21 @@ marks_stay rules pieces (inl stay) = λ k d within. inl stay
 marks_stay rules pieces (inr none) =
     λ k d within. inr (none.0, in_parts (λ c. is_mark (class_of rules.tables c) ≡ true → columns_of c ≡ 0) pieces none.1 k d within)
 
+-- what is known of a paragraph
+abbrev IsKnown : Rules → List ℕ → Type 0
+IsKnown rules p = (0 < length p) × ((rules.options.reorder_clusters ≡ true) ⊎ MarksStay rules p)
+
+-- if a fact about paragraphs implies one about their layouts, with whatever advances, it holds of all layouts of a text
+each_layout : (Q : List ℕ → Type 0) (P : Layout → Type 0) (rules : Rules) (width : ℕ) (advances : Option (List ℕ)) (ps : List (List ℕ)) → All Q ps
+    → ((own : Option (List ℕ)) (p : List ℕ) → (advances ≡ None → own ≡ None) → Q p → P (layout_of (with_advances rules own) width p))
+    → All P (layouts_from (with_advances rules None) width advances ps)
+each_layout Q P rules width advances [] all one = All-nil P
+each_layout Q P rules width advances (p ∷ ps) all one =
+    All-cons P (layout_of (with_advances rules (front_advances (length p) advances)) width p) (layouts_from (with_advances rules None) width (back_advances (length p) advances) ps)
+    (one (front_advances (length p) advances) p (λ none. ap (front_advances (length p)) none) (All-head Q p ps all))
+    (each_layout Q P rules width (back_advances (length p) advances) ps (All-tail Q p ps all)
+    (λ own q same is. one own q (λ none. same (ap (back_advances (length p)) none)) is))
+
 pub steps_lead : ParagraphsArePieces
     → ((rules : Rules) (width : ℕ) (text : List ℕ) → BeginInOrder text (lines_at rules width text))
     → ((rules : Rules) (width : ℕ) (text : List ℕ) → All IsOrdered (visuals (layout_of rules width text)))
@@ -359,19 +374,27 @@ steps_lead pieces begin ordered runs reads columns rules width text stay =
     let kept : List Layout = layouts_of rules width text in
     let some : All (λ p. 0 < length p) pars = filled (cut_by rules) pars (pieces.pieces (cut_by rules) text) in
     let stays : MarksStay rules text → All (MarksStay rules) pars = λ marks. marks_stay rules pars (subst (MarksStay rules) (sym (pieces.whole (cut_by rules) text)) marks) in
-    let adjoin : (k : ℕ) (d : List ℕ) → k < length pars → All RunsAdjoin (visuals (layout_of rules width (get_or pars k d))) ⊎ ReadsBy (layout_of rules width (get_or pars k d)) =
-    λ k d within. elim (cases_Bool rules.options.reorder_clusters) [
-      | inl on ↦ inr (reads rules width (get_or pars k d) on)
-      | inr off ↦ inl (runs rules width (get_or pars k d) off (elim stay [
-        | inl on ↦ absurd (both_ways rules.options.reorder_clusters off on)
-        | inr marks ↦ stays marks k d within
-      ]))
-    ] in
-    let laid : All IsLaid kept =
-    All-map IsLaid (layout_of rules width) pars (λ k d within. record {
-      lined = record { some = some k d within; lines = begin rules width (get_or pars k d) };
-      ordered = ordered rules width (get_or pars k d);
-      adjoin = adjoin k d within;
-      columns = columns rules width (get_or pars k d);
-    }) in
+    let known : All (IsKnown rules) pars = λ k d within. (
+      some k d within,
+      elim stay [
+        | inl on ↦ inl on
+        | inr marks ↦ inr (stays marks k d within)
+      ],
+    ) in
+    let one : (advances : Option (List ℕ)) (p : List ℕ) → (rules.advances ≡ None → advances ≡ None) → IsKnown rules p → IsLaid (layout_of (with_advances rules advances) width p) =
+    λ advances p same is.
+    let own : Rules = with_advances rules advances in
+    record {
+      lined = record { some = is.0; lines = begin own width p };
+      ordered = ordered own width p;
+      adjoin = elim (cases_Bool rules.options.reorder_clusters) [
+        | inl on ↦ inr (reads own width p on)
+        | inr off ↦ inl (runs own width p off (elim is.1 [
+          | inl on ↦ absurd (both_ways rules.options.reorder_clusters off on)
+          | inr marks ↦ elim marks [ inl stay ↦ inl stay | inr none ↦ inr (same none.0, none.1) ]
+        ]))
+      ];
+      columns = columns own width p;
+    } in
+    let laid : All IsLaid kept = each_layout (IsKnown rules) IsLaid rules width rules.advances pars known one in
     steps_are_nearest rules kept (all_clusters kept (λ k d within. (laid k d within).lined)) (lines_are kept laid)

@@ -1,3 +1,4 @@
+mod AdvanceLemmas
 mod BorderLemmas
 mod CaretEndLemmas
 mod CaretUnitLemmas
@@ -12,6 +13,7 @@ mod LaidLineLemmas
 mod LineClusterLemmas
 mod LineLemmas
 mod LineWidthLemmas
+mod MeasuringLemmas
 mod NearestLemmas
 mod OffsetLemmas
 mod OpenLemmas
@@ -23,9 +25,11 @@ mod RefusalLemmas
 mod RefusalSteps
 mod RegionParts
 mod ReplacementLemmas
+mod RoomLemmas
 mod RunLemmas
 mod ScanLemmas
 mod ScanningLemmas
+mod SettingLemmas
 mod SpliceLemmas
 mod StepLemmas
 mod TouchedLemmas

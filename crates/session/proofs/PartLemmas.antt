@@ -1,16 +1,16 @@
 -- The paragraphs, layouts and printed bytes of a text that is split at a paragraph boundary are those of its
 -- two parts.
-use Rattle.std.proofs.Common.{◌≡◌, ◌∙◌, ℕ, Bool, List, ◌++◌, map, sym, ap, ap₂, subst}
+use Rattle.std.proofs.Common.{◌≡◌, ◌∙◌, ℕ, Bool, List, ◌++◌, length, None, sym, ap, ap₂, subst}
 use Rattle.std.specs.List.{concat}
-use Rattle.std.proofs.lemmas.List.{map-append}
 use Rattle.std.proofs.lemmas.List.Concat.{flat_map-append}
 use Rattle.std.proofs.lemmas.List.Folds.{concat-append}
 use Rattle.bidi.specs.Cuts.{paragraphs}
 use Rattle.bidi.specs.Pieces.{ArePieces, ParagraphsArePieces}
-use Rattle.lines.specs.Layouts.{Rules, cut_by, layout_of}
+use Rattle.lines.specs.Layouts.{Rules, cut_by, with_advances}
 use Rattle.lines.specs.Pages.{page, paragraph_bytes}
 use Rattle.lines.specs.declared.printing.print.Print.{Print}
-use Rattle.session.specs.Kept.{layouts_of, IsCutAt}
+use Rattle.session.specs.Kept.{back_advances, layouts_from, layouts_of, IsCutAt}
+use Rattle.session.proofs.AdvanceLemmas.{layouts-append}
 use Rattle.session.proofs.SpliceLemmas.{ArePieces-append}
 
 module _ (law : ParagraphsArePieces) where
@@ -26,10 +26,14 @@ module _ (law : ParagraphsArePieces) where
       ap (paragraphs is_cut) (sym whole) ∙ law.only is_cut (ps ++ qs) pieces
 
   pub layouts_in_parts : (rules : Rules) (width : ℕ) (front rest : List ℕ) → IsCutAt (cut_by rules) front rest
-      → layouts_of rules width (front ++ rest) ≡ layouts_of rules width front ++ layouts_of rules width rest
+      → layouts_of rules width (front ++ rest) ≡ layouts_of rules width front ++ layouts_of (with_advances rules (back_advances (length front) rules.advances)) width rest
   layouts_in_parts rules width front rest between =
-      ap (map (layout_of rules width)) (paragraphs_in_parts (cut_by rules) front rest between)
-      ∙ map-append (layout_of rules width) (paragraphs (cut_by rules) front) (paragraphs (cut_by rules) rest)
+      let own = with_advances rules None in
+      let ps = paragraphs (cut_by rules) front in
+      let qs = paragraphs (cut_by rules) rest in
+      ap (layouts_from own width rules.advances) (paragraphs_in_parts (cut_by rules) front rest between)
+      ∙ layouts-append own width rules.advances ps qs
+      ∙ ap (λ (t : List ℕ). layouts_from own width rules.advances ps ++ layouts_from own width (back_advances (length t) rules.advances) qs) (law.whole (cut_by rules) front)
 
   pub pages_in_parts : (rules : Rules) (width : ℕ) (print : Print) (front rest : List ℕ) → IsCutAt (cut_by rules) front rest
       → page rules width print (paragraphs (cut_by rules) (front ++ rest)) ≡ page rules width print (paragraphs (cut_by rules) front) ++ page rules width print (paragraphs (cut_by rules) rest)

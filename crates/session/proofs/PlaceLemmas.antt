@@ -18,9 +18,9 @@ use Rattle.lines.proofs.SkippedLemmas.{some_text}
 use Rattle.lines.specs.Visual.{Line}
 use Rattle.store.specs.Finding.{Finds}
 use Rattle.store.specs.declared.found.Found.{Found}
-use Rattle.session.specs.Kept.{lines_in, text_of}
+use Rattle.session.specs.Kept.{lines_in, rules_for, text_of, IsFresh}
 use Rattle.session.specs.Places.{count_to, first_line_at, lines_from, line_starts, paragraph_starts, paragraphs_from, is_closed, next_place, place_at, place_in, IsLined}
-use Rattle.session.specs.Sessions.{SessionState, IsWholeLayout, cuts_at, text_at}
+use Rattle.session.specs.Sessions.{SessionState, IsWholeLayout, cuts_at, state_of, text_at}
 use Rattle.session.specs.declared.edits.TheConstants.{TEXT_LIMIT}
 use Rattle.session.proofs.RefusalLemmas.{allowed-length}
 use Rattle.session.proofs.WidthLemmas.{all_each, each_laid_out}
@@ -372,13 +372,15 @@ char_read kept pos found f l read =
     )
 
 -- each layout that a session keeps has a non-empty text, and its lines start in order
-pub lines_lined : ParagraphsArePieces → ((rules : Rules) (width : ℕ) (text : List ℕ) → BeginInOrder text (lines_at rules width text)) → (engine : Engine) (width : ℕ) (kept : List Layout)
-    → IsWholeLayout (record { engine = engine; width = width; kept = kept }) → All IsLined kept
-lines_lined law begin engine width kept whole = λ k d within.
-    let laid : IsLaidOut (rules_of engine) (get_or kept k d) = all_each (IsLaidOut (rules_of engine)) kept (each_laid_out law engine width kept whole) k d within in
+pub lines_lined : ParagraphsArePieces → ((rules : Rules) (width : ℕ) (text : List ℕ) → BeginInOrder text (lines_at rules width text)) → (engine : Engine) (width : ℕ) (is_measured : Bool) (kept : List Layout)
+    → IsWholeLayout (state_of engine width is_measured kept) → All IsLined kept
+lines_lined law begin engine width is_measured kept whole = λ k d within.
+    let l : Layout = get_or kept k d in
+    let own : Rules = rules_for (rules_of engine) l in
+    let laid : IsFresh (rules_of engine) l = all_each (IsFresh (rules_of engine)) kept (each_laid_out law engine width is_measured kept whole) k d within in
     record {
-      some = some_text (rules_of engine) (get_or kept k d).text laid.paragraph;
-      lines = subst (BeginInOrder (get_or kept k d).text) (sym (ap (λ (l : Layout). l.lines) laid.from_scratch)) (begin (rules_of engine) laid.width (get_or kept k d).text);
+      some = some_text own l.text laid.paragraph;
+      lines = subst (BeginInOrder l.text) (sym (ap (λ (m : Layout). m.lines) laid.from_scratch)) (begin own laid.width l.text);
     }
 
 none_within : {A : Type 0} (xs : List A) (n : ℕ) → n < length xs → is_none (slice_get xs n) ≡ false
@@ -426,4 +428,4 @@ module _ (kept : List Layout) (i : ℕ) where
 
 -- the text of a session is at most as long as the limit
 pub text_short : (state : SessionState) → IsWholeLayout state → length (text_at state) ≤ TEXT_LIMIT
-text_short state whole = allowed-length (cuts_at state) (text_at state) whole.allowed
+text_short state whole = allowed-length (cuts_at state) state.advances (text_at state) whole.allowed

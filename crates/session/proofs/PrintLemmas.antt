@@ -8,12 +8,9 @@ use Rattle.store.specs.Finding.{Finds}
 use Rattle.store.specs.declared.found.Found.{Found}
 use Rattle.session.proofs.BorderLemmas.{chars_of, length-lines, length-visuals, lines_of}
 use Rattle.std.proofs.lemmas.List.Concat.{flat_map-append}
-use Rattle.std.proofs.lemmas.List.Folds.{flat_map-map}
 use Rattle.std.proofs.lemmas.Option.{get_or_from_slice_get, slice_get_within}
-use Rattle.bidi.specs.Cuts.{paragraphs}
 use Rattle.lines.specs.Bytes.{line_bytes}
-use Rattle.lines.specs.Engine.{rules_of}
-use Rattle.lines.specs.Layouts.{Layout, layout_of, visuals}
+use Rattle.lines.specs.Layouts.{Layout, visuals}
 use Rattle.lines.specs.Visual.{Visual}
 use Rattle.lines.specs.Pages.{layout_bytes}
 use Rattle.lines.specs.declared.printing.print.Print.{Print}
@@ -22,7 +19,7 @@ use Rattle.session.specs.Printing.{lines_page, PrintsNot}
 use Rattle.session.specs.declared.printing.RangeFault.{RangeFault}
 use Rattle.session.specs.declared.printing.RangeFault.TheVariants.{Write}
 use Rattle.lines.specs.declared.printing.bytes.WriteFault.{WriteFault}
-use Rattle.session.specs.Sessions.{SessionState, IsWholeLayout, cuts_at, page_at, text_at}
+use Rattle.session.specs.Sessions.{SessionState, IsWholeLayout, page_at}
 
 module _ (width : ℕ) (print : Print) where
   -- the printed bytes of each paragraph
@@ -47,9 +44,7 @@ module _ (width : ℕ) (print : Print) where
 
 -- the printed bytes of the kept layouts are those of the fresh layout of the whole text
 pub page_of_kept : (state : SessionState) (print : Print) → IsWholeLayout state → flat_map (layout_bytes state.width print) state.kept ≡ page_at state print
-page_of_kept state print whole =
-    ap (flat_map (layout_bytes state.width print)) whole.kept
-    ∙ flat_map-map (layout_bytes state.width print) (layout_of (rules_of state.engine) state.width) (paragraphs (cuts_at state) (text_at state))
+page_of_kept state print whole = ap (flat_map (layout_bytes state.width print)) whole.kept
 
 -- the printed bytes of a layout are those of its visual lines, in order
 abbrev pub LinesArePrinted : Type 0

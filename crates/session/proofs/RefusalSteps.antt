@@ -39,16 +39,16 @@ module _ (is_cut : ℕ → ℕ → Bool) (text : List ℕ) (width : ℕ) (some :
   by_text = cond-false (width == 0) (Some WidthOutOfRange) (text_refusal is_cut text) (ne_eqb width 0 some)
 
   pub long_text : TEXT_LIMIT < length text → opening_refusal is_cut text width ≡ Some TextTooLong
-  long_text long = by_text ∙ text_refusal-long is_cut text long
+  long_text long = by_text ∙ text_refusal-long is_cut None text long
 
   pub long_paragraph : length text ≤ TEXT_LIMIT → is_within_limit is_cut text ≡ false → opening_refusal is_cut text width ≡ Some ParagraphTooLong
   long_paragraph short long =
-      by_text ∙ text_refusal-short is_cut text short
+      by_text ∙ text_refusal-short is_cut None text short
       ∙ cond-false (is_within_limit is_cut text) None (Some ParagraphTooLong) long
 
   pub not_refused : length text ≤ TEXT_LIMIT → is_within_limit is_cut text ≡ true → opening_refusal is_cut text width ≡ None
   not_refused short within =
-      by_text ∙ text_refusal-short is_cut text short
+      by_text ∙ text_refusal-short is_cut None text short
       ∙ cond-true (is_within_limit is_cut text) None (Some ParagraphTooLong) within
 
   pub short_text : ParagraphsArePieces → length text ≤ PARAGRAPH_LIMIT → opening_refusal is_cut text width ≡ None

@@ -92,67 +92,102 @@ front_of pars front pos = take (pos - front.chars) (get_or pars front.index [])
 abbrev pub back_of : List (List ℕ) → Border → ℕ → List ℕ
 back_of pars back to = let text = get_or pars (back.index - 1) [] in drop (length text - (back.chars - to)) text
 
-module _ (kept : List Layout) (pos to : ℕ) (front back : Border) (order : pos ≤ to) (within : to ≤ length (text_of kept)) (f : IsFrontBorder kept pos front) (b : IsBackBorder kept to back) where
-  pars_number : length (pars_of kept) ≡ length kept
-  pars_number = length-map kept (λ l. l.text)
+-- what two borders around a range of a list of texts have in common with those around a range of a text
+pub record AreAround (pars : List (List ℕ)) (pos to : ℕ) (front back : Border) : Type 0 where
+  pub front_within : front.index ≤ length pars
+  pub back_within : back.index ≤ length pars
+  pub front_chars : front.chars ≡ start_of pars front.index
+  pub back_chars : back.chars ≡ start_of pars back.index
+  pub front_before : 0 < front.index → front.chars < pos
+  pub front_after : front.index < length pars → pos ≤ start_of pars (front.index + 1)
+  pub back_before : (i : ℕ) → i < back.index → start_of pars i ≤ to
+  pub back_after : back.index < length pars → to < back.chars
 
+pub are_around : (kept : List Layout) (pos to : ℕ) (front back : Border) → IsFrontBorder kept pos front → IsBackBorder kept to back → AreAround (pars_of kept) pos to front back
+are_around kept pos to front back f b =
+    let number : length (pars_of kept) ≡ length kept = length-map kept (λ (l : Layout). l.text) in
+    record {
+      front_within = omega (arith, f.border_is.within, number);
+      back_within = omega (arith, b.border_is.within, number);
+      front_chars = f.border_is.chars;
+      back_chars = b.border_is.chars;
+      front_before = f.before;
+      front_after = λ some. f.after (omega (arith, some, number));
+      back_before = b.before;
+      back_after = λ some. b.after (omega (arith, some, number));
+    }
+
+-- the same borders are around the range of a list of texts of the same lengths
+pub same_around : (pars others : List (List ℕ)) (pos to : ℕ) (front back : Border) → length others ≡ length pars → ((i : ℕ) → start_of others i ≡ start_of pars i)
+    → AreAround pars pos to front back → AreAround others pos to front back
+same_around pars others pos to front back number starts a = record {
+  front_within = omega (arith, a.front_within, number);
+  back_within = omega (arith, a.back_within, number);
+  front_chars = a.front_chars ∙ sym (starts front.index);
+  back_chars = a.back_chars ∙ sym (starts back.index);
+  front_before = a.front_before;
+  front_after = λ some. omega (arith, a.front_after (omega (arith, some, number)), starts (front.index + 1));
+  back_before = λ i below. omega (arith, a.back_before i below, starts i);
+  back_after = λ some. a.back_after (omega (arith, some, number));
+}
+
+module _ (pars : List (List ℕ)) (pos to : ℕ) (front back : Border) (order : pos ≤ to) (within : to ≤ length (concat pars)) (a : AreAround pars pos to front back) where
   -- the front border is at or before the edited range, the back border at or after it
   front_low : front.chars ≤ pos
   front_low = elim (cases_eq front.index 0) [
-    | inl e ↦ let start : front.chars ≡ 0 = f.border_is.chars ∙ ap (start_of (pars_of kept)) e in omega arith
-    | inr ne ↦ omega (arith, f.before (omega arith))
+    | inl e ↦ let start : front.chars ≡ 0 = a.front_chars ∙ ap (start_of pars) e in omega arith
+    | inr ne ↦ omega (arith, a.front_before (omega arith))
   ]
 
   back_high : to ≤ back.chars
-  back_high = elim (cases_lt back.index (length kept)) [
-    | inl more ↦ omega (arith, b.after more)
-    | inr all ↦ omega (arith, b.border_is.chars, start_of-end (pars_of kept) back.index (omega (arith, pars_number)))
+  back_high = elim (cases_lt back.index (length pars)) [
+    | inl more ↦ omega (arith, a.back_after more)
+    | inr all ↦ omega (arith, a.back_chars, start_of-end pars back.index (omega (arith, all)))
   ]
 
   -- an edit touches at least one paragraph, unless the text has none
-  some_or_none : (front.index < back.index) ⊎ (length (pars_of kept) ≡ 0)
+  some_or_none : (front.index < back.index) ⊎ (length pars ≡ 0)
   some_or_none = elim (cases_lt front.index back.index) [
     | inl some ↦ inl some
     | inr none ↦
-        let le = start_of-le (pars_of kept) back.index front.index (omega arith) in
-        let last : back.index ≡ length kept = elim (cases_lt back.index (length kept)) [
-          | inl more ↦ absurd (omega (arith, b.after more, b.border_is.chars, f.border_is.chars, front_low, le))
-          | inr all ↦ omega (arith, b.border_is.within)
+        let le = start_of-le pars back.index front.index (omega arith) in
+        let last : back.index ≡ length pars = elim (cases_lt back.index (length pars)) [
+          | inl more ↦ absurd (omega (arith, a.back_after more, a.back_chars, a.front_chars, front_low, le))
+          | inr all ↦ omega (arith, a.back_within)
         ] in
-        let whole = start_of-end (pars_of kept) front.index (omega (arith, pars_number, f.border_is.within)) in
+        let whole = start_of-end pars front.index (omega (arith, a.front_within)) in
         let first : front.index ≡ 0 = elim (cases_eq front.index 0) [
           | inl e ↦ e
-          | inr ne ↦ absurd (omega (arith, f.before (omega arith), f.border_is.chars, whole))
+          | inr ne ↦ absurd (omega (arith, a.front_before (omega arith), a.front_chars, whole))
         ] in
-        inr (omega (arith, pars_number, f.border_is.within))
+        inr (omega (arith, a.front_within))
   ]
 
-  pub borders_rise : front.index ≤ back.index
-  borders_rise = elim some_or_none [
+  pub rise_around : front.index ≤ back.index
+  rise_around = elim some_or_none [
     | inl some ↦ omega arith
-    | inr none ↦ omega (arith, f.border_is.within, pars_number)
+    | inr none ↦ omega (arith, a.front_within)
   ]
 
-  pub AreTouched-borders : AreTouched (pars_of kept) pos to (touched_by front back)
-  AreTouched-borders =
-      AreTouched-from_walks (pars_of kept) pos to front.index back.index front.chars back.chars order within f.border_is.chars b.border_is.chars borders_rise
-      (omega (arith, b.border_is.within, pars_number)) f.before (λ some. f.after (omega (arith, pars_number))) (λ i above below. b.before i below) (λ more. b.after (omega (arith, pars_number)))
+  pub touched_around : AreTouched pars pos to (touched_by front back)
+  touched_around =
+      AreTouched-from_walks pars pos to front.index back.index front.chars back.chars order within a.front_chars a.back_chars rise_around
+      a.back_within a.front_before a.front_after (λ i above below. a.back_before i below) a.back_after
 
   -- the new text of the touched paragraphs has three parts: the front, the inserted text and the rest
-  pub region_parts : (piece : List ℕ) → region_of (pars_of kept) (touched_by front back) pos to piece ≡ front_of (pars_of kept) front pos ++ (piece ++ back_of (pars_of kept) back to)
-  region_parts piece =
-      let pars = pars_of kept in
+  pub region_around : (piece : List ℕ) → region_of pars (touched_by front back) pos to piece ≡ front_of pars front pos ++ (piece ++ back_of pars back to)
+  region_around piece =
       let place : pos - front.chars + (to - front.chars - (pos - front.chars)) ≡ to - front.chars = omega (arith, front_low) in
       let first : take (pos - front.chars) (concat (slice_range pars front.index back.index)) ≡ front_of pars front pos = elim some_or_none [
-        | inl some ↦ ap (λ n. take (pos - n) (concat (slice_range pars front.index back.index))) f.border_is.chars
-            ∙ front_part pars front.index back.index pos to some (omega (arith, b.border_is.within, pars_number)) (f.after (omega (arith, b.border_is.within)))
-            ∙ ap (λ n. take (pos - n) (get_or pars front.index [])) (sym f.border_is.chars)
+        | inl some ↦ ap (λ n. take (pos - n) (concat (slice_range pars front.index back.index))) a.front_chars
+            ∙ front_part pars front.index back.index pos to some a.back_within (a.front_after (omega (arith, a.back_within)))
+            ∙ ap (λ n. take (pos - n) (get_or pars front.index [])) (sym a.front_chars)
         | inr none ↦ no_front pars front.index back.index (pos - front.chars) none
       ] in
       let last : drop (to - front.chars) (concat (slice_range pars front.index back.index)) ≡ back_of pars back to = elim some_or_none [
-        | inl some ↦ ap (λ n. drop (to - n) (concat (slice_range pars front.index back.index))) f.border_is.chars
-            ∙ back_part pars front.index back.index pos to some (omega (arith, b.border_is.within, pars_number)) (b.before (back.index - 1) (omega arith)) (omega (arith, b.border_is.chars, back_high))
-            ∙ ap (λ n. drop (length (get_or pars (back.index - 1) []) - (n - to)) (get_or pars (back.index - 1) [])) (sym b.border_is.chars)
+        | inl some ↦ ap (λ n. drop (to - n) (concat (slice_range pars front.index back.index))) a.front_chars
+            ∙ back_part pars front.index back.index pos to some a.back_within (a.back_before (back.index - 1) (omega arith)) (omega (arith, a.back_chars, back_high))
+            ∙ ap (λ n. drop (length (get_or pars (back.index - 1) []) - (n - to)) (get_or pars (back.index - 1) [])) (sym a.back_chars)
         | inr none ↦ no_back pars front.index back.index (to - front.chars) (length (get_or pars (back.index - 1) []) - (back.chars - to)) (back.index - 1) none
       ] in
       ap₂ (λ xs ys. xs ++ (piece ++ ys)) first (ap (λ n. drop n (concat (slice_range pars front.index back.index))) place ∙ last)

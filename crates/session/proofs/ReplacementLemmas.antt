@@ -30,6 +30,33 @@ pub record IsSpliced (is_cut : ℕ → ℕ → Bool) (pars : List (List ℕ)) (p
 pub length-replaced_text : (text piece : List ℕ) (pos count : ℕ) → pos + count ≤ length text → length (replaced text (replacing pos count piece)) ≡ length text - count + length piece
 length-replaced_text = length-replaced
 
+-- an edit of concatenated texts changes only the touched ones
+pub spliced_text : (pars : List (List ℕ)) (pos count : ℕ) (piece : List ℕ) (touched : Span) → pos + count ≤ length (concat pars) → AreTouched pars pos (pos + count) touched
+    → replaced (concat pars) (replacing pos count piece) ≡ concat (take touched.first pars) ++ (region_of pars touched pos (pos + count) piece ++ concat (drop touched.end pars))
+spliced_text pars pos count piece touched within t =
+    let left = take touched.first pars in
+    let mid = slice_range pars touched.first touched.end in
+    let right = drop touched.end pars in
+    let from = pos - touched.start in
+    let rise : touched.first ≤ touched.end = omega (arith, t.count) in
+    let rest : drop touched.first pars ≡ mid ++ right = drop_split pars touched.first touched.end rise in
+    let split : pars ≡ left ++ (mid ++ right) = sym (take-append-drop touched.first pars) ∙ ap (λ ps. left ++ ps) rest in
+    let joined : concat pars ≡ concat left ++ (concat mid ++ concat right) =
+    ap concat split ∙ concat-append left (mid ++ right) ∙ ap (λ cs. concat left ++ cs) (concat-append mid right) in
+    let total : length (concat pars) ≡ length (concat left) + (length (concat mid) + length (concat right)) =
+    ap length joined ∙ length-append (concat left) (concat mid ++ concat right) ∙ ap (λ n. length (concat left) + n) (length-append (concat mid) (concat right)) in
+    let end_split : length (concat pars) ≡ start_of pars touched.end + length (concat right) =
+    ap (λ ps. length (concat ps)) (sym (take-append-drop touched.end pars)) ∙ ap length (concat-append (take touched.end pars) right) ∙ length-append (concat (take touched.end pars)) (concat right) in
+    let n : pos + count - touched.start - from ≡ count = omega (arith, t.before) in
+    let place : length (concat left) + from ≡ pos = omega (arith, t.start, t.before) in
+    let reach : from + count ≤ length (concat mid) = omega (arith, t.start, t.stop, t.before, t.after) in
+    let region_is : region_of pars touched pos (pos + count) piece ≡ replaced (concat mid) (replacing from count piece) =
+    ap (λ m. replaced (concat mid) (replacing from m piece)) n in
+    ap (λ cs. replaced cs (replacing pos count piece)) joined
+    ∙ ap (λ p. replaced (concat left ++ (concat mid ++ concat right)) (replacing p count piece)) (sym place)
+    ∙ replaced-middle (concat left) (concat mid) (concat right) piece from count reach
+    ∙ ap (λ r. concat left ++ (r ++ concat right)) (sym region_is)
+
 pub IsSpliced-from_touched : ParagraphsArePieces → (is_cut : ℕ → ℕ → Bool) (pars : List (List ℕ)) (pos count : ℕ) (piece : List ℕ) (touched : Span)
     → paragraphs is_cut (concat pars) ≡ pars → pos + count ≤ length (concat pars) → AreTouched pars pos (pos + count) touched → IsSpliced is_cut pars pos count piece touched
 IsSpliced-from_touched law is_cut pars pos count piece touched whole within t =
@@ -52,9 +79,7 @@ IsSpliced-from_touched law is_cut pars pos count piece touched whole within t =
     let region_is : region_of pars touched pos (pos + count) piece ≡ replaced (concat mid) (replacing from count piece) =
     ap (λ m. replaced (concat mid) (replacing from m piece)) n in
     let text : replaced (concat pars) (replacing pos count piece) ≡ concat left ++ (replaced (concat mid) (replacing from count piece) ++ concat right) =
-    ap (λ cs. replaced cs (replacing pos count piece)) joined
-    ∙ ap (λ p. replaced (concat left ++ (concat mid ++ concat right)) (replacing p count piece)) (sym place)
-    ∙ replaced-middle (concat left) (concat mid) (concat right) piece from count reach in
+    spliced_text pars pos count piece touched within t ∙ ap (λ r. concat left ++ (r ++ concat right)) region_is in
     let old : ArePieces is_cut (left ++ (mid ++ right)) = subst (ArePieces is_cut) (whole ∙ split) (law.pieces is_cut (concat pars)) in
     let pieces : paragraphs is_cut (replaced (concat pars) (replacing pos count piece)) ≡ left ++ (paragraphs is_cut (replaced (concat mid) (replacing from count piece)) ++ right) =
     ap (paragraphs is_cut) text

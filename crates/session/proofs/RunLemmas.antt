@@ -5,14 +5,14 @@ use Rattle.std.proofs.lemmas.Bool.{cond-true, cond-false, both_ways}
 use Rattle.std.proofs.lemmas.List.{take_more}
 use Rattle.bidi.specs.Cuts.{paragraphs}
 use Rattle.lines.specs.Engine.{SameRules, LaysOutAtMost, FillsAtMost, FindsExtentsAtMost, RisesBy, analysed_of, counted, filled_of, written_of, rules_of}
-use Rattle.lines.specs.Layouts.{Rules, cut_by}
+use Rattle.lines.specs.Layouts.{Rules, cut_by, with_advances}
 use Rattle.lines.specs.declared.engine.Engine.{Engine}
 use Rattle.session.specs.Runs.{StopsAt, TakesMemory, WorksAtMost, analysed_by, edit_refusal, filled_by, work_of, work_of_all}
 use Rattle.session.specs.Touched.{fresh}
-use Rattle.session.proofs.EditLemmas.{pars-layouts}
-use Rattle.session.specs.Edits.{Replacement, Held, replaced, refusal, width_refusal, after_edit, after_width, after_one, after_all}
-use Rattle.session.specs.Kept.{changed, layouts_of, pars_of, text_of}
-use Rattle.session.specs.Sessions.{SessionState, IsWholeLayout, IsAnswerFor, IsCountedFor, Edits, EditsNot, SetsWidth, SetsWidthNot, Stays, cuts_at, held_at, text_at}
+use Rattle.session.proofs.AdvanceLemmas.{pars-layouts}
+use Rattle.session.specs.Edits.{Replacement, Held, edited as held_after, refusal, width_refusal, after_edit, after_width, after_one, after_all}
+use Rattle.session.specs.Kept.{changed, pars_of, text_of}
+use Rattle.session.specs.Sessions.{SessionState, IsWholeLayout, IsAnswerFor, IsCountedFor, Edits, EditsNot, SetsWidth, SetsWidthNot, Stays, cuts_at, held_at, layouts_at, text_at}
 use Rattle.session.specs.declared.edits.Damage.{Damage}
 use Rattle.session.specs.declared.edits.Edit.{Edit}
 use Rattle.session.specs.declared.edits.EditFault.{EditFault}
@@ -35,35 +35,37 @@ pub record HasMoved (after : Held) (old new : SessionState) : Type 0 where
   pub laid_out : IsWholeLayout new
   pub rules : SameRules old.engine new.engine
 
-held-by : (state : SessionState) (text : List ℕ) (width : ℕ) → text_at state ≡ text → state.width ≡ width → held_at state ≡ record { text = text; width = width }
-held-by state text width t w = ap₂ {C = Held} (λ (x : List ℕ) (y : ℕ). record { text = x; width = y }) t w
+held-by : (state : SessionState) (held : Held) → text_at state ≡ held.text → state.width ≡ held.width → state.advances ≡ held.advances → held_at state ≡ held
+held-by state held t w a =
+    ap₂ {C = Held} (λ (x : List ℕ) (y : ℕ). record { text = x; width = y; advances = state.advances }) t w
+    ∙ ap (λ (z : Option (List ℕ)). record held { advances = z }) a
 
 pub edited : (edit : Replacement) (old new : SessionState) (result : Result Damage EditFault) → IfOk result (Edits edit old new) → IfErr result (EditsNot edit old new) → (result ≡ Err NoMemory → ⊥)
-    → HasMoved (record { text = after_edit (cuts_at old) (text_at old) edit; width = old.width }) old new
+    → HasMoved (after_edit (cuts_at old) (held_at old) edit) old new
 edited edit old new (Ok damage) m r other = record {
-  held = held-by new (after_edit (cuts_at old) (text_at old) edit) old.width
-      (m.text ∙ sym (choice-accepted (refusal (cuts_at old) (text_at old) edit) (replaced (text_at old) edit) (text_at old) m.accepted)) m.at_width;
+  held = held-by new (held_after (held_at old) edit) m.text m.at_width m.advances
+      ∙ sym (choice-accepted (refusal (cuts_at old) old.advances (text_at old) edit) (held_after (held_at old) edit) (held_at old) m.accepted);
   laid_out = m.laid_out;
   rules = m.rules;
 }
 edited edit old new (Err fault) m r other = record {
-  held = held-by new (after_edit (cuts_at old) (text_at old) edit) old.width
-      (ap text_of r.kept ∙ sym (choice-refused (refusal (cuts_at old) (text_at old) edit) (replaced (text_at old) edit) (text_at old) fault r.answer (λ e. other (ap Err e)))) r.at_width;
+  held = held-by new (held_at old) (ap text_of r.kept) r.at_width r.advances
+      ∙ sym (choice-refused (refusal (cuts_at old) old.advances (text_at old) edit) (held_after (held_at old) edit) (held_at old) fault r.answer (λ e. other (ap Err e)));
   laid_out = r.laid_out;
   rules = r.rules;
 }
 
 pub refilled_to : (width : ℕ) (old new : SessionState) (result : Result Damage EditFault)
     → IfOk result (SetsWidth width old new) → IfErr result (SetsWidthNot width old new) → (result ≡ Err NoMemory → ⊥)
-    → HasMoved (record { text = text_at old; width = after_width old.width width }) old new
+    → HasMoved (record (held_at old) { width = after_width old.width width }) old new
 refilled_to width old new (Ok damage) m r other = record {
-  held = held-by new (text_at old) (after_width old.width width) m.text (m.at_width ∙ sym (choice-accepted (width_refusal width) width old.width m.accepted));
+  held = held-by new (record (held_at old) { width = after_width old.width width }) m.text (m.at_width ∙ sym (choice-accepted (width_refusal width) width old.width m.accepted)) m.advances;
   laid_out = m.laid_out;
   rules = m.rules;
 }
 refilled_to width old new (Err fault) m r other = record {
-  held = held-by new (text_at old) (after_width old.width width) (ap text_of r.kept)
-      (r.at_width ∙ sym (choice-refused (width_refusal width) width old.width fault r.answer (λ e. other (ap Err e))));
+  held = held-by new (record (held_at old) { width = after_width old.width width }) (ap text_of r.kept)
+      (r.at_width ∙ sym (choice-refused (width_refusal width) width old.width fault r.answer (λ e. other (ap Err e)))) r.advances;
   laid_out = r.laid_out;
   rules = r.rules;
 }
@@ -76,7 +78,7 @@ pub record HasStayed (reason : Option EditFault) (old new : SessionState) : Type
 
 has_stayed : (reason : Option EditFault) (bound : Engine → Engine → Type 0) (old new : SessionState) (fault : EditFault) → Stays reason bound old new fault → HasMoved (held_at old) old new
 has_stayed reason bound old new fault r = record {
-  held = held-by new (text_at old) old.width (ap text_of r.kept) r.at_width;
+  held = held-by new (held_at old) (ap text_of r.kept) r.at_width r.advances;
   laid_out = r.laid_out;
   rules = r.rules;
 }
@@ -134,17 +136,18 @@ works-counted reason n m bound old new ParagraphTooLong a counts by = works-none
 works-counted reason n m bound old new NoMemory a counts by = by a counts
 
 pars-kept : (state : SessionState) → IsWholeLayout state → pars_of state.kept ≡ paragraphs (cuts_at state) (text_at state)
-pars-kept state whole = ap pars_of whole.kept ∙ pars-layouts (rules_of state.engine) state.width (paragraphs (cuts_at state) (text_at state))
+pars-kept state whole =
+    ap pars_of whole.kept ∙ pars-layouts (with_advances (rules_of state.engine) None) state.width state.advances (paragraphs (cuts_at state) (text_at state))
 
 pub edit_works : (edit : Replacement) (old new : SessionState) (result : Result Damage EditFault) → IsWholeLayout old → IfOk result (Edits edit old new) → IfErr result (EditsNot edit old new)
-    → Works (refusal (cuts_at old) (text_at old) edit) (fresh (paragraphs (cuts_at old) (text_at old)) edit) (fresh (paragraphs (cuts_at old) (text_at old)) edit) old.engine new.engine
+    → Works (refusal (cuts_at old) old.advances (text_at old) edit) (fresh (paragraphs (cuts_at old) (text_at old)) edit) (fresh (paragraphs (cuts_at old) (text_at old)) edit) old.engine new.engine
 edit_works edit old new (Ok damage) whole m r =
     let n = fresh (paragraphs (cuts_at old) (text_at old)) edit in
-    works-laid_out (refusal (cuts_at old) (text_at old) edit) n old.engine new.engine m.accepted
+    works-laid_out (refusal (cuts_at old) old.advances (text_at old) edit) n old.engine new.engine m.accepted
     (subst (λ ps. LaysOutAtMost (fresh ps edit) old.engine new.engine) (pars-kept old whole) m.counts)
 edit_works edit old new (Err fault) whole m r =
     let n = fresh (paragraphs (cuts_at old) (text_at old)) edit in
-    let reason = refusal (cuts_at old) (text_at old) edit in
+    let reason = refusal (cuts_at old) old.advances (text_at old) edit in
     works-counted reason n n (LaysOutAtMost n) old.engine new.engine fault r.answer
     (subst (λ ps. IsCountedFor fault (LaysOutAtMost (fresh ps edit)) old.engine new.engine) (pars-kept old whole) r.counts)
     (λ e counts. works-laid_out reason n old.engine new.engine e counts)
@@ -172,7 +175,7 @@ width_counted width old new (Err fault) m r =
     }))
 
 pub width_works : (width : ℕ) (old new : SessionState) (result : Result Damage EditFault) → IsWholeLayout old → IfOk result (SetsWidth width old new) → IfErr result (SetsWidthNot width old new)
-    → Works (width_refusal width) 0 (changed (rules_of old.engine) width (layouts_of (rules_of old.engine) old.width (text_at old))) old.engine new.engine
+    → Works (width_refusal width) 0 (changed (rules_of old.engine) width (layouts_at (rules_of old.engine) (held_at old))) old.engine new.engine
 width_works width old new result whole m r =
     subst (λ kept. Works (width_refusal width) 0 (changed (rules_of old.engine) width kept) old.engine new.engine) whole.kept (width_counted width old new result m r)
 

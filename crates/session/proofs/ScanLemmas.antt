@@ -12,12 +12,12 @@ use Rattle.lines.specs.declared.engine.TheConstants.{PARAGRAPH_LIMIT}
 
 -- The last of several parts, and parts with one more character. The character starts a part or is appended to
 -- the last one.
-last_of : List (List ℕ) → List ℕ
+abbrev pub last_of : List (List ℕ) → List ℕ
 last_of [] = []
 last_of (p ∷ []) = p
 last_of (p ∷ q ∷ ps) = last_of (q ∷ ps)
 
-push : Bool → ℕ → List (List ℕ) → List (List ℕ)
+abbrev pub push : Bool → ℕ → List (List ℕ) → List (List ℕ)
 push starts c [] = (c ∷ []) ∷ []
 push starts c (p ∷ []) = if starts then p ∷ (c ∷ []) ∷ [] else (p ++ c ∷ []) ∷ []
 push starts c (p ∷ q ∷ ps) = p ∷ push starts c (q ∷ ps)
@@ -32,8 +32,7 @@ unfolding starts_piece
 starts_piece_from is_cut None c starts h = h
 starts_piece_from is_cut (Some a) c starts h = h
 
-get_or-last : (ps : List (List ℕ)) → get_or ps (length ps - 1) [] ≡ last_of ps
-unfolding last_of
+pub get_or-last : (ps : List (List ℕ)) → get_or ps (length ps - 1) [] ≡ last_of ps
 get_or-last [] = refl
 get_or-last (p ∷ []) = refl
 get_or-last (p ∷ q ∷ ps) =
@@ -45,7 +44,6 @@ slice_get_last-cons : (a b : ℕ) (text : List ℕ) → slice_get (a ∷ b ∷ t
 slice_get_last-cons a b text = rw (sub-one (length (a ∷ b ∷ text)), sub-one (length (b ∷ text))) refl
 
 onto_first-push : (starts : Bool) (a c : ℕ) (p : List ℕ) (ps : List (List ℕ)) → onto_first a (push starts c (p ∷ ps)) ≡ push starts c ((a ∷ p) ∷ ps)
-unfolding push
 onto_first-push true a c p [] = refl
 onto_first-push false a c p [] = refl
 onto_first-push starts a c p (q ∷ ps) = refl
@@ -53,7 +51,6 @@ onto_first-push starts a c p (q ∷ ps) = refl
 cond-push : (splits starts : Bool) (a c : ℕ) (p : List ℕ) (ps : List (List ℕ))
     → (if splits then (a ∷ []) ∷ push starts c (p ∷ ps) else onto_first a (push starts c (p ∷ ps)))
     ≡ push starts c (if splits then (a ∷ []) ∷ p ∷ ps else onto_first a (p ∷ ps))
-unfolding push
 cond-push true starts a c p ps = refl
 cond-push false starts a c p ps = onto_first-push starts a c p ps
 
@@ -72,9 +69,9 @@ module _ (is_cut : ℕ → ℕ → Bool) where
   paragraphs-filled a (b ∷ text) = cond-filled (is_cut a b) a (paragraphs is_cut (b ∷ text))
 
   -- a character that is appended to a text starts a paragraph or is appended to the last one
-  paragraphs-push : (text : List ℕ) (c : ℕ)
+  pub paragraphs-push : (text : List ℕ) (c : ℕ)
       → paragraphs is_cut (text ++ c ∷ []) ≡ push (starts_piece is_cut (slice_get text (length text - 1)) c) c (paragraphs is_cut text)
-  unfolding push starts_piece
+  unfolding starts_piece
   paragraphs-push [] c = refl
   paragraphs-push (a ∷ []) c = refl
   paragraphs-push (a ∷ b ∷ text) c =
@@ -87,31 +84,29 @@ module _ (is_cut : ℕ → ℕ → Bool) where
 
 -- an appended character changes only the last part, or starts a new one
 last_of-cons-push : (starts : Bool) (c : ℕ) (p q : List ℕ) (ps : List (List ℕ)) → last_of (p ∷ push starts c (q ∷ ps)) ≡ last_of (push starts c (q ∷ ps))
-unfolding last_of push
 last_of-cons-push true c p q [] = refl
 last_of-cons-push false c p q [] = refl
 last_of-cons-push starts c p q (r ∷ ps) = refl
 
-length_last_of-push : (starts : Bool) (c : ℕ) (ps : List (List ℕ)) → length (last_of (push starts c ps)) ≡ (if starts then 0 else length (last_of ps)) + 1
-unfolding last_of push
+pub length_last_of-push : (starts : Bool) (c : ℕ) (ps : List (List ℕ)) → length (last_of (push starts c ps)) ≡ (if starts then 0 else length (last_of ps)) + 1
 length_last_of-push true c [] = refl
 length_last_of-push false c [] = refl
 length_last_of-push true c (p ∷ []) = refl
 length_last_of-push false c (p ∷ []) = length_push p c
 length_last_of-push starts c (p ∷ q ∷ ps) = ap length (last_of-cons-push starts c p q ps) ∙ length_last_of-push starts c (q ∷ ps)
 
-and-true-swap : (a b : Bool) → (a && (b && true)) ≡ ((a && true) && b)
+pub and-true-swap : (a b : Bool) → (a && (b && true)) ≡ ((a && true) && b)
 and-true-swap true true = refl
 and-true-swap true false = refl
 and-true-swap false b = refl
 
-and-implied : (a b : Bool) → (b ≡ true → a ≡ true) → (b && true) ≡ ((a && true) && b)
+pub and-implied : (a b : Bool) → (b ≡ true → a ≡ true) → (b && true) ≡ ((a && true) && b)
 and-implied true true h = refl
 and-implied true false h = refl
 and-implied false true h = sym (h refl)
 and-implied false false h = refl
 
-and_assoc : (a b c : Bool) → (a && (b && c)) ≡ ((a && b) && c)
+pub and_assoc : (a b c : Bool) → (a && (b && c)) ≡ ((a && b) && c)
 and_assoc true b c = refl
 and_assoc false b c = refl
 
@@ -121,7 +116,6 @@ shorter_within p c h = le-leb (length p) PARAGRAPH_LIMIT (omega (arith, length_p
 -- after one more character, no part is too long if and only if none was too long before and the last one is not
 -- too long now
 are_within-push : (starts : Bool) (c : ℕ) (ps : List (List ℕ)) → are_within (push starts c ps) ≡ (are_within ps && nat_le (length (last_of (push starts c ps))) PARAGRAPH_LIMIT)
-unfolding last_of push
 are_within-push starts c [] = refl
 are_within-push true c (p ∷ []) = and-true-swap (nat_le (length p) PARAGRAPH_LIMIT) true
 are_within-push false c (p ∷ []) = and-implied (nat_le (length p) PARAGRAPH_LIMIT) (nat_le (length (p ++ c ∷ [])) PARAGRAPH_LIMIT) (shorter_within p c)
@@ -134,7 +128,7 @@ and-true : (a : Bool) → (a && true) ≡ a
 and-true true = refl
 and-true false = refl
 
-slice_get-push : (text : List ℕ) (c : ℕ) → Some c ≡ slice_get (text ++ c ∷ []) (length (text ++ c ∷ []) - 1)
+pub slice_get-push : (text : List ℕ) (c : ℕ) → Some c ≡ slice_get (text ++ c ∷ []) (length (text ++ c ∷ []) - 1)
 slice_get-push text c =
     let at_end : length (text ++ c ∷ []) - 1 ≡ length text = omega (arith, length_push text c) in
     rw at_end (sym (slice_get-get_or (text ++ c ∷ []) (length text) c (omega (arith, length_push text c)) ∙ ap (λ x. Some x) (get_or_push text c c (length text) refl)))

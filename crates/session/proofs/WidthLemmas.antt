@@ -1,7 +1,7 @@
 -- The lines of all paragraphs at another width.
 use Rattle.std.proofs.Common.{◌≡◌, ℕ, zero, suc, ◌+◌, ◌<◌, ◌≤◌, ◌^◌, ◌==◌, Bool, true, false, if◌then◌else◌, List, [], ◌∷◌, ◌++◌, length, map, take, get_or, sum_by, nat_le, Option, Some, None, unwrap_or, IfSome, refl, sym, ap, ap₂, subst, ◌∙◌, arith}
 use Rattle.std.specs.Borrow.{Bor}
-use Rattle.std.specs.List.{All, AllZip, slice_get, slice_index_or}
+use Rattle.std.specs.List.{All, AllZip, concat, slice_get, slice_index_or}
 use Rattle.std.proofs.lemmas.Bool.{and_parts, leb-true, cond-false, cond-true, ne_eqb}
 use Rattle.std.proofs.lemmas.List.{append-nil, get_or-map, length-map, take_all, take_more}
 use Rattle.std.proofs.lemmas.List.Sums.{sum_by_more, sum_by-cons, sum_by-take-le}
@@ -9,15 +9,17 @@ use Rattle.bidi.specs.Cuts.{paragraphs}
 use Rattle.bidi.specs.Pieces.{ArePieces, ParagraphsArePieces}
 use Rattle.lines.specs.Engine.{rules_of, filled_of, counted, RisesBy, SameRules, Fills, FillsAtMost, FindsExtents, FindsExtentsAtMost, Rewrites, RewritesAtMost}
 use Rattle.lines.specs.Extents.{LineExtents}
-use Rattle.lines.specs.Layouts.{Layout, Rules, IsLaidOut, IsParagraph, cut_by, keeps_lines, layout_of, lines_of}
+use Rattle.lines.specs.Layouts.{Layout, Rules, IsLaidOut, IsParagraph, cut_by, keeps_lines, layout_of, lines_of, with_advances}
+use Rattle.lines.specs.Measures.{given_if}
 use Rattle.lines.specs.declared.engine.Engine.{Engine}
 use Rattle.store.specs.Exchanging.{pairwise, total_cost}
-use Rattle.session.specs.Sessions.{IsWholeLayout, SetsWidth}
-use Rattle.session.specs.Edits.{are_within, text_refusal, width_refusal}
+use Rattle.session.specs.Sessions.{IsWholeLayout, SetsWidth, rules_at, state_of}
+use Rattle.session.specs.Edits.{are_within, content_refusal, width_refusal}
 use Rattle.lines.proofs.LayoutLemmas.{reflowed_by}
-use Rattle.session.specs.Kept.{changed, changed_in, text_of, layouts_of, put_into, written_for, BringsTo, CanBePut, Writer}
+use Rattle.session.specs.Kept.{advance_lists, advances_in, back_advances, changed, changed_in, front_advances, text_of, layouts_from, layouts_of, put_into, rules_for, written_for, AreForEach, BringsTo, CanBePut, IsFresh, Writer}
 use Rattle.session.specs.declared.edits.EditFault.TheVariants.{WidthOutOfRange}
 use Rattle.session.proofs.BorderLemmas.{chars_of, lines_of as line_number, length-text, length-lines}
+use Rattle.session.proofs.AdvanceLemmas.{advances-layouts, length-layouts}
 use Rattle.session.proofs.EditLemmas.{LinesAreFew, few-laid, text-layouts, IsWholeLayout-same}
 use Rattle.session.proofs.JoinedLemmas.{first_piece}
 use Rattle.session.proofs.OpenLemmas.{positive}
@@ -30,7 +32,7 @@ Each P [] = Unit {0}
 Each P (x ∷ xs) = P x × Each P xs
 
 -- if no paragraph of a text is too long, each one satisfies `IsParagraph`, and its fresh layout satisfies
--- `IsLaidOut`
+-- `IsFresh`
 rest_pieces : (is_cut : ℕ → ℕ → Bool) (piece : List ℕ) (pieces : List (List ℕ)) → ArePieces is_cut (piece ∷ pieces) → ArePieces is_cut pieces
 rest_pieces is_cut piece [] h = tt
 rest_pieces is_cut piece (next ∷ pieces) h = h.2
@@ -46,17 +48,20 @@ all_paragraphs law rules (p ∷ pars) h within =
       all_paragraphs law rules pars (rest_pieces (cut_by rules) p pars h) parts.1,
     )
 
-all_laid_out : (rules : Rules) (width : ℕ) (pars : List (List ℕ)) → Each (IsParagraph rules) pars → Each (IsLaidOut rules) (map (layout_of rules width) pars)
-all_laid_out rules width [] h = tt
-all_laid_out rules width (p ∷ pars) h = (record { width = width; paragraph = h.0; from_scratch = refl }, all_laid_out rules width pars h.1)
+all_laid_out : (rules : Rules) (width : ℕ) (advances : Option (List ℕ)) (pars : List (List ℕ)) → Each (IsParagraph rules) pars → Each (IsFresh rules) (layouts_from (with_advances rules None) width advances pars)
+all_laid_out rules width advances [] h = tt
+all_laid_out rules width advances (p ∷ pars) h =
+    (record { width = width; paragraph = record { whole = h.0.whole; within = h.0.within }; from_scratch = refl }, all_laid_out rules width (back_advances (length p) advances) pars h.1)
 
-pub each_laid_out : ParagraphsArePieces → (engine : Engine) (width : ℕ) (kept : List Layout)
-    → IsWholeLayout (record { engine = engine; width = width; kept = kept }) → Each (IsLaidOut (rules_of engine)) kept
-each_laid_out law engine width kept whole =
+pub each_laid_out : ParagraphsArePieces → (engine : Engine) (width : ℕ) (is_measured : Bool) (kept : List Layout)
+    → IsWholeLayout (state_of engine width is_measured kept) → Each (IsFresh (rules_of engine)) kept
+each_laid_out law engine width is_measured kept whole =
     let rules = rules_of engine in
+    let advances = advances_in is_measured kept in
     let pars = paragraphs (cut_by rules) (text_of kept) in
-    subst (Each (IsLaidOut rules)) (sym whole.kept)
-    (all_laid_out rules width pars (all_paragraphs law rules pars (law.pieces (cut_by rules) (text_of kept)) (allowed-within_limit (cut_by rules) (text_of kept) whole.allowed)))
+    subst (Each (IsFresh rules)) (sym whole.kept)
+    (all_laid_out rules width advances pars
+    (all_paragraphs law rules pars (law.pieces (cut_by rules) (text_of kept)) (allowed-within_limit (cut_by rules) advances (text_of kept) whole.allowed)))
 
 pub all_read : {A : Type 0} (P : A → Type 0) (xs : List A) (i : ℕ) (x : A) → Each P xs → Some x ≡ slice_get xs i → P x
 all_read P [] i x h e = absurd (cc e)
@@ -107,8 +112,8 @@ module _ (list : List (Bor Layout)) (n : ℕ) (x : Bor Layout) (l : Layout) (bel
   pub read_item : get_or (values list) n l ≡ l
   read_item = get_or-map (λ (k : Bor Layout). k.now) list n x l below ∙ ap (λ (k : Bor Layout). k.now) (sym is) ∙ sym same
 
-  pub read_laid : (start now : Engine) → SameRules start now → All (IsLaidOut (rules_of start)) (values list) → IsLaidOut (rules_of now) l
-  read_laid start now rules all = subst (λ r. IsLaidOut r l) (sym rules) (subst (IsLaidOut (rules_of start)) read_item (all n l read_here))
+  pub read_laid : (start now : Engine) → SameRules start now → All (IsFresh (rules_of start)) (values list) → IsFresh (rules_of now) l
+  read_laid start now rules all = subst (λ r. IsFresh r l) (sym rules) (subst (IsFresh (rules_of start)) read_item (all n l read_here))
 
 -- if two lists are related item by item, they are still related after a related pair is appended
 zip_push : {A B : Type 0} (R : A → B → Type 0) (xs : List A) (ys : List B) (x : A) (y : B) → AllZip R xs ys → R x y → AllZip R (xs ++ x ∷ []) (ys ++ y ∷ [])
@@ -209,12 +214,12 @@ each_all : {A : Type 0} (P : A → Type 0) (xs : List A) → All P xs → Each P
 each_all P [] h = tt
 each_all P (x ∷ xs) h = (h 0 x (omega arith), each_all P xs (λ k d within. h (suc k) d (omega (arith, within))))
 
-one_fits : (rules : Rules) (width capacity : ℕ) (l : Layout) (part : Option LineExtents) → IsLaidOut rules l → HasRoom capacity l → BringsTo rules width l part
+one_fits : (rules : Rules) (width capacity : ℕ) (l : Layout) (part : Option LineExtents) → IsFresh rules l → HasRoom capacity l → BringsTo rules width l part
     → IfSome part (CanBePut (record { rules = rules; capacity = capacity }) l)
 one_fits rules width capacity l None laid has brings = tt
 one_fits rules width capacity l (Some extents) laid has brings = record { laid_out = laid; at_width = (width, brings.1); capacity = has }
 
-each_fit : (rules : Rules) (width capacity : ℕ) (kept : List Layout) (parts : List (Option LineExtents)) → Each (IsLaidOut rules) kept → Each (HasRoom capacity) kept
+each_fit : (rules : Rules) (width capacity : ℕ) (kept : List Layout) (parts : List (Option LineExtents)) → Each (IsFresh rules) kept → Each (HasRoom capacity) kept
     → AllZip (BringsTo rules width) kept parts → fits_any (record { rules = rules; capacity = capacity }) kept parts
 each_fit rules width capacity [] [] laid has made = tt
 each_fit rules width capacity [] (part ∷ parts) laid has made = absurd made
@@ -222,7 +227,7 @@ each_fit rules width capacity (l ∷ kept) [] laid has made = absurd made
 each_fit rules width capacity (l ∷ kept) (part ∷ parts) laid has made =
     (one_fits rules width capacity l part laid.0 has.0 made.0, each_fit rules width capacity kept parts laid.1 has.1 made.1)
 
-pub all_fit : (rules same : Rules) (width capacity : ℕ) (kept : List Layout) (parts : List (Option LineExtents)) → same ≡ rules → Each (IsLaidOut rules) kept → All (HasRoom capacity) kept
+pub all_fit : (rules same : Rules) (width capacity : ℕ) (kept : List Layout) (parts : List (Option LineExtents)) → same ≡ rules → Each (IsFresh rules) kept → All (HasRoom capacity) kept
     → AllZip (BringsTo rules width) kept parts → fits_any (record { rules = same; capacity = capacity }) kept parts
 all_fit rules same width capacity kept parts e laid has made =
     subst (λ (r : Rules). fits_any (record { rules = r; capacity = capacity }) kept parts) (sym e)
@@ -264,19 +269,19 @@ FillsAtMost-written n m most old found new finds same within writes = record {
 }
 
 abbrev pub refilled_one : Rules → ℕ → Layout → Layout
-refilled_one rules width l = record l { lines = lines_of rules width l.text }
+refilled_one rules width l = record l { lines = lines_of (rules_for rules l) width l.text }
 
 abbrev pub refilled : Rules → ℕ → List Layout → List Layout
 refilled rules width kept = map (refilled_one rules width) kept
 
-one_brought : (rules : Rules) (width capacity : ℕ) (l : Layout) (part : Option LineExtents) → IsLaidOut rules l → BringsTo rules width l part
+one_brought : (rules : Rules) (width capacity : ℕ) (l : Layout) (part : Option LineExtents) → IsFresh rules l → BringsTo rules width l part
     → put_into (record { rules = rules; capacity = capacity }) l part ≡ refilled_one rules width l
 one_brought rules width capacity l None laid brings = ap (λ ls. record l { lines = ls }) brings.1
 one_brought rules width capacity l (Some extents) laid brings =
-    reflowed_by rules width l extents laid brings.1
-    ∙ subst (λ (m : Layout). layout_of rules width m.text ≡ refilled_one rules width m) (sym laid.from_scratch) refl
+    reflowed_by (rules_for rules l) width l extents laid brings.1
+    ∙ subst (λ (m : Layout). layout_of (rules_for rules m) width m.text ≡ refilled_one rules width m) (sym laid.from_scratch) refl
 
-each_brought : (rules : Rules) (width capacity : ℕ) (kept : List Layout) (parts : List (Option LineExtents)) → Each (IsLaidOut rules) kept → AllZip (BringsTo rules width) kept parts
+each_brought : (rules : Rules) (width capacity : ℕ) (kept : List Layout) (parts : List (Option LineExtents)) → Each (IsFresh rules) kept → AllZip (BringsTo rules width) kept parts
     → pairwise {P = Layout} {Part = Option LineExtents} {A = Layout} (put_into (record { rules = rules; capacity = capacity })) kept parts ≡ refilled rules width kept
 each_brought rules width capacity [] [] laid made = refl
 each_brought rules width capacity [] (part ∷ parts) laid made = absurd made
@@ -284,56 +289,75 @@ each_brought rules width capacity (l ∷ kept) [] laid made = absurd made
 each_brought rules width capacity (l ∷ kept) (part ∷ parts) laid made =
     ap₂ (λ (x : Layout) (xs : List Layout). x ∷ xs) (one_brought rules width capacity l part laid.0 made.0) (each_brought rules width capacity kept parts laid.1 made.1)
 
-pub all_brought : (rules same : Rules) (width capacity : ℕ) (kept : List Layout) (parts : List (Option LineExtents)) → same ≡ rules → Each (IsLaidOut rules) kept
+pub all_brought : (rules same : Rules) (width capacity : ℕ) (kept : List Layout) (parts : List (Option LineExtents)) → same ≡ rules → Each (IsFresh rules) kept
     → AllZip (BringsTo rules width) kept parts
     → pairwise {P = Layout} {Part = Option LineExtents} {A = Layout} (put_into (record { rules = same; capacity = capacity })) kept parts ≡ refilled rules width kept
 all_brought rules same width capacity kept parts e laid made =
     ap (λ (r : Rules). pairwise {P = Layout} {Part = Option LineExtents} {A = Layout} (put_into (record { rules = r; capacity = capacity })) kept parts) e
     ∙ each_brought rules width capacity kept parts laid made
 
-refilled-pars : (rules : Rules) (old width : ℕ) (pars : List (List ℕ)) → refilled rules width (map (layout_of rules old) pars) ≡ map (layout_of rules width) pars
-refilled-pars rules old width [] = refl
-refilled-pars rules old width (p ∷ pars) = ap (λ ks. layout_of rules width p ∷ ks) (refilled-pars rules old width pars)
+refilled-pars : (rules : Rules) (old width : ℕ) (advances : Option (List ℕ)) (pars : List (List ℕ))
+    → refilled rules width (layouts_from (with_advances rules None) old advances pars) ≡ layouts_from (with_advances rules None) width advances pars
+refilled-pars rules old width advances [] = refl
+refilled-pars rules old width advances (p ∷ pars) =
+    ap (λ ks. layout_of (with_advances rules (front_advances (length p) advances)) width p ∷ ks) (refilled-pars rules old width (back_advances (length p) advances) pars)
 
-module _ (law : ParagraphsArePieces) (few : LinesAreFew) (engine : Engine) (old width : ℕ) (kept : List Layout)
-    (whole : IsWholeLayout (record { engine = engine; width = old; kept = kept })) (some : width ≡ 0 → ⊥) where
+module _ (law : ParagraphsArePieces) (few : LinesAreFew) (engine : Engine) (old width : ℕ) (is_measured : Bool) (kept : List Layout)
+    (whole : IsWholeLayout (state_of engine old is_measured kept)) (some : width ≡ 0 → ⊥) where
   abbrev after : List Layout
   after = refilled (rules_of engine) width kept
 
-  after_is : after ≡ layouts_of (rules_of engine) width (text_of kept)
+  abbrev list : List ℕ
+  list = concat (advance_lists kept)
+
+  abbrev advances : Option (List ℕ)
+  advances = advances_in is_measured kept
+
+  abbrev rules : Rules
+  rules = with_advances (rules_of engine) advances
+
+  after_is : after ≡ layouts_of rules width (text_of kept)
   after_is =
       ap (refilled (rules_of engine) width) whole.kept
-      ∙ refilled-pars (rules_of engine) old width (paragraphs (cut_by (rules_of engine)) (text_of kept))
+      ∙ refilled-pars (rules_of engine) old width advances (paragraphs (cut_by rules) (text_of kept))
 
   pub refilled_fit : sum_by line_number after < 2 ^ 64
-  refilled_fit = omega (arith, few-laid law few (rules_of engine) width (text_of kept) after after_is, allowed-length (cut_by (rules_of engine)) (text_of kept) whole.allowed)
+  refilled_fit = omega (arith, few-laid law few rules width (text_of kept) after after_is, allowed-length (cut_by rules) advances (text_of kept) whole.allowed)
 
   accepted : width_refusal width ≡ None
   accepted = cond-false (width == 0) (Some WidthOutOfRange) None (ne_eqb width 0 some)
 
   text-after : text_of after ≡ text_of kept
-  text-after = ap text_of after_is ∙ text-layouts law (rules_of engine) width (text_of kept)
+  text-after = ap text_of after_is ∙ text-layouts law rules width (text_of kept)
 
   number-after : length after ≡ length kept
-  number-after =
-      ap length after_is ∙ length-map (paragraphs (cut_by (rules_of engine)) (text_of kept)) (layout_of (rules_of engine) width)
-      ∙ sym (ap length whole.kept ∙ length-map (paragraphs (cut_by (rules_of engine)) (text_of kept)) (layout_of (rules_of engine) old))
+  number-after = length-map kept (refilled_one (rules_of engine) width)
+
+  -- the advances stay
+  advances-after : advances_in is_measured after ≡ advances
+  advances-after =
+      ap (advances_in is_measured) after_is
+      ∙ advances-layouts (with_advances (rules_of engine) None) width is_measured list (paragraphs (cut_by rules) (text_of kept))
+      (subst (AreForEach advances) (sym (law.whole (cut_by rules) (text_of kept))) whole.advances)
 
   module _ (new_engine : Engine) (same : SameRules engine new_engine) (counts : FillsAtMost (length (text_of kept)) engine new_engine)
       (exact : Fills (changed (rules_of engine) width kept) engine new_engine) where
     pub SetsWidth-after : (made : List Layout) (count lines lines_2 : ℕ) → made ≡ after → count ≡ length kept → lines ≡ sum_by line_number kept → lines_2 ≡ sum_by line_number made
-        → SetsWidth width (record { engine = engine; width = old; kept = kept }) (record { engine = new_engine; width = width; kept = made })
+        → SetsWidth width (state_of engine old is_measured kept) (state_of new_engine width is_measured made)
         (record { first_line = 0; old_lines = lines; new_lines = lines_2; first_par = 0; old_pars = count; new_pars = count })
     SetsWidth-after made count lines lines_2 made-is count-is lines-is lines_2-is =
         let text : text_of made ≡ text_of kept = ap text_of made-is ∙ text-after in
+        let given : advances_in is_measured made ≡ advances = ap (advances_in is_measured) made-is ∙ advances-after in
         record {
           accepted = accepted;
           text = text;
           at_width = refl;
-          laid_out = IsWholeLayout-same engine new_engine width made same (record {
-            kept = made-is ∙ after_is ∙ ap (layouts_of (rules_of engine) width) (sym text);
-            allowed = ap (text_refusal (cut_by (rules_of engine))) text ∙ whole.allowed;
+          advances = given;
+          laid_out = IsWholeLayout-same engine new_engine width (advances_in is_measured made) made same (record {
+            kept = made-is ∙ after_is ∙ ap₂ (λ (a : Option (List ℕ)) (t : List ℕ). layouts_of (with_advances (rules_of engine) a) width t) (sym given) (sym text);
+            allowed = ap₂ (λ (a : Option (List ℕ)) (t : List ℕ). content_refusal (cut_by rules) a t) given text ∙ whole.allowed;
             filled = positive width some;
+            advances = subst (λ (t : List ℕ). AreForEach (advances_in is_measured made) t) (sym text) (subst (λ (a : Option (List ℕ)). AreForEach a (text_of kept)) (sym given) whole.advances);
           });
           rules = same;
           damage = record {

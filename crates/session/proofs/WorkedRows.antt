@@ -70,7 +70,7 @@ after_newline before after = before == 10
 abbrev four_edits : List Edit
 four_edits = SetWidth 0 ∷ SetWidth 5 ∷ Delete 2 2 ∷ Delete 0 1 ∷ []
 
-after-four : after_all after_newline (record { text = 97 ∷ 10 ∷ 98 ∷ []; width = 80 }) four_edits ≡ record { text = 10 ∷ 98 ∷ []; width = 5 }
+after-four : after_all after_newline (record { text = 97 ∷ 10 ∷ 98 ∷ []; width = 80; advances = None }) four_edits ≡ record { text = 10 ∷ 98 ∷ []; width = 5; advances = None }
 after-four = refl
 
 -- the greatest length of a text, in characters

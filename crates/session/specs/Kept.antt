@@ -1,9 +1,10 @@
 -- What a session keeps for a text: the layout of each of its paragraphs.
-use Rattle.std.specs.Prelude.{◌≡◌, ℕ, ◌-◌, ◌<◌, ◌≤◌, ◌^◌, Bool, true, false, List, length, map, sum_by, slice_index, Option, Some, None, if◌then◌else◌, refl}
+use Rattle.std.specs.Prelude.{◌≡◌, ℕ, ◌-◌, ◌<◌, ◌≤◌, ◌^◌, Bool, true, false, List, [], ◌∷◌, length, map, take, drop, replicate, sum_by, slice_index, Option, Some, None, IfSome, option_map, unwrap_or, if◌then◌else◌, refl}
 use Rattle.std.specs.List.{concat, flat_map}
 use Rattle.bidi.specs.Cuts.{paragraphs}
 use Rattle.lines.specs.Extents.{extents_in, extents_of, reflowed, LineExtents}
-use Rattle.lines.specs.Layouts.{Layout, Rules, IsLaidOut, cut_by, keeps_lines, layout_of, lines_of, visuals}
+use Rattle.lines.specs.Layouts.{Layout, Rules, IsLaidOut, cut_by, keeps_lines, layout_of, lines_of, visuals, with_advances}
+use Rattle.lines.specs.Measures.{given_if}
 use Rattle.lines.specs.Visual.{Visual}
 use Rattle.session.specs.Offsets.{units_of}
 use Rattle.session.specs.declared.offsets.Encoding.TheVariants.{Utf8, Utf16}
@@ -22,6 +23,28 @@ text_of kept = concat (pars_of kept)
 abbrev pub lines_in : List Layout → List Visual
 lines_in kept = flat_map visuals kept
 
+-- the advances of each paragraph, and those of a measured text
+abbrev pub advance_lists : List Layout → List (List ℕ)
+advance_lists kept = map (λ l. unwrap_or l.advances []) kept
+
+abbrev pub advances_in : Bool → List Layout → Option (List ℕ)
+advances_in is_measured kept = given_if is_measured (concat (advance_lists kept))
+
+-- the advances with which a text of n characters is opened: all are 0 if it is measured
+abbrev pub first_advances : Bool → ℕ → Option (List ℕ)
+first_advances is_measured n = given_if is_measured (replicate n 0)
+
+-- the advances of the first n characters of a text, and those of the other ones
+abbrev pub front_advances : ℕ → Option (List ℕ) → Option (List ℕ)
+front_advances n advances = option_map (take n) advances
+
+abbrev pub back_advances : ℕ → Option (List ℕ) → Option (List ℕ)
+back_advances n advances = option_map (drop n) advances
+
+-- whether there is one advance for each character of a text, if it is measured
+abbrev pub AreForEach : Option (List ℕ) → List ℕ → Type 0
+AreForEach advances text = IfSome advances (λ list. length list ≡ length text)
+
 -- whether the totals of layouts fit in a `usize`
 pub record TotalsFit (kept : List Layout) : Type 0 where
   pub chars : sum_by (λ l. length l.text) kept < 2 ^ 64
@@ -29,9 +52,23 @@ pub record TotalsFit (kept : List Layout) : Type 0 where
   pub bytes : sum_by (units_of Utf8) kept < 2 ^ 64
   pub utf16 : sum_by (units_of Utf16) kept < 2 ^ 64
 
+-- the fresh layouts of paragraphs at a width, given the advances of their characters, one after another, if they are measured
+abbrev pub layouts_from : Rules → ℕ → Option (List ℕ) → List (List ℕ) → List Layout
+layouts_from rules width advances [] = []
+layouts_from rules width advances (p ∷ pars) =
+    layout_of (with_advances rules (front_advances (length p) advances)) width p ∷ layouts_from rules width (back_advances (length p) advances) pars
+
 -- the fresh layouts of a text at a width
 abbrev pub layouts_of : Rules → ℕ → List ℕ → List Layout
-layouts_of rules width text = map (layout_of rules width) (paragraphs (cut_by rules) text)
+layouts_of rules width text = layouts_from (with_advances rules None) width rules.advances (paragraphs (cut_by rules) text)
+
+-- the rules for a paragraph that is laid out: its advances are its own
+abbrev pub rules_for : Rules → Layout → Rules
+rules_for rules kept = with_advances rules kept.advances
+
+-- whether a layout is the fresh layout of its text with its advances
+abbrev pub IsFresh : Rules → Layout → Type 0
+IsFresh rules kept = IsLaidOut (rules_for rules kept) kept
 
 -- how many characters of a paragraph a width change fills again: all, or none if it keeps its only line
 abbrev pub changed_in : Rules → ℕ → Layout → ℕ
@@ -74,11 +111,11 @@ text_stays writer kept (Some extents) = refl
 -- whether the extents are those of the laid-out text at some width, and the scratch space is large enough for
 -- that text
 pub record CanBePut (writer : Writer) (kept : Layout) (extents : LineExtents) : Type 0 where
-  pub laid_out : IsLaidOut writer.rules kept
-  pub at_width : (width : ℕ) × (extents ≡ extents_of writer.rules width kept.text)
+  pub laid_out : IsFresh writer.rules kept
+  pub at_width : (width : ℕ) × (extents ≡ extents_of (rules_for writer.rules kept) width kept.text)
   pub capacity : length kept.text ≤ writer.capacity
 
 -- The extents are those of the paragraph at a width. If the paragraph keeps its only line, there are no extents.
 abbrev pub BringsTo : Rules → ℕ → Layout → Option LineExtents → Type 0
-BringsTo rules width kept None = (keeps_lines rules width kept ≡ true) × (kept.lines ≡ lines_of rules width kept.text)
-BringsTo rules width kept (Some extents) = (keeps_lines rules width kept ≡ false) × (extents ≡ extents_of rules width kept.text)
+BringsTo rules width kept None = (keeps_lines rules width kept ≡ true) × (kept.lines ≡ lines_of (rules_for rules kept) width kept.text)
+BringsTo rules width kept (Some extents) = (keeps_lines rules width kept ≡ false) × (extents ≡ extents_of (rules_for rules kept) width kept.text)

@@ -5,7 +5,9 @@ pub mod Damage
 pub mod Edges
 pub mod Edits
 pub mod Hits
+pub mod Joined
 pub mod Kept
+pub mod Measuring
 pub mod Offsets
 pub mod Places
 pub mod Printing

@@ -6,7 +6,8 @@ use Rattle.lines.specs.Engine.{analysed_of, filled_of, written_of, RisesBy}
 use Rattle.lines.specs.Layouts.{Rules, cut_by}
 use Rattle.lines.specs.declared.engine.Engine.{Engine}
 use Rattle.session.specs.Edits.{Held, after_all, after_one, deletion, insertion, refusal, width_refusal}
-use Rattle.session.specs.Kept.{changed, layouts_of}
+use Rattle.session.specs.Kept.{changed}
+use Rattle.session.specs.Sessions.{layouts_at}
 use Rattle.session.specs.Touched.{fresh}
 use Rattle.session.specs.declared.edits.Edit.{Edit}
 use Rattle.session.specs.declared.edits.Edit.TheVariants.{Insert, Delete, SetWidth}
@@ -15,8 +16,8 @@ use Rattle.session.specs.declared.edits.EditFault.{EditFault}
 module _ (rules : Rules) where
   -- the reason for refusing an edit, or `None`
   abbrev pub edit_refusal : Held → Edit → Option EditFault
-  edit_refusal held (Insert pos text) = refusal (cut_by rules) held.text (insertion pos (chars text.now))
-  edit_refusal held (Delete pos count) = refusal (cut_by rules) held.text (deletion pos count)
+  edit_refusal held (Insert pos text) = refusal (cut_by rules) held.advances held.text (insertion pos (chars text.now))
+  edit_refusal held (Delete pos count) = refusal (cut_by rules) held.advances held.text (deletion pos count)
   edit_refusal held (SetWidth width) = width_refusal width
 
   -- upper bounds for an edit that is not refused: how many characters it analyses, and how many it fills into
@@ -29,7 +30,7 @@ module _ (rules : Rules) where
   abbrev pub filled_by : Held → Edit → ℕ
   filled_by held (Insert pos text) = fresh (paragraphs (cut_by rules) held.text) (insertion pos (chars text.now))
   filled_by held (Delete pos count) = fresh (paragraphs (cut_by rules) held.text) (deletion pos count)
-  filled_by held (SetWidth width) = changed rules width (layouts_of rules held.width held.text)
+  filled_by held (SetWidth width) = changed rules width (layouts_at rules held)
 
   -- the work of an edit, which is 0 if the edit is refused
   abbrev pub work_of : (Held → Edit → ℕ) → Held → Edit → ℕ

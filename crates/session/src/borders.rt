@@ -1,8 +1,10 @@
 //! Finds the paragraphs of a store that an edit touches, using the store's sums.
-ghost use Rattle.std.specs.Prelude.{◌≡◌, ◌≤◌, ◌-◌, List, [], ℕ, length, take, drop, slice_index_or};
+ghost use Rattle.std.specs.Prelude.{◌≡◌, ◌≤◌, ◌-◌, List, [], ℕ, length, take, drop};
+ghost use Rattle.std.specs.Prelude.{slice_index_or, unwrap_or};
 ghost use Rattle.session.specs.Borders.{IsBackBorder, IsFrontBorder};
-ghost use Rattle.session.specs.Kept.{pars_of, text_of};
+ghost use Rattle.session.specs.Kept.{advance_lists, pars_of, text_of};
 
+use crate::joined::Part;
 use crate::kept::Kept;
 use store::{Measured, ParagraphStore};
 
@@ -59,44 +61,72 @@ pub fn back_border<S: ParagraphStore<Kept>>(store: &S, to: usize) -> Border
     }
 }
 
-/// Returns the first `to` characters, or all characters if there are fewer.
-pub fn front(text: &[char], to: usize) -> &[char]
-    ensures { result.now ≡ take to text.now }
+/// Returns the first `to` items, or all if there are fewer.
+pub fn front<T: Copy>(items: &[T], to: usize) -> &[T]
+    ensures { result.now ≡ take to items.now }
 {
-    &text[..to.min(text.len())]
+    &items[..to.min(items.len())]
 }
 
-/// Returns the characters at and after an index.
-pub fn back(text: &[char], from: usize) -> &[char]
-    ensures { result.now ≡ drop from text.now }
+/// Returns the items at and after an index.
+pub fn back<T: Copy>(items: &[T], from: usize) -> &[T]
+    ensures { result.now ≡ drop from items.now }
 {
-    &text[from.min(text.len())..]
+    &items[from.min(items.len())..]
 }
 
-/// Returns the characters before `pos` in the paragraph that starts at a border.
-pub fn front_text<S: ParagraphStore<Kept>>(store: &S, border: Border, pos: usize) -> &[char]
-    ensures { result.now
-        ≡ take (pos - border.chars) (slice_index_or (pars_of (S.items store.now)) border.index []) }
+// Returns the advances of a paragraph, or none if it is not measured.
+fn advances_of(kept: &Kept) -> &[u32]
+    ensures { result.now ≡ unwrap_or kept.now.advances [] }
 {
-    match store.get(border.index) {
-        Some(kept) => front(kept.laid().text(), pos.saturating_sub(border.chars)),
+    match kept.laid().advances() {
+        Some(advances) => advances,
         None => &[],
     }
 }
 
-/// Returns the characters at and after `from` in the paragraph that ends at a border.
-pub fn back_text<S: ParagraphStore<Kept>>(store: &S, border: Border, from: usize) -> &[char]
-    ensures { (text : List ℕ) → text ≡ slice_index_or (pars_of (S.items store.now)) (border.index - 1) []
-        → result.now ≡ drop (length text - (border.chars - from)) text }
+/// Returns the characters before `pos` in the paragraph that starts at a border, with their advances.
+pub fn front_part<S: ParagraphStore<Kept>>(store: &S, border: Border, pos: usize) -> Part<'_>
+    ensures text { result.text.now
+        ≡ take (pos - border.chars) (slice_index_or (pars_of (S.items store.now)) border.index []) }
+    ensures advances { result.advances.now
+        ≡ take (pos - border.chars) (slice_index_or (advance_lists (S.items store.now)) border.index []) }
+{
+    match store.get(border.index) {
+        Some(kept) => {
+            let len = pos.saturating_sub(border.chars);
+            Part {
+                text: front(kept.laid().text(), len),
+                advances: front(advances_of(kept), len),
+            }
+        }
+        None => Part {
+            text: &[],
+            advances: &[],
+        },
+    }
+}
+
+/// Returns the characters at and after `from` in the paragraph that ends at a border, with their advances.
+pub fn back_part<S: ParagraphStore<Kept>>(store: &S, border: Border, from: usize) -> Part<'_>
+    ensures text { (text : List ℕ) → text ≡ slice_index_or (pars_of (S.items store.now)) (border.index - 1) []
+        → result.text.now ≡ drop (length text - (border.chars - from)) text }
+    ensures advances { (list : List ℕ)
+        → list ≡ slice_index_or (advance_lists (S.items store.now)) (border.index - 1) []
+        → result.advances.now ≡ drop (length list - (border.chars - from)) list }
 {
     match store.get(border.index.saturating_sub(1)) {
         Some(kept) => {
-            let text = kept.laid().text();
-            back(
-                text,
-                text.len().saturating_sub(border.chars.saturating_sub(from)),
-            )
+            let len = border.chars.saturating_sub(from);
+            let (text, advances) = (kept.laid().text(), advances_of(kept));
+            Part {
+                text: back(text, text.len().saturating_sub(len)),
+                advances: back(advances, advances.len().saturating_sub(len)),
+            }
         }
-        None => &[],
+        None => Part {
+            text: &[],
+            advances: &[],
+        },
     }
 }

@@ -31,6 +31,32 @@ pub struct Damage {
     pub new_pars: usize,
 }
 
+/// The maximum width of a measured session, in the caller's unit.
+pub const MEASURED_WIDTH_LIMIT: u32 = 2_147_483_647;
+
+// The limit that the documents name. Contracts name the number.
+const _: () = prove!(MEASURED_WIDTH_LIMIT == 2_147_483_647);
+
+/// Why a call for measured text failed. The causes are listed in the order in which they are tested.
+#[derive(Clone, Copy, Debug, PartialEq, Eq, Error)]
+pub enum AdvanceFault {
+    /// The session is not measured.
+    #[error("not measured")]
+    NotMeasured,
+    /// The range reaches past the end of the text.
+    #[error("out of range")]
+    OutOfRange,
+    /// The width is 0, or more than 2,147,483,647.
+    #[error("width out of range")]
+    WidthOutOfRange,
+    /// The advances of a paragraph would add up to more than 4,294,967,295.
+    #[error("paragraph too long")]
+    ParagraphTooLong,
+    /// An allocation failed, and no other cause applies.
+    #[error("out of memory")]
+    NoMemory,
+}
+
 /// Why an edit failed. The causes are listed in the order in which they are tested.
 #[derive(Clone, Copy, Debug, PartialEq, Eq, Error)]
 pub enum EditFault {
@@ -43,7 +69,8 @@ pub enum EditFault {
     /// The new text would have more than 16,777,216 characters.
     #[error("text too long")]
     TextTooLong,
-    /// A paragraph of the new text would have more than 1,048,576 characters.
+    /// A paragraph of the new text would have more than 1,048,576 characters, or if the text is measured,
+    /// advances that add up to more than 4,294,967,295.
     #[error("paragraph too long")]
     ParagraphTooLong,
     /// An allocation failed, and no other cause applies.

@@ -1,19 +1,24 @@
 //! Lays out the paragraphs of a text given in three parts: the text before an edit, the inserted text, and
 //! the text after the edit.
-ghost use Rattle.std.specs.Prelude.{◌≡◌, ◌+◌, ◌<◌, ◌≤◌, ◌++◌, true, false, not, List, [], ℕ, length};
-ghost use Rattle.std.specs.Prelude.{nat_le, IfOk, IfErr, IsErrOf};
+ghost use Rattle.std.specs.Prelude.{◌≡◌, ◌+◌, ◌-◌, ◌^◌, ◌<◌, ◌≤◌, ◌++◌, true, false, not};
+ghost use Rattle.std.specs.Prelude.{length, List, [], ℕ};
+ghost use Rattle.std.specs.Prelude.{nat_le, replicate, sum, None, Option, IfOk, IfErr, IsErrOf};
 ghost use Rattle.std.specs.Str.{chars};
 ghost use Rattle.lines.specs.Engine.{rules_of, LaysOutAtMost, SameRules};
-ghost use Rattle.lines.specs.Layouts.{cut_by, layout_of, IsParagraph};
+ghost use Rattle.lines.specs.Layouts.{cut_by, layout_of, with_advances, HaveRoom, IsParagraph};
+ghost use Rattle.lines.specs.Measures.{given_if};
 ghost use Rattle.lines.specs.declared.engine.TheConstants.{PARAGRAPH_LIMIT};
 ghost use Rattle.session.specs.Sessions.{IsCountedFor};
-ghost use Rattle.session.specs.Edits.{is_within_limit, paragraphs_refusal};
-ghost use Rattle.session.specs.Kept.{layouts_of};
+ghost use Rattle.session.specs.Edits.{is_within_limit, paragraphs_refusal, room_refusal};
+ghost use Rattle.bidi.specs.Cuts.{paragraphs};
+ghost use Rattle.session.specs.Joined.{joined_advances, joined_text};
+ghost use Rattle.session.specs.Kept.{back_advances, front_advances, layouts_of, AreForEach};
 ghost use Rattle.session.specs.Sessions.{IsAnswerFor};
 ghost use Rattle.session.specs.declared.edits.EditFault.TheVariants.{NoMemory};
 
 use crate::edits::EditFault;
 use crate::kept::Kept;
+use crate::room::has_room;
 use crate::scan::Scan;
 use bidi::paragraphs_are_pieces;
 use lines::{Engine, PARAGRAPH_LIMIT};
@@ -92,6 +97,20 @@ fn are_empty(front: &[char], piece: &str, back: &[char]) -> bool
     piece.is_empty()
 }
 
+/// How the paragraphs of a session are laid out: whether the text is measured, and the width of the lines.
+#[derive(Clone, Copy, Debug)]
+pub struct Form {
+    pub is_measured: bool,
+    pub width: u32,
+}
+
+/// Part of a paragraph. If the text is measured, there is one advance for each character, and otherwise none.
+#[derive(Clone, Copy, Debug)]
+pub struct Part<'a> {
+    pub text: &'a [char],
+    pub advances: &'a [u32],
+}
+
 // Joins the three parts into one text. Allocates once.
 fn joined(
     alloc: Global,
@@ -108,37 +127,73 @@ fn joined(
     Ok(text)
 }
 
+// Joins the advances of the three parts of a text of `len` characters. Those of inserted characters are 0. If
+// the text is not measured, returns an empty list.
+fn joined_advances(
+    alloc: Global,
+    is_measured: bool,
+    front: &[u32],
+    len: usize,
+    back: &[u32],
+) -> Result<Vec<u32>, AllocError>
+    requires { is_measured ≡ true → length front.now + length back.now ≤ len }
+    ensures { IfOk result (λ list. given_if is_measured list.items ≡ given_if is_measured
+        (front.now ++ (replicate (len - length front.now - length back.now) 0 ++ back.now))) }
+{
+    if !is_measured {
+        return Ok(Vec::new(alloc));
+    }
+    let mut list = Vec::with_capacity(alloc, len)?;
+    list.extend_from_slice(front)?;
+    list.resize(len - back.len(), 0)?;
+    list.extend_from_slice(back)?;
+    Ok(list)
+}
+
 /// Copies one paragraph and lays it out.
 pub fn lay_out_one(
     alloc: Global,
     engine: &mut Engine,
-    text: &[char],
-    width: u16,
+    part: &Part<'_>,
+    form: Form,
 ) -> Result<Kept, AllocError>
-    requires paragraph { IsParagraph (rules_of engine.old) text.now }
-    requires width { 0 < width }
-    ensures ok { IfOk result (λ kept. kept ≡ layout_of (rules_of engine.old) width text.now) }
+    requires paragraph { IsParagraph (rules_of engine.old) part.now.text.now }
+    requires width { 0 < form.width }
+    requires each { AreForEach (given_if form.is_measured part.now.advances.now) part.now.text.now }
+    requires room { HaveRoom (given_if form.is_measured part.now.advances.now) }
+    ensures ok { IfOk result (λ kept. kept ≡ layout_of (with_advances (rules_of engine.old)
+        (given_if form.is_measured part.now.advances.now)) form.width part.now.text.now) }
     ensures rules { SameRules engine.old engine.new }
-    ensures counts { LaysOutAtMost (length text.now) engine.old engine.new }
+    ensures counts { LaysOutAtMost (length part.now.text.now) engine.old engine.new }
 {
-    lay_out_owned(alloc, engine, Vec::from_slice(alloc, text)?, width)
+    let text = Vec::from_slice(alloc, part.text)?;
+    let advances = Vec::from_slice(alloc, part.advances)?;
+    lay_out_owned(alloc, engine, text, advances, form)
 }
 
-// Lays out one paragraph, whose text moves into the layout.
+// Lays out one paragraph, whose text and advances move into the layout.
 fn lay_out_owned(
     alloc: Global,
     engine: &mut Engine,
     text: Vec<char>,
-    width: u16,
+    advances: Vec<u32>,
+    form: Form,
 ) -> Result<Kept, AllocError>
     requires paragraph { IsParagraph (rules_of engine.old) text.items }
-    requires width { 0 < width }
-    ensures ok { IfOk result (λ kept. kept ≡ layout_of (rules_of engine.old) width text.items) }
+    requires width { 0 < form.width }
+    requires each { AreForEach (given_if form.is_measured advances.items) text.items }
+    requires room { HaveRoom (given_if form.is_measured advances.items) }
+    ensures ok { IfOk result (λ kept. kept ≡ layout_of (with_advances (rules_of engine.old)
+        (given_if form.is_measured advances.items)) form.width text.items) }
     ensures rules { SameRules engine.old engine.new }
     ensures counts { LaysOutAtMost (length text.items) engine.old engine.new }
 {
-    match engine.lay_out(alloc, text, width as u32) {
-        Ok(laid) => Ok(Kept::new(alloc, laid)?),
+    if form.is_measured {
+        let laid = engine.lay_out_measured(alloc, text, advances, form.width)?;
+        return Kept::new(alloc, laid);
+    }
+    match engine.lay_out(alloc, text, form.width) {
+        Ok(laid) => Kept::new(alloc, laid),
         Err((_, error)) => Err(error),
     }
 }
@@ -159,24 +214,50 @@ fn lay_out(
     alloc: Global,
     engine: &mut Engine,
     text: Vec<char>,
-    width: u16,
+    advances: Vec<u32>,
+    form: Form,
 ) -> Result<Vec<Kept>, AllocError>
     requires some { 0 < length text.items }
     requires within { is_within_limit (cut_by (rules_of engine.old)) text.items ≡ true }
-    requires width { 0 < width }
-    ensures ok { IfOk result (λ kept. kept.items ≡ layouts_of (rules_of engine.old) width text.items) }
+    requires width { 0 < form.width }
+    requires each { AreForEach (given_if form.is_measured advances.items) text.items }
+    requires room { room_refusal (given_if form.is_measured advances.items)
+        (paragraphs (cut_by (rules_of engine.old)) text.items) ≡ None }
+    ensures ok { IfOk result (λ kept. kept.items ≡ layouts_of (with_advances (rules_of engine.old)
+        (given_if form.is_measured advances.items)) form.width text.items) }
     ensures rules { SameRules engine.old engine.new }
     ensures counts { LaysOutAtMost (length text.items) engine.old engine.new }
 {
     // By this theorem, a text without a boundary is one paragraph.
     paragraphs_are_pieces();
     match engine.first_cut(&text) {
-        Some(_) => lay_out_each(alloc, engine, &text, width),
+        Some(_) => {
+            let part = Part {
+                text: &text,
+                advances: &advances,
+            };
+            lay_out_each(alloc, engine, &part, form)
+        }
         None => {
             let mut kept = Vec::with_capacity(alloc, 1)?;
-            kept.push(lay_out_owned(alloc, engine, trim(text), width)?)?;
+            kept.push(lay_out_owned(alloc, engine, trim(text), advances, form)?)?;
             Ok(kept)
         }
+    }
+}
+
+// Splits the advances of a text after those of its first `len` characters.
+fn split_advances(is_measured: bool, advances: &[u32], len: usize) -> (&[u32], &[u32])
+    requires { is_measured ≡ true → len ≤ length advances.now }
+    ensures front { given_if is_measured result.0.now
+        ≡ front_advances len (given_if is_measured advances.now) }
+    ensures back { given_if is_measured result.1.now
+        ≡ back_advances len (given_if is_measured advances.now) }
+{
+    if is_measured {
+        advances.split_at(len)
+    } else {
+        (advances, advances)
     }
 }
 
@@ -184,65 +265,114 @@ fn lay_out(
 fn lay_out_each(
     alloc: Global,
     engine: &mut Engine,
-    text: &[char],
-    width: u16,
+    whole: &Part<'_>,
+    form: Form,
 ) -> Result<Vec<Kept>, AllocError>
-    requires within { is_within_limit (cut_by (rules_of engine.old)) text.now ≡ true }
-    requires width { 0 < width }
-    ensures ok { IfOk result (λ kept. kept.items ≡ layouts_of (rules_of engine.old) width text.now) }
+    requires within { is_within_limit (cut_by (rules_of engine.old)) whole.now.text.now ≡ true }
+    requires width { 0 < form.width }
+    requires each { AreForEach (given_if form.is_measured whole.now.advances.now) whole.now.text.now }
+    requires room { room_refusal (given_if form.is_measured whole.now.advances.now)
+        (paragraphs (cut_by (rules_of engine.old)) whole.now.text.now) ≡ None }
+    ensures ok { IfOk result (λ kept. kept.items ≡ layouts_of (with_advances (rules_of engine.old)
+        (given_if form.is_measured whole.now.advances.now)) form.width whole.now.text.now) }
     ensures rules { SameRules engine.old engine.new }
-    ensures counts { LaysOutAtMost (length text.now) engine.old engine.new }
+    ensures counts { LaysOutAtMost (length whole.now.text.now) engine.old engine.new }
 {
     // By this theorem, the text between two boundaries is one paragraph.
     paragraphs_are_pieces();
     let mut kept = Vec::new(alloc);
-    let mut rest = text;
+    let mut rest = whole.text;
+    let mut advances = whole.advances;
     while let Some(end) = engine.first_cut(rest) {
         let (first, after) = rest.split_at(end);
-        kept.push(lay_out_one(alloc, engine, first, width)?)?;
+        let (own, others) = split_advances(form.is_measured, advances, end);
+        let part = Part {
+            text: first,
+            advances: own,
+        };
+        kept.push(lay_out_one(alloc, engine, &part, form)?)?;
         rest = after;
+        advances = others;
     }
     if !rest.is_empty() {
-        kept.push(lay_out_one(alloc, engine, rest, width)?)?;
+        let part = Part {
+            text: rest,
+            advances,
+        };
+        kept.push(lay_out_one(alloc, engine, &part, form)?)?;
     }
     Ok(kept)
 }
 
-/// Lays out the paragraphs of the joined text. Fails with `ParagraphTooLong` if a paragraph is too long,
-/// without allocating. Fails with `NoMemory` if an allocation fails.
+// Joins the three parts of a nonempty text, and lays out its paragraphs.
+fn lay_out_parts(
+    alloc: Global,
+    engine: &mut Engine,
+    front: &Part<'_>,
+    piece: &str,
+    back: &Part<'_>,
+    form: Form,
+) -> Result<Vec<Kept>, AllocError>
+    requires some { 0 < length (joined_text front.now piece.now back.now) }
+    requires width { 0 < form.width }
+    requires front { AreForEach (given_if form.is_measured front.now.advances.now) front.now.text.now }
+    requires back { AreForEach (given_if form.is_measured back.now.advances.now) back.now.text.now }
+    requires allowed { paragraphs_refusal (cut_by (rules_of engine.old))
+        (joined_advances form.is_measured front.now piece.now back.now)
+        (joined_text front.now piece.now back.now) ≡ None }
+    ensures ok { IfOk result (λ kept. kept.items ≡ layouts_of (with_advances (rules_of engine.old)
+        (joined_advances form.is_measured front.now piece.now back.now)) form.width
+        (joined_text front.now piece.now back.now)) }
+    ensures rules { SameRules engine.old engine.new }
+    ensures counts { LaysOutAtMost (length (joined_text front.now piece.now back.now))
+        engine.old engine.new }
+{
+    let text = joined(alloc, front.text, piece, back.text)?;
+    let (is_measured, len) = (form.is_measured, text.len());
+    let advances = joined_advances(alloc, is_measured, front.advances, len, back.advances)?;
+    lay_out(alloc, engine, text, advances, form)
+}
+
+/// Lays out the paragraphs of the joined text, in which inserted characters have advance 0. Fails with
+/// `ParagraphTooLong` if a paragraph is too long, or its advances add up to too much, without allocating.
+/// Fails with `NoMemory` if an allocation fails.
 pub fn lay_out_joined(
     alloc: Global,
     engine: &mut Engine,
-    front: &[char],
+    front: &Part<'_>,
     piece: &str,
-    back: &[char],
-    width: u16,
+    back: &Part<'_>,
+    form: Form,
 ) -> Result<Vec<Kept>, EditFault>
-    requires width { 0 < width }
-    ensures allowed { IfOk result (λ kept. is_within_limit (cut_by (rules_of engine.old))
-        (front.now ++ (chars piece.now ++ back.now)) ≡ true) }
-    ensures ok { IfOk result (λ kept. kept.items ≡ layouts_of (rules_of engine.old) width
-        (front.now ++ (chars piece.now ++ back.now))) }
+    requires width { 0 < form.width }
+    requires front { AreForEach (given_if form.is_measured front.now.advances.now) front.now.text.now }
+    requires back { AreForEach (given_if form.is_measured back.now.advances.now) back.now.text.now }
+    ensures allowed { IfOk result (λ kept. paragraphs_refusal (cut_by (rules_of engine.old))
+        (joined_advances form.is_measured front.now piece.now back.now)
+        (joined_text front.now piece.now back.now) ≡ None) }
+    ensures ok { IfOk result (λ kept. kept.items ≡ layouts_of (with_advances (rules_of engine.old)
+        (joined_advances form.is_measured front.now piece.now back.now)) form.width
+        (joined_text front.now piece.now back.now)) }
     ensures err { IfErr result (IsAnswerFor (paragraphs_refusal (cut_by (rules_of engine.old))
-        (front.now ++ (chars piece.now ++ back.now)))) }
-    ensures memory { IsErrOf result NoMemory
-        → 0 < length (front.now ++ (chars piece.now ++ back.now)) }
+        (joined_advances form.is_measured front.now piece.now back.now)
+        (joined_text front.now piece.now back.now))) }
+    ensures memory { IsErrOf result NoMemory → 0 < length (joined_text front.now piece.now back.now) }
     ensures rules { SameRules engine.old engine.new }
-    ensures counts { LaysOutAtMost (length (front.now ++ (chars piece.now ++ back.now)))
+    ensures counts { LaysOutAtMost (length (joined_text front.now piece.now back.now))
         engine.old engine.new }
     ensures refused { IfErr result (λ fault. IsCountedFor fault (LaysOutAtMost
-        (length (front.now ++ (chars piece.now ++ back.now)))) engine.old engine.new) }
+        (length (joined_text front.now piece.now back.now))) engine.old engine.new) }
 {
-    if has_long(engine, front, piece, back) {
+    if has_long(engine, front.text, piece, back.text) {
         return Err(EditFault::ParagraphTooLong);
     }
-    if are_empty(front, piece, back) {
+    if form.is_measured && !has_room(engine, front, piece, back) {
+        return Err(EditFault::ParagraphTooLong);
+    }
+    if are_empty(front.text, piece, back.text) {
         return Ok(Vec::new(alloc));
     }
-    let Ok(text) = joined(alloc, front, piece, back) else {
-        return Err(EditFault::NoMemory);
-    };
-    match lay_out(alloc, engine, text, width) {
+    match lay_out_parts(alloc, engine, front, piece, back, form) {
         Ok(kept) => Ok(kept),
         Err(_) => Err(EditFault::NoMemory),
     }

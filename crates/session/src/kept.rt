@@ -2,7 +2,7 @@
 ghost use Rattle.std.specs.Prelude.{◌≡◌, ◌≤◌, ℕ, length, refl, IfOk};
 ghost use Rattle.lines.specs.Engine.{counted, rules_of};
 ghost use Rattle.lines.specs.Extents.{extents_in, extents_of, reflowed};
-ghost use Rattle.lines.specs.Layouts.{IsLaidOut};
+ghost use Rattle.session.specs.Kept.{rules_for, IsFresh};
 ghost use Rattle.session.specs.Offsets.{length_in, units_of};
 ghost use Rattle.session.specs.declared.offsets.Encoding.TheVariants.{Utf8, Utf16};
 
@@ -76,9 +76,9 @@ impl Kept {
 
     // Replaces the lines with those at another width.
     fn reflow(&mut self, engine: &Engine, extents: &mut Extents, scratch: &mut ReflowScratch)
-        requires laid { IsLaidOut (rules_of engine.now) self.old }
-        requires extents { (width : ℕ)
-            × (extents.old ≡ extents_of (rules_of engine.now) width self.old.text) }
+        requires laid { IsFresh (rules_of engine.now) self.old }
+        requires extents { (width : ℕ) × (extents.old
+            ≡ extents_of (rules_for (rules_of engine.now) self.old) width self.old.text) }
         requires scratch { length self.old.text ≤ scratch.old.len }
         ensures kept { self.new ≡ reflowed (rules_of engine.now) self.old extents.old }
         ensures extents { extents.new ≡ extents_in self.old.lines }

@@ -1,11 +1,11 @@
 //! Theorems about all texts.
-ghost use Rattle.std.specs.Prelude.{◌≡◌, ◌++◌, ◌⊎◌, ℕ, List, true};
+ghost use Rattle.std.specs.Prelude.{◌≡◌, ◌++◌, ◌⊎◌, ℕ, List, length, true};
 ghost use Rattle.bidi.specs.Cuts.{paragraphs};
-ghost use Rattle.lines.specs.Layouts.{Rules, cut_by};
+ghost use Rattle.lines.specs.Layouts.{Rules, cut_by, with_advances};
 ghost use Rattle.lines.specs.Ordered.{MarksStay};
 ghost use Rattle.lines.specs.Pages.{page};
 ghost use Rattle.lines.specs.declared.printing.print.Print.{Print};
-ghost use Rattle.session.specs.Kept.{layouts_of, IsCutAt};
+ghost use Rattle.session.specs.Kept.{back_advances, layouts_of, IsCutAt};
 ghost use Rattle.session.specs.Steps.{StepsAreNearest};
 
 use bidi::paragraphs_are_pieces;
@@ -13,13 +13,15 @@ use lines::{Laid, clusters_adjoin, lines_are_ordered, runs_adjoin, runs_have_all
 
 /// States, as a theorem, that a text split at a paragraph boundary is laid out as its two parts are, for any
 /// tables, options and width. The layouts of the text are those of the first part, followed by those of the
-/// second part. The same holds for what is printed. So the parts of a long text may be laid out in any order.
+/// second part. If the text is measured, each part has its own advances. The same holds for what is printed.
+/// So the parts of a long text may be laid out in any order.
 /// Costs nothing at run time.
 pub fn texts_are_laid_out_in_parts()
     ensures layouts { (rules : Rules) (width : ℕ) (front rest : List ℕ)
         → IsCutAt (cut_by rules) front rest
         → layouts_of rules width (front ++ rest)
-        ≡ layouts_of rules width front ++ layouts_of rules width rest }
+        ≡ layouts_of rules width front
+        ++ layouts_of (with_advances rules (back_advances (length front) rules.advances)) width rest }
     ensures pages { (rules : Rules) (width : ℕ) (print : Print) (front rest : List ℕ)
         → IsCutAt (cut_by rules) front rest
         → page rules width print (paragraphs (cut_by rules) (front ++ rest))

@@ -1,17 +1,18 @@
 //! Lays out the paragraphs of a text that a session is opened on. Each paragraph is decoded on its own, and
 //! the layouts are put into the store in batches. So besides the store, opening needs little memory.
 ghost use Rattle.std.specs.Prelude.{◌≡◌, ◌<◌, ◌∷◌, ◌++◌, ℕ, true, length, nat_lt};
-ghost use Rattle.std.specs.Prelude.{IfOk, IsUtf8, OnOk};
+ghost use Rattle.std.specs.Prelude.{List, IfOk, IsUtf8, OnOk};
 ghost use Rattle.std.specs.Str.{chars};
 ghost use Rattle.bidi.specs.Cuts.{paragraphs};
 ghost use Rattle.lines.specs.Engine.{rules_of, LaysOutAtMost, SameRules};
-ghost use Rattle.lines.specs.Layouts.{cut_by};
+ghost use Rattle.lines.specs.Layouts.{cut_by, layout_of, with_advances, IsParagraph};
+ghost use Rattle.lines.specs.Measures.{given_if};
 ghost use Rattle.session.specs.Edits.{is_within_limit};
-ghost use Rattle.session.specs.Kept.{layouts_of, TotalsFit};
+ghost use Rattle.session.specs.Kept.{first_advances, layouts_of, TotalsFit};
 ghost use Rattle.session.specs.declared.edits.TheConstants.{TEXT_LIMIT};
 
 use crate::edits::TEXT_LIMIT;
-use crate::joined::lay_out_one;
+use crate::joined::{Form, Part, lay_out_one};
 use crate::kept::Kept;
 use bidi::paragraphs_are_pieces;
 use lines::Engine;
@@ -85,20 +86,55 @@ fn append_batch<S: ParagraphStore<Kept>>(
     Ok(Vec::new(alloc))
 }
 
+// Replaces a list with the advances of a new paragraph of `len` characters: one 0 for each if it is measured.
+fn zeros(list: Vec<u32>, is_measured: bool, len: usize) -> Result<Vec<u32>, AllocError>
+    ensures { IfOk result (λ list. given_if is_measured list.items ≡ first_advances is_measured len) }
+{
+    let mut list = list;
+    if is_measured {
+        list.clear();
+        list.resize(len, 0)?;
+    }
+    Ok(list)
+}
+
+// Lays out a new paragraph, whose advances are 0 if it is measured. `advances` is scratch space.
+fn lay_out_new(
+    alloc: Global,
+    engine: &mut Engine,
+    text: &[char],
+    advances: &[u32],
+    form: Form,
+) -> Result<Kept, AllocError>
+    requires paragraph { IsParagraph (rules_of engine.old) text.now }
+    requires width { 0 < form.width }
+    requires zeros { given_if form.is_measured advances.now
+        ≡ first_advances form.is_measured (length text.now) }
+    ensures ok { IfOk result (λ kept. kept ≡ layout_of (with_advances (rules_of engine.old)
+        (first_advances form.is_measured (length text.now))) form.width text.now) }
+    ensures rules { SameRules engine.old engine.new }
+    ensures counts { LaysOutAtMost (length text.now) engine.old engine.new }
+{
+    let part = Part { text, advances };
+    lay_out_one(alloc, engine, &part, form)
+}
+
 /// Lays out each paragraph of a text once, and appends the layouts to a store. No paragraph may be too long.
+/// If the text is measured, all advances are 0.
 pub fn append_all<S: ParagraphStore<Kept>>(
     alloc: Global,
     engine: &mut Engine,
     store: &mut S,
     text: &str,
-    width: u16,
+    form: Form,
 ) -> Result<(), AllocError>
     requires within { is_within_limit (cut_by (rules_of engine.old)) (chars text.now) ≡ true }
-    requires width { 0 < width }
-    requires fit { TotalsFit (S.items store.old
-        ++ layouts_of (rules_of engine.old) width (chars text.now)) }
+    requires width { 0 < form.width }
+    requires fit { TotalsFit (S.items store.old ++ layouts_of (with_advances (rules_of engine.old)
+        (first_advances form.is_measured (length (chars text.now)))) form.width (chars text.now)) }
     ensures ok { OnOk result (S.items store.new ≡ S.items store.old
-        ++ layouts_of (rules_of engine.old) width (chars text.now)) }
+        ++ layouts_of (with_advances (rules_of engine.old)
+        (first_advances form.is_measured (length (chars text.now)))) form.width (chars text.now)) }
     ensures rules { SameRules engine.old engine.new }
     ensures counts { LaysOutAtMost (length (chars text.now)) engine.old engine.new }
 {
@@ -106,11 +142,13 @@ pub fn append_all<S: ParagraphStore<Kept>>(
     paragraphs_are_pieces();
     let mut new = Vec::new(alloc);
     let mut list = Vec::new(alloc);
+    let mut advances = Vec::new(alloc);
     let mut rest = text;
     while !rest.is_empty() {
         let (first, after) = split_first(engine, rest);
         list = decoded(list, first)?;
-        new.push(lay_out_one(alloc, engine, &list, width)?)?;
+        advances = zeros(advances, form.is_measured, list.len())?;
+        new.push(lay_out_new(alloc, engine, &list, &advances, form)?)?;
         new = append_batch(alloc, store, new)?;
         rest = after;
     }

@@ -31,7 +31,7 @@ fn write_part<W: Sink>(
     count: usize,
     writer: &mut W,
     before: u64,
-    width: u16,
+    width: u32,
     print: &Print,
 ) -> Result<u64, WriteFault>
     requires within { from + count ≤ length laid.now.lines }
@@ -51,7 +51,7 @@ fn write_part<W: Sink>(
         let Some(line) = laid.line(from + n) else {
             unreachable!()
         };
-        written = line.write_after(writer, written, width as u32, print)?;
+        written = line.write_after(writer, written, width, print)?;
     }
     Ok(written)
 }
@@ -65,7 +65,7 @@ pub fn write_lines<S: ParagraphStore<Kept>, W: Sink>(
     count: usize,
     writer: &mut W,
     before: u64,
-    width: u16,
+    width: u32,
     print: &Print,
 ) -> Result<u64, WriteFault>
     requires within { first + count ≤ length (lines_in (S.items store.now)) }

@@ -3,7 +3,7 @@ ghost use Rattle.std.specs.Prelude.{◌≡◌, ◌+◌, ◌-◌, ◌^◌, ◌<�
 ghost use Rattle.std.specs.Prelude.{IfOk, IfErr, IsErrOf, OnOk, OnErr};
 ghost use Rattle.std.specs.List.{splice};
 ghost use Rattle.std.specs.Str.{chars};
-ghost use Rattle.session.specs.Sessions.{Edits, EditsNot, IsWholeLayout};
+ghost use Rattle.session.specs.Sessions.{state_of, Edits, EditsNot, IsWholeLayout};
 ghost use Rattle.session.specs.Edits.{replacing};
 ghost use Rattle.session.specs.Kept.{text_of};
 ghost use Rattle.session.specs.Offsets.{length_in};
@@ -11,17 +11,17 @@ ghost use Rattle.session.specs.declared.offsets.Encoding.TheVariants.{Utf8, Utf1
 ghost use Rattle.session.specs.Borders.{damage_between, IsBorder};
 ghost use Rattle.session.specs.declared.edits.EditFault.TheVariants.{NoMemory};
 
-use crate::borders::{Border, back_border, back_text, front_border, front_text};
+use crate::borders::{Border, back_border, back_part, front_border, front_part};
 use crate::edits::{Damage, EditFault, TEXT_LIMIT};
-use crate::joined::lay_out_joined;
+use crate::joined::{Form, lay_out_joined};
 use crate::kept::Kept;
 use bidi::paragraphs_are_pieces;
 use lines::{Engine, lines_are_few};
 use std::alloc::Global;
 use store::ParagraphStore;
 
-// Replaces the paragraphs between two borders. Changes nothing if an allocation fails.
-fn put<S: ParagraphStore<Kept>>(
+/// Replaces the paragraphs between two borders. Changes nothing if an allocation fails.
+pub fn put<S: ParagraphStore<Kept>>(
     store: &mut S,
     front: Border,
     back: Border,
@@ -65,18 +65,18 @@ pub fn replace<S: ParagraphStore<Kept>>(
     alloc: Global,
     engine: &mut Engine,
     store: &mut S,
-    width: u16,
+    form: Form,
     pos: usize,
     count: usize,
     piece: &str,
 ) -> Result<Damage, EditFault>
-    requires { IsWholeLayout (record { engine = engine.old; width = width; kept = S.items store.old }) }
+    requires { IsWholeLayout (state_of engine.old form.width form.is_measured (S.items store.old)) }
     ensures ok { IfOk result (Edits (replacing pos count (chars piece.now))
-        (record { engine = engine.old; width = width; kept = S.items store.old })
-        (record { engine = engine.new; width = width; kept = S.items store.new })) }
+        (state_of engine.old form.width form.is_measured (S.items store.old))
+        (state_of engine.new form.width form.is_measured (S.items store.new))) }
     ensures err { IfErr result (EditsNot (replacing pos count (chars piece.now))
-        (record { engine = engine.old; width = width; kept = S.items store.old })
-        (record { engine = engine.new; width = width; kept = S.items store.new })) }
+        (state_of engine.old form.width form.is_measured (S.items store.old))
+        (state_of engine.new form.width form.is_measured (S.items store.new))) }
     ensures memory { IsErrOf result NoMemory
         → 0 < length (text_of (S.items store.old)) + length (chars piece.now) }
 {
@@ -93,14 +93,8 @@ pub fn replace<S: ParagraphStore<Kept>>(
     paragraphs_are_pieces();
     lines_are_few();
     let (front, back) = (front_border(store, pos), back_border(store, end));
-    let new = match lay_out_joined(
-        alloc,
-        engine,
-        front_text(store, front, pos),
-        piece,
-        back_text(store, back, end),
-        width,
-    ) {
+    let (before, after) = (front_part(store, front, pos), back_part(store, back, end));
+    let new = match lay_out_joined(alloc, engine, &before, piece, &after, form) {
         Ok(new) => new,
         Err(fault) => return Err(fault),
     };

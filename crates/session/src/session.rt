@@ -1,6 +1,6 @@
 //! Sessions, which are generic over the `ParagraphStore`.
 ghost use Rattle.std.specs.Prelude.{◌≡◌, ◌+◌, ◌^◌, ◌<◌, ◌≤◌, nat_le, nat_lt, length};
-ghost use Rattle.std.specs.Prelude.{is_none, option_map, slice_get, slice_index};
+ghost use Rattle.std.specs.Prelude.{is_none, is_some, min, option_map, slice_get, slice_index, Option};
 ghost use Rattle.std.specs.Prelude.{IfOk, IfErr, IfSome, IsErrOf, OnOk, OnErr};
 ghost use Rattle.std.specs.List.{flat_map};
 ghost use Rattle.std.specs.Str.{chars};
@@ -21,17 +21,26 @@ ghost use Rattle.session.specs.Printing.{lines_page, HasLines, PrintsNot, Writes
 ghost use Rattle.session.specs.Reading.{text_part, utf8_len, utf8_part};
 ghost use Rattle.session.specs.Runs.{StopsAt, WorksAtMost};
 ghost use Rattle.session.specs.Sessions.{cuts_at, held_at, page_at, text_at, IsWholeLayout};
-ghost use Rattle.session.specs.Sessions.{Edits, EditsNot, Opens, OpensNot, SetsWidth, SetsWidthNot};
+ghost use Rattle.lines.specs.Layouts.{cut_by};
+ghost use Rattle.session.specs.Edits.{text_refusal};
+ghost use Rattle.session.specs.Measuring.{SetsAdvances, SetsAdvancesNot};
+ghost use Rattle.session.specs.Measuring.{SetsMeasuredWidth, SetsMeasuredWidthNot};
+ghost use Rattle.session.specs.Sessions.{is_no_width, state_of, Edits, EditsNot};
+ghost use Rattle.session.specs.Sessions.{Opens, OpensAs, OpensMeasured};
+ghost use Rattle.session.specs.Sessions.{OpensMeasuredNot, OpensNot, OpensNotFor, SetsWidth, SetsWidthNot};
+ghost use Rattle.session.specs.declared.edits.AdvanceFault.TheVariants as AdvanceFault;
+ghost use Rattle.session.specs.declared.edits.EditFault.{EditFault};
 ghost use Rattle.session.specs.Words.{word_at};
 ghost use Rattle.session.specs.declared.edits.EditFault.TheVariants.{NoMemory};
 ghost use Rattle.session.specs.declared.offsets.Encoding.TheVariants.{Utf8, Utf16};
 
 use crate::carets::{Caret, caret_in};
 use crate::clusters::{Cluster, cluster_of, line_clusters};
-use crate::edits::{Damage, Edit, EditFault, TEXT_LIMIT};
+use crate::edits::{AdvanceFault, Damage, Edit, EditFault, MEASURED_WIDTH_LIMIT, TEXT_LIMIT};
 use crate::hits::{Hit, hit_in};
-use crate::joined::has_long_in_text;
+use crate::joined::{Form, has_long_in_text};
 use crate::kept::Kept;
+use crate::measuring::set_advances;
 use crate::offsets::{Encoding, offset_of, position_of};
 use crate::opening::{append_all, is_too_long};
 use crate::places::{
@@ -55,7 +64,7 @@ use store::ParagraphStore;
 pub struct Session<S: ParagraphStore<Kept>> {
     engine: Engine,
     store: S,
-    width: u16,
+    form: Form,
     alloc: Global,
 }
 
@@ -64,21 +73,28 @@ impl<S: ParagraphStore<Kept> + Drop> Drop for Session<S> {
         let Session {
             engine: _,
             store: _,
-            width: _,
+            form: _,
             alloc: _,
         } = self;
     }
 }
 
 impl<S: ParagraphStore<Kept>> Model for Session<S> {
-    ghost use Rattle.session.specs.Sessions.{SessionState, IsWholeLayout};
+    ghost use Rattle.session.specs.Sessions.{state_of, SessionState, IsWholeLayout};
 
     ghost Value = { SessionState };
 
-    ghost view = { λ s. record { engine = s.engine; width = s.width; kept = S.items s.store } };
+    ghost view = { λ s. state_of s.engine s.form.width s.form.is_measured (S.items s.store) };
 
     ghost invariant = { λ s.
-        IsWholeLayout (record { engine = s.engine; width = s.width; kept = S.items s.store }) };
+        IsWholeLayout (state_of s.engine s.form.width s.form.is_measured (S.items s.store)) };
+}
+
+// Returns whether a measured session cannot have a width.
+fn is_no_width(width: u32) -> bool
+    ensures { result ≡ is_no_width width }
+{
+    width == 0 || width > MEASURED_WIDTH_LIMIT
 }
 
 // Lays out the paragraphs of a text, and puts them into a new store.
@@ -86,16 +102,18 @@ fn fill_store<S: ParagraphStore<Kept> + Drop>(
     alloc: Global,
     engine: &mut Engine,
     text: &str,
-    width: u16,
+    form: Form,
 ) -> Result<S, EditFault>
-    ensures ok { IfOk result (λ store. Opens engine.old (chars text.now) width
-        (record { engine = engine.new; width = width; kept = S.items store })) }
-    ensures err { IfErr result (λ fault. OpensNot engine.old (chars text.now) width (engine.new, fault)) }
+    requires { 0 < form.width }
+    ensures ok { IfOk result (λ store. (reason : Option EditFault)
+        → reason ≡ text_refusal (cut_by (rules_of engine.old)) (chars text.now)
+        → OpensAs form.is_measured reason engine.old (chars text.now) form.width
+        (state_of engine.new form.width form.is_measured (S.items store))) }
+    ensures err { IfErr result (λ fault. (reason : Option EditFault)
+        → reason ≡ text_refusal (cut_by (rules_of engine.old)) (chars text.now)
+        → OpensNotFor reason engine.old (chars text.now) (engine.new, fault)) }
     ensures memory { IsErrOf result NoMemory → 0 < length (chars text.now) }
 {
-    if width == 0 {
-        return Err(EditFault::WidthOutOfRange);
-    }
     if is_too_long(text) {
         return Err(EditFault::TextTooLong);
     }
@@ -109,7 +127,7 @@ fn fill_store<S: ParagraphStore<Kept> + Drop>(
     if text.is_empty() {
         return Ok(store);
     }
-    if append_all(alloc, engine, &mut store, text, width).is_err() {
+    if append_all(alloc, engine, &mut store, text, form).is_err() {
         return Err(EditFault::NoMemory);
     }
     Ok(store)
@@ -127,12 +145,52 @@ impl<S: ParagraphStore<Kept> + Drop> Session<S> {
         ensures err { IfErr result (OpensNot engine (chars text.now) width) }
         ensures memory { IfErr result (λ back. back.1 ≡ NoMemory → 0 < length (chars text.now)) }
     {
+        if width == 0 {
+            return Err((engine, EditFault::WidthOutOfRange));
+        }
+        let form = Form {
+            is_measured: false,
+            width: u32::from(width),
+        };
         let mut engine = engine;
-        match fill_store(alloc, &mut engine, text, width) {
+        match fill_store(alloc, &mut engine, text, form) {
             Ok(store) => Ok(Session {
                 engine,
                 store,
-                width,
+                form,
+                alloc,
+            }),
+            Err(fault) => Err((engine, fault)),
+        }
+    }
+
+    /// Opens a measured session on a text at a width from 1 to 2,147,483,647. Each character has an advance,
+    /// its width in a unit of the caller's. All advances are 0 until [`Session::set_advances`] sets them. All
+    /// columns of the session, such as those of lines, carets and hits, are in this unit. After an error,
+    /// returns the engine with the error.
+    pub fn open_measured(
+        alloc: Global,
+        engine: Engine,
+        text: &str,
+        width: u32,
+    ) -> Result<Session<S>, (Engine, EditFault)>
+        ensures ok { IfOk result (OpensMeasured engine (chars text.now) width) }
+        ensures err { IfErr result (OpensMeasuredNot engine (chars text.now) width) }
+        ensures memory { IfErr result (λ back. back.1 ≡ NoMemory → 0 < length (chars text.now)) }
+    {
+        if is_no_width(width) {
+            return Err((engine, EditFault::WidthOutOfRange));
+        }
+        let form = Form {
+            is_measured: true,
+            width,
+        };
+        let mut engine = engine;
+        match fill_store(alloc, &mut engine, text, form) {
+            Ok(store) => Ok(Session {
+                engine,
+                store,
+                form,
                 alloc,
             }),
             Err(fault) => Err((engine, fault)),
@@ -457,12 +515,29 @@ impl<S: ParagraphStore<Kept>> Session<S> {
         paragraph_first_line(&self.store, index)
     }
 
-    /// Returns the width, in columns.
+    /// Returns the width, in columns. In a measured session, returns at most 65,535: use `measured_width`.
     pub fn width(&self) -> u16
-        ensures width { result ≡ self.now.width }
+        ensures width { result ≡ min self.now.width 65535 }
         ensures laid_out { IsWholeLayout self.now }
     {
-        self.width
+        match u16::try_from(self.form.width) {
+            Ok(width) => width,
+            Err(_) => u16::MAX,
+        }
+    }
+
+    /// Returns the width: in the caller's unit if the session is measured, and otherwise in columns.
+    pub fn measured_width(&self) -> u32
+        ensures width { result ≡ self.now.width }
+    {
+        self.form.width
+    }
+
+    /// Returns whether the session is measured.
+    pub fn is_measured(&self) -> bool
+        ensures { result ≡ is_some self.now.advances }
+    {
+        self.form.is_measured
     }
 
     /// Returns the number of characters that were analysed. The count saturates at 2^64−1.
@@ -517,7 +592,7 @@ impl<S: ParagraphStore<Kept>> Session<S> {
             self.alloc,
             &mut self.engine,
             &mut self.store,
-            self.width,
+            self.form,
             pos,
             count,
             piece,
@@ -526,7 +601,7 @@ impl<S: ParagraphStore<Kept>> Session<S> {
 
     /// Sets the width, in columns, and rewraps every paragraph. A paragraph is left as it is if it has one
     /// line, which fits and, with `show_spaces`, hides no space that fits. Each other paragraph is filled
-    /// and written once.
+    /// and written once. In a measured session, the width is in the caller's unit.
     pub fn set_width(&mut self, width: u16) -> Result<Damage, EditFault>
         ensures ok { IfOk result (SetsWidth width self.old self.new) }
         ensures err { IfErr result (SetsWidthNot width self.old self.new) }
@@ -536,8 +611,52 @@ impl<S: ParagraphStore<Kept>> Session<S> {
             self.alloc,
             &mut self.engine,
             &mut self.store,
-            &mut self.width,
+            &mut self.form,
+            u32::from(width),
+        )
+    }
+
+    /// Sets the width of a measured session, and rewraps paragraphs as `set_width` does. Fails with
+    /// `NotMeasured`, or with `WidthOutOfRange` if the width is 0 or more than 2,147,483,647.
+    pub fn set_measured_width(&mut self, width: u32) -> Result<Damage, AdvanceFault>
+        ensures ok { IfOk result (SetsMeasuredWidth width self.old self.new) }
+        ensures err { IfErr result (SetsMeasuredWidthNot width self.old self.new) }
+        ensures memory { IsErrOf result AdvanceFault.NoMemory → 0 < length (text_at self.old) }
+    {
+        if !self.form.is_measured {
+            return Err(AdvanceFault::NotMeasured);
+        }
+        if is_no_width(width) {
+            return Err(AdvanceFault::WidthOutOfRange);
+        }
+        match set_width(
+            self.alloc,
+            &mut self.engine,
+            &mut self.store,
+            &mut self.form,
             width,
+        ) {
+            Ok(damage) => Ok(damage),
+            Err(_) => Err(AdvanceFault::NoMemory),
+        }
+    }
+
+    /// Sets the advances of the characters from `pos` on, in the unit of the width, and rewraps their
+    /// paragraphs. Nothing is analysed again. The damage names these paragraphs, or none if `advances` is
+    /// empty. Fails with `NotMeasured`, with `OutOfRange` if the range reaches past the end, or with
+    /// `ParagraphTooLong` if the advances of a paragraph would add up to more than 4,294,967,295.
+    pub fn set_advances(&mut self, pos: usize, advances: &[u32]) -> Result<Damage, AdvanceFault>
+        ensures ok { IfOk result (SetsAdvances pos advances.now self.old self.new) }
+        ensures err { IfErr result (SetsAdvancesNot pos advances.now self.old self.new) }
+        ensures memory { IsErrOf result AdvanceFault.NoMemory → 0 < length (text_at self.old) }
+    {
+        set_advances(
+            self.alloc,
+            &mut self.engine,
+            &mut self.store,
+            self.form,
+            pos,
+            advances,
         )
     }
 
@@ -624,7 +743,15 @@ impl<S: ParagraphStore<Kept>> Session<S> {
         if first > lines || count > lines - first {
             return Err(RangeFault::OutOfRange);
         }
-        match write_lines(&self.store, first, count, writer, before, self.width, print) {
+        match write_lines(
+            &self.store,
+            first,
+            count,
+            writer,
+            before,
+            self.form.width,
+            print,
+        ) {
             Ok(written) => Ok(written),
             Err(fault) => Err(RangeFault::Write(fault)),
         }

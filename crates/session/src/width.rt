@@ -1,17 +1,19 @@
 //! Changes the width. The starts and shown lengths of all lines that change are found before any line is
 //! overwritten.
-ghost use Rattle.std.specs.Prelude.{◌≡◌, ◌^◌, ◌<◌, ◌≤◌, ℕ, false, true, is_none, length, map, sum_by};
+ghost use Rattle.std.specs.Prelude.{◌≡◌, ◌^◌, ◌<◌, ◌≤◌, ℕ, Bool, false, true, is_none, length, map, sum_by};
 ghost use Rattle.std.specs.Prelude.{IfOk, IfErr, IfSome, IsErrOf, OnErr, OnOk};
 ghost use Rattle.std.specs.List.{All, AllZip};
 ghost use Rattle.lines.specs.Engine.{rules_of, FindsExtents, FindsExtentsAtMost, SameRules};
 ghost use Rattle.lines.specs.Engine.{Rewrites, RewritesAtMost};
-ghost use Rattle.lines.specs.Layouts.{keeps_lines, IsLaidOut};
-ghost use Rattle.session.specs.Sessions.{IsWholeLayout, SetsWidth, SetsWidthNot};
-ghost use Rattle.session.specs.Kept.{changed, changed_in, put_into, written_for, BringsTo, CanBePut};
+ghost use Rattle.lines.specs.Layouts.{keeps_lines};
+ghost use Rattle.session.specs.Sessions.{state_of, IsWholeLayout, SetsWidth, SetsWidthNot};
+ghost use Rattle.session.specs.Kept.{changed, changed_in, put_into, written_for};
+ghost use Rattle.session.specs.Kept.{BringsTo, CanBePut, IsFresh};
 ghost use Rattle.session.specs.declared.edits.EditFault.TheVariants.{NoMemory};
 ghost use Rattle.store.specs.Exchanging.{pairwise, total_cost};
 
 use crate::edits::{Damage, EditFault};
+use crate::joined::Form;
 use crate::kept::{Kept, Reflow};
 use bidi::paragraphs_are_pieces;
 use lines::{Engine, Extents, Laid, ReflowScratch, lines_are_few};
@@ -23,9 +25,9 @@ fn find_one(
     alloc: Global,
     engine: &mut Engine,
     laid: &Laid,
-    width: u16,
+    width: u32,
 ) -> Result<Option<Extents>, AllocError>
-    requires laid { IsLaidOut (rules_of engine.old) laid.now }
+    requires laid { IsFresh (rules_of engine.old) laid.now }
     requires width { 0 < width }
     ensures ok { IfOk result (BringsTo (rules_of engine.old) width laid.now) }
     ensures kept { IfOk result (λ part.
@@ -41,10 +43,10 @@ fn find_one(
 {
     // The contract of `filled` bounds the count.
     let _filled = engine.filled();
-    if engine.keeps_lines(laid, width as u32) {
+    if engine.keeps_lines(laid, width) {
         return Ok(None);
     }
-    Ok(Some(engine.extents(alloc, laid, width as u32)?))
+    Ok(Some(engine.extents(alloc, laid, width)?))
 }
 
 // Returns the extents of each paragraph's lines at another width, or `None` for a paragraph whose lines do
@@ -53,9 +55,9 @@ fn find_each(
     alloc: Global,
     engine: &mut Engine,
     list: &[&Kept],
-    width: u16,
+    width: u32,
 ) -> Result<Vec<Option<Extents>>, AllocError>
-    requires laid { All (IsLaidOut (rules_of engine.old)) (map (λ kept. kept.now) list.now) }
+    requires laid { All (IsFresh (rules_of engine.old)) (map (λ kept. kept.now) list.now) }
     requires width { 0 < width }
     ensures ok { IfOk result (λ parts.
         AllZip (BringsTo (rules_of engine.old) width) (map (λ kept. kept.now) list.now) parts.items) }
@@ -98,10 +100,10 @@ fn find_all<S: ParagraphStore<Kept>>(
     alloc: Global,
     engine: &mut Engine,
     store: &S,
-    width: u16,
+    width: u32,
 ) -> Result<(Vec<Option<Extents>>, ReflowScratch), AllocError>
-    requires laid { (old : ℕ)
-        × IsWholeLayout (record { engine = engine.old; width = old; kept = S.items store.now }) }
+    requires laid { (old : ℕ) × (is_measured : Bool)
+        × IsWholeLayout (state_of engine.old old is_measured (S.items store.now)) }
     requires width { 0 < width }
     ensures ok { IfOk result (λ found.
         AllZip (BringsTo (rules_of engine.old) width) (S.items store.now) found.0.items) }
@@ -159,16 +161,18 @@ pub fn set_width<S: ParagraphStore<Kept>>(
     alloc: Global,
     engine: &mut Engine,
     store: &mut S,
-    width: &mut u16,
-    new_width: u16,
+    form: &mut Form,
+    new_width: u32,
 ) -> Result<Damage, EditFault>
-    requires { IsWholeLayout (record { engine = engine.old; width = width.old; kept = S.items store.old }) }
+    requires { IsWholeLayout
+        (state_of engine.old form.old.width form.old.is_measured (S.items store.old)) }
     ensures ok { IfOk result (SetsWidth new_width
-        (record { engine = engine.old; width = width.old; kept = S.items store.old })
-        (record { engine = engine.new; width = width.new; kept = S.items store.new })) }
+        (state_of engine.old form.old.width form.old.is_measured (S.items store.old))
+        (state_of engine.new form.new.width form.new.is_measured (S.items store.new))) }
     ensures err { IfErr result (SetsWidthNot new_width
-        (record { engine = engine.old; width = width.old; kept = S.items store.old })
-        (record { engine = engine.new; width = width.new; kept = S.items store.new })) }
+        (state_of engine.old form.old.width form.old.is_measured (S.items store.old))
+        (state_of engine.new form.new.width form.new.is_measured (S.items store.new))) }
+    ensures measured { form.new.is_measured ≡ form.old.is_measured }
     ensures memory { IsErrOf result NoMemory → 0 < length (S.items store.old) }
 {
     if new_width == 0 {
@@ -182,7 +186,7 @@ pub fn set_width<S: ParagraphStore<Kept>>(
     };
     let (count, old_lines) = (store.count(), store.total_lines());
     reflow_all(engine, store, &mut parts, scratch);
-    *width = new_width;
+    form.width = new_width;
     Ok(Damage {
         first_line: 0,
         old_lines,

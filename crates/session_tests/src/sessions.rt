@@ -3,6 +3,8 @@
 //! is not retried.
 mod edges;
 mod hits;
+mod measured;
+mod measured_random;
 mod parts;
 mod places;
 mod random;

@@ -9,10 +9,14 @@ use store::{ParagraphStore, VecStore};
 
 // Pseudorandom numbers from a fixed seed.
 #[derive(Clone, Copy)]
-struct Numbers(u64);
+pub(super) struct Numbers(u64);
 
 impl Numbers {
-    fn below(&mut self, bound: usize) -> usize {
+    pub(super) fn from_seed(seed: u64) -> Numbers {
+        Numbers(seed)
+    }
+
+    pub(super) fn below(&mut self, bound: usize) -> usize {
         self.0 = self
             .0
             .wrapping_mul(6_364_136_223_846_793_005)
@@ -26,7 +30,7 @@ impl Numbers {
 const CHARACTERS: &str = "abcde fg\u{5d0}\u{5d1}\u{5d2}\u{627}12\u{660}  \n\r\u{2029}\u{300}()[],\
     \u{2066}\u{2067}\u{2068}\u{2069}\u{2069}";
 
-fn random_piece(alloc: Global, numbers: &mut Numbers) -> Result<String, AllocError> {
+pub(super) fn random_piece(alloc: Global, numbers: &mut Numbers) -> Result<String, AllocError> {
     let mut piece = String::new(alloc);
     for _ in 0..numbers.below(41) {
         let c = CHARACTERS.chars().nth(numbers.below(33)).unwrap_or('\r');
@@ -269,7 +273,7 @@ pub(super) fn check_edits<S: ParagraphStore<Kept> + Drop, T: ParagraphStore<Kept
     seed: u64,
 ) -> Result<(), Fail> {
     let mut text = String::new(alloc);
-    let result = check_each(rt, alloc, pair, &mut Numbers(seed), &mut text);
+    let result = check_each(rt, alloc, pair, &mut Numbers::from_seed(seed), &mut text);
     drop(text);
     result
 }

@@ -1,19 +1,19 @@
-use Rattle.std.proofs.Common.{◌≡◌, ◌∷◌, ◌++◌, ℕ, ◌+◌, ◌≤◌, length, refl, sym, ap, ap₂, subst, ◌∙◌, arith}
+use Rattle.std.proofs.Common.{◌≡◌, ◌∷◌, ◌++◌, ℕ, None, ◌+◌, ◌≤◌, List, length, refl, sym, ap, ap₂, subst, ◌∙◌, arith}
 use Rattle.std.specs.Result.{OnOk}
 use Rattle.std.specs.Str.{chars}
 use Rattle.std.proofs.lemmas.List.{append-nil}
 use Rattle.bidi.specs.Cuts.{paragraphs}
 use Rattle.lines.specs.Engine.{rules_of, RisesBy}
-use Rattle.lines.specs.Layouts.{cut_by, layout_of, IsParagraph}
-use Rattle.session.specs.Kept.{layouts_of}
-use Rattle.session.proofs.JoinedLemmas.{first_paragraph, layouts_none, others_within, split_length, text_none}
+use Rattle.lines.specs.Layouts.{cut_by, layout_of, with_advances, IsParagraph}
+use Rattle.session.specs.Kept.{first_advances, layouts_of}
+use Rattle.session.proofs.JoinedLemmas.{first_paragraph, layouts_none, others_within, split_length, text_none, text_parts}
 use Rattle.session.proofs.OpenLemmas.{layouts_stored, TotalsFit-front}
 use Rattle.session.proofs.opening.append_all.Goals as goal
 
 pub loop-rest-init : goal.loop-rest-init
 loop-rest-init g c =
     let stored = g.S.ParagraphStore.items c.args.store.now in
-    let all = layouts_of (rules_of c.args.engine.now) c.args.width (chars c.args.text.now) in
+    let all = layouts_of (with_advances (rules_of c.args.engine.now) (first_advances c.args.form.is_measured (length (chars c.args.text.now)))) c.args.form.width (chars c.args.text.now) in
     record {
       utf8 = c.utf8.text;
       laid_out = ap (λ ks. stored ++ ks ++ all) c.new-new.ensures.items ∙ ap (λ ks. ks ++ all) (append-nil stored);
@@ -27,8 +27,8 @@ loop-rest-init g c =
       written_most = omega arith;
     }
 
-pub lay_out_one-requires-clause-paragraph : goal.lay_out_one-requires-clause-paragraph
-lay_out_one-requires-clause-paragraph g c =
+pub lay_out_new-requires-clause-paragraph : goal.lay_out_new-requires-clause-paragraph
+lay_out_new-requires-clause-paragraph g c =
     let by = rules_of c.args.engine.now in
     let rest = chars c.loop-rest.rest.now in
     let first = chars c.split_first.result.0.now in
@@ -48,9 +48,12 @@ append_batch-requires g c =
     let same = c.loop-rest.invariant.rules in
     let split = subst (λ r. paragraphs (cut_by r) rest ≡ first ∷ paragraphs (cut_by r) after) same c.split_first.ensures.paragraphs in
     let text = c.deref.ensures.value ∙ c.in_ok-list.ensures in
-    let one = c.in_ok-lay_out_one.ensures.ok ∙ ap₂ (λ r t. layout_of r c.args.width t) same text in
+    let one = c.in_ok-lay_out_new.ensures.ok
+    ∙ ap₂ (λ r (t : List ℕ). layout_of (with_advances r (first_advances c.args.form.is_measured (length t))) c.args.form.width t) same text in
+    let law = c.paragraphs_are_pieces.ensures in
     let stored = g.S.ParagraphStore.items c.loop-rest.store in
-    let more = layouts_stored by c.args.width _ rest first after stored c.loop-rest.new.items c.push.new.self.items _ split one c.in_ok-push.ensures.items c.loop-rest.invariant.laid_out in
+    let more = layouts_stored c.args.form.is_measured (with_advances by None) c.args.form.width _ rest first after stored c.loop-rest.new.items c.push.new.self.items _ (text_parts law by rest first after split) split one
+    c.in_ok-push.ensures.items c.loop-rest.invariant.laid_out in
     TotalsFit-front (stored ++ c.push.new.self.items) _ _ more c.requires.fit
 
 pub loop-rest-smaller : goal.loop-rest-smaller
@@ -66,21 +69,23 @@ loop-rest-preserved g c =
     let law = c.paragraphs_are_pieces.ensures in
     let split = subst (λ r. paragraphs (cut_by r) rest ≡ first ∷ paragraphs (cut_by r) after) same c.split_first.ensures.paragraphs in
     let text = c.deref.ensures.value ∙ c.in_ok-list.ensures in
-    let one = c.in_ok-lay_out_one.ensures.ok ∙ ap₂ (λ r t. layout_of r c.args.width t) same text in
+    let one = c.in_ok-lay_out_new.ensures.ok
+    ∙ ap₂ (λ r (t : List ℕ). layout_of (with_advances r (first_advances c.args.form.is_measured (length t))) c.args.form.width t) same text in
     let stored = g.S.ParagraphStore.items c.loop-rest.store in
-    let more = layouts_stored by c.args.width _ rest first after stored c.loop-rest.new.items c.push.new.self.items _ split one c.in_ok-push.ensures.items c.loop-rest.invariant.laid_out in
+    let more = layouts_stored c.args.form.is_measured (with_advances by None) c.args.form.width _ rest first after stored c.loop-rest.new.items c.push.new.self.items _ (text_parts law by rest first after split) split one
+    c.in_ok-push.ensures.items c.loop-rest.invariant.laid_out in
     let lengths = split_length law by rest first after split in
     record {
       utf8 = c.split_first.ensures.text.1;
-      laid_out = ap (λ ks. ks ++ layouts_of by c.args.width after) c.in_ok-new.ensures ∙ more;
+      laid_out = ap (λ ks. ks ++ layouts_of (with_advances by (first_advances c.args.form.is_measured (length after))) c.args.form.width after) c.in_ok-new.ensures ∙ more;
       within = others_within law by rest first after split c.loop-rest.invariant.within;
-      rules = c.in_ok-lay_out_one.ensures.rules ∙ same;
-      analysed = omega (arith, c.loop-rest.invariant.analysed, c.in_ok-lay_out_one.ensures.counts.analysed.least);
-      analysed_most = omega (arith, c.loop-rest.invariant.analysed_most, c.in_ok-lay_out_one.ensures.counts.analysed.most, ap length text, lengths);
-      filled = omega (arith, c.loop-rest.invariant.filled, c.in_ok-lay_out_one.ensures.counts.filled.least);
-      filled_most = omega (arith, c.loop-rest.invariant.filled_most, c.in_ok-lay_out_one.ensures.counts.filled.most, ap length text, lengths);
-      written = omega (arith, c.loop-rest.invariant.written, c.in_ok-lay_out_one.ensures.counts.written.least);
-      written_most = omega (arith, c.loop-rest.invariant.written_most, c.in_ok-lay_out_one.ensures.counts.written.most, ap length text, lengths);
+      rules = c.in_ok-lay_out_new.ensures.rules ∙ same;
+      analysed = omega (arith, c.loop-rest.invariant.analysed, c.in_ok-lay_out_new.ensures.counts.analysed.least);
+      analysed_most = omega (arith, c.loop-rest.invariant.analysed_most, c.in_ok-lay_out_new.ensures.counts.analysed.most, ap length text, lengths);
+      filled = omega (arith, c.loop-rest.invariant.filled, c.in_ok-lay_out_new.ensures.counts.filled.least);
+      filled_most = omega (arith, c.loop-rest.invariant.filled_most, c.in_ok-lay_out_new.ensures.counts.filled.most, ap length text, lengths);
+      written = omega (arith, c.loop-rest.invariant.written, c.in_ok-lay_out_new.ensures.counts.written.least);
+      written_most = omega (arith, c.loop-rest.invariant.written_most, c.in_ok-lay_out_new.ensures.counts.written.most, ap length text, lengths);
     }
 
 pub append-requires : goal.append-requires
@@ -92,7 +97,8 @@ returns-clause-ok g c =
     let by = rules_of c.args.engine.now in
     let rest = c.loop-rest.rest.now in
     let none = text_none rest _ c.is_empty.ensures c.loop-rest-test.false in
-    let all = layouts_none by c.args.width _ (chars rest) (g.S.ParagraphStore.items c.loop-rest.store ++ c.loop-rest.new.items) none c.loop-rest.invariant.laid_out in
+    let all = layouts_none (with_advances by None) c.args.form.width _ (chars rest) (first_advances c.args.form.is_measured (length (chars rest)))
+    (g.S.ParagraphStore.items c.loop-rest.store ++ c.loop-rest.new.items) c.loop-rest.invariant.laid_out none in
     subst (λ ks. OnOk c.append.result (g.S.ParagraphStore.items c.append.new.store ≡ ks)) all c.append.ensures
 
 -- a count that rises by part of what is left
@@ -108,7 +114,7 @@ returns-in_err-push-clause-counts g c =
     let split = subst (λ r. paragraphs (cut_by r) rest ≡ first ∷ paragraphs (cut_by r) after) c.loop-rest.invariant.rules c.split_first.ensures.paragraphs in
     let within : length c.deref.result.now ≤ length rest = omega (arith, ap length (c.deref.ensures.value ∙ c.in_ok-list.ensures), split_length c.paragraphs_are_pieces.ensures by rest first after split) in
     let so_far = c.loop-rest.invariant in
-    let counts = c.in_ok-lay_out_one.ensures.counts in
+    let counts = c.in_ok-lay_out_new.ensures.counts in
     record {
       analysed = rises _ _ _ _ _ _ so_far.analysed so_far.analysed_most within counts.analysed;
       filled = rises _ _ _ _ _ _ so_far.filled so_far.filled_most within counts.filled;
@@ -124,7 +130,7 @@ returns-in_err-new-clause-counts g c =
     let split = subst (λ r. paragraphs (cut_by r) rest ≡ first ∷ paragraphs (cut_by r) after) c.loop-rest.invariant.rules c.split_first.ensures.paragraphs in
     let within : length c.deref.result.now ≤ length rest = omega (arith, ap length (c.deref.ensures.value ∙ c.in_ok-list.ensures), split_length c.paragraphs_are_pieces.ensures by rest first after split) in
     let so_far = c.loop-rest.invariant in
-    let counts = c.in_ok-lay_out_one.ensures.counts in
+    let counts = c.in_ok-lay_out_new.ensures.counts in
     record {
       analysed = rises _ _ _ _ _ _ so_far.analysed so_far.analysed_most within counts.analysed;
       filled = rises _ _ _ _ _ _ so_far.filled so_far.filled_most within counts.filled;

@@ -1,18 +1,19 @@
-use Rattle.std.proofs.Common.{◌≡◌, ◌≤◌, ◌+◌, ◌++◌, true, length}
+use Rattle.std.proofs.Common.{◌≡◌, ℕ, List, ◌≤◌, ◌+◌, ◌++◌, true, length}
 use denote.Text.{Utf8}
 use denote.Shadow.{shadow}
 use Rattle.std.specs.Str.{chars}
 use Rattle.lines.specs.Engine.{rules_of, analysed_of, filled_of, written_of, SameRules}
 use Rattle.lines.specs.Layouts.{cut_by}
 use Rattle.session.specs.Edits.{is_within_limit}
-use Rattle.session.specs.Kept.{layouts_of}
+use Rattle.lines.specs.Layouts.{with_advances}
+use Rattle.session.specs.Kept.{first_advances, layouts_of}
 use Rattle.session.proofs.opening.append_all.Given as goal
 
 -- the layouts so far, in the store or not, are followed by those of the remaining text
 abbrev pub invariant-loop-rest : goal.invariant-loop-rest
 invariant-loop-rest g l =
     let items = g.S.ParagraphStore.items in
-    let keep = layouts_of (rules_of l.fn.engine) l.width in
+    let keep = λ (text : List ℕ). layouts_of (with_advances (rules_of l.fn.engine) (first_advances l.form.is_measured (length text))) l.form.width text in
     let left = length (chars l.rest) in
     let all = length (chars l.text) in
     record {

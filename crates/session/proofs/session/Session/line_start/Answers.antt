@@ -1,13 +1,13 @@
 use Rattle.std.proofs.Common.{ap, sym, is_none, length, ◌∙◌}
 use Rattle.session.specs.Kept.{lines_in}
 use Rattle.session.specs.Places.{line_starts}
-use Rattle.session.specs.Sessions.{SessionState}
+use Rattle.session.specs.Sessions.{SessionState, state_of}
 use Rattle.session.proofs.PlaceLemmas.{length-lines_from, none_past, text_short}
 use Rattle.session.proofs.session.Session.line_start.Goals as goal
 
 pub line_start-requires : goal.line_start-requires
 line_start-requires g c =
-    let state : SessionState = record { engine = c.self.inside.engine; width = c.self.inside.width; kept = g.S.ParagraphStore.items c.self.inside.store } in
+    let state : SessionState = state_of c.self.inside.engine c.self.inside.form.width c.self.inside.form.is_measured (g.S.ParagraphStore.items c.self.inside.store) in
     text_short state c.self.invariant
 
 pub returns-clause-start : goal.returns-clause-start

@@ -5,7 +5,7 @@ use Rattle.session.proofs.session.Session.place.Goals as goal
 
 pub place_of-requires : goal.place_of-requires
 place_of-requires g c =
-    lines_lined c.paragraphs_are_pieces.ensures c.lines_begin_in_order.ensures c.self.inside.engine c.self.inside.width (g.S.ParagraphStore.items c.self.inside.store) c.self.invariant
+    lines_lined c.paragraphs_are_pieces.ensures c.lines_begin_in_order.ensures c.self.inside.engine c.self.inside.form.width c.self.inside.form.is_measured (g.S.ParagraphStore.items c.self.inside.store) c.self.invariant
 
 pub returns-clause-place : goal.returns-clause-place
 returns-clause-place g c = rw (← c.self.view_is) c.place_of.ensures

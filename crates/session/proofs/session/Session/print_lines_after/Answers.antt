@@ -32,7 +32,7 @@ returns-in-Err-clause-err g c =
     let count : c.args.count ≡ c.args.first + c.args.count - c.args.first = omega arith in
     rw (← c.self.view_is) (
       omega (arith, c.if-first-lines.false, c.if-count-lines.false, c.total_lines-lines.ensures, length-lines kept),
-      subst (λ n. StoppedIn (flat_map (line_bytes c.self.inside.width c.args.print.now)
+      subst (λ n. StoppedIn (flat_map (line_bytes c.self.inside.form.width c.args.print.now)
           (take n (drop c.args.first (lines_in kept)))) c.args.before (g.W.Sink.state c.args.writer.now)
           (g.W.Sink.state c.write_lines.new.writer) c.in-Err.fault.written) count c.in-Err.ensures.err,
     )

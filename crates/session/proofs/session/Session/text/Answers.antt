@@ -5,7 +5,7 @@ use Rattle.session.proofs.session.Session.text.Goals as goal
 
 pub text_part-requires : goal.text_part-requires
 text_part-requires g c =
-    lines_lined c.paragraphs_are_pieces.ensures c.lines_begin_in_order.ensures c.self.inside.engine c.self.inside.width (g.S.ParagraphStore.items c.self.inside.store) c.self.invariant
+    lines_lined c.paragraphs_are_pieces.ensures c.lines_begin_in_order.ensures c.self.inside.engine c.self.inside.form.width c.self.inside.form.is_measured (g.S.ParagraphStore.items c.self.inside.store) c.self.invariant
 
 pub returns-clause-part : goal.returns-clause-part
 returns-clause-part g c = rw (← c.self.view_is) c.text_part.ensures.part

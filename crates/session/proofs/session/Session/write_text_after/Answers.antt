@@ -16,7 +16,7 @@ returns-then-pos-chars-clause-err g c =
 
 pub write_text-requires-clause-lined : goal.write_text-requires-clause-lined
 write_text-requires-clause-lined g c =
-    lines_lined c.paragraphs_are_pieces.ensures c.lines_begin_in_order.ensures c.self.inside.engine c.self.inside.width (g.S.ParagraphStore.items c.self.inside.store) c.self.invariant
+    lines_lined c.paragraphs_are_pieces.ensures c.lines_begin_in_order.ensures c.self.inside.engine c.self.inside.form.width c.self.inside.form.is_measured (g.S.ParagraphStore.items c.self.inside.store) c.self.invariant
 
 pub write_text-requires-clause-within : goal.write_text-requires-clause-within
 write_text-requires-clause-within g c =

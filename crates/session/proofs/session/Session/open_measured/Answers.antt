@@ -1,0 +1,25 @@
+use Rattle.std.proofs.Common.{◌≡◌, ◌∙◌, ℕ, false, true, sym, subst}
+use Rattle.std.specs.Str.{chars}
+use Rattle.lines.specs.Engine.{rules_of}
+use Rattle.lines.specs.Layouts.{cut_by}
+use Rattle.session.specs.Sessions.{measured_refusal, opening_refusal, state_of, OpensAs}
+use Rattle.session.proofs.OpenLemmas.{measured-text, opening-text}
+use Rattle.session.proofs.session.Session.open_measured.Goals as goal
+
+pub invariant_of-result : goal.invariant_of-result
+invariant_of-result g c =
+    let is_cut = cut_by (rules_of c.args.engine) in
+    let whole = chars c.args.text.now in
+    (c.in-Ok.ensures.ok (measured_refusal is_cut whole c.args.width) (measured-text is_cut whole c.args.width (sym c.is_no_width.ensures ∙ c.if-is_no_width.false))).laid_out
+
+pub returns-in-Ok-clause-ok : goal.returns-in-Ok-clause-ok
+returns-in-Ok-clause-ok g c =
+    let is_cut = cut_by (rules_of c.args.engine) in
+    let whole = chars c.args.text.now in
+    c.in-Ok.ensures.ok (measured_refusal is_cut whole c.args.width) (measured-text is_cut whole c.args.width (sym c.is_no_width.ensures ∙ c.if-is_no_width.false))
+
+pub returns-in-Err-clause-err : goal.returns-in-Err-clause-err
+returns-in-Err-clause-err g c =
+    let is_cut = cut_by (rules_of c.args.engine) in
+    let whole = chars c.args.text.now in
+    c.in-Err.ensures.err (measured_refusal is_cut whole c.args.width) (measured-text is_cut whole c.args.width (sym c.is_no_width.ensures ∙ c.if-is_no_width.false))
