@@ -12,12 +12,12 @@ use Rattle.bidi.specs.Cuts.{paragraphs}
 use Rattle.reorder.specs.Order.{is_odd}
 use Rattle.lines.specs.Clusters.{after}
 use Rattle.lines.specs.Columns.{columns_between, columns_left, width_at, widths}
-use Rattle.lines.specs.Layouts.{Layout, Rules, cut_by, layout_of, visuals}
+use Rattle.lines.specs.Layouts.{Layout, Rules, cut_by, layout_of, visuals, with_advances}
 use Rattle.lines.specs.Visual.{Visual}
 use Rattle.session.specs.Carets.{caret_at, leading_edge, line_end, trailing_edge}
 use Rattle.session.specs.Clusters.{cluster_at}
 use Rattle.session.specs.Edges.{caret_beside, caret_of, column_on, edge_caret_by}
-use Rattle.session.specs.Kept.{layouts_of, lines_in, text_of}
+use Rattle.session.specs.Kept.{back_advances, front_advances, layouts_from, layouts_of, lines_in, text_of}
 use Rattle.session.specs.Places.{place_in}
 use Rattle.session.specs.Units.{column_before, column_by, holder, is_in_unit, leading_of, takes_columns, unit_end, unit_of, unit_start}
 use Rattle.session.specs.declared.carets.Caret.{Caret}
@@ -30,11 +30,13 @@ pub same_some : {A : Type 0} (x y : A) → Some x ≡ Some y → x ≡ y
 same_some {A = A} x y is = ap (λ (o : Option A). unwrap_or o x) is
 
 -- what holds of each line of each layout holds of each line of a text
-in_all : (P : Visual → Type 0) (rules : Rules) (width : ℕ) → ((text : List ℕ) → All P (visuals (layout_of rules width text)))
-    → (pars : List (List ℕ)) → All P (flat_map visuals (map (layout_of rules width) pars))
-in_all P rules width each [] = All-nil P
-in_all P rules width each (par ∷ pars) =
-    All-append P (visuals (layout_of rules width par)) (flat_map visuals (map (layout_of rules width) pars)) (each par) (in_all P rules width each pars)
+in_all : (P : Visual → Type 0) (rules : Rules) (width : ℕ) → ((own : Rules) (text : List ℕ) → All P (visuals (layout_of own width text)))
+    → (advances : Option (List ℕ)) (pars : List (List ℕ)) → All P (flat_map visuals (layouts_from rules width advances pars))
+in_all P rules width each advances [] = All-nil P
+in_all P rules width each advances (par ∷ pars) =
+    let own = with_advances rules (front_advances (length par) advances) in
+    All-append P (visuals (layout_of own width par)) (flat_map visuals (layouts_from rules width (back_advances (length par) advances) pars)) (each own par)
+    (in_all P rules width each (back_advances (length par) advances) pars)
 
 at_place : (P : Visual → Type 0) (lines : List Visual) (n : ℕ) (line : Visual) → All P lines → Some line ≡ slice_get lines n → P line
 at_place P [] n line all is = absurd (none-some line (sym is))
@@ -121,11 +123,11 @@ module _ (line : Visual) where
 
 -- what holds of each line of each layout holds of a line of a text
 pub in_kept : (rules : Rules) (width : ℕ) (kept : List Layout) → kept ≡ layouts_of rules width (text_of kept)
-    → (P : Visual → Type 0) → ((text : List ℕ) → All P (visuals (layout_of rules width text)))
+    → (P : Visual → Type 0) → ((own : Rules) (text : List ℕ) → All P (visuals (layout_of own width text)))
     → (n : ℕ) (line : Visual) → Some line ≡ slice_get (lines_in kept) n → P line
 in_kept rules width kept laid P each n line is =
     at_place P (lines_in kept) n line
-    (subst (λ (k : List Layout). All P (lines_in k)) (sym laid) (in_all P rules width each (paragraphs (cut_by rules) (text_of kept)))) is
+    (subst (λ (k : List Layout). All P (lines_in k)) (sym laid) (in_all P (with_advances rules None) width each rules.advances (paragraphs (cut_by rules) (text_of kept)))) is
 
 module _ (kept : List Layout) where
   -- the line of a caret, and the bound on its column

@@ -4,18 +4,18 @@ use Rattle.std.proofs.lemmas.Bool.{cond-true, true≢false}
 use Rattle.std.proofs.lemmas.List.{append-nil}
 use Rattle.bidi.specs.Cuts.{paragraphs}
 use Rattle.lines.specs.Engine.{LaysOutAtMost, Fills, FillsAtMost, FindsExtentsAtMost, RisesBy, analysed_of, counted, filled_of, written_of, rules_of}
-use Rattle.lines.specs.Layouts.{Rules, layout_of}
+use Rattle.lines.specs.Layouts.{Rules, with_advances}
 use Rattle.lines.specs.declared.engine.Engine.{Engine}
 use Rattle.session.specs.Edits.{Replacement, Held, refusal, width_refusal}
-use Rattle.session.specs.Kept.{changed, pars_of}
-use Rattle.session.specs.Sessions.{SessionState, IsWholeLayout, IsAnswerFor, IsCountedFor, Edits, EditsNot, SetsWidth, SetsWidthNot, cuts_at, held_at, text_at}
+use Rattle.session.specs.Kept.{back_advances, changed, layouts_from, pars_of}
+use Rattle.session.specs.Sessions.{SessionState, IsWholeLayout, IsAnswerFor, IsCountedFor, Edits, EditsNot, SetsWidth, SetsWidthNot, cuts_at, held_at, text_at, layouts_at}
 use Rattle.session.specs.Touched.{fresh}
 use Rattle.session.specs.declared.edits.Damage.{Damage}
 use Rattle.session.specs.declared.edits.EditFault.{EditFault}
 use Rattle.session.specs.declared.edits.EditFault.TheVariants.{OutOfRange, WidthOutOfRange, TextTooLong, ParagraphTooLong, NoMemory}
 use Rattle.tool.specs.Scripts.{command_of_line}
 use Rattle.script_commands.specs.Commands.{Command, SetWidth}
-use Rattle.tool.specs.ScriptRun.{after_line, after_lines, is_good, layouts_at, command_refusal}
+use Rattle.tool.specs.ScriptRun.{after_line, after_lines, is_good, command_refusal}
 use Rattle.tool.specs.Work.{CommandWorks, LineWorks, LinesWork, Works, analysed_by, filled_by, work_of_line, work_of_lines}
 
 -- ---- counts
@@ -74,22 +74,23 @@ counted_for reason n m bound old new TextTooLong a counts by = worked_none reaso
 counted_for reason n m bound old new ParagraphTooLong a counts by = worked_none reason n m old new counts
 counted_for reason n m bound old new NoMemory a counts by = by a counts
 
-pars_of_layouts : (rules : Rules) (width : ℕ) (pars : List (List ℕ)) → pars_of (map (layout_of rules width) pars) ≡ pars
-pars_of_layouts rules width [] = refl
-pars_of_layouts rules width (p ∷ pars) = ap (λ ps. p ∷ ps) (pars_of_layouts rules width pars)
+pars_of_layouts : (rules : Rules) (width : ℕ) (advances : Option (List ℕ)) (pars : List (List ℕ)) → pars_of (layouts_from rules width advances pars) ≡ pars
+pars_of_layouts rules width advances [] = refl
+pars_of_layouts rules width advances (p ∷ pars) = ap (λ ps. p ∷ ps) (pars_of_layouts rules width (back_advances (length p) advances) pars)
 
 pars_kept : (state : SessionState) → IsWholeLayout state → pars_of state.kept ≡ paragraphs (cuts_at state) (text_at state)
-pars_kept state whole = ap pars_of whole.kept ∙ pars_of_layouts (rules_of state.engine) state.width (paragraphs (cuts_at state) (text_at state))
+pars_kept state whole =
+    ap pars_of whole.kept ∙ pars_of_layouts (with_advances (rules_of state.engine) None) state.width state.advances (paragraphs (cuts_at state) (text_at state))
 
 pub edit_works : (edit : Replacement) (old new : SessionState) (result : Result Damage EditFault) → IsWholeLayout old → IfOk result (Edits edit old new) → IfErr result (EditsNot edit old new)
-    → Worked (refusal (cuts_at old) (text_at old) edit) (fresh (paragraphs (cuts_at old) (text_at old)) edit) (fresh (paragraphs (cuts_at old) (text_at old)) edit) old.engine new.engine
+    → Worked (refusal (cuts_at old) old.advances (text_at old) edit) (fresh (paragraphs (cuts_at old) (text_at old)) edit) (fresh (paragraphs (cuts_at old) (text_at old)) edit) old.engine new.engine
 edit_works edit old new (Ok damage) whole m r =
     let n = fresh (paragraphs (cuts_at old) (text_at old)) edit in
-    laid_out (refusal (cuts_at old) (text_at old) edit) n old.engine new.engine m.accepted
+    laid_out (refusal (cuts_at old) old.advances (text_at old) edit) n old.engine new.engine m.accepted
     (subst (λ ps. LaysOutAtMost (fresh ps edit) old.engine new.engine) (pars_kept old whole) m.counts)
 edit_works edit old new (Err fault) whole m r =
     let n = fresh (paragraphs (cuts_at old) (text_at old)) edit in
-    let reason = refusal (cuts_at old) (text_at old) edit in
+    let reason = refusal (cuts_at old) old.advances (text_at old) edit in
     counted_for reason n n (LaysOutAtMost n) old.engine new.engine fault r.answer
     (subst (λ ps. IsCountedFor fault (LaysOutAtMost (fresh ps edit)) old.engine new.engine) (pars_kept old whole) r.counts)
     (λ e counts. laid_out reason n old.engine new.engine e counts)

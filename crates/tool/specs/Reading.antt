@@ -9,7 +9,7 @@ use Rattle.lines.specs.Layouts.{Rules}
 use Rattle.lines.specs.Writing.{PassedOn, StoppedIn}
 use Rattle.lines.specs.declared.printing.print.Print.{Print}
 use Rattle.session.specs.Edits.{Held}
-use Rattle.session.specs.Sessions.{SessionState, held_at}
+use Rattle.session.specs.Sessions.{SessionState, held_at, layouts_at}
 use Rattle.session.specs.declared.edits.Damage.{Damage}
 use Rattle.session.specs.declared.edits.EditFault.{EditFault}
 use Rattle.session.specs.declared.edits.EditFault.TheVariants.{NoMemory}
@@ -17,7 +17,7 @@ use Rattle.tool.specs.Queries.{AsksMemory}
 use Rattle.tool.specs.Scripts.{is_line_end, command_of_line}
 use Rattle.script_commands.specs.Commands.{LacksInserted, Command, Insert, Delete, SetWidth, Show, Ask}
 use Rattle.tool.specs.ScriptEnds.{IsScriptRun}
-use Rattle.tool.specs.ScriptRun.{after_line, after_lines, answer_line, answer_to, after_command, answers, damage_text, is_good, executed, executed_text, command_refusal, layouts_at, refusal_text, with_ends}
+use Rattle.tool.specs.ScriptRun.{after_line, after_lines, answer_line, answer_to, after_command, answers, damage_text, is_good, executed, executed_text, command_refusal, refusal_text, with_ends}
 use Rattle.tool.specs.Work.{LineWorks, LinesWork}
 use Rattle.text_run.specs.declared.faults.RunFault.{RunFault}
 use Rattle.stream.specs.declared.reading.TheConstants.{CHUNK}

@@ -2,12 +2,11 @@
 use Rattle.std.specs.Prelude.{ℕ, ◌+◌, ◌-◌, nat_lt, Bool, List, [], ◌∷◌, ◌++◌, length, map, take, take_while, codes, slice_range, Option, Some, None, is_some, is_none, if◌then◌else◌}
 use Rattle.std.specs.Fmt.{decimal}
 use Rattle.std.specs.List.{concat, list_all}
-use Rattle.bidi.specs.Cuts.{paragraphs}
 use Rattle.lines.specs.Layouts.{Layout, Rules, cut_by}
-use Rattle.lines.specs.Pages.{page}
 use Rattle.lines.specs.declared.printing.print.Print.{Print}
-use Rattle.session.specs.Edits.{Replacement, Held, replaced, deletion, insertion, refusal, width_refusal}
-use Rattle.session.specs.Kept.{layouts_of, lines_in, pars_of}
+use Rattle.session.specs.Edits.{Replacement, Held, edited, deletion, insertion, refusal, width_refusal}
+use Rattle.session.specs.Kept.{lines_in, pars_of}
+use Rattle.session.specs.Sessions.{layouts_at, page_of}
 use Rattle.session.specs.Touched.{first_touched, touched_count}
 use Rattle.session.specs.declared.edits.EditFault.{EditFault}
 use Rattle.session.specs.declared.edits.EditFault.TheVariants as refused
@@ -25,26 +24,22 @@ use Rattle.tool.specs.declared.script.TheConstants.{LINE_LIMIT}
 
 -- the reason for refusing a command, or `None`
 abbrev pub command_refusal : Rules → Held → Command → Option EditFault
-command_refusal rules held (Insert pos inserted) = refusal (cut_by rules) held.text (insertion pos inserted)
-command_refusal rules held (Delete pos count) = refusal (cut_by rules) held.text (deletion pos count)
+command_refusal rules held (Insert pos inserted) = refusal (cut_by rules) held.advances held.text (insertion pos inserted)
+command_refusal rules held (Delete pos count) = refusal (cut_by rules) held.advances held.text (deletion pos count)
 command_refusal rules held (SetWidth width) = if nat_lt 65535 width then Some refused.WidthOutOfRange else width_refusal width
 command_refusal rules held Show = None
 command_refusal rules held (Ask query) = None
 
--- the text and the width after a command
+-- the text, the width and the advances after a command
 abbrev pub executed : Held → Command → Held
-executed held (Insert pos inserted) = record { text = replaced held.text (insertion pos inserted); width = held.width }
-executed held (Delete pos count) = record { text = replaced held.text (deletion pos count); width = held.width }
-executed held (SetWidth width) = record { text = held.text; width = width }
+executed held (Insert pos inserted) = edited held (insertion pos inserted)
+executed held (Delete pos count) = edited held (deletion pos count)
+executed held (SetWidth width) = record held { width = width }
 executed held Show = held
 executed held (Ask query) = held
 
 abbrev pub after_command : Rules → Held → Command → Held
 after_command rules held command = if is_none (command_refusal rules held command) then executed held command else held
-
--- the fresh layouts of a text at a width
-abbrev pub layouts_at : Rules → Held → List Layout
-layouts_at rules held = layouts_of rules held.width held.text
 
 -- the reply to an edit in which `new` lines replace `old` lines from `first` on
 abbrev pub damage_text : ℕ → ℕ → ℕ → List ℕ
@@ -62,7 +57,7 @@ abbrev pub executed_text : Rules → Print → Held → Command → List ℕ
 executed_text rules print held (Insert pos inserted) = edit_text (layouts_at rules held) (layouts_at rules (executed held (Insert pos inserted))) (insertion pos inserted)
 executed_text rules print held (Delete pos count) = edit_text (layouts_at rules held) (layouts_at rules (executed held (Delete pos count))) (deletion pos count)
 executed_text rules print held (SetWidth width) = damage_text 0 (length (lines_in (layouts_at rules held))) (length (lines_in (layouts_at rules (executed held (SetWidth width)))))
-executed_text rules print held Show = page rules held.width print (paragraphs (cut_by rules) held.text)
+executed_text rules print held Show = page_of rules print held
 executed_text rules print held (Ask query) = query_text rules print held.width (layouts_at rules held) query
 
 -- the reply to a refused command
@@ -82,7 +77,7 @@ answer_to rules print held command = answer_by (command_refusal rules held comma
 
 -- ---- lines
 
--- The text and the width after lines are executed in order, and the replies to these lines. A line without a
+-- The text, the width and the advances after lines are executed in order, and the replies to these lines. A line without a
 -- command changes nothing.
 abbrev pub after_line : Rules → Held → Option Command → Held
 after_line rules held None = held

@@ -7,8 +7,9 @@ use Rattle.lines.specs.Layouts.{Rules, cut_by}
 use Rattle.lines.specs.declared.engine.Engine.{Engine}
 use Rattle.session.specs.Edits.{Held, deletion, insertion}
 use Rattle.session.specs.Kept.{changed}
+use Rattle.session.specs.Sessions.{layouts_at}
 use Rattle.session.specs.Touched.{fresh}
-use Rattle.tool.specs.ScriptRun.{after_line, layouts_at, command_refusal}
+use Rattle.tool.specs.ScriptRun.{after_line, command_refusal}
 use Rattle.tool.specs.Scripts.{command_of_line}
 use Rattle.script_commands.specs.Commands.{Command, Insert, Delete, SetWidth, Show, Ask}
 

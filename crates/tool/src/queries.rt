@@ -27,19 +27,19 @@ use store::ParagraphStore;
 use text_run::RunFault;
 
 // Returns the number of screen columns to the left of a line's shown part.
-fn screen_left(line: &VisualLine<'_>, width: u16, print: &Print) -> usize
+fn screen_left(line: &VisualLine<'_>, width: u32, print: &Print) -> usize
     ensures value { result ≡ screen_left print.now width line.now }
     ensures fits { result < 2 ^ 32 }
 {
     if print.nopad {
         0
     } else {
-        line.padding(width as u32) as usize
+        line.padding(width) as usize
     }
 }
 
 // Returns the number of screen columns to the left of a line that does not exist yet, given its base level.
-fn empty_left(level: u8, width: u16, print: &Print) -> usize
+fn empty_left(level: u8, width: u32, print: &Print) -> usize
     ensures value { result ≡ empty_left print.now width level }
     ensures fits { result < 2 ^ 32 }
 {
@@ -56,8 +56,8 @@ fn told_caret<S: ParagraphStore<Kept>>(session: &Session<S>, print: &Print, care
     ensures { result.items ≡ told (caret_numbers print.now session.now.width session.now.kept caret) }
 {
     let left = match session.line(caret.line) {
-        Some(line) => screen_left(&line, session.width(), print),
-        None => empty_left(caret.level, session.width(), print),
+        Some(line) => screen_left(&line, session.measured_width(), print),
+        None => empty_left(caret.level, session.measured_width(), print),
     };
     told(&[caret.line, left + caret.column, caret.level as usize])
 }
@@ -104,7 +104,7 @@ fn screen_hit<S: ParagraphStore<Kept>>(
     ensures { result ≡ screen_hit print.now session.now.width session.now.kept n column }
 {
     let line = session.line(n)?;
-    let left = screen_left(&line, session.width(), print);
+    let left = screen_left(&line, session.measured_width(), print);
     if column >= left {
         return session.hit(n, column - left);
     }
@@ -236,7 +236,7 @@ fn left_on<S: ParagraphStore<Kept>>(session: &Session<S>, print: &Print, n: usiz
         (slice_get (lines_in session.now.kept) n) }
 {
     match session.line(n) {
-        Some(line) => screen_left(&line, session.width(), print),
+        Some(line) => screen_left(&line, session.measured_width(), print),
         None => 0,
     }
 }
@@ -355,7 +355,7 @@ fn write_selection<W: Sink, S: ParagraphStore<Kept>>(
     let Some(line) = session.line(n) else {
         return write_bytes(writer, written, &out_of_range());
     };
-    let left = screen_left(&line, session.width(), print);
+    let left = screen_left(&line, session.measured_width(), print);
     let (start, end) = (start.saturating_sub(at), end.saturating_sub(at));
     write_spans(writer, written, left, &line, start, end)
 }

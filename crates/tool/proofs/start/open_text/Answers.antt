@@ -38,6 +38,6 @@ returns-clause-err g c =
     ) in
     let text = c.front.ensures.text ∙ take_all (utf8_valid_len bytes) bytes (omega (arith, valid)) in
     let rules = rules_of c.args.engine in
-    let reason = subst (λ (t : List ℕ). IsAnswerFor (opening_refusal (cut_by rules) (chars t) c.args.width) c.in-Err.fault) text c.in-Err.ensures.err.reason in
+    let reason = subst (λ (t : List ℕ). IsAnswerFor (opening_refusal (cut_by rules) (chars t) c.args.width) c.in-Err.fault) text c.in-Err.ensures.err.reason_is in
     rw c.start_fault.ensures (start_fault_is rules bytes c.args.width c.requires valid c.in-Err.fault reason
     (λ wants. subst (λ (t : List ℕ). 0 < length (chars t)) text (c.in-Err.ensures.memory wants)))
