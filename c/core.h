@@ -4,7 +4,7 @@
  *
  * The parameters have the names of the crate's, as tests/c/exports checks. `n` is the index of a line. An array is a
  * pointer and a length. The pointer is never NULL and is aligned for its type, even if the length is 0. A status is one
- * of the numbers 0 to 12 in hordguli.h. */
+ * of the numbers 0 to 12 in hordguli.h, or 16. */
 #ifndef HORDGULI_CORE_H
 #define HORDGULI_CORE_H
 
@@ -39,6 +39,8 @@ uint32_t hordguli_core_valid_utf8(const uint8_t *bytes, size_t bytes_length, siz
 
 uint32_t hordguli_core_session_open(hordguli_session *session, hordguli_tables *tables, uint32_t options,
                                     uint16_t width, const uint8_t *text, size_t text_length);
+uint32_t hordguli_core_session_open_measured(hordguli_session *session, hordguli_tables *tables, uint32_t options,
+                                             uint32_t width, const uint8_t *text, size_t text_length);
 void hordguli_core_session_close(hordguli_session *session);
 
 uint32_t hordguli_core_insert(hordguli_session *session, size_t pos, const uint8_t *text, size_t text_length,
@@ -47,6 +49,9 @@ uint32_t hordguli_core_delete(hordguli_session *session, size_t pos, size_t coun
 uint32_t hordguli_core_replace(hordguli_session *session, size_t pos, size_t count, const uint8_t *text,
                                size_t text_length, hordguli_damage *damage);
 uint32_t hordguli_core_set_width(hordguli_session *session, uint16_t width, hordguli_damage *damage);
+uint32_t hordguli_core_set_measured_width(hordguli_session *session, uint32_t width, hordguli_damage *damage);
+uint32_t hordguli_core_set_advances(hordguli_session *session, size_t pos, const uint32_t *advances,
+                                    size_t advances_length, hordguli_damage *damage);
 
 uint32_t hordguli_core_session_counts(hordguli_session *session, hordguli_counts *counts);
 uint32_t hordguli_core_session_work(hordguli_session *session, hordguli_work *work);

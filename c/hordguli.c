@@ -39,9 +39,9 @@ static size_t times(size_t count, size_t size) { return count > SIZE_MAX / size 
 #define OR(pointer, other) ((pointer) == NULL ? &(other) : (pointer))
 #define LENGTH(pointer, count) ((pointer) == NULL ? 0 : (count))
 
-/* Used instead of NULL if there are no characters. */
-static const uint32_t no_characters[1] = {0};
-#define CHARACTERS(pointer) ((pointer) == NULL ? no_characters : (pointer))
+/* Used instead of NULL if there are no characters or advances. */
+static const uint32_t no_numbers[1] = {0};
+#define NUMBERS(pointer) ((pointer) == NULL ? no_numbers : (pointer))
 
 /* ---- Constants ---- */
 
@@ -49,7 +49,7 @@ PUBLIC const char *hordguli_status_text(hordguli_status status) {
     static const char *const texts[] = {
         [HORDGULI_OK] = "ok",
         [HORDGULI_OUT_OF_RANGE] = "no such position, range, line or paragraph",
-        [HORDGULI_WIDTH_OUT_OF_RANGE] = "a width is 1 to 65535",
+        [HORDGULI_WIDTH_OUT_OF_RANGE] = "width out of range",
         [HORDGULI_TEXT_TOO_LONG] = "text too long",
         [HORDGULI_PARAGRAPH_TOO_LONG] = "paragraph too long",
         [HORDGULI_NO_MEMORY] = "out of memory",
@@ -63,8 +63,9 @@ PUBLIC const char *hordguli_status_text(hordguli_status status) {
         [HORDGULI_NULL] = "null pointer",
         [HORDGULI_OVERLAP] = "arrays overlap",
         [HORDGULI_UNREAD_FILE] = "cannot read a table file",
+        [HORDGULI_NOT_MEASURED] = "not a measured session",
     };
-    return status >= 0 && status <= HORDGULI_UNREAD_FILE ? texts[status] : "unknown status";
+    return status >= 0 && status <= HORDGULI_NOT_MEASURED ? texts[status] : "unknown status";
 }
 
 PUBLIC const char *hordguli_version(void) { return HORDGULI_VERSION; }
@@ -169,6 +170,14 @@ PUBLIC hordguli_status hordguli_session_open(hordguli_session *session, hordguli
     return (hordguli_status)hordguli_core_session_open(session, tables, options, (uint16_t)width, BYTES(text), length);
 }
 
+PUBLIC hordguli_status hordguli_session_open_measured(hordguli_session *session, hordguli_tables *tables,
+                                                      uint32_t options, uint32_t width, const char *text,
+                                                      size_t length) {
+    if (session == NULL || tables == NULL || LACKS(text, length)) return HORDGULI_NULL;
+    if (OVERLAP(AT(session), AT(tables), ARRAY(text, length))) return HORDGULI_OVERLAP;
+    return (hordguli_status)hordguli_core_session_open_measured(session, tables, options, width, BYTES(text), length);
+}
+
 PUBLIC void hordguli_session_close(hordguli_session *session) {
     if (session != NULL) hordguli_core_session_close(session);
 }
@@ -202,6 +211,21 @@ PUBLIC hordguli_status hordguli_set_width(hordguli_session *session, uint32_t wi
     if (OVERLAP(AT(session), ARRAY(damage, 1))) return HORDGULI_OVERLAP;
     if (width == 0 || width > UINT16_MAX) return HORDGULI_WIDTH_OUT_OF_RANGE;
     return (hordguli_status)hordguli_core_set_width(session, (uint16_t)width, OR(damage, unused));
+}
+
+PUBLIC hordguli_status hordguli_set_measured_width(hordguli_session *session, uint32_t width, hordguli_damage *damage) {
+    hordguli_damage unused;
+    if (session == NULL) return HORDGULI_NULL;
+    if (OVERLAP(AT(session), ARRAY(damage, 1))) return HORDGULI_OVERLAP;
+    return (hordguli_status)hordguli_core_set_measured_width(session, width, OR(damage, unused));
+}
+
+PUBLIC hordguli_status hordguli_set_advances(hordguli_session *session, size_t pos, size_t count,
+                                             const uint32_t *advances, hordguli_damage *damage) {
+    hordguli_damage unused;
+    if (session == NULL || LACKS(advances, count)) return HORDGULI_NULL;
+    if (OVERLAP(AT(session), ARRAY(damage, 1), ARRAY(advances, count))) return HORDGULI_OVERLAP;
+    return (hordguli_status)hordguli_core_set_advances(session, pos, NUMBERS(advances), count, OR(damage, unused));
 }
 
 PUBLIC hordguli_status hordguli_session_counts(hordguli_session *session, hordguli_counts *counts) {
@@ -418,7 +442,7 @@ PUBLIC hordguli_status hordguli_row(hordguli_tables *tables, uint32_t options, u
                    ARRAY(vtol, capacity), ARRAY(levels, count)))
         return HORDGULI_OVERLAP;
     return (hordguli_status)hordguli_core_row(
-        tables, options, base, CHARACTERS(characters), count, BYTES(levels), count, wanted,
+        tables, options, base, NUMBERS(characters), count, BYTES(levels), count, wanted,
         ROOM(uint32_t, visual, none), LENGTH(visual, capacity), ROOM(uint8_t, row_levels, no_levels),
         LENGTH(row_levels, capacity), ROOM(uint32_t, ltov, none), LENGTH(ltov, capacity), ROOM(uint32_t, vtol, none),
         LENGTH(vtol, capacity));
@@ -434,7 +458,7 @@ PUBLIC hordguli_status hordguli_row_runs(hordguli_tables *tables, uint32_t base,
     if (OVERLAP(AT(tables), AT(run_count), ARRAY(runs, capacity), ARRAY(characters, count))
         || OVERLAP(AT(tables), AT(run_count), ARRAY(runs, capacity), ARRAY(levels, count)))
         return HORDGULI_OVERLAP;
-    return (hordguli_status)hordguli_core_row_runs(tables, base, CHARACTERS(characters), count, BYTES(levels), count,
+    return (hordguli_status)hordguli_core_row_runs(tables, base, NUMBERS(characters), count, BYTES(levels), count,
                                                    ROOM(hordguli_run, runs, none), capacity, run_count);
 }
 
@@ -444,7 +468,7 @@ PUBLIC hordguli_status hordguli_base(hordguli_tables *tables, uint32_t direction
                                      size_t count, uint32_t *base) {
     if (tables == NULL || base == NULL || LACKS(characters, count)) return HORDGULI_NULL;
     if (OVERLAP(AT(tables), AT(base), ARRAY(characters, count))) return HORDGULI_OVERLAP;
-    return (hordguli_status)hordguli_core_base(tables, direction, CHARACTERS(characters), count, base);
+    return (hordguli_status)hordguli_core_base(tables, direction, NUMBERS(characters), count, base);
 }
 
 PUBLIC hordguli_status hordguli_levels(hordguli_tables *tables, uint32_t direction, const uint32_t *characters,
@@ -452,7 +476,7 @@ PUBLIC hordguli_status hordguli_levels(hordguli_tables *tables, uint32_t directi
     uint8_t none[1];
     if (tables == NULL || LACKS(levels, capacity) || LACKS(characters, count)) return HORDGULI_NULL;
     if (OVERLAP(AT(tables), ARRAY(levels, capacity), ARRAY(characters, count))) return HORDGULI_OVERLAP;
-    return (hordguli_status)hordguli_core_levels(tables, direction, CHARACTERS(characters), count,
+    return (hordguli_status)hordguli_core_levels(tables, direction, NUMBERS(characters), count,
                                                  ROOM(uint8_t, levels, none), capacity);
 }
 
@@ -461,7 +485,7 @@ PUBLIC hordguli_status hordguli_marks(hordguli_tables *tables, uint32_t options,
     uint8_t none[1];
     if (tables == NULL || LACKS(marks, capacity) || LACKS(characters, count)) return HORDGULI_NULL;
     if (OVERLAP(AT(tables), ARRAY(marks, capacity), ARRAY(characters, count))) return HORDGULI_OVERLAP;
-    return (hordguli_status)hordguli_core_marks(tables, options, CHARACTERS(characters), count,
+    return (hordguli_status)hordguli_core_marks(tables, options, NUMBERS(characters), count,
                                                 ROOM(uint8_t, marks, none), capacity);
 }
 
@@ -470,6 +494,6 @@ PUBLIC hordguli_status hordguli_properties(hordguli_tables *tables, size_t count
     hordguli_character none[1];
     if (tables == NULL || LACKS(characters, count) || LACKS(records, count)) return HORDGULI_NULL;
     if (OVERLAP(AT(tables), ARRAY(characters, count), ARRAY(records, count))) return HORDGULI_OVERLAP;
-    return (hordguli_status)hordguli_core_properties(tables, CHARACTERS(characters), count,
+    return (hordguli_status)hordguli_core_properties(tables, NUMBERS(characters), count,
                                                      ROOM(hordguli_character, records, none), count);
 }

@@ -28,6 +28,22 @@
  * Widths are those of the Unicode version that `fribidi --version` prints last. Control characters have width 0 and are
  * written unchanged, also tabs without HORDGULI_TAB_WIDTH. A program that writes to a terminal must remove or replace them.
  *
+ * MEASURED TEXT
+ *
+ * A measured session (`hordguli_session_open_measured`) lays out text in any font. Each character has an advance, in a
+ * unit that the caller chooses, such as 1/64 pixel. The width of the session, and all columns, spans and widths of its
+ * lines, are in this unit. It differs from other sessions as follows:
+ *   - A character that is inserted has advance 0. All others keep theirs, also if paragraphs are joined or split.
+ *     `hordguli_set_advances` sets them.
+ *   - The advances of a paragraph add up to at most 4,294,967,295. An edit that would exceed this returns
+ *     PARAGRAPH_TOO_LONG.
+ *   - With HORDGULI_TAB_WIDTH, a tab moves to the next multiple of its own advance, or stays where it is if that is 0. It
+ *     is written as itself.
+ *   - Lines are written without padding. `hordguli_line` stores what aligns a line right.
+ *
+ * A ligature or another glyph of several characters has its advance at the first of them, and 0 at the others. Or its
+ * advance is divided among them, so that a caret can be inside a ligature of several grapheme clusters.
+ *
  * ERRORS
  *
  * A function that can fail returns a status. HORDGULI_OK is 0. On any other status, nothing has changed, not even
@@ -99,11 +115,11 @@ typedef int32_t hordguli_status;
 #define HORDGULI_OK 0
 /* A position, range, line or paragraph is past the end. */
 #define HORDGULI_OUT_OF_RANGE 1
-/* The width is 0 or greater than 65,535. */
+/* The width is 0 or greater than 65,535; for a measured session, greater than 2,147,483,647. */
 #define HORDGULI_WIDTH_OUT_OF_RANGE 2
 /* The text would have more than 16,777,216 characters. */
 #define HORDGULI_TEXT_TOO_LONG 3
-/* A paragraph would have more than 1,048,576 characters. */
+/* A paragraph would have more than 1,048,576 characters, or its advances would add up to more than 4,294,967,295. */
 #define HORDGULI_PARAGRAPH_TOO_LONG 4
 /* Out of memory. */
 #define HORDGULI_NO_MEMORY 5
@@ -128,6 +144,8 @@ typedef int32_t hordguli_status;
 #define HORDGULI_OVERLAP 14
 /* A table file cannot be read. `hordguli_table_fault` says which. */
 #define HORDGULI_UNREAD_FILE 15
+/* The session is not measured. */
+#define HORDGULI_NOT_MEASURED 16
 
 /* Returns a short English description of a status, or "unknown status". */
 const char *hordguli_status_text(hordguli_status status);
@@ -184,7 +202,8 @@ const char *hordguli_unicode_version(void);
 /* Sets a tab stop every `n` columns, from 1 to 255. Columns are counted along each line in logical order. A tab (U+0009 of
  * bidi class S) moves to the next stop, so it has 1 to `n` columns, and is written as spaces. In an RTL paragraph, stops are
  * counted from the right edge. A tab is not in the tail, and one that does not fit is wider than its line. A greater `n` is
- * refused with UNKNOWN_OPTION. `n` is evaluated twice. */
+ * refused with UNKNOWN_OPTION. `n` is evaluated twice. In a measured session, tabs have their own stops (see MEASURED
+ * TEXT). */
 #define HORDGULI_TAB_WIDTH(n) ((uint32_t)(n) > 255 ? UINT32_C(1) << 16 : (uint32_t)(n) << 8)
 
 /* ---- Print flags ----
@@ -201,7 +220,7 @@ const char *hordguli_unicode_version(void);
 #define HORDGULI_PRINT_VTOL UINT32_C(8)
 /* The level of each character after L1, in logical order. */
 #define HORDGULI_PRINT_LEVELS UINT32_C(16)
-/* Pads visual lines of RTL paragraphs with spaces on the left, up to the width. */
+/* Pads visual lines of RTL paragraphs with spaces on the left, up to the width. Measured text is not padded. */
 #define HORDGULI_PRINT_PADDED UINT32_C(32)
 /* Mirrors characters at odd levels in visual lines (UAX #9, L4). */
 #define HORDGULI_PRINT_MIRRORED UINT32_C(64)
@@ -396,6 +415,15 @@ typedef struct hordguli_damage {
 hordguli_status hordguli_session_open(hordguli_session *session, hordguli_tables *tables, uint32_t options,
                                       uint32_t width, const char *text, size_t length);
 
+/* Opens a measured session on a text (see MEASURED TEXT). `width` is in the caller's unit, from 1 to 2,147,483,647. All
+ * advances are 0 until `hordguli_set_advances` sets them, so lines end at mandatory breaks only. The rest is as in
+ * `hordguli_session_open`.
+ * Errors: NULL, OVERLAP, UNKNOWN_OPTION, NOT_UTF8, ALREADY_OPEN (the session), CLOSED (the tables), WIDTH_OUT_OF_RANGE,
+ * TEXT_TOO_LONG, PARAGRAPH_TOO_LONG, NO_MEMORY.
+ * Cost: as `hordguli_session_open`. */
+hordguli_status hordguli_session_open_measured(hordguli_session *session, hordguli_tables *tables, uint32_t options,
+                                               uint32_t width, const char *text, size_t length);
+
 /* Frees the session and closes the handle. Safe on a closed handle or NULL. */
 void hordguli_session_close(hordguli_session *session);
 
@@ -416,11 +444,34 @@ hordguli_status hordguli_delete(hordguli_session *session, size_t pos, size_t co
 hordguli_status hordguli_replace(hordguli_session *session, size_t pos, size_t count, const char *text, size_t length,
                                  hordguli_damage *damage);
 
-/* Sets the width, in columns, and rewraps the paragraphs. The damage covers all lines, even if the width is the same.
+/* Sets the width, in columns, and rewraps the paragraphs. The damage covers all lines, even if the width is the same. In
+ * a measured session, the width is in the caller's unit.
  * Errors: NULL, OVERLAP, WIDTH_OUT_OF_RANGE, CLOSED, NO_MEMORY.
  * Cost: O(n), plus wrapping each paragraph, except those that are one line, fit the new width and, with
  * HORDGULI_SHOW_SPACES, hide no space that fits. */
 hordguli_status hordguli_set_width(hordguli_session *session, uint32_t width, hordguli_damage *damage);
+
+/* Sets the width of a measured session, from 1 to 2,147,483,647. The rest is as in `hordguli_set_width`.
+ * Errors: NULL, OVERLAP, CLOSED, NOT_MEASURED, WIDTH_OUT_OF_RANGE, NO_MEMORY.
+ * Cost: as `hordguli_set_width`. */
+hordguli_status hordguli_set_measured_width(hordguli_session *session, uint32_t width, hordguli_damage *damage);
+
+/* Sets the advances of the `count` characters that start at `pos`, in a measured session, and rewraps the paragraphs that
+ * have one of these characters. Stores in `*damage` which lines were replaced: none if `count` is 0.
+ *
+ * After an edit, set the advances of all new paragraphs, since a shaper may choose other glyphs next to the edit.
+ * `hordguli_paragraph` stores where they start and how long they are.
+ *
+ *     status = hordguli_insert(&session, pos, text, length, &edited);
+ *     if (!status) status = measure(edited.first_paragraph, edited.new_paragraphs, &start, &count, advances);
+ *     if (!status) status = hordguli_set_advances(&session, start, count, advances, &measured);
+ *
+ * From line `edited.first_line` on, `edited.old_lines` lines have then become `measured.new_lines` lines.
+ *
+ * Errors: NULL, OVERLAP, CLOSED, NOT_MEASURED, OUT_OF_RANGE, PARAGRAPH_TOO_LONG, NO_MEMORY.
+ * Cost: O(log n), plus O(`count`), plus wrapping these paragraphs. Levels and break marks are not computed again. */
+hordguli_status hordguli_set_advances(hordguli_session *session, size_t pos, size_t count, const uint32_t *advances,
+                                      hordguli_damage *damage);
 
 typedef struct hordguli_counts {
     size_t characters;
@@ -459,7 +510,7 @@ typedef struct hordguli_line_info {
     size_t length;     /* characters, including the tail */
     size_t shown;      /* characters in the shown part */
     size_t columns;    /* columns of the shown part */
-    size_t padding;    /* spaces left of the shown part if it is padded */
+    size_t padding;    /* columns left of the shown part if it is padded */
     uint32_t base;     /* base level of its paragraph, 0 or 1 */
     uint32_t first;    /* 1 for the first line of a paragraph, else 0 */
 } hordguli_line_info;

@@ -6,7 +6,8 @@
 
 - `display` returns one visual string, as `get_display` of python-bidi does. `wrap` returns visual lines.
 - `levels`, `base_level`, `breaks`, `row`, `row_runs` and `properties` are for programs that lay out lines themselves.
-- `Session` keeps a text and its lines under edits, and has what an editor needs: carets, hits, selections.
+- `Session` keeps a text and its lines under edits, and has what an editor needs: carets, hits, selections. Its columns are
+  those of a terminal, or by `Session.open_measured` those of any font.
 
 Positions are indexes into a `str`. Positions, lines and columns are counted from 0. Exceptions:
 
@@ -14,6 +15,7 @@ Positions are indexes into a `str`. Positions, lines and columns are counted fro
 - `ValueError` for a width, for options, for a Unicode version, and for a lone surrogate (`UnicodeEncodeError`)
 - `ValueError` from `Session`, `wrap` and `explain` for a text of more than 16,777,216 characters, or a paragraph of more than
   1,048,576; the other functions have no such limits
+- `NotMeasuredError` for the advances of a session that is not measured
 - `TypeError` for a `Print` in place of `Options`, and for copying or pickling sessions and tables
 - `MemoryError`, `ClosedError`, `TableError`
 
@@ -24,7 +26,7 @@ has its own copies. What another thread was using during the fork is closed in t
 `__version__` is the version of the C library, and `UNICODE_VERSION` the default Unicode version of tables.
 """
 
-from ._errors import Cause, ClosedError, TableError
+from ._errors import Cause, ClosedError, NotMeasuredError, TableError
 from ._explain import explain
 from ._library import UNICODE_VERSION
 from ._library import VERSION as __version__
@@ -70,6 +72,7 @@ __all__ = [
     "Edge",
     "Hit",
     "Line",
+    "NotMeasuredError",
     "Options",
     "Paragraph",
     "Place",

@@ -5,6 +5,8 @@ import operator
 import os
 import threading
 import weakref
+from array import array
+from collections.abc import Iterable
 from ctypes import Structure, byref, c_size_t
 from struct import calcsize
 from typing import Any, Callable, NoReturn, Optional, SupportsIndex, TypeVar
@@ -84,6 +86,11 @@ def uint32(number: SupportsIndex, name: str) -> int:
     if not 0 <= value < 1 << 32:
         raise ValueError(f"{name} {value} is out of range")
     return value
+
+
+def uint32s(given: Iterable[SupportsIndex], name: str) -> bytes:
+    """Returns numbers as an array of `uint32_t`. Raises `ValueError` if one does not fit."""
+    return array("I", [uint32(number, name) for number in given]).tobytes()
 
 
 def flags(kind: type[Flags], given: Flags, name: str) -> Flags:

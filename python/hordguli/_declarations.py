@@ -21,6 +21,7 @@ NO_ROOM = 12
 NULL = 13
 OVERLAP = 14
 UNREAD_FILE = 15
+NOT_MEASURED = 16
 
 # Flags of a character.
 MARK = 1
@@ -96,12 +97,17 @@ FUNCTIONS: dict[str, tuple[Any, dict[str, Any]]] = {
     "hordguli_valid_utf8": (STATUS, {"bytes": POINTER, "length": SIZE, "valid": POINTER}),
     "hordguli_session_open": (STATUS, {"session": POINTER, "tables": POINTER, "options": NUMBER, "width": NUMBER,
                                        "text": POINTER, "length": SIZE}),
+    "hordguli_session_open_measured": (STATUS, {"session": POINTER, "tables": POINTER, "options": NUMBER,
+                                                "width": NUMBER, "text": POINTER, "length": SIZE}),
     "hordguli_session_close": (None, {"session": POINTER}),
     "hordguli_insert": (STATUS, {"session": POINTER, "pos": SIZE, "text": POINTER, "length": SIZE, "damage": POINTER}),
     "hordguli_delete": (STATUS, {"session": POINTER, "pos": SIZE, "count": SIZE, "damage": POINTER}),
     "hordguli_replace": (STATUS, {"session": POINTER, "pos": SIZE, "count": SIZE, "text": POINTER, "length": SIZE,
                                   "damage": POINTER}),
     "hordguli_set_width": (STATUS, {"session": POINTER, "width": NUMBER, "damage": POINTER}),
+    "hordguli_set_measured_width": (STATUS, {"session": POINTER, "width": NUMBER, "damage": POINTER}),
+    "hordguli_set_advances": (STATUS, {"session": POINTER, "pos": SIZE, "count": SIZE, "advances": POINTER,
+                                       "damage": POINTER}),
     "hordguli_session_counts": (STATUS, {"session": POINTER, "counts": POINTER}),
     "hordguli_session_work": (STATUS, {"session": POINTER, "work": POINTER}),
     "hordguli_line_start": (STATUS, {"session": POINTER, "line": SIZE, "start": POINTER}),

@@ -7,7 +7,7 @@ import enum
 import os
 from typing import Any, Optional
 
-from ._declarations import CLOSED, FUNCTIONS, NO_MEMORY, OK, OUT_OF_RANGE, UNKNOWN_OPTION
+from ._declarations import CLOSED, FUNCTIONS, NO_MEMORY, NOT_MEASURED, OK, OUT_OF_RANGE, UNKNOWN_OPTION
 from ._library import library
 from ._records import Options, Print, Side
 
@@ -17,6 +17,10 @@ class ClosedError(ValueError):
 
     A forked child also gets it for what another thread was using during the fork.
     """
+
+
+class NotMeasuredError(ValueError):
+    """The session was not opened by `Session.open_measured`."""
 
 
 class Cause(enum.IntEnum):
@@ -65,7 +69,12 @@ class TableError(ValueError):
         return f"{place}: {self.cause.name.lower().replace('_', ' ')}"
 
 
-_EXCEPTIONS: dict[int, type[Exception]] = {OUT_OF_RANGE: IndexError, NO_MEMORY: MemoryError, CLOSED: ClosedError}
+_EXCEPTIONS: dict[int, type[Exception]] = {
+    OUT_OF_RANGE: IndexError,
+    NO_MEMORY: MemoryError,
+    CLOSED: ClosedError,
+    NOT_MEASURED: NotMeasuredError,
+}
 # What a message calls the first parameter after the handle, by its name in C.
 _NOUNS = {"pos": "position", "line": "line", "paragraph": "paragraph", "byte": "byte", "unit": "UTF-16 code unit"}
 

@@ -23,7 +23,7 @@ class Options(enum.IntFlag):
     `WHOLE_NUMBERS`: lines do not end inside a number such as `$1,234.56`.
     `REORDER_CLUSTERS`: in right-to-left text, the characters of a grapheme cluster stay in logical order.
     `SHOW_SPACES`: spaces at the end of a line are shown, as far as they fit in the width.
-    `tab_width(n)`: there is a tab stop every n columns, from 1 to 255.
+    `tab_width(n)`: there is a tab stop every n columns, from 1 to 255; in a measured session, at the multiples of each tab's advance.
     """
 
     # (a direction is bits 0 and 1; bits 24 and 25 say which of the two is given as 0)
@@ -210,7 +210,7 @@ class Line(NamedTuple):
 
     `text`: the shown part in visual order, mirrored. `start`: position of the line's first character in the text.
     `length`: characters, including those that are not shown. `shown`: shown characters. `width`: their columns.
-    `padding`: spaces left of the shown part if it is padded. `base_level`: 0 or 1. `is_first`: the first of its paragraph.
+    `padding`: columns left of the shown part if it is padded. `base_level`: 0 or 1. `is_first`: the first of its paragraph.
     `levels`: after L1, in logical order. `logical_to_visual`, `visual_to_logical`: the position maps.
     `columns`: the columns at each visual position. `runs`: the directional runs, from left to right.
     """

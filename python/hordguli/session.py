@@ -1,13 +1,14 @@
 """Editing sessions."""
 
 import operator
-from collections.abc import Iterator
+from collections.abc import Iterable, Iterator
 from ctypes import byref, c_uint32
 from struct import calcsize
 from types import TracebackType
 from typing import Optional, SupportsIndex, Union, overload
 
 from ._calls import (
+    Call,
     Handle,
     flags,
     get_array,
@@ -21,6 +22,7 @@ from ._calls import (
     size,
     text_of,
     uint32,
+    uint32s,
 )
 from ._declarations import RawEdge, RawSession
 from ._library import library
@@ -56,6 +58,7 @@ class Session:
     paragraphs and columns are counted from 0. Positions are indexes into the text as a `str`. A column is a terminal cell.
 
     `width` is in columns, from 1 to 65,535. `options` are `Options`. Without `tables`, `default_tables()` are used.
+    `Session.open_measured` opens a session whose columns are pixels, or another unit.
 
     Methods raise `IndexError` if a position, line or paragraph is past the end, `ValueError` if the text would be too long or
     has a lone surrogate, `MemoryError`, and `ClosedError` after `close`. After an exception, the session is unchanged.
@@ -77,13 +80,47 @@ class Session:
         *,
         tables: Optional[Tables] = None,
     ) -> None:
+        self._open(library.hordguli_session_open, text, width, options, tables)
+        self._is_measured = False
+
+    @classmethod
+    def open_measured(
+        cls,
+        text: str,
+        width: SupportsIndex,
+        options: Options = Options.WEAK_LTR,
+        *,
+        tables: Optional[Tables] = None,
+    ) -> "Session":
+        """Opens a measured session, for text in any font. `width` is from 1 to 2,147,483,647.
+
+        Each character has an advance, in a unit that the caller chooses, such as 1/64 pixel. The width, and all columns of the
+        session, are in this unit. A new character has advance 0, until `set_advances` sets it.
+
+        The advances of a paragraph add up to at most 4,294,967,295. An edit that would exceed this raises `ValueError`. With
+        `Options.tab_width`, a tab moves to the next multiple of its own advance, or stays where it is if that is 0. `lines` pads
+        nothing; `Line.padding` is what aligns a line right.
+
+        >>> advances = {"i": 4 * 64, "n": 9 * 64, " ": 5 * 64}
+        >>> with hordguli.Session.open_measured("inn in", width=30 * 64) as text:
+        ...     text.set_advances(0, [advances[c] for c in text.text()]).new_lines, text[0].width
+        (2, 1408)
+        """
+        session = cls.__new__(cls)
+        session._open(library.hordguli_session_open_measured, text, width, options, tables)
+        session._is_measured = True
+        return session
+
+    def _open(
+        self, function: Call, text: str, width: SupportsIndex, options: Options, tables: Optional[Tables]
+    ) -> None:
         self._handle = Handle(RawSession, library.hordguli_session_close)
         self._call = self._handle.call
         data = text.encode()
         arguments = flags(Options, options, "options"), uint32(width, "width"), data, len(data)
         shared = (tables or default_tables())._handle
         with shared.lock:
-            make_call(self._handle.open, library.hordguli_session_open, shared.pointer, *arguments)
+            make_call(self._handle.open, function, shared.pointer, *arguments)
 
     __reduce__ = refuse_copy
 
@@ -129,14 +166,35 @@ class Session:
         """Sets the width, in columns, and rewraps all paragraphs. Raises `ValueError` if it is not from 1 to 65,535."""
         return get_record(Damage, self._call, library.hordguli_set_width, uint32(width, "width"))
 
+    def set_measured_width(self, width: SupportsIndex) -> Damage:
+        """Sets the width of a measured session, and rewraps all paragraphs.
+
+        Raises `ValueError` if it is not from 1 to 2,147,483,647, and `NotMeasuredError` if the session is not measured.
+        """
+        return get_record(Damage, self._call, library.hordguli_set_measured_width, uint32(width, "width"))
+
+    def set_advances(self, pos: SupportsIndex, advances: Iterable[SupportsIndex]) -> Damage:
+        """Sets the advances of the characters from `pos` on, in a measured session, one for each of `advances`.
+
+        Returns which lines were replaced: those of the paragraphs that have one of these characters. After an edit, set the
+        advances of all new paragraphs. From line `first_line` of the edit's damage on, its `old_lines` have then become the
+        `new_lines` of this damage. Raises `NotMeasuredError` if the session is not measured, and `ValueError` if the advances of
+        a paragraph would add up to more than 4,294,967,295.
+        """
+        data = uint32s(advances, "advance")
+        return get_record(Damage, self._call, library.hordguli_set_advances, size(pos), len(data) // 4, data)
+
     @property
     def width(self) -> int:
-        """The width, in columns. Assigning to it calls `set_width`."""
+        """The width, in columns. Assigning to it calls `set_width`, or `set_measured_width` if the session is measured."""
         return self.counts.width
 
     @width.setter
     def width(self, width: SupportsIndex) -> None:
-        self.set_width(width)
+        if self._is_measured:
+            self.set_measured_width(width)
+        else:
+            self.set_width(width)
 
     # ---- Sizes ----
 

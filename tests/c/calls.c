@@ -25,12 +25,12 @@ static void constants(void) {
     HOLDS(strcmp(hordguli_version(), version) == 0);
     HOLDS(strcmp(hordguli_unicode_version(), "15.0") == 0);
     HOLDS(strcmp(hordguli_status_text(HORDGULI_OK), "ok") == 0);
-    for (hordguli_status a = 0; a <= HORDGULI_UNREAD_FILE; a++) {
+    for (hordguli_status a = 0; a <= HORDGULI_NOT_MEASURED; a++) {
         HOLDS(hordguli_status_text(a)[0] != '\0');
         for (hordguli_status b = 0; b < a; b++) HOLDS(strcmp(hordguli_status_text(a), hordguli_status_text(b)) != 0);
     }
     HOLDS(strcmp(hordguli_status_text(-1), "unknown status") == 0);
-    HOLDS(strcmp(hordguli_status_text(HORDGULI_UNREAD_FILE + 1), "unknown status") == 0);
+    HOLDS(strcmp(hordguli_status_text(HORDGULI_NOT_MEASURED + 1), "unknown status") == 0);
     HOLDS(strcmp(hordguli_status_text(INT32_MIN), "unknown status") == 0);
     HOLDS(strcmp(hordguli_status_text(INT32_MAX), "unknown status") == 0);
 }
@@ -405,6 +405,84 @@ static void changed_without_damage(void) {
     OK(hordguli_set_width(&session, 4, NULL));
     counted(18, 5, 3, 4);
     OK(hordguli_set_width(&session, 80, NULL));
+    counted(18, 3, 3, 80);
+}
+
+static int has_width(hordguli_session *of, size_t width) {
+    hordguli_counts counts = {7, 7, 7, 7};
+    OK(hordguli_session_counts(of, &counts));
+    return counts.width == width;
+}
+
+static void opened_measured(void) {
+    hordguli_session other = HORDGULI_SESSION_INIT;
+    IS(hordguli_session_open_measured(NULL, &tables, 0, 80, "a", 1), NULL);
+    IS(hordguli_session_open_measured(&other, NULL, 0, 80, "a", 1), NULL);
+    IS(hordguli_session_open_measured(&other, &tables, 0, 80, NULL, 1), NULL);
+    IS(hordguli_session_open_measured(&other, (hordguli_tables *)&other, 0, 80, "a", 1), OVERLAP);
+    IS(hordguli_session_open_measured(&other, &tables, 0, 80, (const char *)&tables, 1), OVERLAP);
+    IS(hordguli_session_open_measured(&other, &tables, 128, 80, "a", 1), UNKNOWN_OPTION);
+    IS(hordguli_session_open_measured(&other, &tables, 0, 80, "\xff", 1), NOT_UTF8);
+    IS(hordguli_session_open_measured(&session, &tables, 0, 80, "a", 1), ALREADY_OPEN);
+    IS(hordguli_session_open_measured(&other, &no_tables, 0, 80, "a", 1), CLOSED);
+    IS(hordguli_session_open_measured(&other, &tables, 0, 0, "a", 1), WIDTH_OUT_OF_RANGE);
+    IS(hordguli_session_open_measured(&other, &tables, 0, UINT32_C(1) << 31, "a", 1), WIDTH_OUT_OF_RANGE);
+    IS(hordguli_session_open_measured(&other, &tables, 0, UINT32_MAX, "a", 1), WIDTH_OUT_OF_RANGE);
+    HOLDS(other.at == NULL);
+    OK(hordguli_session_open_measured(&other, &tables, 0, INT32_MAX, NULL, 0));
+    HOLDS(has_width(&other, INT32_MAX));
+    hordguli_session_close(&other);
+    OK(hordguli_session_open_measured(&other, &tables, 0, 1, "a b\nc", 5));
+    HOLDS(has_width(&other, 1));
+    hordguli_session_close(&other);
+}
+
+/* The statuses and the damage of the calls on a measured session. tests/c/measured.c tests the lines. */
+static void measured(void) {
+    hordguli_session other = HORDGULI_SESSION_INIT;
+    hordguli_damage damage = {7, 7, 7, 7, 7, 7};
+    static const uint32_t advances[] = {10, 10, 10, 10, 10}, wide[] = {UINT32_MAX, 1};
+    hordguli_line_info info;
+    OK(hordguli_session_open_measured(&other, &tables, 0, 10, "a b\nc", 5));
+    IS(hordguli_set_measured_width(NULL, 80, &damage), NULL);
+    IS(hordguli_set_measured_width(&other, 80, (hordguli_damage *)&other), OVERLAP);
+    IS(hordguli_set_measured_width(&no_session, 80, &damage), CLOSED);
+    IS(hordguli_set_measured_width(&no_session, 0, &damage), CLOSED);
+    IS(hordguli_set_measured_width(&session, 80, &damage), NOT_MEASURED);
+    IS(hordguli_set_measured_width(&session, 0, &damage), NOT_MEASURED);
+    IS(hordguli_set_measured_width(&other, 0, &damage), WIDTH_OUT_OF_RANGE);
+    IS(hordguli_set_measured_width(&other, UINT32_C(1) << 31, &damage), WIDTH_OUT_OF_RANGE);
+    IS(hordguli_set_measured_width(&other, UINT32_MAX, &damage), WIDTH_OUT_OF_RANGE);
+    IS(hordguli_set_advances(NULL, 0, 1, advances, &damage), NULL);
+    IS(hordguli_set_advances(&other, 0, 1, NULL, &damage), NULL);
+    IS(hordguli_set_advances(&other, 0, 1, advances, (hordguli_damage *)&other), OVERLAP);
+    IS(hordguli_set_advances(&other, 0, 1, (const uint32_t *)&other, &damage), OVERLAP);
+    IS(hordguli_set_advances(&other, 0, 1, (const uint32_t *)&damage, &damage), OVERLAP);
+    IS(hordguli_set_advances(&other, 0, SIZE_MAX / 2, advances, &damage), OVERLAP);
+    IS(hordguli_set_advances(&no_session, 9, 1, advances, &damage), CLOSED);
+    IS(hordguli_set_advances(&session, 0, 1, advances, &damage), NOT_MEASURED);
+    IS(hordguli_set_advances(&session, 0, 0, NULL, &damage), NOT_MEASURED);
+    IS(hordguli_set_advances(&session, 19, 1, advances, &damage), NOT_MEASURED);
+    IS(hordguli_set_advances(&other, 6, 0, NULL, &damage), OUT_OF_RANGE);
+    IS(hordguli_set_advances(&other, SIZE_MAX, 2, advances, &damage), OUT_OF_RANGE);
+    IS(hordguli_set_advances(&other, 4, 2, wide, &damage), OUT_OF_RANGE);
+    IS(hordguli_set_advances(&other, 0, 2, wide, &damage), PARAGRAPH_TOO_LONG);
+    damaged(&damage, 7, 7, 7, 7, 7, 7);
+    OK(hordguli_line(&other, 0, &info, 0, NULL, NULL, NULL, NULL, NULL));
+    HOLDS(info.columns == 0 && info.length == 4);
+    OK(hordguli_set_advances(&other, 0, 5, advances, &damage));
+    damaged(&damage, 0, 2, 3, 0, 2, 2);
+    OK(hordguli_set_measured_width(&other, INT32_MAX, &damage));
+    damaged(&damage, 0, 3, 2, 0, 2, 2);
+    HOLDS(has_width(&other, INT32_MAX));
+    OK(hordguli_set_width(&other, 10, &damage));
+    damaged(&damage, 0, 2, 3, 0, 2, 2);
+    HOLDS(has_width(&other, 10));
+    OK(hordguli_set_measured_width(&other, 30, NULL));
+    OK(hordguli_set_advances(&other, 2, 1, (const uint32_t[]){11}, NULL));
+    OK(hordguli_line(&other, 0, &info, 0, NULL, NULL, NULL, NULL, NULL));
+    HOLDS(info.columns == 10 && info.length == 2);
+    hordguli_session_close(&other);
     counted(18, 3, 3, 80);
 }
 
@@ -1695,6 +1773,8 @@ int main(int count, char **words) {
     counts();
     changed();
     changed_without_damage();
+    opened_measured();
+    measured();
     places();
     edge_statuses();
     edges_where_the_direction_changes();

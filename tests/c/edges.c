@@ -1,14 +1,12 @@
-/* Tests carets, steps, selections, words and offsets. Usage: edges FOLDER TEXTS SESSIONS, where FOLDER has the table files.
+/* Tests carets, steps, hits, selections, words and offsets. Usage: edges FOLDER TEXTS SESSIONS, where FOLDER has the table files.
  *
  * - Lays out TEXTS random texts, and compares each call with a reference implementation: the definition in the header,
  *   computed from the levels, the order and the widths of `hordguli_line` and from the grapheme clusters. With
  *   HORDGULI_SHOW_SPACES, what lines show is computed from their shown parts without this option.
  * - Opens SESSIONS sessions and edits them. Each call must then return what it returns in a new session on the same
  *   text. */
-#include "test.h"
-
-/* The most characters of a text, and of a line with their bytes */
-enum { MOST = 120, BYTES = MOST * 4 };
+#include "answers.h"
+#include "carets.h"
 
 #define OK(call) HOLDS((call) == HORDGULI_OK)
 
@@ -29,8 +27,6 @@ static const char *const pieces[] = {
 };
 enum { PIECES = sizeof pieces / sizeof *pieces };
 
-static uint32_t text[MOST];
-static size_t length;
 static char bytes[BYTES];
 
 /* Fills an array with a random text of at most `most` characters, and returns its length. Most texts use few pieces, so
@@ -55,42 +51,6 @@ static uint32_t random_options(void) { return (uint32_t)below(128) | HORDGULI_TA
 static uint32_t random_width(void) { return 1 + (uint32_t)below(below(3) == 0 ? 80 : 12); }
 
 /* ---- The layout, as the reference implementation has it ---- */
-
-/* A character, by its position in the text */
-typedef struct character {
-    size_t line;
-    int is_shown;
-    uint32_t level;
-    size_t run;          /* of its line */
-    size_t left, right;  /* columns, if it is shown */
-    size_t cluster, end; /* the positions where its cluster starts and ends */
-    size_t unit;         /* the index of the unit that has it, or NONE */
-} character;
-
-/* What a caret moves over */
-typedef struct unit {
-    size_t line, start, end; /* positions */
-    size_t left, right;      /* columns */
-    uint32_t level;
-} unit;
-
-enum { NONE = MOST + 1 };
-
-static character characters[MOST];
-static hordguli_line_info lines[MOST];
-static size_t line_count;
-static unit units[MOST];
-static size_t unit_count;
-static uint32_t options;
-
-static int is_separator(uint32_t c) {
-    return c == 0xA || c == 0xD || (c >= 0x1C && c <= 0x1E) || c == 0x85 || c == 0x2029;
-}
-
-/* Bidi class B, or line breaking class BK, CR, LF or NL */
-static int ends_line(uint32_t c) { return is_separator(c) || c == 0xB || c == 0xC || c == 0x2028; }
-
-static int starts_next_line(void) { return length == 0 || is_separator(text[length - 1]); }
 
 static void read_layout(hordguli_session *session) {
     hordguli_counts counts;
@@ -155,58 +115,6 @@ static void clusters_are_ordered(hordguli_session *session, uint32_t width) {
     hordguli_session_close(&by_l2);
 }
 
-static int takes_columns(size_t pos) { return characters[pos].is_shown && characters[pos].right > characters[pos].left; }
-
-/* Whether two characters are in the same cluster, on the same line */
-static int are_together(size_t a, size_t b) {
-    return characters[a].cluster == characters[b].cluster && characters[a].line == characters[b].line;
-}
-
-/* Whether a unit begins at a character. It does if the character takes columns, unless an earlier such character of its
- * cluster is in the same level run. */
-static int begins_unit(size_t pos) {
-    if (!takes_columns(pos)) return 0;
-    for (size_t k = 0; k < pos; k++)
-        if (takes_columns(k) && are_together(k, pos) && characters[k].run == characters[pos].run) return 0;
-    return 1;
-}
-
-/* A unit ends where the next one of its cluster begins, or with what is shown of the cluster. */
-static size_t end_of_unit(size_t start) {
-    size_t pos = start + 1;
-    while (pos < length && are_together(start, pos) && characters[pos].is_shown && !begins_unit(pos)) pos++;
-    return pos;
-}
-
-static void find_units(void) {
-    unit_count = 0;
-    for (size_t pos = 0; pos < length; pos++) characters[pos].unit = NONE;
-    for (size_t pos = 0; pos < length; pos++) {
-        unit *u = &units[unit_count];
-        size_t columns = 0;
-        if (!begins_unit(pos)) continue;
-        *u = (unit){characters[pos].line, pos, end_of_unit(pos), SIZE_MAX, 0, characters[pos].level};
-        for (size_t k = u->start; k < u->end; k++) {
-            character *c = &characters[k];
-            c->unit = unit_count;
-            if (!takes_columns(k)) continue;
-            if (c->left < u->left) u->left = c->left;
-            if (c->right > u->right) u->right = c->right;
-            columns += c->right - c->left;
-            HOLDS(c->level == u->level);
-        }
-        HOLDS(u->right - u->left == columns);
-        unit_count++;
-    }
-}
-
-/* Returns the unit of a line that covers a column, or NULL. */
-static const unit *covering(size_t line, size_t column) {
-    for (const unit *u = units; u < units + unit_count; u++)
-        if (u->line == line && u->left <= column && column < u->right) return u;
-    return NULL;
-}
-
 /* Each column of a line is in one unit. */
 static void units_tile_lines(void) {
     for (size_t line = 0; line < line_count; line++) {
@@ -247,114 +155,13 @@ static void shown_spaces_are_right(uint32_t width) {
     hordguli_session_close(&session);
 }
 
-/* ---- The definitions ---- */
-
-static hordguli_edge before(size_t pos) { return (hordguli_edge){pos, HORDGULI_BEFORE, 0}; }
-static hordguli_edge after(size_t pos) { return (hordguli_edge){pos, HORDGULI_AFTER, 0}; }
-
-/* The edges at the left and the right end of a unit: at an even level, its left end comes first. */
-static hordguli_edge left_edge(const unit *u) { return u->level % 2 == 0 ? before(u->start) : after(u->end); }
-static hordguli_edge right_edge(const unit *u) { return u->level % 2 == 0 ? after(u->end) : before(u->start); }
-
-/* The end of a line in its paragraph's direction */
-static hordguli_caret line_end(size_t line) {
-    const hordguli_line_info *info = &lines[line];
-    return (hordguli_caret){line, info->base == 0 ? info->columns : 0, info->base, 0};
-}
-
-/* The caret before (`is_after` 0) or after the character at `pos` */
-static hordguli_caret caret_beside(size_t pos, int is_after) {
-    const character *c = &characters[pos];
-    const unit *u = c->unit == NONE ? NULL : &units[c->unit];
-    size_t left = c->left, right = c->right;
-    if (!c->is_shown) return line_end(c->line);
-    if (u != NULL && (is_after ? pos + 1 == u->end : pos == u->start)) {
-        left = u->left, right = u->right;
-        return (hordguli_caret){c->line, is_after == (u->level % 2 == 0) ? right : left, c->level, 0};
-    }
-    return (hordguli_caret){c->line, is_after == (c->level % 2 == 0) ? right : left, c->level, 0};
-}
-
-/* Returns 0 if there is no such edge. */
-static int reference_caret(hordguli_edge edge, hordguli_caret *caret) {
-    if (edge.pos > length || (edge.side == HORDGULI_AFTER && edge.pos == 0)) return 0;
-    if (edge.side == HORDGULI_AFTER) *caret = caret_beside(edge.pos - 1, 1);
-    else if (edge.pos < length) *caret = caret_beside(edge.pos, 0);
-    else if (starts_next_line()) *caret = (hordguli_caret){line_count, 0, options & 1, 0};
-    else *caret = line_end(line_count - 1);
-    return 1;
-}
-
-/* The nearest end of a unit to the left or right of a column, as the edge there of the unit that is passed. Returns 0 if
- * there is none. */
-static int reference_step(size_t line, size_t column, uint32_t direction, hordguli_edge *next) {
-    const unit *nearest = NULL;
-    for (const unit *u = units; u < units + unit_count; u++) {
-        if (u->line != line) continue;
-        if (direction == HORDGULI_RIGHT && u->right > column && (nearest == NULL || u->right < nearest->right)) nearest = u;
-        if (direction == HORDGULI_LEFT && u->left < column && (nearest == NULL || u->left > nearest->left)) nearest = u;
-    }
-    if (nearest != NULL) *next = direction == HORDGULI_RIGHT ? right_edge(nearest) : left_edge(nearest);
-    return nearest != NULL;
-}
-
-/* Returns 0 if there is no such line. */
-static int reference_edge_at(size_t line, size_t column, hordguli_edge *edge) {
-    const unit *u;
-    if (line == line_count && starts_next_line()) return *edge = before(length), 1;
-    if (line >= line_count) return 0;
-    if ((u = covering(line, column)) != NULL) return *edge = left_edge(u), 1;
-    if (lines[line].columns > 0) return *edge = right_edge(covering(line, lines[line].columns - 1)), 1;
-    return *edge = before(lines[line].start), 1;
-}
-
-/* The nearer end of the unit that covers the column; elsewhere as `reference_edge_at` */
-static int reference_nearest_edge(size_t line, size_t column, hordguli_edge *edge) {
-    const unit *u = line < line_count ? covering(line, column) : NULL;
-    if (u == NULL) return reference_edge_at(line, column, edge);
-    *edge = 2 * column < u->left + u->right ? left_edge(u) : right_edge(u);
-    return 1;
-}
-
-static int reference_line_edges(size_t line, hordguli_edge *first, hordguli_edge *last) {
-    size_t start, end, shown;
-    if (line == line_count && starts_next_line()) return *first = *last = before(length), 1;
-    if (line >= line_count) return 0;
-    start = lines[line].start, end = start + lines[line].length, shown = start + lines[line].shown;
-    *first = before(start);
-    if (end - start >= 2 && text[end - 2] == '\r' && text[end - 1] == '\n') *last = before(end - 2);
-    else if (ends_line(text[end - 1])) *last = before(end - 1);
-    else if (line == line_count - 1) *last = before(length);
-    else if (shown < end) *last = before(shown);
-    else *last = after(end);
-    return 1;
-}
+/* ---- Each call beside its definition ---- */
 
 static size_t reference_clusters(size_t line, size_t ends[MOST]) {
     size_t count = 0, start = lines[line].start, line_length = lines[line].length;
     for (size_t k = 1; k <= line_length; k++)
         if (k == line_length || characters[start + k].cluster == start + k) ends[count++] = k;
     return count;
-}
-
-static size_t reference_spans(size_t line, size_t from, size_t to, hordguli_span spans[MOST]) {
-    size_t count = 0;
-    for (size_t column = 0; column < lines[line].columns; column++) {
-        int is_covered = 0;
-        for (size_t pos = from; pos < to && pos < length; pos++)
-            is_covered |= characters[pos].line == line && takes_columns(pos) && characters[pos].left <= column
-                          && column < characters[pos].right;
-        if (!is_covered) continue;
-        if (count > 0 && spans[count - 1].right == column) spans[count - 1].right++;
-        else spans[count++] = (hordguli_span){column, column + 1};
-    }
-    return count;
-}
-
-/* ---- Each call beside its definition ---- */
-
-static int is_edge(hordguli_edge found, hordguli_edge wanted) {
-    return found.pos == wanted.pos && found.side == wanted.side && found.zero == 0;
 }
 
 /* No call returns the edge after a character that ends a line. */
@@ -377,7 +184,7 @@ static int is_boundary(size_t line, size_t column) {
 }
 
 static void step_is_right(hordguli_session *session, hordguli_edge edge, hordguli_caret from, uint32_t direction) {
-    hordguli_edge next = {7, 7, 7}, back = {7, 7, 7}, wanted;
+    hordguli_edge next = {7, 7, 7}, back = {7, 7, 7}, wanted = {7, 7, 7};
     uint32_t moved = 7, moved_back = 7;
     hordguli_caret to;
     OK(hordguli_step(session, edge, direction, &next, &moved));
@@ -455,6 +262,11 @@ static void lines_are_right(hordguli_session *session) {
             HOLDS(reference_nearest_edge(line, column, &wanted[1]));
             OK(hordguli_nearest_edge(session, line, column, &found[1]));
             HOLDS(is_edge(found[1], wanted[1]));
+            if (line < line_count) {
+                hordguli_hit hit = {7, 7, 7}, wanted_hit = reference_hit(line, column);
+                OK(hordguli_hit_at(session, line, column, &hit));
+                HOLDS(memcmp(&hit, &wanted_hit, sizeof hit) == 0);
+            }
         }
         if (!reference_line_edges(line, &wanted[0], &wanted[1])) {
             HOLDS(hordguli_line_edges(session, line, &found[0], &found[1]) == HORDGULI_OUT_OF_RANGE);
@@ -596,115 +408,6 @@ static void texts_are_right(long count) {
 
 /* ---- Sessions beside new ones ---- */
 
-/* What the calls have returned: for each, its name, its arguments, its status and its results. */
-typedef struct answer {
-    const char *call;
-    size_t arguments[3], results[4];
-} answer;
-
-enum { ANSWERS = 1 << 15 };
-
-static answer answers[2][ANSWERS];
-static size_t answer_count;
-
-static answer *add(answer *to, const char *call, size_t a, size_t b, size_t c) {
-    answer *next = &to[answer_count];
-    if (answer_count + 1 < ANSWERS) answer_count++;
-    *next = (answer){call, {a, b, c}, {0, 0, 0, 0}};
-    return next;
-}
-
-/* Adds the elements that a call has stored. */
-static void add_elements(answer *to, const size_t *elements, size_t count) {
-    for (size_t k = 0; k < count; k++) add(to, "an element", k, 0, 0)->results[0] = elements[k];
-}
-
-static void ask_position(hordguli_session *session, size_t pos, answer *to) {
-    hordguli_cluster cluster = {0, 0};
-    hordguli_word word = {0, 0, 0, 0};
-    answer *a;
-    for (uint32_t side = 0; side < 2; side++) {
-        hordguli_caret caret = {0, 0, 0, 0};
-        a = add(to, "edge_caret", pos, side, 0);
-        a->results[0] = (size_t)hordguli_edge_caret(session, (hordguli_edge){pos, side, 0}, &caret);
-        a->results[1] = caret.line, a->results[2] = caret.column, a->results[3] = caret.level;
-        for (uint32_t direction = 0; direction < 2; direction++) {
-            hordguli_edge next = {0, 0, 0};
-            uint32_t moved = 0;
-            a = add(to, "step", pos, side, direction);
-            a->results[0] = (size_t)hordguli_step(session, (hordguli_edge){pos, side, 0}, direction, &next, &moved);
-            a->results[1] = next.pos, a->results[2] = next.side, a->results[3] = moved;
-        }
-    }
-    a = add(to, "cluster_at", pos, 0, 0);
-    a->results[0] = (size_t)hordguli_cluster_at(session, pos, &cluster);
-    a->results[1] = cluster.start, a->results[2] = cluster.end;
-    a = add(to, "word_at", pos, 0, 0);
-    a->results[0] = (size_t)hordguli_word_at(session, pos, &word);
-    a->results[1] = word.start, a->results[2] = word.end, a->results[3] = word.kind;
-    a = add(to, "byte_of", pos, 0, 0);
-    a->results[0] = (size_t)hordguli_byte_of(session, pos, &a->results[1]);
-    a = add(to, "utf16_of", pos, 0, 0);
-    a->results[0] = (size_t)hordguli_utf16_of(session, pos, &a->results[1]);
-}
-
-static void ask_line(hordguli_session *session, size_t line, size_t from, size_t span, answer *to) {
-    hordguli_line_info info = {0, 0, 0, 0, 0, 0, 0};
-    hordguli_edge edges[2] = {{0, 0, 0}, {0, 0, 0}};
-    hordguli_span spans[MOST];
-    size_t ends[MOST], count = 0;
-    answer *a;
-    hordguli_line(session, line, &info, 0, NULL, NULL, NULL, NULL, NULL);
-    for (size_t k = 0; k <= info.columns + 1; k++) {
-        hordguli_edge edge = {0, 0, 0};
-        a = add(to, "edge_at", line, k > info.columns ? SIZE_MAX : k, 0);
-        a->results[0] = (size_t)hordguli_edge_at(session, line, a->arguments[1], &edge);
-        a->results[1] = edge.pos, a->results[2] = edge.side;
-    }
-    add(to, "line_edges", line, 0, 0)->results[0] = (size_t)hordguli_line_edges(session, line, &edges[0], &edges[1]);
-    for (int k = 0; k < 2; k++) add_elements(to, (const size_t[]){edges[k].pos, edges[k].side}, 2);
-    add(to, "line_clusters", line, 0, 0)->results[0] = (size_t)hordguli_line_clusters(session, line, MOST, ends, &count);
-    add_elements(to, ends, count);
-    count = 0;
-    a = add(to, "spans", line, from, from + span);
-    a->results[0] = (size_t)hordguli_spans(session, line, from, from + span, MOST, spans, &count);
-    for (size_t k = 0; k < count; k++) add_elements(to, (const size_t[]){spans[k].left, spans[k].right}, 2);
-}
-
-static void ask_offset(hordguli_session *session, size_t offset, answer *to) {
-    hordguli_position position = {0, 0};
-    answer *a = add(to, "position_of_byte", offset, 0, 0);
-    a->results[0] = (size_t)hordguli_position_of_byte(session, offset, &position);
-    a->results[1] = position.pos, a->results[2] = position.rest;
-    a = add(to, "position_of_utf16", offset, 0, 0);
-    a->results[0] = (size_t)hordguli_position_of_utf16(session, offset, &position);
-    a->results[1] = position.pos, a->results[2] = position.rest;
-}
-
-/* Makes all calls with all positions, lines and offsets of the text, and one past each. */
-static void ask(hordguli_session *session, size_t from, size_t span, size_t byte_count, answer *to) {
-    hordguli_counts counts;
-    OK(hordguli_session_counts(session, &counts));
-    answer_count = 0;
-    for (size_t pos = 0; pos <= counts.characters + 1; pos++) ask_position(session, pos, to);
-    for (size_t line = 0; line <= counts.lines + 1; line++) ask_line(session, line, from, span, to);
-    for (size_t offset = 0; offset <= byte_count + 1; offset++) ask_offset(session, offset, to);
-}
-
-static void answers_are_equal(hordguli_session *kept, hordguli_session *anew, size_t byte_count) {
-    size_t from = below(length + 1), span = below(length + 1), count;
-    ask(kept, from, span, byte_count, answers[0]);
-    count = answer_count;
-    ask(anew, from, span, byte_count, answers[1]);
-    if (!HOLDS(count == answer_count && count + 1 < ANSWERS)) return;
-    for (size_t k = 0; k < count; k++) {
-        const answer *a = &answers[0][k], *b = &answers[1][k];
-        if (HOLDS(memcmp(a->results, b->results, sizeof a->results) == 0)) continue;
-        fprintf(stderr, "hordguli_%s, %zu %zu %zu\n", a->call, a->arguments[0], a->arguments[1], a->arguments[2]);
-        return;
-    }
-}
-
 /* Makes a random edit, in the session and in `text`. Half of the edits have no damage. */
 static void edit(hordguli_session *session, uint32_t *width) {
     hordguli_damage damage = {0}, *out = below(2) == 0 ? NULL : &damage;
@@ -739,7 +442,7 @@ static void sessions_equal_new_ones(long count) {
         for (size_t times = 0; times < edits; times++) edit(&kept, &width);
         size = encoded(text, length, bytes);
         if (!OK(hordguli_session_open(&anew, &tables, options, width, bytes, size))) return;
-        answers_are_equal(&kept, &anew, size);
+        answers_are_equal(&kept, &anew, length);
         hordguli_session_close(&anew);
         hordguli_session_close(&kept);
         if (failed == failed_before) continue;

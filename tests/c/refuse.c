@@ -33,12 +33,12 @@ void __wrap_free(void *block) {
     __real_free(block);
 }
 
-enum { BYTES = 1 << 14 };
+enum { BYTES = 1 << 14, MOST_LINES = 100 };
 
-/* The state of a session: the bytes of its printed lines and of its text, and its counts. */
+/* The state of a session: the bytes of its printed lines and of its text, the columns of its lines, and its counts. */
 typedef struct shape {
     char bytes[BYTES];
-    size_t length;
+    size_t length, columns[MOST_LINES];
     hordguli_counts counts;
 } shape;
 
@@ -52,18 +52,25 @@ static shape of(hordguli_session *session) {
     HOLDS(hordguli_text(session, 0, found.counts.characters, BYTES - found.length, found.bytes + found.length, &text)
           == HORDGULI_OK);
     found.length += text;
+    for (size_t line = 0; line < found.counts.lines && line < MOST_LINES; line++) {
+        hordguli_line_info info;
+        HOLDS(hordguli_line(session, line, &info, 0, NULL, NULL, NULL, NULL, NULL) == HORDGULI_OK);
+        found.columns[line] = info.columns;
+    }
     is_watched = 1;
     return found;
 }
 
 static int same(const shape *a, const shape *b) {
     return a->length == b->length && memcmp(a->bytes, b->bytes, a->length) == 0
-           && memcmp(&a->counts, &b->counts, sizeof a->counts) == 0;
+           && memcmp(&a->counts, &b->counts, sizeof a->counts) == 0
+           && memcmp(a->columns, b->columns, sizeof a->columns) == 0;
 }
 
 static const char *folder;
 static hordguli_tables tables = HORDGULI_TABLES_INIT;
-static hordguli_session session = HORDGULI_SESSION_INIT;
+static hordguli_session session = HORDGULI_SESSION_INIT, measured = HORDGULI_SESSION_INIT;
+static const uint32_t advances[] = {3, 9, 2, 6, 6, 1, 5, 5, 0, 7};
 static const uint32_t characters[] = {0x5D0, '(', 'a', ')', 0x2067, '1', 0x2069, ' ', 0x4E00};
 static const uint8_t levels_before[] = {1, 1, 2, 1, 1, 2, 1, 1, 2};
 static uint8_t found_levels[9], found_marks[9], found_row[9];
@@ -84,7 +91,7 @@ static uint32_t found_characters[100];
 static hordguli_line_info found_info;
 
 enum {
-    BUILTIN, OPEN_17, OPEN_TABLES, OPEN, INSERT, REPLACE, WIDTH, CLUSTER, WORD, CARET, STEP, EDGE, NEAREST, CLUSTERS, DELETE, BASE, LEVELS,
+    BUILTIN, OPEN_17, OPEN_TABLES, OPEN, OPEN_MEASURED, ADVANCES, JOIN, MEASURED_WIDTH, INSERT, REPLACE, WIDTH, CLUSTER, WORD, CARET, STEP, EDGE, NEAREST, CLUSTERS, DELETE, BASE, LEVELS,
     MARKS, ROW, ROW_RUNS, LAYOUT, LINES, TEXT, PAGE, STEPS
 };
 
@@ -115,6 +122,10 @@ static hordguli_status step(int k) {
         case OPEN_17: return opens_17();
         case OPEN_TABLES: return hordguli_tables_open_folder(&tables, folder, NULL);
         case OPEN: return hordguli_session_open(&session, &tables, 0, 4, start, sizeof start - 1);
+        case OPEN_MEASURED: return hordguli_session_open_measured(&measured, &tables, 0, 11, start, sizeof start - 1);
+        case ADVANCES: return hordguli_set_advances(&measured, 1, 10, advances, &damage); /* in both paragraphs */
+        case JOIN: return hordguli_delete(&measured, 8, 1, &damage);
+        case MEASURED_WIDTH: return hordguli_set_measured_width(&measured, 6, &damage);
         case INSERT: return hordguli_insert(&session, 3, "(a)\n\u05d0", 6, &damage);
         case REPLACE: return hordguli_replace(&session, 1, 5, "x\u4e00\ny\n", 7, &damage);
         case WIDTH: return hordguli_set_width(&session, 2, &damage);
@@ -141,9 +152,12 @@ static hordguli_status step(int k) {
     }
 }
 
+/* Whether a call may keep buffers though it fails */
+static int keeps_buffers(int k) { return k == LAYOUT || k == WIDTH || k == ADVANCES || k == MEASURED_WIDTH; }
+
 int main(int count, char **words) {
     long runs = 0, most = 0;
-    static shape last;
+    static shape last, last_measured;
     uint8_t levels[9], marks[9];
     if (count != 2) return 2;
     folder = words[1];
@@ -153,11 +167,12 @@ int main(int count, char **words) {
         asked = 0;
         refused_at = at;
         for (int k = 0; k < STEPS; k++) {
-            static shape kept, now;
+            static shape kept, kept_measured, now;
             hordguli_damage no_damage = {7, 7, 7, 7, 7, 7};
             long held = live;
             hordguli_status status;
             if (session.at != NULL) kept = of(&session);
+            if (measured.at != NULL) kept_measured = of(&measured);
             damage = no_damage;
             memset(found_levels, 77, sizeof found_levels);
             memset(found_marks, 77, sizeof found_marks);
@@ -172,17 +187,22 @@ int main(int count, char **words) {
             HOLDS(status == HORDGULI_OK || status == HORDGULI_NO_MEMORY);
             if (status == HORDGULI_OK) continue;
             refusals++;
-            /* the tables and the session keep the buffers that they lay text out in */
-            HOLDS(asked >= refused_at && (live == held || ((k == LAYOUT || k == WIDTH) && live > held)));
+            /* the tables and the sessions keep the buffers that they lay text out in */
+            HOLDS(asked >= refused_at && (live == held || (keeps_buffers(k) && live > held)));
             HOLDS(memcmp(&damage, &no_damage, sizeof damage) == 0 && found_base == 77);
             HOLDS(found_levels[0] == 77 && found_marks[0] == 77 && found_length == 77 && found_bytes[0] == '?');
             HOLDS(found_row[0] == 77 && found_visual[0] == 77 && found_runs[0].level == 77);
             HOLDS(found_edge.pos == 77 && found_caret.line == 77 && found_moved == 77 && found_ends[0] == 77);
             HOLDS(k != OPEN_TABLES || tables.at == NULL);
             HOLDS(k != OPEN || session.at == NULL);
+            HOLDS(k != OPEN_MEASURED || measured.at == NULL);
             if (session.at != NULL) {
                 now = of(&session);
                 HOLDS(same(&kept, &now));
+            }
+            if (measured.at != NULL) {
+                now = of(&measured);
+                HOLDS(same(&kept_measured, &now));
             }
             HOLDS(step(k) == HORDGULI_OK);
         }
@@ -191,16 +211,20 @@ int main(int count, char **words) {
         if (at == 0) {
             most = asked;
             last = of(&session);
+            last_measured = of(&measured);
             memcpy(levels, found_levels, 9);
             memcpy(marks, found_marks, 9);
         } else {
             static shape now;
             now = of(&session);
             HOLDS(same(&last, &now) && memcmp(levels, found_levels, 9) == 0 && memcmp(marks, found_marks, 9) == 0);
+            now = of(&measured);
+            HOLDS(same(&last_measured, &now));
         }
         hordguli_session_close(&session);
+        hordguli_session_close(&measured);
         hordguli_tables_close(&tables);
-        HOLDS(live == before && session.at == NULL && tables.at == NULL);
+        HOLDS(live == before && session.at == NULL && measured.at == NULL && tables.at == NULL);
     }
     printf("refuse: %ld runs, one for each of %ld allocations\n", runs, most);
     HOLDS(most > 50);

@@ -28,7 +28,7 @@ static const struct {
 } statuses[] = {
     STATUS(OK, "ok"),
     STATUS(OUT_OF_RANGE, "no such position, range, line or paragraph"),
-    STATUS(WIDTH_OUT_OF_RANGE, "a width is 1 to 65535"),
+    STATUS(WIDTH_OUT_OF_RANGE, "width out of range"),
     STATUS(TEXT_TOO_LONG, "text too long"),
     STATUS(PARAGRAPH_TOO_LONG, "paragraph too long"),
     STATUS(NO_MEMORY, "out of memory"),
@@ -42,9 +42,10 @@ static const struct {
     STATUS(NULL, "null pointer"),
     STATUS(OVERLAP, "arrays overlap"),
     STATUS(UNREAD_FILE, "cannot read a table file"),
+    STATUS(NOT_MEASURED, "not a measured session"),
 };
 
-enum { STATUSES = 16 };
+enum { STATUSES = 17 };
 
 static void statuses_have_their_numbers_and_texts(void) {
     HOLDS(sizeof statuses / sizeof *statuses == STATUSES);
@@ -53,7 +54,7 @@ static void statuses_have_their_numbers_and_texts(void) {
         HOLDS(strcmp(hordguli_status_text(a), statuses[a].text) == 0);
     }
     HOLDS(strcmp(hordguli_status_text(-1), "unknown status") == 0);
-    HOLDS(strcmp(hordguli_status_text(16), "unknown status") == 0);
+    HOLDS(strcmp(hordguli_status_text(17), "unknown status") == 0);
 }
 
 static void constants_have_their_numbers(void) {
@@ -285,6 +286,23 @@ static void damage_has_each_value_in_its_field(void) {
     hordguli_session_close(&session);
 }
 
+/* In a measured session, `words` has 13 lines at a width of 4 if each advance is 1. */
+static void damage_of_measured_text_has_each_value_in_its_field(void) {
+    hordguli_session session = HORDGULI_SESSION_INIT;
+    hordguli_damage damage = {77, 77, 77, 77, 77, 77};
+    uint32_t ones[sizeof words - 1], twos[10];
+    for (size_t k = 0; k < sizeof words - 1; k++) ones[k] = 1;
+    for (size_t k = 0; k < 10; k++) twos[k] = 2;
+    OK(hordguli_session_open_measured(&session, &tables, 0, 4, words, sizeof words - 1));
+    OK(hordguli_set_advances(&session, 0, sizeof words - 1, ones, &damage));
+    is_damage(&damage, (const size_t[]){0, 6, 13, 0, 6, 6});
+    OK(hordguli_set_advances(&session, 14, 10, twos, &damage)); /* in the second and third paragraphs */
+    is_damage(&damage, (const size_t[]){3, 5, 7, 1, 2, 2});
+    OK(hordguli_set_measured_width(&session, 8, &damage));
+    is_damage(&damage, (const size_t[]){0, 15, 9, 0, 6, 6});
+    hordguli_session_close(&session);
+}
+
 #ifdef WRAPPED
 void *__real_malloc(size_t size);
 void *__real_realloc(void *block, size_t size);
@@ -501,7 +519,7 @@ enum { UNUSED = 0xA5, ELEMENTS = 16, LETTERS = 1048576, CHARACTERS = 16777216, H
 /* All memory that a call may change. A refused call leaves it as it was. */
 typedef struct memory {
     hordguli_tables tables, no_tables;
-    hordguli_session session, no_session, long_session;
+    hordguli_session session, no_session, long_session, plain_session;
     hordguli_bytes files[7];
     hordguli_table_fault fault;
     uint64_t out[8];
@@ -528,7 +546,7 @@ typedef struct arguments {
     size_t count;
     size_t column;
     size_t capacity;
-    const uint32_t *characters;
+    const uint32_t *characters; /* or advances */
     uint32_t base;
     const uint8_t *levels; /* of the characters */
     void *out;             /* the output parameter */
@@ -628,6 +646,7 @@ WAY(closed_tables, a->tables = &own.no_tables)
 WAY(closed_session, a->session = &own.no_session)
 WAY(open_tables, a->tables = &own.tables)
 WAY(open_session, a->session = &own.session)
+WAY(plain_session, a->session = &own.plain_session)
 
 /* overlaps */
 WAY(out_at_session, a->out = a->session)
@@ -640,6 +659,7 @@ WAY(text_in_out, a->text = (const char *)a->out + (which == 0 ? 0 : c->out_size 
 WAY(long_text, a->length = which == 0 ? (size_t)PTRDIFF_MAX + 1 : SIZE_MAX)
 WAY(long_null_text, a->text = NULL; a->length = SIZE_MAX)
 WAY(characters_at_out, a->characters = a->out)
+WAY(characters_at_session, a->characters = (const uint32_t *)a->session)
 WAY(characters_at_tables, a->characters = (const uint32_t *)a->tables)
 WAY(levels_at_tables, a->levels = (const uint8_t *)a->tables)
 WAY(many_characters, a->count = which == 0 ? (size_t)PTRDIFF_MAX / 4 + 1 : which == 1 ? SIZE_MAX / 4 + 2 : SIZE_MAX)
@@ -675,6 +695,8 @@ WAY(unknown_direction, a->direction |= UINT32_C(1) << which)
 WAY(after_nothing, a->at = 0; a->flags = HORDGULI_AFTER)
 WAY(width_0, a->width = 0)
 WAY(width_above, a->width = which == 0 ? 65536 : which == 1 ? 65536 + 80 : UINT32_MAX)
+WAY(measured_width_above, a->width = which == 0 ? UINT32_C(1) << 31 : UINT32_MAX)
+WAY(wide_advances, own.characters[0] = UINT32_MAX)
 WAY(at_past_end, a->at = which == 0 ? c->end : SIZE_MAX; a->count = 0)
 WAY(at_past_end_alone, a->at = which == 0 ? c->end : SIZE_MAX)
 WAY(count_past_end, a->count = which == 0 ? c->end - a->at : SIZE_MAX - which + 1)
@@ -786,20 +808,43 @@ static const way of_set_width[] = {
     END,
 };
 
-/* Tables, and a text that is laid out at a width */
+/* A session that is not measured */
+static const way of_measured_session[] = {
+    {"NOT_MEASURED", SESSION, plain_session, 0, 0},
+    END,
+};
+
+static const way of_measured_width[] = {
+    {"WIDTH_OUT_OF_RANGE", WIDTH, width_0, 0, 0},
+    {"WIDTH_OUT_OF_RANGE", WIDTH, measured_width_above, 0, 1},
+    END,
+};
+
+static const way of_set_advances[] = {
+    {"NULL", NUMBERS | COUNT, null_characters, 0, 0},
+    {"NULL, OVERLAP", NUMBERS | COUNT, many_null_characters, 0, 0},
+    {"OVERLAP", NUMBERS | COUNT | SESSION_IS, characters_at_session, 0, 0},
+    {"OVERLAP", NUMBERS | COUNT | OUT_IS, characters_at_out, 0, 0},
+    {"OVERLAP, OUT_OF_RANGE", COUNT, many_characters, 0, 2},
+    {"OUT_OF_RANGE", AT, at_past_end_alone, 0, 1},
+    {"OUT_OF_RANGE", AT | COUNT, at_past_end, 0, 1},
+    {"OUT_OF_RANGE", COUNT, count_past_end, 0, 0},
+    {"PARAGRAPH_TOO_LONG", NUMBERS, wide_advances, 0, 0},
+    END,
+};
+
+/* Tables, and a text that is laid out */
 #define OF_TABLES_AND_TEXT                                                              \
     {"NULL", TABLES | TABLES_IS, null_tables, 0, 0},                                    \
     {"NULL", TEXT, null_text, 1, 2},                                                    \
     {"NULL, OVERLAP", TEXT, long_null_text, 0, 0},                                      \
     {"OVERLAP", TEXT, long_text, 0, 1},                                                 \
     {"OVERLAP", TEXT | TABLES_IS, text_in_tables, 0, sizeof(hordguli_tables) - 1},      \
-    {"WIDTH_OUT_OF_RANGE (above 65,535)", WIDTH, width_above, 0, 2},                    \
     {"UNKNOWN_OPTION", FLAGS, unknown_option, 7, 7},                                    \
     {"UNKNOWN_OPTION", FLAGS, unknown_option, 16, 23},                                  \
     {"UNKNOWN_OPTION", FLAGS, unknown_option, 26, 31},                                  \
     {"UNKNOWN_OPTION", FLAGS, two_directions, 0, 1},                                    \
     {"NOT_UTF8", TEXT, not_utf8, 0, 5},                                                 \
-    {"WIDTH_OUT_OF_RANGE (0)", WIDTH, width_0, 0, 0},                                   \
     {"TEXT_TOO_LONG", TEXT, many_newlines, 0, 0},                                       \
     {"PARAGRAPH_TOO_LONG", TEXT, long_paragraph, 0, 0},                                 \
     {"TEXT_TOO_LONG, PARAGRAPH_TOO_LONG", TEXT, many_letters, 0, 0},                    \
@@ -807,6 +852,12 @@ static const way of_set_width[] = {
     {"NOT_UTF8, PARAGRAPH_TOO_LONG", TEXT, long_paragraph_not_utf8, 0, 0},              \
     {"NOT_UTF8, TEXT_TOO_LONG, PARAGRAPH_TOO_LONG", TEXT, many_letters_not_utf8, 0, 0}, \
     END
+
+static const way of_columns[] = {
+    {"WIDTH_OUT_OF_RANGE (above 65,535)", WIDTH, width_above, 0, 2},
+    {"WIDTH_OUT_OF_RANGE (0)", WIDTH, width_0, 0, 0},
+    END,
+};
 
 static const way of_open[] = {
     {"NULL", SESSION | SESSION_IS, null_session, 0, 0},
@@ -1067,10 +1118,13 @@ MAKE(tables_open_folder, a->tables, a->folder, a->fault)
 MAKE(tables_open_folder_version, a->tables, a->flags, a->folder, a->fault)
 MAKE(tables_version, a->tables, a->out)
 MAKE(session_open, a->session, a->tables, a->flags, a->width, a->text, a->length)
+MAKE(session_open_measured, a->session, a->tables, a->flags, a->width, a->text, a->length)
 MAKE(insert, a->session, a->at, a->text, a->length, a->out)
 MAKE(delete, a->session, a->at, a->count, a->out)
 MAKE(replace, a->session, a->at, a->count, a->text, a->length, a->out)
 MAKE(set_width, a->session, a->width, a->out)
+MAKE(set_measured_width, a->session, a->width, a->out)
+MAKE(set_advances, a->session, a->at, a->count, a->characters, a->out)
 MAKE(session_counts, a->session, a->out)
 MAKE(session_work, a->session, a->out)
 MAKE(line_start, a->session, a->at, a->out)
@@ -1143,7 +1197,11 @@ static const call calls[] = {
     CALL(session_open,
          "NULL, OVERLAP, WIDTH_OUT_OF_RANGE (above 65,535), UNKNOWN_OPTION, NOT_UTF8, ALREADY_OPEN (the session), "
          "CLOSED (the tables), WIDTH_OUT_OF_RANGE (0), TEXT_TOO_LONG, PARAGRAPH_TOO_LONG, NO_MEMORY",
-         .ways = {of_open}, .never = "WIDTH_OUT_OF_RANGE (above 65,535) + WIDTH_OUT_OF_RANGE (0)"),
+         .ways = {of_open, of_columns}, .never = "WIDTH_OUT_OF_RANGE (above 65,535) + WIDTH_OUT_OF_RANGE (0)"),
+    CALL(session_open_measured,
+         "NULL, OVERLAP, UNKNOWN_OPTION, NOT_UTF8, ALREADY_OPEN (the session), CLOSED (the tables), WIDTH_OUT_OF_RANGE, "
+         "TEXT_TOO_LONG, PARAGRAPH_TOO_LONG, NO_MEMORY",
+         .ways = {of_open, of_measured_width}),
     CALL(insert, INSERTING, .ways = {of_edited_session, of_inserted_text, of_at}, .out_size = sizeof(hordguli_damage),
          .at = 2, .end = 19),
     /* A deletion makes no paragraph too long if there is no open session or the range is past the end. */
@@ -1155,6 +1213,12 @@ static const call calls[] = {
          .out_size = sizeof(hordguli_damage), .at = 2, .count = 3, .end = 19),
     CALL(set_width, "NULL, OVERLAP, WIDTH_OUT_OF_RANGE, CLOSED, NO_MEMORY", .never = NOT_BOTH_OF_SESSION,
          .ways = {of_edited_session, of_set_width}, .out_size = sizeof(hordguli_damage)),
+    CALL(set_measured_width, "NULL, OVERLAP, CLOSED, NOT_MEASURED, WIDTH_OUT_OF_RANGE, NO_MEMORY",
+         .never = NOT_BOTH_OF_SESSION ", NULL + NOT_MEASURED, CLOSED + NOT_MEASURED",
+         .ways = {of_edited_session, of_measured_session, of_measured_width}, .out_size = sizeof(hordguli_damage)),
+    CALL(set_advances, "NULL, OVERLAP, CLOSED, NOT_MEASURED, OUT_OF_RANGE, PARAGRAPH_TOO_LONG, NO_MEMORY",
+         .never = "CLOSED + NOT_MEASURED", .ways = {of_edited_session, of_measured_session, of_set_advances},
+         .out_size = sizeof(hordguli_damage), .at = 2, .count = 3, .end = 19),
     CALL(session_counts, "NULL, OVERLAP, CLOSED", .never = NOT_BOTH, .ways = {of_session},
          .out_size = sizeof(hordguli_counts)),
     CALL(session_work, "NULL, OVERLAP, CLOSED", .never = NOT_BOTH, .ways = {of_session},
@@ -1214,7 +1278,7 @@ static const call calls[] = {
     CALL(layout,
          "NULL, OVERLAP, WIDTH_OUT_OF_RANGE (above 65,535), UNKNOWN_OPTION, NOT_UTF8, CLOSED, WIDTH_OUT_OF_RANGE (0), "
          "TEXT_TOO_LONG, PARAGRAPH_TOO_LONG, NO_MEMORY, NO_ROOM",
-         .ways = {of_layout, of_layout_buffer}, .out_size = sizeof(size_t), .needed = 4,
+         .ways = {of_layout, of_layout_buffer, of_columns}, .out_size = sizeof(size_t), .needed = 4,
          .never = "WIDTH_OUT_OF_RANGE (above 65,535) + WIDTH_OUT_OF_RANGE (0)"),
     CALL(base, "NULL, OVERLAP, UNKNOWN_OPTION, CLOSED, NOT_A_CHARACTER, NO_MEMORY",
          .ways = {of_characters, of_base, of_direction}, .out_size = sizeof(uint32_t), .count = 5),
@@ -1305,13 +1369,17 @@ static content content_now(void) {
 static arguments good_arguments(const call *c, int is_new) {
     arguments a;
     int opens_tables = strncmp(c->name, "tables_", 7) == 0 && strcmp(c->name, "tables_version") != 0;
-    int opens_session = strcmp(c->name, "session_open") == 0;
+    int opens_session = strncmp(c->name, "session_open", 12) == 0;
     static const uint32_t characters[ELEMENTS] = {'a', ' ', 0x5D0, '1', ')', 'b'};
     static const uint8_t levels[ELEMENTS] = {0, 0, 1, 2, 0, 0};
     if (is_new) {
         hordguli_tables_close(&own.no_tables);
         hordguli_session_close(&own.no_session);
         reopen(&own.session, session_text, 80);
+        if (c->make == make_set_advances || c->make == make_set_measured_width) {
+            hordguli_session_close(&own.session);
+            OK(hordguli_session_open_measured(&own.session, &own.tables, 0, 80, session_text, strlen(session_text)));
+        }
         kept = content_now();
     }
     if (strncmp(c->name, "tables_open_folder", 18) == 0)
@@ -1534,6 +1602,7 @@ static void pairs(const char *table_folder) {
     letters[HALF] = '\n';
     OK(hordguli_session_open(&own.long_session, &own.tables, 0, 65535, letters, 2 * HALF + 1));
     letters[HALF] = 'a';
+    OK(hordguli_session_open(&own.plain_session, &own.tables, 0, 80, "a", 1));
     for (size_t k = 0; k < CALLS; k++) first_listed_error_is_returned(&calls[k]);
     input_arrays_may_overlap();
     for (size_t k = 0; k < 7; k++) unlink(path_of(k));
@@ -1541,6 +1610,7 @@ static void pairs(const char *table_folder) {
     hordguli_session_close(&own.session);
     hordguli_session_close(&own.no_session);
     hordguli_session_close(&own.long_session);
+    hordguli_session_close(&own.plain_session);
     hordguli_tables_close(&own.tables);
     hordguli_tables_close(&own.no_tables);
     free(newlines);
@@ -1556,6 +1626,7 @@ int main(int count, char **arguments) {
     table_fault_has_each_value_in_its_field();
     files_have_their_indexes();
     damage_has_each_value_in_its_field();
+    damage_of_measured_text_has_each_value_in_its_field();
     counts_and_work_have_each_value_in_their_field();
     places_have_each_value_in_its_field();
     edges_have_each_value_in_their_field();

@@ -32,6 +32,13 @@ def files(folder):
     return [(folder / name).read_bytes() for name in hordguli.TABLE_FILES]
 
 
+def measured(content, width):
+    """Opens a measured session in which each character has advance 10."""
+    text = hordguli.Session.open_measured(content, width)
+    text.set_advances(0, [10] * len(content))
+    return text
+
+
 def state_of(text):
     """Returns all that a session holds, except its work counters."""
     paragraphs = tuple(text.paragraph(index) for index in range(text.counts.paragraphs))

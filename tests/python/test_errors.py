@@ -8,7 +8,7 @@ import threading
 
 import hordguli
 import pytest
-from conftest import DIRECTIONS, state_of
+from conftest import DIRECTIONS, measured, state_of
 from hordguli import Break, Cause, Direction, Edge, Options, Print, Side
 
 HEBREW = "\u05d0\u05d1\u05d2"
@@ -34,6 +34,8 @@ FAILING_CALLS = {
     "width of more than 32 bits": (ValueError, lambda text: setattr(text, "width", (1 << 32) + 80)),
     "a negative width": (ValueError, lambda text: text.set_width(-1)),
     "a width that is no number": (TypeError, lambda text: text.set_width("80")),
+    "advances of a session that is not measured": (hordguli.NotMeasuredError, lambda text: text.set_advances(9, [1])),
+    "a measured width of a session that is not measured": (hordguli.NotMeasuredError, lambda text: text.set_measured_width(0)),
     "a line past the end": (IndexError, lambda text: text[2]),
     "a slice with step 0": (ValueError, lambda text: text[::0]),
     "a slice of strings": (TypeError, lambda text: text["a":]),
@@ -90,7 +92,45 @@ def test_a_failing_call_changes_nothing(name):
         assert text.insert(8, "!").new_lines == 1 and text.text() == f"ab {HEBREW}\nc!"
 
 
+FAILING_MEASURED_CALLS = {
+    "advances past the end": (IndexError, lambda text: text.set_advances(7, [1, 1])),
+    "no advances past the end": (IndexError, lambda text: text.set_advances(9, [])),
+    "advances at a negative position": (IndexError, lambda text: text.set_advances(-1, [1])),
+    "advances that are too wide together": (ValueError, lambda text: text.set_advances(0, [(1 << 32) - 1, 1])),
+    "an advance of more than 32 bits": (ValueError, lambda text: text.set_advances(0, [1 << 32])),
+    "a negative advance": (ValueError, lambda text: text.set_advances(0, [1, -1])),
+    "an advance that is no number": (TypeError, lambda text: text.set_advances(0, [1.5])),
+    "measured width 0": (ValueError, lambda text: text.set_measured_width(0)),
+    "width 0": (ValueError, lambda text: setattr(text, "width", 0)),
+    "measured width above 2,147,483,647": (ValueError, lambda text: text.set_measured_width(1 << 31)),
+    "width above 2,147,483,647": (ValueError, lambda text: setattr(text, "width", 1 << 31)),
+    "measured width of more than 32 bits": (ValueError, lambda text: text.set_measured_width((1 << 32) + 80)),
+}
+
+
+@pytest.mark.parametrize("name", FAILING_MEASURED_CALLS)
+def test_a_failing_call_changes_nothing_in_a_measured_session(name):
+    error, call = FAILING_MEASURED_CALLS[name]
+    with measured(f"ab {HEBREW}\nc", 200) as text:
+        before = state_of(text)
+        with pytest.raises(error):
+            call(text)
+        assert state_of(text) == before and text.set_advances(0, [11]).new_lines == 1
+
+
+def test_a_join_of_wide_paragraphs_is_refused():
+    with measured("a\nb", 200) as text:
+        text.set_advances(0, [(1 << 32) - 1, 0])
+        before = state_of(text)
+        with pytest.raises(ValueError) as caught:
+            text.delete(1, 1)
+        assert str(caught.value) == "paragraph too long" and state_of(text) == before
+
+
 OPENING = {
+    "measured width 0": (ValueError, lambda: hordguli.Session.open_measured("", 0)),
+    "measured width above 2,147,483,647": (ValueError, lambda: hordguli.Session.open_measured("", 1 << 31)),
+    "a lone surrogate in a measured session": (UnicodeEncodeError, lambda: hordguli.Session.open_measured(LONE, 80)),
     "width 0": (ValueError, lambda: hordguli.Session("", 0)),
     "width above 65,535": (ValueError, lambda: hordguli.Session("", 65536)),
     "unknown options": (ValueError, lambda: hordguli.Session("", 80, 1 << 20)),
@@ -164,12 +204,20 @@ MESSAGES = {
     "the edge before position 9 is out of range": lambda text: text.step(Edge(9), Direction.LEFT),
     "-1 is out of range": lambda text: text.delete(0, -1),
 }
+MEASURED_MESSAGES = {"2 characters from 7 on are out of range": lambda text: text.set_advances(7, [1, 1])}
 
 
 @pytest.mark.parametrize("message", MESSAGES)
 def test_an_index_error_names_the_values(message):
     with hordguli.Session(f"ab {HEBREW}\nc", width=20) as text, pytest.raises(IndexError) as caught:
         MESSAGES[message](text)
+    assert str(caught.value) == message
+
+
+@pytest.mark.parametrize("message", MEASURED_MESSAGES)
+def test_an_index_error_names_the_values_in_a_measured_session(message):
+    with measured(f"ab {HEBREW}\nc", 200) as text, pytest.raises(IndexError) as caught:
+        MEASURED_MESSAGES[message](text)
     assert str(caught.value) == message
 
 
@@ -350,7 +398,8 @@ def test_closed_tables_raise():
         pass
     assert tables.closed
     tables.close()
-    for call in (hordguli.levels, hordguli.display, hordguli.wrap, hordguli.properties, hordguli.Session):
+    measured_session = lambda text, tables: hordguli.Session.open_measured(text, 80, tables=tables)
+    for call in (hordguli.levels, hordguli.display, hordguli.wrap, hordguli.properties, hordguli.Session, measured_session):
         with pytest.raises(hordguli.ClosedError):
             call("a", tables=tables)
     with pytest.raises(hordguli.ClosedError):

@@ -11,7 +11,7 @@ import time
 
 import hordguli
 import pytest
-from conftest import state_of
+from conftest import measured, state_of
 
 HEBREW = "\u05d0\u05d1\u05d2"
 
@@ -228,7 +228,13 @@ EDITS = {
     "edge_at": lambda text: text.edge_at(0, 0),
     "nearest_edge": lambda text: text.nearest_edge(0, 0),
 }
+MEASURED_EDITS = {
+    "set_advances": lambda text: text.set_advances(2, range(1, 8)),
+    "set_measured_width": lambda text: text.set_measured_width(35),
+    "delete from a measured session": lambda text: text.delete(9, 1),
+}
 FUNCTIONS = {
+    "open_measured": lambda: hordguli.Session.open_measured(f"ab {HEBREW}", 9).text(),
     "Session": lambda: hordguli.Session(f"ab {HEBREW}", 9).text(),
     "Tables": lambda: hordguli.Tables().closed,
     "Tables of Unicode 17.0": lambda: hordguli.Tables(unicode="17.0").closed,
@@ -266,8 +272,10 @@ def refuse_each():
         found, count = refusals(shim, call, lambda: call())
         assert found == wanted and count > 0, name
         total += count
-    for name, call in EDITS.items():
-        with hordguli.Session(f"e\u0301 {HEBREW} cd\nef", width=80) as text, hordguli.Session(text.text()) as other:
+    start = f"e\u0301 {HEBREW} cd\nef"
+    opened = [(hordguli.Session, 80, *edit) for edit in EDITS.items()] + [(measured, 80, *edit) for edit in MEASURED_EDITS.items()]
+    for kind, width, name, call in opened:
+        with kind(start, width) as text, kind(start, width) as other:
             before = state_of(text)
             found, count = refusals(shim, lambda: call(text), lambda: state_of(text) == before or 1 / 0)
             assert found == call(other) and state_of(text) == state_of(other) and count > 0, name

@@ -48,6 +48,30 @@ def test_edits_equal_a_fresh_session(version, start, width, option, edits):
                 assert text.lines() == fresh.lines()
 
 
+measured_edits = st.lists(
+    st.tuples(st.integers(0, 60), st.integers(0, 10), texts, st.lists(st.sampled_from([0, 7, 640, 30_000]), max_size=40)), max_size=8
+)
+
+
+@settings(max_examples=400)
+@given(changed_texts, st.integers(1, 200_000), options, measured_edits)
+def test_measured_edits_equal_a_fresh_session(start, width, option, edits):
+    model, advances = start, [0] * len(start)
+    with hordguli.Session.open_measured(start, width, option) as text:
+        for pos, count, inserted, given_advances in edits:
+            pos = min(pos, len(model))
+            count = min(count, len(model) - pos)
+            text.replace(pos, count, inserted)
+            model = model[:pos] + inserted + model[pos + count :]
+            advances[pos : pos + count] = [0] * len(inserted)
+            found = given_advances[: len(model) - pos]
+            text.set_advances(pos, found)
+            advances[pos : pos + len(found)] = found
+            with hordguli.Session.open_measured(model, width, option) as fresh:
+                fresh.set_advances(0, advances)
+                assert text.text() == model and state_of(text) == state_of(fresh)
+
+
 @settings(max_examples=400)
 @given(texts, widths, options)
 def test_damage_names_the_lines_that_changed(start, width, option):

@@ -4,7 +4,8 @@ import itertools
 
 import hordguli
 import pytest
-from hordguli import Caret, Direction, Edge, Options, Print, Session, Side
+from conftest import measured
+from hordguli import Caret, Damage, Direction, Edge, Options, Print, Session, Side
 
 HEBREW = "\u05d0\u05d1\u05d2"
 CLEF = "\U0001d11e"
@@ -34,6 +35,42 @@ def test_width_is_read_and_assigned():
         text.width = 3
         assert (text.width, len(text)) == (3, 2)
         assert text.set_width(80) == (0, 2, 1, 0, 1, 1)
+
+
+def test_advances_are_columns():
+    with Session.open_measured(f"in {HEBREW}", 100_000) as text:
+        assert (text.width, len(text), text[0].width) == (100_000, 1, 0)
+        assert text.set_advances(0, [4, 9, 5, 30_000, 0, 80_000]) == Damage(0, 1, 3, 0, 1, 1)
+        assert [line.width for line in text] == [13, 30_000, 80_000]
+        assert text[1].columns == (0, 30_000) and text.caret(3) == Caret(1, 30_000, 1) and text.caret(4) == Caret(1, 0, 1)
+        assert text.hit(1, 29_999) == (3, False) and text.nearest_edge(1, 20_000) == Edge(3)
+        assert text.spans(1, 3, 5) == [(0, 30_000)]
+
+
+def test_new_characters_have_advance_0():
+    with measured("ab\nc", 20) as text:
+        edited = text.insert(1, "xy")
+        assert (edited.new_lines, text[0].width) == (1, 20)
+        assert text.set_advances(1, iter((10, 10))) == Damage(0, 1, 2, 0, 1, 1)
+        text.delete(0, 1)
+        assert [line.width for line in text] == [20, 10, 10]
+        assert text.set_advances(2, []).new_lines == 0
+
+
+def test_a_measured_width_is_read_and_assigned():
+    with measured("abcd", 20) as text:
+        text.width = 100_000
+        assert (text.width, len(text)) == (100_000, 1)
+        assert text.set_measured_width(30) == Damage(0, 1, 2, 0, 1, 1)
+        assert text.set_width(10) == Damage(0, 2, 4, 0, 1, 1) and text.width == 10
+
+
+def test_measured_lines_are_not_padded():
+    with measured(HEBREW, 50) as text:
+        assert text[0].padding == 20 and text.lines() == [HEBREW[::-1]]
+    with Session.open_measured("a\tb", 100, Options.tab_width(8)) as text:
+        text.set_advances(0, [10, 30, 10])
+        assert text[0].columns == (10, 20, 10) and text.lines() == ["a\tb"]
 
 
 def test_counts_and_work():

@@ -17,6 +17,12 @@ encoded: bytes = hordguli.display(b"a", base_dir="R")
 later: hordguli.Tables = hordguli.default_tables("17.0")
 version: str = hordguli.Tables(unicode="17.0").unicode_version
 
+measured: hordguli.Session = hordguli.Session.open_measured("a", 640, BOTH)
+damage: hordguli.Damage = measured.set_advances(0, [640])
+narrowed: hordguli.Damage = measured.set_measured_width(64)
+
+measured.set_advances(0, ["a"])  # type: ignore[list-item]
+hordguli.Session.open_measured("a")  # type: ignore[call-arg]
 hordguli.Session("a", 80, SHOWN)  # type: ignore[arg-type]
 hordguli.wrap("a", 80, SHOWN)  # type: ignore[arg-type]
 hordguli.wrap("a", 80, BOTH, BOTH)  # type: ignore[arg-type]

@@ -254,27 +254,39 @@ static void row_answers(hordguli_tables *chosen, uint32_t options, uint32_t dire
         }
 }
 
+static void tell_damage(hordguli_status status, const hordguli_damage *damage) {
+    if (!succeeds("edit", status)) return;
+    tell("first_line", damage->first_line);
+    tell("old_lines", damage->old_lines);
+    tell("new_lines", damage->new_lines);
+    tell("first_paragraph", damage->first_paragraph);
+    tell("old_paragraphs", damage->old_paragraphs);
+    tell("new_paragraphs", damage->new_paragraphs);
+}
+
+/* Makes advances, and returns their number. */
+static size_t random_advances(size_t count, uint32_t *into) {
+    for (size_t k = 0; k < count; k++) into[k] = (uint32_t)below(5);
+    return count;
+}
+
 static void edit(void) {
     char text[MOST];
     hordguli_damage damage;
-    size_t kind = below(4), pos = below(counts.characters + 2), count = below(6), length = random_text(below(8), text);
-    uint32_t width = (uint32_t)below(25);
+    size_t kind = below(6), pos = below(counts.characters + 2), count = below(6), length = random_text(below(8), text);
+    uint32_t width = (uint32_t)below(25), advances[8];
+    size_t advance_count = random_advances(below(8), advances);
     hordguli_status status;
     below(3);
     switch (kind) {
         case 0: status = hordguli_insert(&session, pos, text, length, &damage); break;
         case 1: status = hordguli_delete(&session, pos, count, &damage); break;
         case 2: status = hordguli_replace(&session, pos, count, text, length, &damage); break;
+        case 3: status = hordguli_set_measured_width(&session, width, &damage); break;
+        case 4: status = hordguli_set_advances(&session, pos, advance_count, advances, &damage); break;
         default: status = hordguli_set_width(&session, width, &damage); break;
     }
-    if (succeeds("edit", status)) {
-        tell("first_line", damage.first_line);
-        tell("old_lines", damage.old_lines);
-        tell("new_lines", damage.new_lines);
-        tell("first_paragraph", damage.first_paragraph);
-        tell("old_paragraphs", damage.old_paragraphs);
-        tell("new_paragraphs", damage.new_paragraphs);
-    }
+    tell_damage(status, &damage);
     hordguli_session_counts(&session, &counts);
 }
 
@@ -298,6 +310,8 @@ static void session_answers(uint64_t number) {
     static uint32_t characters[MOST];
     size_t version, direction, length, all, written, damaged;
     uint32_t options, tab, width, print;
+    int is_measured;
+    hordguli_status status;
     state = (number + 1) * 0x9E3779B97F4A7C15;
     sum = 0xCBF29CE484222325;
     version = below(2);
@@ -311,8 +325,17 @@ static void session_answers(uint64_t number) {
     session = (hordguli_session)HORDGULI_SESSION_INIT;
     if (succeeds("layout", hordguli_layout(&tables[version], options, width, print, text, length, BYTES, page, &written)))
         tell_bytes("byte", page, written);
-    if (!succeeds("open", hordguli_session_open(&session, &tables[version], options, width, text, length))) return;
+    is_measured = below(3) == 0;
+    if (is_measured) status = hordguli_session_open_measured(&session, &tables[version], options, width, text, length);
+    else status = hordguli_session_open(&session, &tables[version], options, width, text, length);
+    if (!succeeds("open", status)) return;
     hordguli_session_counts(&session, &counts);
+    if (is_measured) {
+        static uint32_t advances[MOST];
+        hordguli_damage damage;
+        random_advances(counts.characters, advances);
+        tell_damage(hordguli_set_advances(&session, 0, counts.characters, advances, &damage), &damage);
+    }
     for (size_t edits = below(4); edits > 0; edits--) edit();
     sizes();
     text_answers();

@@ -71,7 +71,7 @@ pub struct LineOut {
     pub first: u32,
 }
 
-fn line_out(line: &VisualLine<'_>, width: u16, start: usize) -> LineOut
+fn line_out(line: &VisualLine<'_>, width: u32, start: usize) -> LineOut
     ensures { result ≡ line_out width start line.now }
 {
     LineOut {
@@ -79,7 +79,7 @@ fn line_out(line: &VisualLine<'_>, width: u16, start: usize) -> LineOut
         length: line.len(),
         shown: line.vtol().len(),
         columns: line.columns() as usize,
-        padding: line.padding(width as u32) as usize,
+        padding: line.padding(width) as usize,
         base: u32::from(line.base()),
         first: flag(line.is_first()),
     }
@@ -182,7 +182,7 @@ fn show_line(
     let Some(line) = session.line(n) else {
         return Status::OutOfRange;
     };
-    *out = line_out(&line, session.width(), start);
+    *out = line_out(&line, session.measured_width(), start);
     put_line(&line, wanted, characters, levels, ltov, vtol, columns)
 }
 

@@ -7,14 +7,16 @@ ghost use Rattle.session.specs.Sessions.{text_at};
 ghost use Rattle.hordguli_c.specs.Calls.{Asks, Changes, Gives, OfText};
 ghost use Rattle.hordguli_c.specs.Options.{options_of};
 ghost use Rattle.hordguli_c.specs.Sessions.{IsFresh, IsOpened, IsRefused, OpensOn, OpensSession};
-ghost use Rattle.hordguli_c.specs.Sessions.{damage_out, TriesEdit, TriesWidth};
+ghost use Rattle.hordguli_c.specs.Sessions.{damage_out, TriesAdvances, TriesEdit, TriesMeasuredWidth};
+ghost use Rattle.hordguli_c.specs.Sessions.{TriesWidth};
+ghost use Rattle.hordguli_c.specs.declared.session_calls.OpenWidth.TheVariants.{Columns, Units};
 ghost use Rattle.hordguli_c.specs.Statuses.{Returns};
 ghost use Rattle.hordguli_c.specs.declared.status.Status.TheVariants.{Ok};
 
 use crate::calls::with_object;
 use crate::options::options_of;
 use crate::session_handle::{SessionHandle, SessionObject};
-use crate::status::{Status, edit_status, number_of};
+use crate::status::{Status, advance_status, edit_status, number_of};
 use crate::tables_handle::TablesHandle;
 use lines::{Engine, Options};
 use session::{Damage, Session};
@@ -22,21 +24,34 @@ use simdutf8::compat::from_utf8;
 use std::alloc::Global;
 use ucd::Tables;
 
+/// The width at which a session is opened: in columns, or in the caller's unit if it is measured.
+#[derive(Clone, Copy)]
+pub enum OpenWidth {
+    Columns(u16),
+    Units(u32),
+}
+
 // Opens a session with a new engine. After an error, returns the status of the fault.
 fn open_by(
     alloc: Global,
     tables: Tables,
     options: Options,
     text: &str,
-    width: u16,
+    width: OpenWidth,
 ) -> Result<SessionObject, Status>
     ensures { MatchResult result (IsOpened tables options (chars text.now) width)
         (IsRefused tables options (chars text.now) width) }
 {
     let engine = Engine::new(tables, options);
-    match Session::open(alloc, engine, text, width) {
-        Ok(session) => Ok(session),
-        Err((_, fault)) => Err(edit_status(fault)),
+    match width {
+        OpenWidth::Columns(width) => match Session::open(alloc, engine, text, width) {
+            Ok(session) => Ok(session),
+            Err((_, fault)) => Err(edit_status(fault)),
+        },
+        OpenWidth::Units(width) => match Session::open_measured(alloc, engine, text, width) {
+            Ok(session) => Ok(session),
+            Err((_, fault)) => Err(edit_status(fault)),
+        },
     }
 }
 
@@ -47,7 +62,7 @@ fn open_at(
     tables: &Tables,
     options: Options,
     text: &str,
-    width: u16,
+    width: OpenWidth,
 ) -> Status
     requires { session.old.held ≡ None }
     ensures { OpensOn options (chars text.now) width result (Some tables.now)
@@ -76,6 +91,53 @@ pub extern "C" fn hordguli_core_session_open(
     tables: &mut TablesHandle,
     options: u32,
     width: u16,
+    text: &[u8],
+) -> u32
+    ensures unchanged { tables.new.held ≡ tables.old.held }
+    ensures opens { Returns (λ status. OpensSession (options_of options) text.now (Columns width) status
+        tables.old.held session.old.held session.new.held) result }
+{
+    open_session(
+        alloc,
+        session,
+        tables,
+        options,
+        OpenWidth::Columns(width),
+        text,
+    )
+}
+
+/// Opens a measured session on a text. Each character has advance 0. The session shares the tables.
+#[unsafe(no_mangle)]
+pub extern "C" fn hordguli_core_session_open_measured(
+    alloc: Global,
+    session: &mut SessionHandle,
+    tables: &mut TablesHandle,
+    options: u32,
+    width: u32,
+    text: &[u8],
+) -> u32
+    ensures unchanged { tables.new.held ≡ tables.old.held }
+    ensures opens { Returns (λ status. OpensSession (options_of options) text.now (Units width) status
+        tables.old.held session.old.held session.new.held) result }
+{
+    open_session(
+        alloc,
+        session,
+        tables,
+        options,
+        OpenWidth::Units(width),
+        text,
+    )
+}
+
+// Opens a session on a text at a width of either kind.
+fn open_session(
+    alloc: Global,
+    session: &mut SessionHandle,
+    tables: &mut TablesHandle,
+    options: u32,
+    width: OpenWidth,
     text: &[u8],
 ) -> u32
     ensures unchanged { tables.new.held ≡ tables.old.held }
@@ -250,6 +312,58 @@ pub extern "C" fn hordguli_core_set_width(
     with_object!(session, alloc, mut object, set_width(&mut object, width, damage))
 }
 
+fn set_measured_width(session: &mut SessionObject, width: u32, damage: &mut DamageOut) -> Status
+    ensures { TriesMeasuredWidth width result session.old session.new damage.old damage.new }
+{
+    match session.set_measured_width(width) {
+        Ok(made) => tell(made, damage),
+        Err(fault) => advance_status(fault),
+    }
+}
+
+/// Sets the width of a measured session, and rewraps the paragraphs.
+#[unsafe(no_mangle)]
+pub extern "C" fn hordguli_core_set_measured_width(
+    alloc: Global,
+    session: &mut SessionHandle,
+    width: u32,
+    damage: &mut DamageOut,
+) -> u32
+    ensures { Returns (λ status. Changes (TriesMeasuredWidth width) status
+        session.old.held session.new.held damage.old damage.new) result }
+{
+    with_object!(session, alloc, mut object, set_measured_width(&mut object, width, damage))
+}
+
+fn set_advances(
+    session: &mut SessionObject,
+    pos: usize,
+    advances: &[u32],
+    damage: &mut DamageOut,
+) -> Status
+    ensures { TriesAdvances pos advances.now result session.old session.new damage.old damage.new }
+{
+    match session.set_advances(pos, advances) {
+        Ok(made) => tell(made, damage),
+        Err(fault) => advance_status(fault),
+    }
+}
+
+/// Sets the advances of characters of a measured session, and rewraps their paragraphs.
+#[unsafe(no_mangle)]
+pub extern "C" fn hordguli_core_set_advances(
+    alloc: Global,
+    session: &mut SessionHandle,
+    pos: usize,
+    advances: &[u32],
+    damage: &mut DamageOut,
+) -> u32
+    ensures { Returns (λ status. Changes (TriesAdvances pos advances.now) status
+        session.old.held session.new.held damage.old damage.new) result }
+{
+    with_object!(session, alloc, mut object, set_advances(&mut object, pos, advances, damage))
+}
+
 /// The size of a session (`hordguli_counts` in C).
 #[repr(C)]
 #[derive(Clone, Copy)]
@@ -272,7 +386,7 @@ fn counts_of(session: &SessionObject) -> CountsOut
         characters: session.char_count(),
         lines: session.line_count(),
         paragraphs: session.paragraph_count(),
-        width: usize::from(session.width()),
+        width: session.measured_width() as usize,
     }
 }
 

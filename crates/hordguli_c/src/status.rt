@@ -1,8 +1,8 @@
 //! The statuses that the functions return.
 ghost use Rattle.std.specs.Prelude.{◌≡◌, ◌≤◌};
-ghost use Rattle.hordguli_c.specs.Statuses.{edit_status, status_of};
+ghost use Rattle.hordguli_c.specs.Statuses.{advance_status, edit_status, status_of};
 
-use session::EditFault;
+use session::{AdvanceFault, EditFault};
 
 /// The result of a call. The numbers are those of include/hordguli.h, and never change.
 #[derive(Clone, Copy)]
@@ -20,13 +20,15 @@ pub enum Status {
     AlreadyOpen = 10,
     UnknownOption = 11,
     NoRoom = 12,
+    // hordguli.c returns 13 to 15.
+    NotMeasured = 16,
 }
 
 /// Returns the number of a status in C.
 #[tactic(auto, unfolding(crate::specs::Statuses::status_of))]
 pub fn number_of(status: Status) -> u32
     ensures status { status_of result ≡ status }
-    ensures within { result ≤ 12 }
+    ensures within { result ≤ 16 }
 {
     status as u32
 }
@@ -41,5 +43,18 @@ pub fn edit_status(fault: EditFault) -> Status
         EditFault::TextTooLong => Status::TextTooLong,
         EditFault::ParagraphTooLong => Status::ParagraphTooLong,
         EditFault::NoMemory => Status::NoMemory,
+    }
+}
+
+/// Returns the status of a fault of a call for measured text.
+pub fn advance_status(fault: AdvanceFault) -> Status
+    ensures { result ≡ advance_status fault }
+{
+    match fault {
+        AdvanceFault::NotMeasured => Status::NotMeasured,
+        AdvanceFault::OutOfRange => Status::OutOfRange,
+        AdvanceFault::WidthOutOfRange => Status::WidthOutOfRange,
+        AdvanceFault::ParagraphTooLong => Status::ParagraphTooLong,
+        AdvanceFault::NoMemory => Status::NoMemory,
     }
 }

@@ -21,6 +21,7 @@ pub const HORDGULI_NO_ROOM: hordguli_status = 12;
 pub const HORDGULI_NULL: hordguli_status = 13;
 pub const HORDGULI_OVERLAP: hordguli_status = 14;
 pub const HORDGULI_UNREAD_FILE: hordguli_status = 15;
+pub const HORDGULI_NOT_MEASURED: hordguli_status = 16;
 
 // Version
 pub const HORDGULI_VERSION_MAJOR: u32 = 0;
@@ -261,7 +262,7 @@ pub struct hordguli_line_info {
     pub shown: usize,
     /// columns of the shown part
     pub columns: usize,
-    /// spaces left of the shown part if it is padded
+    /// columns left of the shown part if it is padded
     pub padding: usize,
     /// base level of its paragraph, 0 or 1
     pub base: u32,
@@ -552,6 +553,22 @@ extern "C" {
         text: *const c_char,
         length: usize,
     ) -> hordguli_status;
+    /// Opens a measured session on a text (see MEASURED TEXT). `width` is in the caller's unit, from 1 to 2,147,483,647. All
+    /// advances are 0 until `hordguli_set_advances` sets them, so lines end at mandatory breaks only. The rest is as in
+    /// `hordguli_session_open`.
+    ///
+    /// Errors: NULL, OVERLAP, UNKNOWN_OPTION, NOT_UTF8, ALREADY_OPEN (the session), CLOSED (the tables), WIDTH_OUT_OF_RANGE,
+    /// TEXT_TOO_LONG, PARAGRAPH_TOO_LONG, NO_MEMORY.
+    ///
+    /// Cost: as `hordguli_session_open`.
+    pub fn hordguli_session_open_measured(
+        session: *mut hordguli_session,
+        tables: *mut hordguli_tables,
+        options: u32,
+        width: u32,
+        text: *const c_char,
+        length: usize,
+    ) -> hordguli_status;
     /// Frees the session and closes the handle. Safe on a closed handle or NULL.
     pub fn hordguli_session_close(session: *mut hordguli_session);
     /// Inserts text before the character at `pos`, or at the end of the text. Stores in `*damage` which lines were replaced.
@@ -590,7 +607,8 @@ extern "C" {
         length: usize,
         damage: *mut hordguli_damage,
     ) -> hordguli_status;
-    /// Sets the width, in columns, and rewraps the paragraphs. The damage covers all lines, even if the width is the same.
+    /// Sets the width, in columns, and rewraps the paragraphs. The damage covers all lines, even if the width is the same. In
+    /// a measured session, the width is in the caller's unit.
     ///
     /// Errors: NULL, OVERLAP, WIDTH_OUT_OF_RANGE, CLOSED, NO_MEMORY.
     ///
@@ -599,6 +617,40 @@ extern "C" {
     pub fn hordguli_set_width(
         session: *mut hordguli_session,
         width: u32,
+        damage: *mut hordguli_damage,
+    ) -> hordguli_status;
+    /// Sets the width of a measured session, from 1 to 2,147,483,647. The rest is as in `hordguli_set_width`.
+    ///
+    /// Errors: NULL, OVERLAP, CLOSED, NOT_MEASURED, WIDTH_OUT_OF_RANGE, NO_MEMORY.
+    ///
+    /// Cost: as `hordguli_set_width`.
+    pub fn hordguli_set_measured_width(
+        session: *mut hordguli_session,
+        width: u32,
+        damage: *mut hordguli_damage,
+    ) -> hordguli_status;
+    /// Sets the advances of the `count` characters that start at `pos`, in a measured session, and rewraps the paragraphs that
+    /// have one of these characters. Stores in `*damage` which lines were replaced: none if `count` is 0.
+    ///
+    /// After an edit, set the advances of all new paragraphs, since a shaper may choose other glyphs next to the edit.
+    /// `hordguli_paragraph` stores where they start and how long they are.
+    ///
+    /// ```c
+    /// status = hordguli_insert(&session, pos, text, length, &edited);
+    /// if (!status) status = measure(edited.first_paragraph, edited.new_paragraphs, &start, &count, advances);
+    /// if (!status) status = hordguli_set_advances(&session, start, count, advances, &measured);
+    /// ```
+    ///
+    /// From line `edited.first_line` on, `edited.old_lines` lines have then become `measured.new_lines` lines.
+    ///
+    /// Errors: NULL, OVERLAP, CLOSED, NOT_MEASURED, OUT_OF_RANGE, PARAGRAPH_TOO_LONG, NO_MEMORY.
+    ///
+    /// Cost: O(log n), plus O(`count`), plus wrapping these paragraphs. Levels and break marks are not computed again.
+    pub fn hordguli_set_advances(
+        session: *mut hordguli_session,
+        pos: usize,
+        count: usize,
+        advances: *const u32,
         damage: *mut hordguli_damage,
     ) -> hordguli_status;
     /// Stores the size of a session in `*counts`.

@@ -11,16 +11,18 @@ use crate::numbers::{Cause, TABLE_FILES};
 pub enum Error {
     /// A position, range, line or paragraph is past the end.
     OutOfRange,
-    /// The width is 0.
+    /// The width is 0, or above 2,147,483,647 in a measured session.
     WidthOutOfRange,
     /// The text would have more than 16,777,216 characters.
     TextTooLong,
-    /// A paragraph would have more than 1,048,576 characters.
+    /// A paragraph would have more than 1,048,576 characters, or its advances would add up to more than 4,294,967,295.
     ParagraphTooLong,
     /// Out of memory.
     OutOfMemory,
     /// A [`BytePos`](crate::BytePos) or [`Utf16Pos`](crate::Utf16Pos) is inside a character.
     NotCharBoundary,
+    /// The session was not opened by [`Session::open_measured`](crate::Session::open_measured).
+    NotMeasured,
     /// Bytes are not valid UTF-8.
     NotUtf8,
     /// The library does not know the Unicode version.
@@ -41,6 +43,7 @@ impl Error {
             HORDGULI_TEXT_TOO_LONG => Error::TextTooLong,
             HORDGULI_PARAGRAPH_TOO_LONG => Error::ParagraphTooLong,
             HORDGULI_NO_MEMORY => Error::OutOfMemory,
+            HORDGULI_NOT_MEASURED => Error::NotMeasured,
             HORDGULI_NOT_UTF8 => Error::NotUtf8,
             // (options and print flags have known bits only)
             HORDGULI_UNKNOWN_OPTION => Error::UnknownVersion,
@@ -56,6 +59,7 @@ impl Error {
             Error::TextTooLong => HORDGULI_TEXT_TOO_LONG,
             Error::ParagraphTooLong => HORDGULI_PARAGRAPH_TOO_LONG,
             Error::OutOfMemory => HORDGULI_NO_MEMORY,
+            Error::NotMeasured => HORDGULI_NOT_MEASURED,
             Error::NotUtf8 => HORDGULI_NOT_UTF8,
             Error::UnknownVersion | Error::NotCharBoundary => HORDGULI_UNKNOWN_OPTION,
             Error::TableFault(_) => HORDGULI_TABLE_FAULT,

@@ -427,6 +427,27 @@ impl SessionHandle {
         Ok(handle)
     }
 
+    pub fn open_measured(
+        tables: &TablesHandle,
+        options: u32,
+        width: u32,
+        text: &str,
+    ) -> Result<Self, Error> {
+        let handle = SessionHandle(UnsafeCell::new(HORDGULI_SESSION_INIT));
+        // SAFETY: as in `open`.
+        check(unsafe {
+            hordguli_session_open_measured(
+                handle.at(),
+                tables.at(),
+                options,
+                width,
+                text.as_ptr().cast(),
+                text.len(),
+            )
+        })?;
+        Ok(handle)
+    }
+
     // ---- Edits ----
 
     pub fn insert(&mut self, pos: usize, text: &str) -> Result<hordguli_damage, Error> {
@@ -463,6 +484,18 @@ impl SessionHandle {
     pub fn set_width(&mut self, width: u32) -> Result<hordguli_damage, Error> {
         // SAFETY: *handle*; the damage is an output.
         stored(|damage| unsafe { hordguli_set_width(self.at(), width, damage) })
+    }
+
+    pub fn set_measured_width(&mut self, width: u32) -> Result<hordguli_damage, Error> {
+        // SAFETY: *handle*; the damage is an output.
+        stored(|damage| unsafe { hordguli_set_measured_width(self.at(), width, damage) })
+    }
+
+    pub fn set_advances(&mut self, pos: usize, advances: &[u32]) -> Result<hordguli_damage, Error> {
+        // SAFETY: *handle*; `advances` is an input, and the damage an output.
+        stored(|damage| unsafe {
+            hordguli_set_advances(self.at(), pos, advances.len(), advances.as_ptr(), damage)
+        })
     }
 
     // ---- Sizes ----

@@ -9,6 +9,7 @@
 //! | [One string](#one-string) | [`wrap`], [`layout`], [`layout_into`] |
 //! | [A terminal row](#a-terminal-row) | [`base_level`], [`levels`], [`row`], [`row_runs`], [`breaks`], [`properties`] |
 //! | [A document](#a-document) | [`Session`], [`Line`], [`Paragraph`] |
+//! | Text in any font | [`Session::open_measured`], [`Session::set_advances`] |
 //! | [An editor](#an-editor) | [`Session::insert`], [`Damage`], [`Edge`], [`Line::spans`] |
 //! | Programs that use `unicode-bidi` and `unicode-linebreak` | [`migration`] |
 //!

@@ -51,7 +51,7 @@ impl<'a> Line<'a> {
         self.info.columns
     }
 
-    /// Returns the number of spaces left of the shown part if it is padded. It is 0 in left-to-right paragraphs.
+    /// Returns the number of columns left of the shown part if it is padded. It is 0 in left-to-right paragraphs.
     #[must_use]
     pub fn padding(&self) -> usize {
         self.info.padding

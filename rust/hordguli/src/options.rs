@@ -100,7 +100,8 @@ impl Options {
         self
     }
 
-    /// Sets a tab stop every `columns` columns. With 0, the default, there are none, and a tab has no columns.
+    /// Sets a tab stop every `columns` columns. With 0, the default, there are none, and a tab has no columns. In a measured session, any
+    /// other number sets stops at the multiples of each tab's own advance.
     pub const fn tab_width(mut self, columns: u8) -> Self {
         self.tab_width = columns;
         self
@@ -160,7 +161,7 @@ impl Print {
     pub const VTOL: Print = Print(HORDGULI_PRINT_VTOL);
     /// The level of each character after L1, in logical order.
     pub const LEVELS: Print = Print(HORDGULI_PRINT_LEVELS);
-    /// Pads visual lines of right-to-left paragraphs with spaces on the left, up to the width.
+    /// Pads visual lines of right-to-left paragraphs with spaces on the left, up to the width. Measured text is not padded.
     pub const PADDED: Print = Print(HORDGULI_PRINT_PADDED);
     /// Mirrors characters at odd levels in visual lines (UAX #9, L4).
     pub const MIRRORED: Print = Print(HORDGULI_PRINT_MIRRORED);

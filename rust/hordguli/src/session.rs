@@ -11,8 +11,9 @@ use crate::{
 
 /// A text and its layout in lines, which is kept up to date when the text is edited or the width changes.
 ///
-/// Lines, paragraphs and columns are counted from 0. A column is a terminal cell. Positions have types that name their unit
-/// ([`Position`]), and methods accept each of them. Below, n is the number of paragraphs.
+/// Lines, paragraphs and columns are counted from 0. A column is a terminal cell, or in a
+/// [measured session](Session::open_measured) a unit of the caller. Positions have types that name their unit ([`Position`]), and
+/// methods accept each of them. Below, n is the number of paragraphs.
 ///
 /// ```
 /// use hordguli::{BytePos, Options, Session, Tables};
@@ -59,6 +60,44 @@ impl Session {
     /// Time and memory proportional to the text.
     pub fn new(tables: &Tables, text: &str, width: u16, options: Options) -> Result<Self, Error> {
         let handle = SessionHandle::open(&tables.handle, options.bits(), width.into(), text)?;
+        Ok(Session { handle })
+    }
+
+    /// Opens a measured session, for text in any font. `width` is from 1 to 2,147,483,647.
+    ///
+    /// Each character has an advance, in a unit that the caller chooses, such as 1/64 pixel. The width, and all columns of the session,
+    /// are in this unit. A new character has advance 0, until [`set_advances`](Session::set_advances) sets it. All others keep theirs,
+    /// also if an edit joins or splits paragraphs.
+    ///
+    /// The advances of a paragraph add up to at most 4,294,967,295. With [`Options::tab_width`], a tab moves to the next multiple of its
+    /// own advance, or stays where it is if that is 0. What is printed has no padding; [`Line::padding`] is what aligns a line right.
+    ///
+    /// ```
+    /// use hordguli::{CharPos, Options, Session, Tables};
+    ///
+    /// let advance = |c| if c == 'i' { 4 * 64 } else { 9 * 64 };
+    /// let mut session = Session::open_measured(&Tables::builtin()?, "inn in", 30 * 64, Options::new())?;
+    /// let advances: Vec<u32> = session.chars(..)?.into_iter().map(advance).collect();
+    /// let damage = session.set_advances(CharPos(0), &advances)?;
+    /// assert_eq!((damage.old_lines, damage.new_lines), (0..1, 0..2));
+    /// assert_eq!(session.line(0)?.width(), 22 * 64);
+    /// # Ok::<(), hordguli::Error>(())
+    /// ```
+    ///
+    /// # Errors
+    ///
+    /// [`Error::WidthOutOfRange`], [`Error::TextTooLong`], [`Error::ParagraphTooLong`], [`Error::OutOfMemory`].
+    ///
+    /// # Cost
+    ///
+    /// As [`new`](Session::new).
+    pub fn open_measured(
+        tables: &Tables,
+        text: &str,
+        width: u32,
+        options: Options,
+    ) -> Result<Self, Error> {
+        let handle = SessionHandle::open_measured(&tables.handle, options.bits(), width, text)?;
         Ok(Session { handle })
     }
 
@@ -120,7 +159,8 @@ impl Session {
             .map(Damage::new)
     }
 
-    /// Sets the width, in columns, and rewraps the paragraphs. The damage covers all lines, even if the width is the same.
+    /// Sets the width, in columns, and rewraps the paragraphs. The damage covers all lines, even if the width is the same. In a measured
+    /// session, the width is in the caller's unit.
     ///
     /// # Errors
     ///
@@ -132,6 +172,50 @@ impl Session {
     /// no space that fits.
     pub fn set_width(&mut self, width: u16) -> Result<Damage, Error> {
         self.handle.set_width(width.into()).map(Damage::new)
+    }
+
+    /// Sets the width of a measured session, from 1 to 2,147,483,647. The rest is as in [`set_width`](Session::set_width).
+    ///
+    /// # Errors
+    ///
+    /// [`Error::NotMeasured`], [`Error::WidthOutOfRange`], [`Error::OutOfMemory`].
+    ///
+    /// # Cost
+    ///
+    /// As [`set_width`](Session::set_width).
+    pub fn set_measured_width(&mut self, width: u32) -> Result<Damage, Error> {
+        self.handle.set_measured_width(width).map(Damage::new)
+    }
+
+    /// Sets the advances of the characters from `pos` on, in a measured session, and rewraps the paragraphs that have one of these
+    /// characters. Returns which lines were replaced: none if `advances` is empty.
+    ///
+    /// After an edit, set the advances of all new paragraphs, since a shaper may choose other glyphs next to the edit. The `old_lines`
+    /// of the edit have then become the `new_lines` of this call.
+    ///
+    /// ```
+    /// use hordguli::{CharPos, Options, Session, Tables};
+    ///
+    /// let mut session = Session::open_measured(&Tables::builtin()?, "ab\nc", 640, Options::new())?;
+    /// let edited = session.insert(CharPos(1), " x")?;
+    /// let start = session.paragraph(edited.new_paragraphs.start)?.range().start;
+    /// let end = session.paragraph(edited.new_paragraphs.end - 1)?.range().end;
+    /// let measured = session.set_advances(start, &vec![320; end - start])?;
+    /// assert_eq!((edited.old_lines, measured.new_lines), (0..1, 0..2));
+    /// # Ok::<(), hordguli::Error>(())
+    /// ```
+    ///
+    /// # Errors
+    ///
+    /// Those of the position. [`Error::NotMeasured`], [`Error::OutOfRange`] if there are more advances than characters from `pos` on,
+    /// [`Error::ParagraphTooLong`] if the advances of a paragraph would add up to more than 4,294,967,295, [`Error::OutOfMemory`].
+    ///
+    /// # Cost
+    ///
+    /// O(log n), plus the number of advances, plus wrapping these paragraphs. Levels and break marks are not computed again.
+    pub fn set_advances(&mut self, pos: impl Position, advances: &[u32]) -> Result<Damage, Error> {
+        let pos = pos.resolve(self)?;
+        self.handle.set_advances(pos.0, advances).map(Damage::new)
     }
 
     // ---- Sizes ----

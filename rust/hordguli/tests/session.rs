@@ -166,6 +166,102 @@ fn width_0_is_refused() {
     assert_eq!(text.counts().width, 80);
 }
 
+/// A measured session in which each character has advance 10.
+fn measured(text: &str, width: u32) -> Session {
+    let tables = Tables::builtin().unwrap();
+    let mut session = Session::open_measured(&tables, text, width, Options::new()).unwrap();
+    let advances = vec![10; session.end() - CharPos(0)];
+    session.set_advances(CharPos(0), &advances).unwrap();
+    session
+}
+
+fn widths(session: &Session) -> Vec<usize> {
+    session.lines(..).map(|line| line.width()).collect()
+}
+
+#[test]
+fn advances_are_columns() {
+    let mut text = measured("in \u{5d0}\u{5d1}\u{5d2}", 100_000);
+    let damage = text.set_advances(BytePos(3), &[30_000, 0, 80_000]).unwrap();
+    let expected = Damage {
+        old_lines: 0..1,
+        new_lines: 0..3,
+        old_paragraphs: 0..1,
+        new_paragraphs: 0..1,
+    };
+    assert_eq!(damage, expected);
+    assert_eq!(widths(&text), [20, 30_000, 80_000]);
+    assert_eq!(text.line(1).unwrap().columns().unwrap(), [0, 30_000]);
+    assert_eq!(text.caret(CharPos(3)), Ok(caret(1, 30_000, Level::RTL)));
+    assert_eq!(text.nearest_edge(1, 20_000), Ok(before(3)));
+    assert_eq!(text.counts().width, 100_000);
+}
+
+#[test]
+fn new_characters_have_advance_0() {
+    let mut text = measured("ab\nc", 20);
+    let edited = text.insert(CharPos(1), "xy").unwrap();
+    assert_eq!((edited.new_lines, widths(&text)), (0..1, vec![20, 10]));
+    let measured = text.set_advances(CharPos(1), &[10, 10]).unwrap();
+    assert_eq!((edited.old_lines, measured.new_lines), (0..1, 0..2));
+    text.delete(..CharPos(1)).unwrap();
+    assert_eq!(widths(&text), [20, 10, 10]);
+    assert!(text
+        .set_advances(CharPos(2), &[])
+        .unwrap()
+        .new_lines
+        .is_empty());
+}
+
+#[test]
+fn measured_width_is_set() {
+    let mut text = measured("abcd", 20);
+    assert_eq!(text.set_measured_width(100_000).unwrap().new_lines, 0..1);
+    assert_eq!(text.counts().width, 100_000);
+    assert_eq!(text.set_width(10).unwrap().new_lines, 0..4);
+    for width in [0, 1 << 31, u32::MAX] {
+        assert_eq!(text.set_measured_width(width), Err(Error::WidthOutOfRange));
+        let opened = Session::open_measured(&Tables::builtin().unwrap(), "", width, Options::new());
+        assert!(matches!(opened, Err(Error::WidthOutOfRange)));
+    }
+    assert_eq!(text.counts().width, 10);
+}
+
+#[test]
+fn advances_are_refused() {
+    let mut plain = session("ab", 80);
+    assert_eq!(
+        plain.set_advances(CharPos(9), &[1]),
+        Err(Error::NotMeasured)
+    );
+    assert_eq!(plain.set_measured_width(0), Err(Error::NotMeasured));
+    let mut text = measured("a\nb", 20);
+    assert_eq!(
+        text.set_advances(CharPos(2), &[1, 1]),
+        Err(Error::OutOfRange)
+    );
+    assert_eq!(
+        text.set_advances(CharPos(0), &[u32::MAX, 1]),
+        Err(Error::ParagraphTooLong)
+    );
+    text.set_advances(CharPos(0), &[u32::MAX, 0]).unwrap();
+    assert_eq!(
+        text.delete(CharPos(1)..CharPos(2)),
+        Err(Error::ParagraphTooLong)
+    );
+    assert_eq!(text.text(..).unwrap(), "a\nb");
+}
+
+#[test]
+fn measured_lines_are_not_padded() {
+    let text = measured("\u{5d0}\u{5d1}", 50);
+    assert_eq!(text.line(0).unwrap().padding(), 30);
+    assert_eq!(
+        text.lines_to_string(.., Print::DEFAULT).unwrap(),
+        "\u{5d1}\u{5d0}\n"
+    );
+}
+
 #[test]
 fn long_paragraph_is_refused() {
     let long = "a".repeat(1_048_576);

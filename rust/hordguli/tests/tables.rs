@@ -71,7 +71,8 @@ fn errors_have_texts() {
         text(Error::OutOfRange),
         "no such position, range, line or paragraph"
     );
-    assert_eq!(text(Error::WidthOutOfRange), "a width is 1 to 65535");
+    assert_eq!(text(Error::WidthOutOfRange), "width out of range");
+    assert_eq!(text(Error::NotMeasured), "not a measured session");
     assert_eq!(text(Error::TextTooLong), "text too long");
     assert_eq!(text(Error::ParagraphTooLong), "paragraph too long");
     assert_eq!(text(Error::OutOfMemory), "out of memory");

@@ -99,6 +99,10 @@ impl Teller {
         result.ok()
     }
 
+    fn advances(&self, count: usize) -> Vec<u32> {
+        (0..count).map(|_| self.below(5) as u32).collect()
+    }
+
     fn text(&self, count: usize) -> String {
         (0..count)
             .map(|_| ALPHABET[self.below(ALPHABET.len())])
@@ -113,6 +117,7 @@ fn status_of(error: &Error) -> u64 {
         Error::TextTooLong => 3,
         Error::ParagraphTooLong => 4,
         Error::NotUtf8 => 7,
+        Error::NotMeasured => 16,
         other => panic!("{other}"),
     }
 }
@@ -467,19 +472,26 @@ impl Run<'_> {
 
     fn edit(&self, session: &mut Session) {
         let model = Model::new(session);
-        let kind = self.below(4);
+        let kind = self.below(6);
         let pos = self.below(model.0.len() + 2);
         let end = pos + self.below(6);
         let text = self.teller.text(self.below(8));
         let width = self.below(25) as u16;
+        let advances = self.teller.advances(self.below(8));
         let unit = self.unit();
         let edited = match kind {
             0 => in_unit!(unit, model, pos, |pos| session.insert(pos, &text)),
             1 => range_in_unit!(unit, model, pos, end, |range| session.delete(range)),
             2 => range_in_unit!(unit, model, pos, end, |range| session.replace(range, &text)),
+            3 => session.set_measured_width(width.into()),
+            4 => session.set_advances(CharPos(pos), &advances),
             _ => session.set_width(width),
         };
-        if let Some(damage) = self.teller.told("edit", edited) {
+        self.edited(edited);
+    }
+
+    fn edited(&self, result: Result<Damage, Error>) {
+        if let Some(damage) = self.teller.told("edit", result) {
             self.damage(&damage);
         }
     }
@@ -532,8 +544,17 @@ impl Run<'_> {
         let page = layout(tables, &text, width, options, print);
         self.teller
             .tell_all("byte", self.teller.told("layout", page).unwrap().bytes());
-        let opened = Session::new(tables, &text, width, options);
+        let is_measured = self.below(3) == 0;
+        let opened = if is_measured {
+            Session::open_measured(tables, &text, width.into(), options)
+        } else {
+            Session::new(tables, &text, width, options)
+        };
         let mut session = self.teller.told("open", opened).unwrap();
+        if is_measured {
+            let advances = self.teller.advances(session.counts().characters);
+            self.edited(session.set_advances(CharPos(0), &advances));
+        }
         for _ in 0..self.below(4) {
             self.edit(&mut session);
         }

@@ -93,6 +93,21 @@ impl Counts {
         self.each(name, new, look, call);
     }
 
+    fn each_of_measured<T>(&mut self, name: &str, call: impl Fn(&mut Session) -> Result<T, Error>) {
+        let tables = Tables::builtin().unwrap();
+        let text = "a \u{5d0}\u{5d1} (c)\ne f\n";
+        let new = || {
+            let mut session = Session::open_measured(&tables, text, 50, Options::new()).unwrap();
+            session.set_advances(CharPos(0), &[10; 8]).unwrap();
+            session
+        };
+        let look = |session: &Session| {
+            let lines = session.lines(..).map(|it| (it.range(), it.columns()));
+            format!("{:?} {:?}", session.counts(), lines.collect::<Vec<_>>())
+        };
+        self.each(name, new, look, call);
+    }
+
     fn each_of_tables<T>(&mut self, name: &str, call: impl Fn(&Tables) -> Result<T, Error>) {
         let look = |tables: &Tables| format!("{tables:?}");
         self.each(
@@ -110,6 +125,9 @@ fn sessions(counts: &mut Counts) {
     counts.each_of_session("delete", |it| it.delete(range.clone()));
     counts.each_of_session("replace", |it| it.replace(range.clone(), "\u{5d2}\n"));
     counts.each_of_session("set_width", |it| it.set_width(3));
+    counts.each_of_measured("set_measured_width", |it| it.set_measured_width(30));
+    counts.each_of_measured("set_advances", |it| it.set_advances(at, &[30; 8]));
+    counts.each_of_measured("join", |it| it.delete(CharPos(8)..CharPos(9)));
     counts.each_of_session("text", |it| it.text(..));
     counts.each_of_session("lines_to_string", |it| {
         it.lines_to_string(.., Print::DEFAULT)
@@ -134,6 +152,9 @@ fn tables(counts: &mut Counts) {
     let open = |_: &mut ()| Tables::builtin_with_version(version);
     counts.each("builtin_with_version", || (), |_| String::new(), open);
     counts.each_of_tables("open", |it| Session::new(it, "a \u{5d0}\nb", 80, options));
+    counts.each_of_tables("open_measured", |it| {
+        Session::open_measured(it, "a \u{5d0}\nb", 80, options)
+    });
     counts.each_of_tables("layout_into", |it| {
         let mut buffer = String::from("> ");
         let print = Print::DEFAULT;
