@@ -1,14 +1,17 @@
-/* Draws a text to a PNG, with joined Arabic letters: draw [--list] COLUMNS PICTURE FONT... < TEXT, built by
+/* Draws a text to a PNG, in lines of at most WIDTH pixels, with a selection and a caret:
  *
- *     cc -o draw examples/draw.c $(pkg-config --cflags --libs hordguli harfbuzz cairo-ft) \
- *         -DUCDDIR=\"$(pkg-config --variable=ucddir hordguli)\"
+ *     draw [--list] WIDTH FROM TO PICTURE FONT... < TEXT
  *
- * A session breaks the text into lines of COLUMNS columns, and stores the directional runs of each line from left to
- * right. HarfBuzz shapes each run: it joins letters, places marks and mirrors brackets. So it gets the characters
- * unmirrored and in logical order. Cairo draws the glyphs. A letter is drawn with the first FONT that has it.
+ * built by
  *
- * With --list, each drawn glyph is printed: its line, left edge, width, the first position of its cluster in the line,
- * its font and its number in the font. */
+ *     cc -o draw examples/draw.c $(pkg-config --cflags --libs hordguli harfbuzz cairo-ft)
+ *
+ * HarfBuzz shapes each directional run: it joins letters, places marks and mirrors brackets. So it gets the characters
+ * unmirrored and in logical order. A measured session has the advance of each character, in 1/64 pixel, and finds the
+ * lines, the caret and the selection. Cairo draws the glyphs. A letter is drawn with the first FONT that has it.
+ *
+ * The characters from position FROM up to TO are selected. The caret is after the last of them, or before FROM if there
+ * are none. With --list, what is measured and drawn is printed. */
 #include <cairo-ft.h>
 #include <hb.h>
 #include <hordguli.h>
@@ -17,9 +20,11 @@
 #include <string.h>
 
 enum { SIZE = 26, HEIGHT = 44, MARGIN = 16 }; /* of the letters, a line and the border, in pixels */
-enum { FONTS = 8, CHARACTERS = 2000, GLYPHS = 8000, BYTES = 1000000 };
+enum { UNITS = 64 };                          /* of HarfBuzz and of the session, in a pixel */
+enum { FONTS = 8, CHARACTERS = 20000, GLYPHS = 4 * CHARACTERS, SPANS = 100, BYTES = 1000000 };
 
 static hordguli_session session = HORDGULI_SESSION_INIT;
+static int is_listed;
 
 static struct {
     hb_font_t *shaping;
@@ -27,16 +32,21 @@ static struct {
 } fonts[FONTS];
 static size_t font_count;
 
-/* The characters of a line, in logical order, with the font and the script of each. */
+/* A paragraph: its position, and its characters in logical order, with the level, the font and the script of each */
+static size_t start, count;
 static uint32_t characters[CHARACTERS];
+static uint8_t levels[CHARACTERS];
 static size_t font_of[CHARACTERS];
 static hb_script_t script_of[CHARACTERS];
-static hordguli_run runs[CHARACTERS];
 
-/* The glyphs of a line, from left to right. */
+/* The advance of each character, and whether its glyph may change if a line begins with it */
+static uint32_t advances[CHARACTERS];
+static int is_unsafe[CHARACTERS + 1];
+
+/* The glyphs of a line, from left to right. `left` and `width` are in 1/64 pixel. */
 typedef struct glyph {
     cairo_glyph_t drawn;
-    double left, width;
+    long left, width;
     size_t pos, font;
 } glyph;
 
@@ -52,6 +62,8 @@ static void check(hordguli_status status) {
     if (status != HORDGULI_OK) fail(hordguli_status_text(status));
 }
 
+/* ---- Fonts ---- */
+
 static void open_font(FT_Library library, const char *path) {
     FT_Face face;
     hb_blob_t *blob = hb_blob_create_from_file(path);
@@ -59,7 +71,7 @@ static void open_font(FT_Library library, const char *path) {
     if (FT_New_Face(library, path, 0, &face) != 0) fail("cannot read a font");
     fonts[font_count].shaping = hb_font_create(shaped);
     fonts[font_count].drawing = cairo_ft_font_face_create_for_ft_face(face, FT_LOAD_NO_HINTING);
-    hb_font_set_scale(fonts[font_count].shaping, SIZE * 64, SIZE * 64);
+    hb_font_set_scale(fonts[font_count].shaping, SIZE * UNITS, SIZE * UNITS);
     hb_face_destroy(shaped);
     hb_blob_destroy(blob);
     font_count++;
@@ -72,7 +84,7 @@ static int has(size_t font, uint32_t c) {
 
 /* Chooses the font and the script of each character. Spaces, digits, punctuation and marks belong to the script before
  * them, and stay in its font if it has them. */
-static void choose_fonts(size_t count) {
+static void choose_fonts(void) {
     hb_script_t script = HB_SCRIPT_COMMON;
     size_t font = 0;
     for (size_t k = 0; k < count; k++) {
@@ -87,125 +99,222 @@ static void choose_fonts(size_t count) {
     }
 }
 
-/* Shapes the characters of a line from `start` up to `end`, which have one level, font and script, and puts their
- * glyphs at `x`. HarfBuzz also sees the rest of the line, since letters join across the ends of a part. Returns the
- * right edge. */
-static double shape_part(size_t count, size_t start, size_t end, uint32_t level, double x) {
-    unsigned found;
+/* ---- Measuring ---- */
+
+/* Reads a paragraph, and stores its first line and the number of its lines in `*info`. */
+static void read_paragraph(size_t index, hordguli_paragraph_info *info) {
+    check(hordguli_paragraph(&session, index, info, CHARACTERS, levels, NULL));
+    check(hordguli_text_utf32(&session, info->start, info->length, CHARACTERS, characters, &count));
+    start = info->start;
+    choose_fonts();
+}
+
+/* Whether two characters that follow each other are shaped together */
+static int is_one_part(size_t first, size_t second) {
+    return font_of[first] == font_of[second] && script_of[first] == script_of[second] && levels[first] == levels[second];
+}
+
+/* Shapes the characters from `from` up to `to`. HarfBuzz also sees the rest of the paragraph, since letters join across
+ * the ends of a part. */
+static hb_buffer_t *shaped(size_t from, size_t to, uint32_t level) {
     hb_buffer_t *buffer = hb_buffer_create();
-    hb_buffer_add_utf32(buffer, characters, (int)count, (unsigned)start, (int)(end - start));
+    hb_buffer_add_utf32(buffer, characters, (int)count, (unsigned)from, (int)(to - from));
     hb_buffer_set_direction(buffer, level % 2 == 1 ? HB_DIRECTION_RTL : HB_DIRECTION_LTR);
-    hb_buffer_set_script(buffer, script_of[start]);
-    hb_shape(fonts[font_of[start]].shaping, buffer, NULL, 0);
+    hb_buffer_set_script(buffer, script_of[from]);
+    hb_shape(fonts[font_of[from]].shaping, buffer, NULL, 0);
+    return buffer;
+}
+
+/* Finds the advances of the characters from `from` up to `to`. The first character of a HarfBuzz cluster has the advance
+ * of its glyphs, and the others have 0. A line must not begin inside a cluster, nor where HarfBuzz says so. */
+static void find_advances(size_t from, size_t to) {
+    for (size_t first = from, end; first < to; first = end) {
+        for (end = first + 1; end < to && is_one_part(end - 1, end);) end++;
+        unsigned found;
+        hb_buffer_t *buffer = shaped(first, end, levels[first]);
+        const hb_glyph_info_t *infos = hb_buffer_get_glyph_infos(buffer, &found);
+        const hb_glyph_position_t *places = hb_buffer_get_glyph_positions(buffer, NULL);
+        for (size_t k = first; k < end; k++) advances[k] = 0, is_unsafe[k] = 1;
+        for (unsigned k = 0; k < found; k++) {
+            advances[infos[k].cluster] += (uint32_t)places[k].x_advance;
+            is_unsafe[infos[k].cluster] = (hb_glyph_info_get_glyph_flags(&infos[k]) & HB_GLYPH_FLAG_UNSAFE_TO_BREAK) != 0;
+        }
+        hb_buffer_destroy(buffer);
+    }
+    is_unsafe[from] = is_unsafe[count] = 0;
+}
+
+/* If a line begins or ends where that is unsafe, shapes the line and the rest of the paragraph apart. Then the line may
+ * end elsewhere, so this is done again, at most three times. */
+static void measure_line(size_t line) {
+    for (int times = 0; times < 3; times++) {
+        hordguli_line_info info;
+        check(hordguli_line(&session, line, &info, 0, NULL, NULL, NULL, NULL, NULL));
+        size_t from = info.start - start, to = from + info.shown;
+        if (!is_unsafe[from] && !is_unsafe[to]) return;
+        find_advances(from, to);
+        find_advances(to, count);
+        check(hordguli_set_advances(&session, info.start, count - from, advances + from, NULL));
+    }
+}
+
+static void list_advances(void) {
+    for (size_t k = 0; is_listed && k < count; k++) printf("advance %zu %u\n", start + k, advances[k]);
+}
+
+/* Measures paragraphs. After an edit, they are the new ones of its damage. */
+static void measure(size_t first, size_t paragraphs) {
+    for (size_t k = first; k < first + paragraphs; k++) {
+        hordguli_paragraph_info info;
+        read_paragraph(k, &info);
+        find_advances(0, count);
+        check(hordguli_set_advances(&session, start, count, advances, NULL));
+        for (size_t line = info.first_line; line < info.first_line + info.lines; line++) {
+            measure_line(line);
+            check(hordguli_paragraph(&session, k, &info, 0, NULL, NULL)); /* the number of lines may have changed */
+        }
+        list_advances();
+    }
+}
+
+/* ---- Drawing ---- */
+
+/* Adds the glyphs of some characters at `x`, and returns their right edge. */
+static long shape_part(size_t from, size_t to, uint32_t level, long x) {
+    unsigned found;
+    hb_buffer_t *buffer = shaped(from, to, level);
     const hb_glyph_info_t *infos = hb_buffer_get_glyph_infos(buffer, &found);
     const hb_glyph_position_t *places = hb_buffer_get_glyph_positions(buffer, NULL);
     for (unsigned k = 0; k < found; k++) {
         if (glyph_count == GLYPHS) fail("a line has too many glyphs");
         glyph *next = &glyphs[glyph_count++];
         next->drawn.index = infos[k].codepoint;
-        next->drawn.x = x + places[k].x_offset / 64.0;
-        next->drawn.y = -places[k].y_offset / 64.0;
+        next->drawn.x = (double)(x + places[k].x_offset) / UNITS;
+        next->drawn.y = (double)-places[k].y_offset / UNITS;
         next->left = x;
-        next->width = places[k].x_advance / 64.0;
-        next->pos = infos[k].cluster;
-        next->font = font_of[start];
+        next->width = places[k].x_advance;
+        next->pos = start + infos[k].cluster;
+        next->font = font_of[from];
         x += next->width;
     }
     hb_buffer_destroy(buffer);
     return x;
 }
 
-static int is_one_part(size_t left, size_t right) {
-    return font_of[left] == font_of[right] && script_of[left] == script_of[right];
-}
-
-/* Shapes a run in parts, from left to right. Each part has one font and one script. Returns the right edge. */
-static double shape_run(size_t count, hordguli_run run, double x) {
-    size_t start = run.start, end = run.start + run.length;
-    while (start < end) {
-        size_t from = start, to = end;
-        if (run.level % 2 == 0) {
+/* Shapes a run in parts, from left to right. Returns the right edge. */
+static long shape_run(size_t begin, size_t end, uint32_t level, long x) {
+    while (begin < end) {
+        size_t from = begin, to = end;
+        if (level % 2 == 0) {
             for (to = from + 1; to < end && is_one_part(to - 1, to);) to++;
-            start = to;
+            begin = to;
         } else {
-            for (from = to - 1; from > start && is_one_part(from - 1, from);) from--;
+            for (from = to - 1; from > begin && is_one_part(from - 1, from);) from--;
             end = from;
         }
-        x = shape_part(count, from, to, run.level, x);
+        x = shape_part(from, to, level, x);
     }
     return x;
 }
 
-/* Fills `glyphs` and returns the width of a line, in pixels. */
-static double shape_line(size_t line, hordguli_line_info *info) {
-    size_t count, run_count;
-    double x = 0;
-    check(hordguli_line(&session, line, info, 0, NULL, NULL, NULL, NULL, NULL));
-    check(hordguli_text_utf32(&session, info->start, info->shown, CHARACTERS, characters, &count));
+static void shape_line(size_t line, size_t line_start) {
+    static hordguli_run runs[CHARACTERS];
+    size_t run_count, first = line_start - start;
+    long x = 0;
     check(hordguli_runs(&session, line, CHARACTERS, runs, &run_count));
-    choose_fonts(count);
     glyph_count = 0;
-    for (size_t k = 0; k < run_count; k++) x = shape_run(count, runs[k], x);
-    return x;
+    for (size_t k = 0; k < run_count; k++) {
+        hordguli_run run = runs[k];
+        x = shape_run(first + run.start, first + run.start + run.length, run.level, x);
+    }
 }
 
-static void draw_line(cairo_t *picture, double x, double y) {
-    for (size_t k = 0; k < glyph_count; k++) {
-        cairo_glyph_t moved = {glyphs[k].drawn.index, x + glyphs[k].drawn.x, y + glyphs[k].drawn.y};
-        cairo_set_font_face(picture, fonts[glyphs[k].font].drawing);
+static void draw_glyphs(cairo_t *picture, size_t line, double left, double top) {
+    cairo_set_source_rgb(picture, 0, 0, 0);
+    for (const glyph *it = glyphs; it < glyphs + glyph_count; it++) {
+        cairo_glyph_t moved = {it->drawn.index, left + it->drawn.x, top + SIZE + it->drawn.y};
+        cairo_set_font_face(picture, fonts[it->font].drawing);
         cairo_set_font_size(picture, SIZE);
         cairo_show_glyphs(picture, &moved, 1);
+        if (is_listed) printf("glyph %zu %ld %ld %zu %zu %lu\n", line, it->left, it->width, it->pos, it->font, it->drawn.index);
     }
 }
 
-static void list_line(size_t line) {
-    for (const glyph *it = glyphs; it < glyphs + glyph_count; it++)
-        printf("%zu %.3f %.3f %zu %zu %lu\n", line, it->left, it->width, it->pos, it->font, it->drawn.index);
+/* Draws the selected part of a line. Where the direction changes, it can have several spans. */
+static void draw_selection(cairo_t *picture, size_t line, double left, double top, size_t from, size_t to) {
+    hordguli_span spans[SPANS];
+    size_t span_count;
+    check(hordguli_spans(&session, line, from, to, SPANS, spans, &span_count));
+    cairo_set_source_rgb(picture, 0.7, 0.83, 1);
+    for (size_t k = 0; k < span_count; k++) {
+        double width = (double)(spans[k].right - spans[k].left) / UNITS;
+        cairo_rectangle(picture, left + (double)spans[k].left / UNITS, top, width, HEIGHT);
+        cairo_fill(picture);
+        if (is_listed) printf("span %zu %zu %zu\n", line, spans[k].left, spans[k].right);
+    }
 }
 
-static void draw(const char *path, int is_listed) {
-    hordguli_counts counts;
-    hordguli_line_info info = {0};
-    double widest = 0;
-    check(hordguli_session_counts(&session, &counts));
-    for (size_t line = 0; line < counts.lines; line++) {
-        double own = shape_line(line, &info);
-        if (own > widest) widest = own;
-    }
-    int width = (int)widest + 1 + 2 * MARGIN, height = (int)counts.lines * HEIGHT + 2 * MARGIN;
-    cairo_surface_t *surface = cairo_image_surface_create(CAIRO_FORMAT_RGB24, width, height);
-    cairo_t *picture = cairo_create(surface);
-    cairo_set_source_rgb(picture, 1, 1, 1);
-    cairo_paint(picture);
-    cairo_set_source_rgb(picture, 0, 0, 0);
-    for (size_t line = 0; line < counts.lines; line++) {
-        double own = shape_line(line, &info);
-        draw_line(picture, MARGIN + (info.base == 1 ? widest - own : 0), MARGIN + (double)line * HEIGHT + SIZE);
-        if (is_listed) list_line(line);
-    }
-    if (cairo_status(picture) != CAIRO_STATUS_SUCCESS) fail("cannot draw");
-    if (cairo_surface_write_to_png(surface, path) != CAIRO_STATUS_SUCCESS) fail("cannot write the picture");
-    cairo_destroy(picture);
-    cairo_surface_destroy(surface);
+static void draw_caret(cairo_t *picture, size_t line, double left, double top, hordguli_caret caret) {
+    if (caret.line != line) return;
+    cairo_set_source_rgb(picture, 0.8, 0, 0);
+    cairo_rectangle(picture, left + (double)caret.column / UNITS - 1, top, 2, HEIGHT);
+    cairo_fill(picture);
+    if (is_listed) printf("caret %zu %zu\n", line, caret.column);
 }
 
-int main(int count, char **words) {
+static void draw(cairo_t *picture, size_t paragraphs, size_t from, size_t to) {
+    hordguli_caret caret;
+    hordguli_paragraph_info paragraph;
+    hordguli_line_info info;
+    check(hordguli_edge_caret(&session, (hordguli_edge){to, from < to ? HORDGULI_AFTER : HORDGULI_BEFORE, 0}, &caret));
+    for (size_t k = 0; k < paragraphs; k++) {
+        read_paragraph(k, &paragraph);
+        for (size_t line = paragraph.first_line; line < paragraph.first_line + paragraph.lines; line++) {
+            check(hordguli_line(&session, line, &info, 0, NULL, NULL, NULL, NULL, NULL));
+            double left = MARGIN + (double)info.padding / UNITS, top = MARGIN + (double)line * HEIGHT;
+            if (is_listed) printf("line %zu %zu\n", line, info.start);
+            shape_line(line, info.start);
+            draw_selection(picture, line, left, top, from, to);
+            draw_glyphs(picture, line, left, top);
+            draw_caret(picture, line, left, top, caret);
+        }
+    }
+}
+
+int main(int word_count, char **words) {
     static char text[BYTES];
     FT_Library library;
+    hordguli_counts counts;
     hordguli_tables tables = HORDGULI_TABLES_INIT;
-    int is_listed = count > 1 && strcmp(words[1], "--list") == 0, first = 1 + is_listed;
-    if (count < first + 3 || count > first + 2 + FONTS) {
-        fprintf(stderr, "draw [--list] COLUMNS PICTURE FONT... < TEXT\n");
+    is_listed = word_count > 1 && strcmp(words[1], "--list") == 0;
+    char **arguments = words + 1 + is_listed;
+    int argument_count = word_count - 1 - is_listed;
+    if (argument_count < 5 || argument_count > 4 + FONTS) {
+        fprintf(stderr, "draw [--list] WIDTH FROM TO PICTURE FONT... < TEXT\n");
         return 2;
     }
+    uint32_t width = (uint32_t)strtoul(arguments[0], NULL, 10);
+    size_t from = strtoul(arguments[1], NULL, 10), to = strtoul(arguments[2], NULL, 10);
     size_t length = fread(text, 1, BYTES, stdin);
     if (ferror(stdin) || length == BYTES) fail("cannot read, or too long");
     if (FT_Init_FreeType(&library) != 0) fail("out of memory");
-    for (int k = first + 2; k < count; k++) open_font(library, words[k]);
-    check(hordguli_tables_open_folder(&tables, UCDDIR, NULL));
-    check(hordguli_session_open(&session, &tables, 0, (uint32_t)strtoul(words[first], NULL, 10), text, length));
+    for (int k = 4; k < argument_count; k++) open_font(library, arguments[k]);
+    check(hordguli_tables_open_builtin(&tables));
+    check(hordguli_session_open_measured(&session, &tables, 0, width * UNITS, text, length));
     hordguli_tables_close(&tables);
-    draw(words[first + 1], is_listed);
+    check(hordguli_session_counts(&session, &counts));
+    measure(0, counts.paragraphs);
+    check(hordguli_session_counts(&session, &counts));
+    cairo_surface_t *surface =
+        cairo_image_surface_create(CAIRO_FORMAT_RGB24, (int)width + 2 * MARGIN, (int)counts.lines * HEIGHT + 2 * MARGIN);
+    cairo_t *picture = cairo_create(surface);
+    cairo_set_source_rgb(picture, 1, 1, 1);
+    cairo_paint(picture);
+    draw(picture, counts.paragraphs, from, to);
+    if (cairo_status(picture) != CAIRO_STATUS_SUCCESS) fail("cannot draw");
+    if (cairo_surface_write_to_png(surface, arguments[3]) != CAIRO_STATUS_SUCCESS) fail("cannot write the picture");
+    cairo_destroy(picture);
+    cairo_surface_destroy(surface);
     hordguli_session_close(&session);
     return fflush(stdout) != 0;
 }
