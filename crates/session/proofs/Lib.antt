@@ -21,6 +21,7 @@ mod PartLemmas
 mod PlaceLemmas
 mod PrintLemmas
 mod ReadingLemmas
+mod RedrawLemmas
 mod RefusalLemmas
 mod RefusalSteps
 mod RegionParts

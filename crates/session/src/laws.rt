@@ -5,8 +5,13 @@ ghost use Rattle.lines.specs.Layouts.{Rules, cut_by, with_advances};
 ghost use Rattle.lines.specs.Ordered.{MarksStay};
 ghost use Rattle.lines.specs.Pages.{page};
 ghost use Rattle.lines.specs.declared.printing.print.Print.{Print};
-ghost use Rattle.session.specs.Kept.{back_advances, layouts_of, IsCutAt};
+ghost use Rattle.session.specs.Damage.{Replaces};
+ghost use Rattle.session.specs.Edits.{Replacement};
+ghost use Rattle.session.specs.Kept.{back_advances, layouts_of, lines_in, IsCutAt};
+ghost use Rattle.session.specs.Measuring.{SetsAdvances};
+ghost use Rattle.session.specs.Sessions.{Edits, SessionState};
 ghost use Rattle.session.specs.Steps.{StepsAreNearest};
+ghost use Rattle.session.specs.declared.edits.Damage.{Damage};
 
 use bidi::paragraphs_are_pieces;
 use lines::{Laid, clusters_adjoin, lines_are_ordered, runs_adjoin, runs_have_all_columns};
@@ -29,6 +34,20 @@ pub fn texts_are_laid_out_in_parts()
         ++ page rules width print (paragraphs (cut_by rules) rest) }
 {
     paragraphs_are_pieces();
+}
+
+/// States, as a theorem, which lines have to be drawn after an edit of a measured session and a call that sets
+/// advances of exactly the paragraphs that the edit's damage names as new. From the `first_line` of the edit's
+/// damage on, its `old_lines` lines have become the `new_lines` lines of the second damage, and all others are
+/// the same. Costs nothing at run time.
+pub fn measured_edits_are_drawn_at_once()
+    ensures { (edit : Replacement) (pos : ℕ) (list : List ℕ) (old edited measured : SessionState)
+        (damage second : Damage)
+        → Edits edit old edited damage → SetsAdvances pos list edited measured second
+        → second.first_par ≡ damage.first_par → second.old_pars ≡ damage.new_pars
+        → Replaces (lines_in old.kept) (lines_in measured.kept) damage.first_line damage.old_lines
+        second.new_lines }
+{
 }
 
 /// States, as a theorem, that the units of each line tile its columns, and that each step leads to the

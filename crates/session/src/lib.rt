@@ -52,7 +52,9 @@ pub use edges::{Direction, Edge, LineEdges, Side};
 pub use edits::{AdvanceFault, Damage, Edit, EditFault, MEASURED_WIDTH_LIMIT, TEXT_LIMIT};
 pub use hits::Hit;
 pub use kept::Kept;
-pub use laws::{steps_lead_to_boundaries, texts_are_laid_out_in_parts};
+pub use laws::{
+    measured_edits_are_drawn_at_once, steps_lead_to_boundaries, texts_are_laid_out_in_parts,
+};
 pub use places::Place;
 pub use printing::RangeFault;
 pub use refusals::opening_refusal;
