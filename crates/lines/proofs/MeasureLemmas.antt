@@ -1,17 +1,17 @@
 -- The widths that a measured paragraph keeps for the characters of its lines.
-use Rattle.std.proofs.Common.{◌≡◌, ◌∙◌, ℕ, zero, suc, ◌+◌, ◌-◌, ◌*◌, ◌^◌, ◌<◌, ◌≤◌, nat_lt, Bool, List, [], ◌∷◌, ◌++◌, length, take, drop, get_or, set, sum, slice_range, Option, None, Some, All, refl, sym, ap, ap₂, subst, inl, inr, arith}
+use Rattle.std.proofs.Common.{◌≡◌, ◌∙◌, ℕ, zero, suc, ◌+◌, ◌-◌, ◌^◌, ◌<◌, ◌≤◌, nat_lt, Bool, List, [], ◌∷◌, ◌++◌, length, take, drop, get_or, set, sum, Option, None, Some, All, refl, sym, ap, ap₂, subst, inl, inr, arith}
 use Rattle.std.proofs.Math.Seq.{drop-append_seam, take-append_seam}
 use Rattle.std.proofs.lemmas.List.{append-nil, drop_all, drop_more, length-drop, length-take-le, take_all, take_more, take_more_set}
 use Rattle.std.proofs.lemmas.List.Elements.{All-cons, All-get_or, All-head, All-nil, All-push, All-tail}
 use Rattle.std.proofs.lemmas.Option.{get_or_from_slice_get, slice_get_within}
 use Rattle.std.proofs.lemmas.Bool.{cases_Bool, cond-false, cond-true, lt-ltb}
 use borrow.Rule.Slice.PartMut.{put_mid, same_len_mid}
-use Rattle.std.specs.Prelude.{⊤, slice_get}
+use Rattle.std.specs.Prelude.{slice_get}
 use Rattle.lines.specs.Columns.{width_at, widths}
 use Rattle.lines.specs.Measures.{given_if, kept_advances, kept_len, kept_widths, known_or, on_line, AreWidthsOf, FollowFrom, KeepsSizes}
 use Rattle.lines.specs.Tabs.{is_tab, to_stop}
 use Rattle.lines.specs.Visual.{Line, Visual}
-use Rattle.lines.specs.Widths.{advances_on, sizes_of, width_from, widths_from, widths_of}
+use Rattle.lines.specs.Widths.{advances_on, width_from, widths_from, widths_of}
 use Rattle.lines.proofs.ShowLemmas.{kept, length_range, written}
 use Rattle.lines.proofs.WidthLemmas.{length-advances_on, length-widths_of, width_is}
 

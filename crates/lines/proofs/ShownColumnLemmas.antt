@@ -1,5 +1,5 @@
 -- The columns of a laid out line are those of its shown characters, and so of its runs.
-use Rattle.std.proofs.Common.{◌≡◌, ℕ, suc, ◌+◌, ◌-◌, ◌≤◌, Bool, Option, List, [], ◌∷◌, length, map, drop, take, refl, sym, ap, ◌∙◌, arith}
+use Rattle.std.proofs.Common.{◌≡◌, ℕ, suc, ◌+◌, ◌-◌, ◌≤◌, Bool, Option, List, [], ◌∷◌, length, map, drop, take, sym, ap, ◌∙◌, arith}
 use Rattle.std.specs.Prelude.{option_map, slice_range, sum, sum_by, All}
 use Rattle.std.specs.List.{enumerate_from}
 use Rattle.std.proofs.lemmas.List.{length-drop, length-map, length-take-le, take-take}

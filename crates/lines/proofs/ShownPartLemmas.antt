@@ -1,5 +1,5 @@
 -- How many characters of a line are shown, given the margin up to which spaces of its tail are shown.
-use Rattle.std.proofs.Common.{◌≡◌, ◌∙◌, ℕ, suc, ◌+◌, ◌-◌, ◌*◌, ◌<◌, ◌≤◌, Bool, true, false, not, ◌&&◌, nat_le, List, length, take, take-take, Option, Some, None, unwrap_or, sym, ap, subst, inl, inr, arith}
+use Rattle.std.proofs.Common.{◌≡◌, ◌∙◌, ℕ, suc, ◌+◌, ◌-◌, ◌<◌, ◌≤◌, Bool, true, false, not, ◌&&◌, nat_le, List, length, take, take-take, Option, Some, None, unwrap_or, sym, ap, subst, inl, inr, arith}
 use Rattle.std.proofs.lemmas.Bool.{and_from, and_parts, cases_Bool, cases_eq, cases_lt, cond-true, cond-false, le-leb, not-false}
 use Rattle.std.proofs.lemmas.List.{length-take-le}
 use Rattle.bidi.proofs.LeastLemmas.{least_before, least_found, least_none, least_passes, least_within}

@@ -4,8 +4,8 @@ use Rattle.std.specs.Option.{option_map_or}
 use Rattle.std.proofs.Common.{None, not, nat_le, ap₂, unwrap_or, List, [], ◌∷◌, length, get_or, take, drop, refl, sym, ap, subst, inl, inr, arith}
 use Rattle.std.specs.List.{slice_get, slice_range}
 use Rattle.std.proofs.lemmas.Bool.{and_from, and_parts, cases_Bool, not-true, cond-true, cond-false, le-leb, leb-true, both_ways}
-use Rattle.std.proofs.lemmas.List.{get_or-map, take_all}
-use Rattle.std.proofs.lemmas.Option.{get_or_from_slice_get, slice_get-get_or, slice_get_within}
+use Rattle.std.proofs.lemmas.List.{take_all}
+use Rattle.std.proofs.lemmas.Option.{slice_get-get_or, slice_get_within}
 use Rattle.ucd.specs.declared.tables.Tables.{Tables}
 use Rattle.ucd.specs.Least.{least}
 use Rattle.bidi.specs.Levels.{levels_of}
@@ -19,7 +19,7 @@ use Rattle.lines.specs.Clusters.{cluster_ends}
 use Rattle.lines.specs.Filling.{before_tail, by_break, by_cluster, cluster_ends_at, columns, first_end, fits, fits_to, is_break, is_must, line_end}
 use Rattle.lines.specs.Filling.{line_len, line_starts_of, may_end, must_end, or_else, place_at, starts, stop}
 use Rattle.lines.specs.Layouts.{IsLaidOut, Layout, Rules, base_of, hides_space_within, is_line_within, keeps_lines, layout_of, lines_of}
-use Rattle.lines.specs.CharInfos.{advance, info, infos, infos_of, is_space, measured, size_in, sized, trailing_with}
+use Rattle.lines.specs.CharInfos.{advance, info, infos, infos_of, is_space, measured, sized, trailing_with}
 use Rattle.lines.specs.Showing.{line_showing}
 use Rattle.lines.specs.ShownParts.{is_space_within, margin_of, shown, shown_len}
 use Rattle.lines.specs.Tabs.{tab_width_in}

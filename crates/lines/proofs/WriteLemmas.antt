@@ -1,16 +1,10 @@
 -- Writing parts one after another, and writing the items of a list in order.
-use Rattle.std.specs.Char.{is_ascii}
-use Rattle.std.specs.List.{list_all}
-use Rattle.std.proofs.lemmas.Str.{encode_ascii}
-use Rattle.std.proofs.str.Laws.{two, three, four}
-use Rattle.std.proofs.lemmas.List.{length-set, take-set-le, take_more_set}
-use Rattle.std.proofs.lemmas.Bool.{and_parts, lt-ltb, ltb-true}
-use Rattle.std.proofs.Common.{◌&&◌, nat_lt, ◌/◌, ◌%◌, set, true, ap₂, ◌≡◌, ℕ, zero, suc, ◌+◌, ◌-◌, ◌<◌, ◌≤◌, ◌==◌, false, min, List, [], ◌∷◌, ◌++◌, length, map, get_or, take}
-use Rattle.std.proofs.Common.{drop, replicate, Option, Some, None, Result, Ok, Err, IfOk, IfErr, IsErrAnd, encode_utf8, encode_utf8_all, if◌then◌else◌, refl, sym, ap, ◌∙◌, arith}
+use Rattle.std.proofs.Common.{◌≡◌, ℕ, zero, suc, ◌+◌, ◌-◌, ◌<◌, ◌≤◌, ◌==◌, false, min, List, [], ◌∷◌, ◌++◌, length, map, get_or, take}
+use Rattle.std.proofs.Common.{drop, replicate, Option, Some, None, Result, Ok, Err, IfOk, IfErr, IsErrAnd, if◌then◌else◌, refl, sym, ap, ◌∙◌, arith}
 use Rattle.std.specs.Io.KnownBytes.{Appends}
 use Rattle.std.specs.List.{concat, join_with_byte}
-use Rattle.std.proofs.lemmas.List.{append_assoc, append-nil, length-append, length-map, take-append-le, get_or-map, take_more, take-append-drop, take-map, take-replicate, replicate-append-replicate}
-use Rattle.std.proofs.Math.Seq.{take-add, take-append-add}
+use Rattle.std.proofs.lemmas.List.{append_assoc, append-nil, length-append, length-map, take-append-le, get_or-map, take-map, take-replicate, replicate-append-replicate}
+use Rattle.std.proofs.Math.Seq.{take-append-add}
 use Rattle.std.proofs.lemmas.Bool.Decides.{nat_tests}
 use Rattle.device.specs.Device.{Device, Took, StoppedAt, greatest}
 use Rattle.lines.specs.declared.printing.bytes.TheConstants.{SPACES}

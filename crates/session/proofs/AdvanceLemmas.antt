@@ -1,11 +1,11 @@
 -- The advances of paragraphs that are laid out one after another.
-use Rattle.std.proofs.Common.{◌≡◌, ℕ, zero, suc, suc-add, zero-add, ◌+◌, ◌*◌, ◌^◌, ◌<◌, ◌≤◌, nat_lt, Bool, true, false, ◌&&◌, List, [], ◌∷◌, ◌++◌, length, map, take, drop, replicate, sum, Option, Some, None, IfSome, option_map, unwrap_or, refl, sym, ap, ap₂, subst, ◌∙◌, arith, if◌then◌else◌}
+use Rattle.std.proofs.Common.{◌≡◌, ℕ, zero, suc, suc-add, zero-add, ◌+◌, ◌^◌, ◌<◌, nat_lt, Bool, true, false, ◌&&◌, List, [], ◌∷◌, ◌++◌, length, take, drop, replicate, sum, Option, Some, None, refl, sym, ap, ap₂, ◌∙◌, arith, if◌then◌else◌}
 use Rattle.std.specs.List.{concat}
-use Rattle.std.proofs.lemmas.Bool.{and_from, and_parts, cond-false, cond-true, lt-ltb, ltb-true}
-use Rattle.std.proofs.lemmas.List.{append-nil, append_assoc, drop-drop, drop-take, drop_at, length-append, length-drop, length-replicate, length-take-le, take-append-drop, take_all, take_at}
+use Rattle.std.proofs.lemmas.Bool.{and_from, and_parts, cond-true, lt-ltb, ltb-true}
+use Rattle.std.proofs.lemmas.List.{drop-drop, drop-take, drop_at, length-append, length-drop, length-replicate, length-take-le, take-append-drop, take_all, take_at}
 use Rattle.std.proofs.lemmas.List.Sums.{sum_by-cons, sum_by-take-drop}
 use Rattle.std.proofs.lemmas.Option.{same_Some}
-use Rattle.lines.specs.Layouts.{Layout, Rules, HaveRoom, cut_by, layout_of, with_advances}
+use Rattle.lines.specs.Layouts.{Layout, Rules, HaveRoom, layout_of, with_advances}
 use Rattle.lines.specs.Measures.{given_if}
 use Rattle.session.specs.Edits.{have_room, room_refusal}
 use Rattle.session.specs.Kept.{advance_lists, advances_in, back_advances, first_advances, front_advances, layouts_from, pars_of, AreForEach}

@@ -1,10 +1,10 @@
 -- A session's layouts before and after an edit, and why an edit is refused.
-use Rattle.std.proofs.Common.{◌≡◌, ℕ, zero, suc, ◌+◌, ◌-◌, ◌^◌, ◌<◌, ◌≤◌, Bool, true, false, List, [], ◌∷◌, ◌++◌, length, map, take, drop, get_or, min, replicate, sum_by, inl, inr, Option, Some, None, Result, Ok, Err, nat_lt, unwrap_or, if◌then◌else◌, refl, sym, ap, ap₂, subst, ◌∙◌, arith}
+use Rattle.std.proofs.Common.{◌≡◌, ℕ, zero, suc, ◌+◌, ◌-◌, ◌^◌, ◌<◌, ◌≤◌, Bool, true, false, List, [], ◌∷◌, ◌++◌, length, take, drop, get_or, min, replicate, sum_by, inl, inr, Option, Some, None, Result, Ok, Err, nat_lt, unwrap_or, if◌then◌else◌, refl, sym, ap, ap₂, subst, ◌∙◌, arith}
 use Rattle.std.specs.List.{concat, slice_range, splice}
 use Rattle.std.specs.Result.{is_err, IfOk, IfErr, OnOk, OnErr}
 use Rattle.std.proofs.lemmas.Bool.{cases_lt, cond-true, lt-ltb}
 use Rattle.session.proofs.TouchedLemmas.{start_of-more}
-use Rattle.std.proofs.lemmas.List.{append_assoc, get_or_past, length-append, length-drop, length-take, length-map, length-replicate, length-take-le, take-map, drop-map, take_at, drop_at, take-append-drop}
+use Rattle.std.proofs.lemmas.List.{append_assoc, get_or_past, length-append, length-drop, length-take, length-map, length-replicate, length-take-le, take_at, drop_at, take-append-drop}
 use Rattle.std.proofs.lemmas.List.Concat.{flat_map-append}
 use Rattle.std.proofs.lemmas.List.Folds.{concat-append, drop_split}
 use Rattle.std.proofs.lemmas.List.Sums.{sum_by-cons, sum_by-append}
@@ -15,7 +15,7 @@ use Rattle.lines.specs.Layouts.{Layout, Rules, cut_by, layout_of, lines_of, with
 use Rattle.lines.specs.Measures.{given_if}
 use Rattle.lines.specs.declared.engine.Engine.{Engine}
 use Rattle.session.specs.Sessions.{SessionState, IsWholeLayout, IsCountedFor, Edits, EditsNot, text_at, cuts_at, state_of}
-use Rattle.session.specs.Edits.{Replacement, advances_after, content_refusal, replaced, replacing, refusal, paragraphs_refusal, room_refusal, are_within, have_room, is_within_limit}
+use Rattle.session.specs.Edits.{Replacement, advances_after, content_refusal, replaced, replacing, refusal, paragraphs_refusal, room_refusal, are_within, is_within_limit}
 use Rattle.session.specs.Damage.{Replaces, IsDamage}
 use Rattle.session.specs.Borders.{IsBorder, IsFrontBorder, IsBackBorder, damage_between}
 use Rattle.lines.specs.Layouts.{visuals}
@@ -26,12 +26,12 @@ use Rattle.session.specs.declared.borders.Border.{Border}
 use Rattle.session.specs.declared.edits.Damage.{Damage}
 use Rattle.session.specs.declared.edits.EditFault.{EditFault}
 use Rattle.session.specs.declared.edits.EditFault.TheVariants.{OutOfRange, ParagraphTooLong, NoMemory}
-use Rattle.session.proofs.AdvanceLemmas.{accepted, advances-layouts, layouts-append, layouts-middle, layouts-whole, length-layouts, pars-layouts, room-middle, roomy}
+use Rattle.session.proofs.AdvanceLemmas.{advances-layouts, layouts-append, layouts-middle, layouts-whole, length-layouts, pars-layouts, room-middle, roomy}
 use Rattle.session.proofs.UnitLemmas.{few_in_all, AreFew}
 use Rattle.session.proofs.ReplacementLemmas.{IsSpliced, IsSpliced-from_touched, region_of, length-replaced_text, spliced_text}
 use Rattle.session.proofs.BorderLemmas.{chars_of, lines_of as line_number, length-text, length-lines}
 use Rattle.session.proofs.RegionParts.{touched_by, front_of, back_of, are_around, region_around, rise_around, same_around, take-both, touched_around, AreAround}
-use Rattle.session.proofs.RefusalLemmas.{allowed-room, allowed-within_limit, refusal-none, refusal-within, text_refusal-short, refusal-inside}
+use Rattle.session.proofs.RefusalLemmas.{allowed-room, allowed-within_limit, text_refusal-short, refusal-inside}
 use Rattle.session.specs.declared.edits.TheConstants.{TEXT_LIMIT}
 
 -- replacing the middle of a list satisfies `Replaces`

@@ -12,7 +12,7 @@ use Rattle.lines.specs.Kept.{AreStarts}
 use Rattle.bidi.specs.Pieces.{ParagraphsArePieces}
 use Rattle.lines.specs.Beginnings.{BeginInOrder}
 use Rattle.lines.specs.Engine.{rules_of}
-use Rattle.lines.specs.Layouts.{Layout, Rules, IsLaidOut, cut_by, lines_of as lines_at, start_of as begins, visuals}
+use Rattle.lines.specs.Layouts.{Layout, Rules, cut_by, lines_of as lines_at, start_of as begins, visuals}
 use Rattle.lines.specs.declared.engine.Engine.{Engine}
 use Rattle.lines.proofs.SkippedLemmas.{some_text}
 use Rattle.lines.specs.Visual.{Line}

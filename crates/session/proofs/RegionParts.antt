@@ -7,7 +7,7 @@ use Rattle.std.proofs.lemmas.List.{append-nil, length-append, length-drop, lengt
 use Rattle.std.proofs.lemmas.List.Folds.{concat-append}
 use Rattle.lines.specs.Layouts.{Layout}
 use Rattle.session.specs.Borders.{IsFrontBorder, IsBackBorder}
-use Rattle.session.specs.Kept.{pars_of, text_of}
+use Rattle.session.specs.Kept.{pars_of}
 use Rattle.session.specs.Touched.{AreTouched, Span}
 use Rattle.session.specs.Touched.{start_of}
 use Rattle.session.specs.declared.borders.Border.{Border}

@@ -9,17 +9,16 @@ use Rattle.bidi.specs.Cuts.{paragraphs}
 use Rattle.bidi.specs.Pieces.{ArePieces, ParagraphsArePieces}
 use Rattle.lines.specs.Engine.{rules_of, filled_of, counted, RisesBy, SameRules, Fills, FillsAtMost, FindsExtents, FindsExtentsAtMost, Rewrites, RewritesAtMost}
 use Rattle.lines.specs.Extents.{LineExtents}
-use Rattle.lines.specs.Layouts.{Layout, Rules, IsLaidOut, IsParagraph, cut_by, keeps_lines, layout_of, lines_of, with_advances}
-use Rattle.lines.specs.Measures.{given_if}
+use Rattle.lines.specs.Layouts.{Layout, Rules, IsParagraph, cut_by, keeps_lines, layout_of, lines_of, with_advances}
 use Rattle.lines.specs.declared.engine.Engine.{Engine}
 use Rattle.store.specs.Exchanging.{pairwise, total_cost}
-use Rattle.session.specs.Sessions.{IsWholeLayout, SetsWidth, rules_at, state_of}
+use Rattle.session.specs.Sessions.{IsWholeLayout, SetsWidth, state_of}
 use Rattle.session.specs.Edits.{are_within, content_refusal, width_refusal}
 use Rattle.lines.proofs.LayoutLemmas.{reflowed_by}
 use Rattle.session.specs.Kept.{advance_lists, advances_in, back_advances, changed, changed_in, front_advances, text_of, layouts_from, layouts_of, put_into, rules_for, written_for, AreForEach, BringsTo, CanBePut, IsFresh, Writer}
 use Rattle.session.specs.declared.edits.EditFault.TheVariants.{WidthOutOfRange}
 use Rattle.session.proofs.BorderLemmas.{chars_of, lines_of as line_number, length-text, length-lines}
-use Rattle.session.proofs.AdvanceLemmas.{advances-layouts, length-layouts}
+use Rattle.session.proofs.AdvanceLemmas.{advances-layouts}
 use Rattle.session.proofs.EditLemmas.{LinesAreFew, few-laid, text-layouts, IsWholeLayout-same}
 use Rattle.session.proofs.JoinedLemmas.{first_piece}
 use Rattle.session.proofs.OpenLemmas.{positive}

@@ -1,5 +1,5 @@
 -- What a scan has found in the characters that it has read.
-use Rattle.std.specs.Prelude.{◌≡◌, ℕ, ◌-◌, min, Bool, true, not, List, [], ◌∷◌, length, drop, slice_get, slice_index_or, sum}
+use Rattle.std.specs.Prelude.{◌≡◌, ℕ, ◌-◌, min, Bool, true, not, List, [], length, drop, slice_get, slice_index_or, sum}
 use Rattle.bidi.specs.Cuts.{paragraphs}
 use Rattle.session.specs.Edits.{are_within, have_room}
 use Rattle.session.specs.declared.room.RoomScan.{RoomScan}

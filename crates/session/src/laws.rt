@@ -36,10 +36,10 @@ pub fn texts_are_laid_out_in_parts()
     paragraphs_are_pieces();
 }
 
-/// States, as a theorem, which lines have to be drawn after an edit of a measured session and a call that sets
-/// advances of exactly the paragraphs that the edit's damage names as new. From the `first_line` of the edit's
-/// damage on, its `old_lines` lines have become the `new_lines` lines of the second damage, and all others are
-/// the same. Costs nothing at run time.
+/// States, as a theorem, which lines have to be drawn after an edit of a measured session and a call that
+/// sets advances of exactly the paragraphs that the edit's damage names as new. From the `first_line` of the
+/// edit's damage on, its `old_lines` lines have become the `new_lines` lines of the second damage, and all
+/// others are the same. Costs nothing at run time.
 pub fn measured_edits_are_drawn_at_once()
     ensures { (edit : Replacement) (pos : ℕ) (list : List ℕ) (old edited measured : SessionState)
         (damage second : Damage)
@@ -47,8 +47,7 @@ pub fn measured_edits_are_drawn_at_once()
         → second.first_par ≡ damage.first_par → second.old_pars ≡ damage.new_pars
         → Replaces (lines_in old.kept) (lines_in measured.kept) damage.first_line damage.old_lines
         second.new_lines }
-{
-}
+{}
 
 /// States, as a theorem, that the units of each line tile its columns, and that each step leads to the
 /// nearest boundary in its direction, on the same line, or there is no such boundary. So repeated steps meet

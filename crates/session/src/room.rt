@@ -1,6 +1,7 @@
 //! Finds out whether the advances of each paragraph of a measured text add up to few enough, in one pass and
 //! without allocating.
-ghost use Rattle.std.specs.Prelude.{◌≡◌, ◌+◌, ◌^◌, ◌<◌, ◌++◌, ◌∷◌, [], true, ℕ, Bool, List, length, replicate, sum, IfSome};
+ghost use Rattle.std.specs.Prelude.{◌≡◌, ◌+◌, ◌^◌, ◌<◌, ◌++◌, ◌∷◌, [], true, ℕ, Bool, List};
+ghost use Rattle.std.specs.Prelude.{length, replicate, sum, IfSome};
 ghost use Rattle.std.specs.Str.{chars};
 ghost use Rattle.bidi.specs.Cuts.{paragraphs};
 ghost use Rattle.lines.specs.Engine.{rules_of};

@@ -1,6 +1,5 @@
-use Rattle.std.proofs.Common.{◌≡◌, ◌<◌, Some, length, ap, sym, ◌∙◌, arith}
+use Rattle.std.proofs.Common.{◌≡◌, ◌<◌, Some, length, sym, ◌∙◌, arith}
 use Rattle.bidi.proofs.PairLemmas.{greatest_found}
-use Rattle.bidi.specs.Brackets.{greatest}
 use Rattle.lines.specs.CharInfos.{sized}
 use Rattle.lines.specs.Filling.{by_break, may_end}
 use Rattle.lines.proofs.BareLemmas.{line_by_stop, line_by_break}

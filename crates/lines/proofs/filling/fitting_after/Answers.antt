@@ -2,7 +2,7 @@ use Rattle.std.proofs.Common.{◌≡◌, ◌+◌, ◌<◌, ◌≤◌, true, fals
 use Rattle.std.proofs.lemmas.Bool.{both_ways}
 use Rattle.bidi.specs.Brackets.{greatest}
 use Rattle.lines.specs.CharInfos.{advance, sized}
-use Rattle.lines.specs.Filling.{fits_to, must_end, place_at, trails}
+use Rattle.lines.specs.Filling.{fits_to, place_at, trails}
 use Rattle.lines.proofs.FillingLemmas.{fits_here, fits_more, read_to_end, read_to_misfit, read_to_stop}
 use Rattle.lines.proofs.SizedLemmas.{sized_must, sized_trails}
 use Rattle.lines.proofs.WidthLemmas.{length-sized}

@@ -1,4 +1,4 @@
-use Rattle.std.proofs.Common.{◌≡◌, ◌||◌, drop, ◌+◌, ◌-◌, nat_lt, arith, length, refl, sym, ◌∙◌}
+use Rattle.std.proofs.Common.{◌||◌, ◌+◌, nat_lt, arith, refl, sym, ◌∙◌}
 use Rattle.std.proofs.lemmas.Bool.{ltb-false, or_parts}
 use Rattle.lines.specs.CharInfos.{sized}
 use Rattle.lines.proofs.FillingLemmas.{fits_group, fits_none}

@@ -1,7 +1,7 @@
-use Rattle.std.proofs.Common.{◌≡◌, ◌∙◌, Option, Some, None, ℕ, ap, arith, refl, sym, unwrap_or}
+use Rattle.std.proofs.Common.{◌≡◌, ◌∙◌, Some, None, arith, refl, sym}
 use Rattle.bidi.proofs.PairLemmas.{greatest_found}
 use Rattle.lines.specs.CharInfos.{sized}
-use Rattle.lines.specs.Filling.{by_break, by_cluster, cluster_ends_at, first_end, may_end, or_else}
+use Rattle.lines.specs.Filling.{by_break, by_cluster, cluster_ends_at, may_end}
 use Rattle.lines.proofs.SizedLemmas.{sized_break, sized_cluster, sized_first_end}
 use Rattle.lines.proofs.filling.line_end.Goals as goal
 

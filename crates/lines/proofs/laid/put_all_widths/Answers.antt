@@ -1,5 +1,5 @@
-use Rattle.std.proofs.Common.{◌≡◌, ◌∙◌, ◌*◌, ◌<◌, nat_lt, length, take, ap, refl, subst, sym, arith}
-use Rattle.std.proofs.lemmas.Bool.{both_ways, cond-false, cond-true, lt-ltb}
+use Rattle.std.proofs.Common.{◌≡◌, ◌∙◌, ◌*◌, ◌<◌, nat_lt, length, take, ap, refl, arith}
+use Rattle.std.proofs.lemmas.Bool.{both_ways, cond-true, lt-ltb}
 use Rattle.std.proofs.lemmas.List.{length-take-le}
 use Rattle.lines.specs.Measures.{kept_len}
 use Rattle.lines.proofs.MeasureLemmas.{kept_tabbed, kept_untabbed}

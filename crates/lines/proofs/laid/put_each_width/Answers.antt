@@ -1,6 +1,5 @@
-use Rattle.std.proofs.Common.{◌≡◌, ◌∙◌, length, ap, sym, arith}
+use Rattle.std.proofs.Common.{length, ap, sym, arith}
 use Rattle.std.proofs.lemmas.List.{length-map}
-use Rattle.std.proofs.lemmas.Option.{get_or_from_slice_get, slice_get_within}
 use Rattle.lines.specs.Layouts.{start_of}
 use Rattle.lines.specs.Parts.{line_of}
 use Rattle.lines.proofs.MeasureLemmas.{all_written, line_inside, none_written, one_written}

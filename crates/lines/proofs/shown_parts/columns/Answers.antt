@@ -1,4 +1,4 @@
-use Rattle.std.proofs.Common.{◌≡◌, ◌∙◌, ◌+◌, arith, refl}
+use Rattle.std.proofs.Common.{◌+◌, arith, refl}
 use Rattle.lines.specs.CharInfos.{sized}
 use Rattle.lines.proofs.FillingLemmas.{columns_group}
 use Rattle.lines.proofs.shown_parts.columns.Goals as goal

@@ -1,4 +1,4 @@
-use Rattle.std.proofs.Common.{◌≡◌, ◌∙◌, slice_index, ap}
+use Rattle.std.proofs.Common.{◌∙◌, slice_index, ap}
 use Rattle.lines.specs.CharInfos.{sized}
 use Rattle.lines.specs.Extents.{shown_between}
 use Rattle.lines.proofs.SizedLemmas.{shown_range}

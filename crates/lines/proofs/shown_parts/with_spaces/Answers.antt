@@ -1,4 +1,4 @@
-use Rattle.std.proofs.Common.{◌≡◌, ◌∙◌, ◌+◌, ◌<◌, ◌≤◌, ◌&&◌, nat_le, false, true, length, sym, ap, subst, arith}
+use Rattle.std.proofs.Common.{◌≡◌, ◌∙◌, ◌+◌, ◌<◌, ◌&&◌, nat_le, false, true, length, sym, ap, subst, arith}
 use Rattle.lines.specs.CharInfos.{advance, is_space, sized}
 use Rattle.lines.specs.Filling.{place_at}
 use Rattle.lines.specs.declared.char_info.CharInfo.{CharInfo}

@@ -1,4 +1,4 @@
-use Rattle.std.proofs.Common.{◌≡◌, ◌∙◌, ◌+◌, ◌-◌, ◌<◌, ◌≤◌, Some, get_or, length, sum, take, set, ap, sym, arith}
+use Rattle.std.proofs.Common.{◌≡◌, ◌∙◌, ◌+◌, ◌-◌, ◌≤◌, Some, get_or, ap, sym, arith}
 use Rattle.std.proofs.lemmas.List.{get_or_default, length-set, take_all}
 use Rattle.std.proofs.lemmas.Bool.{cond-false, cond-true}
 use Rattle.lines.specs.Tabs.{is_tab, to_stop}

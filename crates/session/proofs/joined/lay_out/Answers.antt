@@ -1,4 +1,4 @@
-use Rattle.std.proofs.Common.{◌≡◌, ◌++◌, None, Option, List, ℕ, ap, subst, sym, ◌∙◌}
+use Rattle.std.proofs.Common.{◌++◌, None, Option, List, ℕ, ap, subst, sym, ◌∙◌}
 use Rattle.bidi.specs.Cuts.{SplitsAt}
 use Rattle.lines.specs.Engine.{rules_of}
 use Rattle.lines.specs.Layouts.{cut_by, layout_of, with_advances}

@@ -4,7 +4,7 @@ use Rattle.lines.specs.Engine.{filled_of, rules_of, written_of}
 use Rattle.lines.specs.Layouts.{Rules, layout_of, with_advances}
 use Rattle.session.specs.Kept.{pars_of}
 use Rattle.session.specs.Measuring.{spliced}
-use Rattle.session.proofs.MeasuringLemmas.{as_many, fills_all, made_all, made_more, made_none, read_fresh, read_some, read_text, rest_sizes, this_each, this_room, this_within}
+use Rattle.session.proofs.MeasuringLemmas.{as_many, fills_all, made_more, read_fresh, read_some, read_text, rest_sizes, this_each, this_room, this_within}
 use Rattle.session.proofs.measuring.remeasure_each.Goals as goal
 
 pub collect-requires : goal.collect-requires

@@ -1,5 +1,4 @@
-use Rattle.std.proofs.Common.{◌≡◌, ◌∙◌, ◌+◌, ◌-◌, ◌≤◌, drop, length, min, sum, take, ap, sym, subst, arith}
-use Rattle.std.proofs.lemmas.List.{length-drop, take_all}
+use Rattle.std.proofs.Common.{◌∙◌, ◌+◌, ◌≤◌, drop, sum, take, ap, sym, subst}
 use Rattle.lines.specs.CharInfos.{measured}
 use Rattle.lines.proofs.SizedLemmas.{clipped, measured_drop, sums_from}
 use Rattle.lines.proofs.sizes.ByAdvancesSizes.from.Goals as goal

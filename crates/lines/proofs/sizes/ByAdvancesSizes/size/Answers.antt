@@ -1,4 +1,4 @@
-use Rattle.std.proofs.Common.{◌≡◌, ◌∙◌, get_or, ap, sym, arith}
+use Rattle.std.proofs.Common.{◌∙◌, ap}
 use Rattle.std.proofs.lemmas.List.{get_or_past}
 use Rattle.lines.specs.Filling.{place_at}
 use Rattle.lines.specs.declared.char_info.CharInfo.{CharInfo}

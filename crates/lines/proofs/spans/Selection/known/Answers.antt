@@ -1,4 +1,4 @@
-use Rattle.std.proofs.Common.{◌≡◌, ◌∙◌, Bool, Some, ap, length, sym}
+use Rattle.std.proofs.Common.{◌∙◌, Bool, Some, ap, length, sym}
 use Rattle.lines.specs.Measures.{given_if}
 use Rattle.lines.specs.Widths.{widths_of}
 use Rattle.lines.proofs.WidthLemmas.{length-widths_of}

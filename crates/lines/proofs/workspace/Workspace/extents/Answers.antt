@@ -4,7 +4,6 @@ use Rattle.lines.specs.Clusters.{cluster_ends}
 use Rattle.lines.specs.declared.char_info.CharInfo.{CharInfo}
 use Rattle.lines.specs.CharInfos.{infos_of, sized}
 use Rattle.lines.specs.Extents.{shown_from}
-use Rattle.lines.specs.Filling.{line_starts_of}
 use Rattle.lines.specs.Paragraphs.{rules_in}
 use Rattle.lines.specs.ShownParts.{margin_of}
 use Rattle.lines.proofs.SizedLemmas.{found_extents}

@@ -1,7 +1,7 @@
-use Rattle.std.proofs.Common.{◌≡◌, ◌∙◌, List, Option, ℕ, ◌≤◌, length, take, ap, subst, sym}
+use Rattle.std.proofs.Common.{◌≡◌, ◌∙◌, List, ℕ, ◌≤◌, length, take, ap, subst, sym}
 use Rattle.bidi.specs.Levels.{levels_of}
 use Rattle.breaks.specs.Marks.{marks_of}
-use Rattle.lines.specs.Layouts.{base_of, fill_of, lines_of, with_advances, HaveRoom, Layout}
+use Rattle.lines.specs.Layouts.{base_of, fill_of, with_advances, Layout}
 use Rattle.std.specs.Prelude.{option_map}
 use Rattle.lines.specs.Paragraphs.{rules_in}
 use Rattle.lines.specs.Reordering.{ends_by}

@@ -1,4 +1,4 @@
-use Rattle.std.proofs.Common.{List, [], ◌∷◌, ◌++◌, sym, ap, ap₂, ◌∙◌, ℕ}
+use Rattle.std.proofs.Common.{List, [], ◌∷◌, ◌++◌, sym, ap₂, ◌∙◌, ℕ}
 use Rattle.session.specs.Measuring.{spliced}
 use Rattle.session.proofs.MeasuringLemmas.{part_more}
 use Rattle.session.proofs.measuring.Spliced.collect.Goals as goal

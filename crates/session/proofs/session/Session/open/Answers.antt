@@ -1,9 +1,9 @@
-use Rattle.std.proofs.Common.{◌≡◌, ◌∙◌, ℕ, false, true, sym, subst}
+use Rattle.std.proofs.Common.{ℕ, false, subst}
 use Rattle.std.specs.Str.{chars}
 use Rattle.lines.specs.Engine.{rules_of}
 use Rattle.lines.specs.Layouts.{cut_by}
-use Rattle.session.specs.Sessions.{measured_refusal, opening_refusal, state_of, OpensAs}
-use Rattle.session.proofs.OpenLemmas.{measured-text, opening-text}
+use Rattle.session.specs.Sessions.{opening_refusal, state_of, OpensAs}
+use Rattle.session.proofs.OpenLemmas.{opening-text}
 use Rattle.session.proofs.session.Session.open.Goals as goal
 
 pub returns-in-Ok-clause-ok : goal.returns-in-Ok-clause-ok

@@ -1,9 +1,9 @@
-use Rattle.std.proofs.Common.{◌≡◌, ◌∙◌, ℕ, false, true, sym, subst}
+use Rattle.std.proofs.Common.{◌∙◌, sym}
 use Rattle.std.specs.Str.{chars}
 use Rattle.lines.specs.Engine.{rules_of}
 use Rattle.lines.specs.Layouts.{cut_by}
-use Rattle.session.specs.Sessions.{measured_refusal, opening_refusal, state_of, OpensAs}
-use Rattle.session.proofs.OpenLemmas.{measured-text, opening-text}
+use Rattle.session.specs.Sessions.{measured_refusal}
+use Rattle.session.proofs.OpenLemmas.{measured-text}
 use Rattle.session.proofs.session.Session.open_measured.Goals as goal
 
 pub invariant_of-result : goal.invariant_of-result
