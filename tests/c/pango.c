@@ -47,7 +47,7 @@ static size_t lines_of_session(const char *text, uint32_t width, uint8_t *marks)
     hordguli_session session = HORDGULI_SESSION_INIT;
     hordguli_paragraph_info info;
     size_t count;
-    check(hordguli_session_open_measured(&session, &tables, 0, width, text, strlen(text)) == HORDGULI_OK, "cannot open");
+    check(hordguli_session_open_measured(&session, &tables, HORDGULI_WHOLE_NUMBERS, width, text, strlen(text)) == HORDGULI_OK, "cannot open");
     check(hordguli_paragraph(&session, 0, &info, MOST, NULL, marks) == HORDGULI_OK, "a paragraph is too long");
     check(hordguli_set_advances(&session, 0, info.length, advances, NULL) == HORDGULI_OK, "cannot measure");
     check(hordguli_paragraph(&session, 0, &info, 0, NULL, NULL) == HORDGULI_OK, "no paragraph");

@@ -335,6 +335,7 @@ static void session_answers(uint64_t number) {
         hordguli_damage damage;
         random_advances(counts.characters, advances);
         tell_damage(hordguli_set_advances(&session, 0, counts.characters, advances, &damage), &damage);
+        hordguli_session_counts(&session, &counts);
     }
     for (size_t edits = below(4); edits > 0; edits--) edit();
     sizes();
