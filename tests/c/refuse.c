@@ -155,6 +155,9 @@ static hordguli_status step(int k) {
 /* Whether a call may keep buffers though it fails */
 static int keeps_buffers(int k) { return k == LAYOUT || k == WIDTH || k == ADVANCES || k == MEASURED_WIDTH; }
 
+/* Whether a call may free the lists of a paragraph that an earlier edit has replaced, though it fails */
+static int frees_lists(int k) { return k == INSERT || k == REPLACE || k == DELETE || k == JOIN; }
+
 int main(int count, char **words) {
     long runs = 0, most = 0;
     static shape last, last_measured;
@@ -187,8 +190,10 @@ int main(int count, char **words) {
             HOLDS(status == HORDGULI_OK || status == HORDGULI_NO_MEMORY);
             if (status == HORDGULI_OK) continue;
             refusals++;
-            /* the tables and the sessions keep the buffers that they lay text out in */
-            HOLDS(asked >= refused_at && (live == held || (keeps_buffers(k) && live > held)));
+            /* the tables and the sessions keep the buffers that they lay text out in, and sessions the lists of the last
+             * replaced paragraph until the next edit */
+            HOLDS(asked >= refused_at
+                  && (live == held || (keeps_buffers(k) && live > held) || (frees_lists(k) && live < held)));
             HOLDS(memcmp(&damage, &no_damage, sizeof damage) == 0 && found_base == 77);
             HOLDS(found_levels[0] == 77 && found_marks[0] == 77 && found_length == 77 && found_bytes[0] == '?');
             HOLDS(found_row[0] == 77 && found_visual[0] == 77 && found_runs[0].level == 77);

@@ -1,9 +1,10 @@
 -- Where a paragraph ends, and the paragraphs of a text (UAX #9, P1).
-use Rattle.std.specs.Prelude.{◌≡◌, ℕ, ◌-◌, ◌<◌, ◌==◌, ◌&&◌, not, Bool, List, [], ◌∷◌, length, take, drop, slice_index, Option, Some, None, if◌then◌else◌}
+use Rattle.std.specs.Prelude.{◌≡◌, ℕ, ◌-◌, ◌<◌, ◌==◌, ◌&&◌, not, Bool, false, List, [], ◌∷◌, length, take, drop, slice_index, Option, Some, None, if◌then◌else◌}
 use Rattle.std.specs.List.{onto_first}
 use Rattle.ucd.specs.declared.bidi_class.BidiClass.{BidiClass}
 use Rattle.ucd.specs.Least.{least}
 use Rattle.ucd.specs.Classes.{is_separator}
+use Rattle.ucd.specs.Separators.{may_separate}
 
 -- There is a paragraph boundary (a cut) after a separator, but not between U+000D and U+000A if both are separators.
 abbrev pub cut : (ℕ → BidiClass) → ℕ → ℕ → Bool
@@ -28,3 +29,11 @@ abbrev pub SplitsAt : (ℕ → ℕ → Bool) → List ℕ → Option ℕ → Typ
 SplitsAt is_cut text (Some k) =
     (0 < k) × (k < length text) × (paragraphs is_cut text ≡ take k text ∷ paragraphs is_cut (drop k text))
 SplitsAt is_cut text None = 0 < length text → paragraphs is_cut text ≡ text ∷ []
+
+-- whether a character ends no paragraph in Unicode's files
+abbrev pub MayNotSeparate : ℕ → Type 0
+MayNotSeparate c = (c < 1114112) × (may_separate c ≡ false)
+
+-- whether none of the first n characters of a text ends a paragraph in Unicode's files
+abbrev pub AreNoSeparators : List ℕ → ℕ → Type 0
+AreNoSeparators text n = (k : ℕ) → k < n → MayNotSeparate (slice_index text k)

@@ -12,7 +12,6 @@ ghost use Rattle.lines.specs.Pages.{lines_bytes, paragraph_bytes};
 ghost use Rattle.lines.specs.Printing.{FailedAs, skips_lines};
 ghost use Rattle.lines.specs.Separators.{separator_len};
 
-use crate::buffers::LayoutBuffers;
 use crate::counting::char_count;
 use crate::counts::Counts;
 use crate::extents::Extents;
@@ -139,6 +138,28 @@ impl Engine {
         ensures { self.new ≡ self.old }
     {
         self.work = None;
+    }
+
+    /// Keeps the lists of a layout that is no longer needed, and uses them for the next paragraph that is
+    /// laid out if their capacity fits. Only the lists of one layout are kept, until `free_buffers`.
+    pub fn recycle(&mut self, laid: Laid)
+        ensures { self.new ≡ self.old }
+    {
+        if let Some(work) = &mut self.work {
+            work.recycle(laid);
+        }
+    }
+
+    /// Returns an empty list for the next paragraph's text, of about `len` characters. It has the capacity of
+    /// a recycled text if that fits. Allocates nothing.
+    pub fn take_text(&mut self, alloc: Global, len: usize) -> Vec<char>
+        ensures text { result.items ≡ [] }
+        ensures same { self.new ≡ self.old }
+    {
+        match &mut self.work {
+            Some(work) => work.take_text(alloc, len),
+            None => Vec::new(alloc),
+        }
     }
 
     /// Returns whether there is a paragraph boundary between two adjacent characters.
@@ -607,7 +628,7 @@ impl Engine {
         ensures rules { SameRules self.old self.new }
     {
         let work = self.work.get_or_insert_with(|| Workspace::new(alloc));
-        let mut kept = LayoutBuffers::new(alloc);
+        let mut kept = work.take_lists(alloc, text.len());
         let counts = &mut self.counts;
         let rules = LentRules {
             tables: &self.tables,

@@ -99,6 +99,24 @@ impl Fill {
         }
     }
 
+    /// Returns the lists, to be used again.
+    pub(crate) fn into_buffers(self) -> LineBuffers {
+        let Fill {
+            extents,
+            levels,
+            maps,
+            chars,
+        } = self;
+        LineBuffers {
+            extents,
+            visual: VisualBuffers {
+                levels,
+                maps,
+                chars,
+            },
+        }
+    }
+
     /// Overwrites the lines with those that `extents` describes: applies L1 to each line, and L2, L3 and L4
     /// to its shown part. Afterwards, `extents` holds the extents of the old lines.
     pub(crate) fn reflow(

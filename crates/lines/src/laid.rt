@@ -6,6 +6,7 @@ ghost use Rattle.lines.specs.Measures.{kept_len, kept_widths, AreWidthsOf, Follo
 ghost use Rattle.lines.specs.declared.engine.TheConstants.{PARAGRAPH_LIMIT};
 ghost use Rattle.device.specs.Device.{StoppedAt, Wrote};
 
+use crate::buffers::LayoutBuffers;
 use crate::char_info::CharInfo;
 use crate::counts::Count;
 use crate::extents::Extents;
@@ -93,6 +94,28 @@ impl Laid {
     ghost use Rattle.lines.specs.Pages.{layout_bytes};
     ghost use Rattle.lines.specs.Visual.{visual_of};
     ghost use Rattle.lines.specs.Writing.{PassedOn, StoppedIn};
+
+    /// Returns the text's list, and those that any paragraph has, to be used again.
+    pub(crate) fn into_lists(self) -> (Vec<char>, LayoutBuffers) {
+        let Laid {
+            text,
+            base: _,
+            tab_width: _,
+            is_measured: _,
+            sizes: _,
+            levels,
+            marks,
+            ends,
+            lines,
+        } = self;
+        let lists = LayoutBuffers {
+            levels,
+            marks,
+            ends,
+            lines: lines.into_buffers(),
+        };
+        (text, lists)
+    }
 
     /// Returns the characters of the paragraph.
     pub fn text(&self) -> &[char]

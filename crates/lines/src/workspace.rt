@@ -1,5 +1,5 @@
 //! The buffers of an engine, and the levels and break marks of a paragraph.
-ghost use Rattle.std.specs.Prelude.{◌≡◌, ◌≤◌, length, map, take, IfOk, OnOk};
+ghost use Rattle.std.specs.Prelude.{[], ◌≡◌, ◌≤◌, length, map, take, IfOk, OnOk};
 ghost use Rattle.ucd.specs.Properties.{properties_of};
 ghost use Rattle.bidi.specs.Levels.{levels_of};
 ghost use Rattle.breaks.specs.Marks.{marks_of};
@@ -12,6 +12,7 @@ use crate::buffers::LayoutBuffers;
 use crate::char_info::InfoBuffers;
 use crate::clusters::ClusterBuffers;
 use crate::counts::Count;
+use crate::laid::Laid;
 use crate::options::Options;
 use crate::paragraph::{LentRules, Text};
 use crate::properties::fill_properties;
@@ -19,6 +20,7 @@ use crate::reserve::reserve;
 use bidi::Resolver;
 use breaks::{Mark, marks_into};
 use std::alloc::{AllocError, Global};
+use std::mem;
 use ucd::Properties;
 
 /// The buffers of an engine. If they are large enough for a paragraph, laying it out allocates only the parts
@@ -29,6 +31,9 @@ pub(crate) struct Workspace {
     pub(crate) clusters: ClusterBuffers,
     // For paragraphs that are printed and not kept.
     pub(crate) printed: LayoutBuffers,
+    // The lists of the last layout that was recycled, for the next paragraph that is kept.
+    spare_text: Vec<char>,
+    spare: LayoutBuffers,
 }
 
 impl Drop for Workspace {
@@ -38,6 +43,8 @@ impl Drop for Workspace {
             infos: _,
             clusters: _,
             printed: _,
+            spare_text: _,
+            spare: _,
         } = self;
     }
 }
@@ -53,8 +60,47 @@ impl Workspace {
             infos: InfoBuffers::new(alloc),
             clusters: ClusterBuffers::new(alloc),
             printed: LayoutBuffers::new(alloc),
+            spare_text: Vec::new(alloc),
+            spare: LayoutBuffers::new(alloc),
         }
     }
+
+    /// Keeps the lists of a layout that is no longer needed.
+    pub(crate) fn recycle(&mut self, laid: Laid) {
+        let (text, lists) = laid.into_lists();
+        self.spare_text = text;
+        self.spare = lists;
+    }
+
+    /// Returns an empty list, with the capacity of a recycled text if that is about `len`.
+    pub(crate) fn take_text(&mut self, alloc: Global, len: usize) -> Vec<char>
+        ensures { result.items ≡ [] }
+    {
+        let mut text = mem::replace(&mut self.spare_text, Vec::new(alloc));
+        text.clear();
+        if fits(text.capacity(), len) {
+            text
+        } else {
+            Vec::new(alloc)
+        }
+    }
+
+    /// Returns lists for a paragraph of `len` characters that is kept: recycled ones if they have about this
+    /// capacity, and otherwise empty ones.
+    pub(crate) fn take_lists(&mut self, alloc: Global, len: usize) -> LayoutBuffers {
+        let lists = mem::replace(&mut self.spare, LayoutBuffers::new(alloc));
+        if fits(lists.levels.capacity(), len) {
+            lists
+        } else {
+            LayoutBuffers::new(alloc)
+        }
+    }
+}
+
+// Returns whether a list of this capacity is worth using for `len` items. At most an eighth of the length and
+// 16 items may stay unused.
+fn fits(capacity: usize, len: usize) -> bool {
+    capacity >= len && capacity - len <= len / 8 + 16
 }
 
 /// Finds the levels of paragraphs, and keeps the properties of the last paragraph's characters at the front

@@ -2,7 +2,7 @@
 //! the text after the edit.
 ghost use Rattle.std.specs.Prelude.{◌≡◌, ◌+◌, ◌-◌, ◌^◌, ◌<◌, ◌≤◌, ◌++◌, true, false, not};
 ghost use Rattle.std.specs.Prelude.{length, List, [], ℕ};
-ghost use Rattle.std.specs.Prelude.{nat_le, replicate, sum, None, Option, IfOk, IfErr, IsErrOf};
+ghost use Rattle.std.specs.Prelude.{nat_le, replicate, sum, None, Option, Some, IfOk, IfErr, IsErrOf};
 ghost use Rattle.std.specs.Str.{chars};
 ghost use Rattle.lines.specs.Engine.{rules_of, LaysOutAtMost, SameRules};
 ghost use Rattle.lines.specs.Layouts.{cut_by, layout_of, with_advances, HaveRoom, IsParagraph};
@@ -111,24 +111,48 @@ pub struct Part<'a> {
     pub advances: &'a [u32],
 }
 
-// Joins the three parts into one text. Allocates once.
+// Joins the three parts into one text. Allocates at most once.
 fn joined(
     alloc: Global,
+    engine: &mut Engine,
     front: &[char],
     piece: &str,
     back: &[char],
 ) -> Result<Vec<char>, AllocError>
-    ensures { IfOk result (λ text. text.items ≡ front.now ++ (chars piece.now ++ back.now)) }
+    ensures text { IfOk result (λ text. text.items ≡ front.now ++ (chars piece.now ++ back.now)) }
+    ensures engine { engine.new ≡ engine.old }
 {
-    let mut text = Vec::with_capacity(alloc, len_at_most(front, piece, back))?;
+    let len = len_at_most(front, piece, back);
+    let mut text = engine.take_text(alloc, len);
+    text.reserve_exact(len)?;
     text.extend_from_slice(front)?;
     push_characters(piece, &mut text)?;
     text.extend_from_slice(back)?;
     Ok(text)
 }
 
-// Joins the advances of the three parts of a text of `len` characters. Those of inserted characters are 0. If
-// the text is not measured, returns an empty list.
+// Joins the advances of the three parts of a measured text of `len` characters. Those of inserted characters
+// are 0.
+#[inline(never)] // so that edits of other texts do not clear its frame
+fn measured_advances(
+    alloc: Global,
+    front: &[u32],
+    len: usize,
+    back: &[u32],
+) -> Result<Vec<u32>, AllocError>
+    requires { length front.now + length back.now ≤ len }
+    ensures { IfOk result (λ list. list.items
+        ≡ front.now ++ (replicate (len - length front.now - length back.now) 0 ++ back.now)) }
+{
+    let mut list = Vec::with_capacity(alloc, len)?;
+    list.extend_from_slice(front)?;
+    list.resize(len - back.len(), 0)?;
+    list.extend_from_slice(back)?;
+    Ok(list)
+}
+
+// Joins the advances of the three parts of a text of `len` characters. If the text is not measured, returns
+// an empty list.
 fn joined_advances(
     alloc: Global,
     is_measured: bool,
@@ -140,14 +164,11 @@ fn joined_advances(
     ensures { IfOk result (λ list. given_if is_measured list.items ≡ given_if is_measured
         (front.now ++ (replicate (len - length front.now - length back.now) 0 ++ back.now))) }
 {
-    if !is_measured {
-        return Ok(Vec::new(alloc));
+    if is_measured {
+        measured_advances(alloc, front, len, back)
+    } else {
+        Ok(Vec::new(alloc))
     }
-    let mut list = Vec::with_capacity(alloc, len)?;
-    list.extend_from_slice(front)?;
-    list.resize(len - back.len(), 0)?;
-    list.extend_from_slice(back)?;
-    Ok(list)
 }
 
 /// Copies one paragraph and lays it out.
@@ -171,6 +192,28 @@ pub fn lay_out_one(
     lay_out_owned(alloc, engine, text, advances, form)
 }
 
+// Lays out one measured paragraph.
+#[inline(never)] // so that other paragraphs do not clear its frame
+fn lay_out_measured(
+    alloc: Global,
+    engine: &mut Engine,
+    text: Vec<char>,
+    advances: Vec<u32>,
+    width: u32,
+) -> Result<Kept, AllocError>
+    requires paragraph { IsParagraph (rules_of engine.old) text.items }
+    requires width { 0 < width }
+    requires len { length advances.items ≡ length text.items }
+    requires room { sum advances.items < 2 ^ 32 }
+    ensures ok { IfOk result (λ kept. kept
+        ≡ layout_of (with_advances (rules_of engine.old) (Some advances.items)) width text.items) }
+    ensures rules { SameRules engine.old engine.new }
+    ensures counts { LaysOutAtMost (length text.items) engine.old engine.new }
+{
+    let laid = engine.lay_out_measured(alloc, text, advances, width)?;
+    Kept::new(alloc, laid)
+}
+
 // Lays out one paragraph, whose text and advances move into the layout.
 fn lay_out_owned(
     alloc: Global,
@@ -189,8 +232,7 @@ fn lay_out_owned(
     ensures counts { LaysOutAtMost (length text.items) engine.old engine.new }
 {
     if form.is_measured {
-        let laid = engine.lay_out_measured(alloc, text, advances, form.width)?;
-        return Kept::new(alloc, laid);
+        return lay_out_measured(alloc, engine, text, advances, form.width);
     }
     match engine.lay_out(alloc, text, form.width) {
         Ok(laid) => Kept::new(alloc, laid),
@@ -327,7 +369,7 @@ fn lay_out_parts(
     ensures counts { LaysOutAtMost (length (joined_text front.now piece.now back.now))
         engine.old engine.new }
 {
-    let text = joined(alloc, front.text, piece, back.text)?;
+    let text = joined(alloc, engine, front.text, piece, back.text)?;
     let (is_measured, len) = (form.is_measured, text.len());
     let advances = joined_advances(alloc, is_measured, front.advances, len, back.advances)?;
     lay_out(alloc, engine, text, advances, form)

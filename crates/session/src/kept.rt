@@ -67,6 +67,18 @@ impl Kept {
         })
     }
 
+    /// Moves the layout out of its box.
+    pub fn into_laid(self) -> Laid {
+        let Kept {
+            chars: _,
+            lines: _,
+            bytes: _,
+            utf16: _,
+            laid,
+        } = self;
+        Box::into_inner(laid)
+    }
+
     /// Returns the layout.
     pub fn laid(&self) -> &Laid
         ensures { result.now ≡ self.now }

@@ -206,7 +206,7 @@ pub fn set_advances<S: ParagraphStore<Kept>>(
     let Ok(new) = laid else {
         return Err(AdvanceFault::NoMemory);
     };
-    match put(store, front, back, new) {
+    match put(engine, store, front, back, new) {
         Ok(damage) => Ok(damage),
         Err(_) => Err(AdvanceFault::NoMemory),
     }

@@ -20,8 +20,19 @@ use lines::{Engine, lines_are_few};
 use std::alloc::Global;
 use store::ParagraphStore;
 
+// Lets the engine use the lists of a replaced paragraph again.
+fn recycle(engine: &mut Engine, old: Vec<Kept>)
+    ensures { engine.new ≡ engine.old }
+{
+    let mut old = old;
+    if let Some(kept) = old.pop() {
+        engine.recycle(kept.into_laid());
+    }
+}
+
 /// Replaces the paragraphs between two borders. Changes nothing if an allocation fails.
 pub fn put<S: ParagraphStore<Kept>>(
+    engine: &mut Engine,
     store: &mut S,
     front: Border,
     back: Border,
@@ -44,10 +55,12 @@ pub fn put<S: ParagraphStore<Kept>>(
     ensures err { OnErr result (S.items store.new ≡ S.items store.old) }
     ensures fault { IfErr result (λ fault. fault ≡ NoMemory) }
     ensures memory { OnErr result (0 < back.index - front.index + length new.items) }
+    ensures engine { engine.new ≡ engine.old }
 {
     let (total, new_pars) = (store.total_lines(), new.len());
-    if store.replace(front.index..back.index, new).is_err() {
-        return Err(EditFault::NoMemory);
+    match store.replace(front.index..back.index, new) {
+        Ok(old) => recycle(engine, old),
+        Err(_) => return Err(EditFault::NoMemory),
     }
     let old_lines = back.lines - front.lines;
     Ok(Damage {
@@ -98,5 +111,5 @@ pub fn replace<S: ParagraphStore<Kept>>(
         Ok(new) => new,
         Err(fault) => return Err(fault),
     };
-    put(store, front, back, new)
+    put(engine, store, front, back, new)
 }

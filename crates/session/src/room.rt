@@ -107,6 +107,7 @@ fn fit_together(front: &[u32], back: &[u32]) -> bool
 
 /// Returns whether the advances of each paragraph of the joined text add up to less than 2^32, if inserted
 /// characters have advance 0.
+#[inline(never)] // so that edits of texts that are not measured do not clear its frame
 pub fn has_room(engine: &Engine, front: &Part<'_>, piece: &str, back: &Part<'_>) -> bool
     requires front { length front.now.advances.now ≡ length front.now.text.now }
     requires back { length back.now.advances.now ≡ length back.now.text.now }

@@ -10,4 +10,4 @@ returns-in-Ok-clause-ok c =
     let by = rules_of c.args.engine.now in
     let laid = c.in-Ok.ensures.ok ∙ sym (ap (λ (r : Rules). layout_of r c.args.form.width c.args.text.items) (own_rules by c.lay_out.ensures.unmeasured))
     ∙ ap (λ (m : Bool). layout_of (with_advances by (given_if m c.args.advances.items)) c.args.form.width c.args.text.items) (sym c.if-form.false) in
-    subst (λ (l : Layout). IfOk c.new-in-Ok.result (λ kept. kept ≡ l)) laid c.new-in-Ok.ensures
+    subst (λ (l : Layout). IfOk c.new.result (λ kept. kept ≡ l)) laid c.new.ensures

@@ -279,13 +279,13 @@ returns-in-Ok-put-clause-ok g c =
     (slice_range (pars_of kept) c.front_border-front.result.index c.back_border-back.result.index)) spliced-is in
     let done = SetsAdvances-after c.args.engine.now c.args.form.width kept whole range
     c.in-Ok.new.items laid c.remeasure_each-laid.new.engine has c.remeasure_each-laid.ensures.rules c.remeasure_each-laid.ensures.counts in
-    subst (λ d. SetsAdvances c.args.pos c.args.list.now (state_of c.args.engine.now c.args.form.width c.args.form.is_measured kept)
+    rw c.put.ensures.engine (subst (λ d. SetsAdvances c.args.pos c.args.list.now (state_of c.args.engine.now c.args.form.width c.args.form.is_measured kept)
     (state_of c.remeasure_each-laid.new.engine c.args.form.width c.args.form.is_measured (g.S.ParagraphStore.items c.put.new.store)) d) (sym c.in-Ok-put.ensures.damage)
     (subst (λ ks. SetsAdvances c.args.pos c.args.list.now (state_of c.args.engine.now c.args.form.width c.args.form.is_measured kept)
     (state_of c.remeasure_each-laid.new.engine c.args.form.width c.args.form.is_measured ks) (damage_between c.front_border-front.result c.back_border-back.result c.in-Ok.new.items)) (sym c.in-Ok-put.ensures.ok)
     (subst (λ b. SetsAdvances c.args.pos c.args.list.now (state_of c.args.engine.now c.args.form.width b kept)
     (state_of c.remeasure_each-laid.new.engine c.args.form.width b (splice kept c.front_border-front.result.index c.back_border-back.result.index c.in-Ok.new.items))
-    (damage_between c.front_border-front.result c.back_border-back.result c.in-Ok.new.items)) (sym is) done))
+    (damage_between c.front_border-front.result c.back_border-back.result c.in-Ok.new.items)) (sym is) done)))
 
 pub returns-in-Err-clause-err : goal.returns-in-Err-clause-err
 returns-in-Err-clause-err g c =
@@ -304,5 +304,5 @@ returns-in-Err-clause-err g c =
     let worked = subst (λ b. SetsAdvancesNot c.args.pos c.args.list.now (state_of c.args.engine.now c.args.form.width b kept)
     (state_of c.remeasure_each-laid.new.engine c.args.form.width b kept) NoMemory) (sym is)
     (SetsAdvancesNot-after c.args.engine.now c.args.form.width kept whole range c.remeasure_each-laid.new.engine has c.remeasure_each-laid.ensures.rules c.remeasure_each-laid.ensures.counts) in
-    subst (λ ks. SetsAdvancesNot c.args.pos c.args.list.now (state_of c.args.engine.now c.args.form.width c.args.form.is_measured kept)
-    (state_of c.remeasure_each-laid.new.engine c.args.form.width c.args.form.is_measured ks) NoMemory) (sym c.in-Err.ensures.err) worked
+    rw c.put.ensures.engine (subst (λ ks. SetsAdvancesNot c.args.pos c.args.list.now (state_of c.args.engine.now c.args.form.width c.args.form.is_measured kept)
+    (state_of c.remeasure_each-laid.new.engine c.args.form.width c.args.form.is_measured ks) NoMemory) (sym c.in-Err.ensures.err) worked)

@@ -17,14 +17,14 @@ overflow_sub-result g c =
 
 pub overflow_sub-result-2 : goal.overflow_sub-result-2
 overflow_sub-result-2 g c =
-    let put = at_ok c.replace.result (sym c.is_err.ensures.value ∙ c.if-is_err.false) c.replace.ensures.ok in
+    let put = c.in-Ok.ensures.ok in
     (AreSums-splice (g.S.ParagraphStore.items c.args.store.now) c.args.new.items c.args.front c.args.back
     c.total_lines-total.result c.total_lines.result c.requires.front c.requires.back c.requires.order
     c.total_lines-total.ensures (c.total_lines.ensures ∙ ap (sum_by lines_of) put)).others
 
 pub returns-clause-damage : goal.returns-clause-damage
 returns-clause-damage g c =
-    let put = at_ok c.replace.result (sym c.is_err.ensures.value ∙ c.if-is_err.false) c.replace.ensures.ok in
+    let put = c.in-Ok.ensures.ok in
     let made = (AreSums-splice (g.S.ParagraphStore.items c.args.store.now) c.args.new.items c.args.front c.args.back
     c.total_lines-total.result c.total_lines.result c.requires.front c.requires.back c.requires.order
     c.total_lines-total.ensures (c.total_lines.ensures ∙ ap (sum_by lines_of) put)).made in

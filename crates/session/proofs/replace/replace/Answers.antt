@@ -211,12 +211,12 @@ returns-clause-ok g c =
     let laid = c.in-Ok.ensures.ok ∙ ap₂ (λ (a : Option (List ℕ)) (t : List ℕ). layouts_of (with_advances by a) c.args.form.width t) given parts in
     let allowed = sym (ap₂ (λ (a : Option (List ℕ)) (t : List ℕ). paragraphs_refusal (cut_by by) a t) given parts) ∙ c.in-Ok.ensures.allowed in
     let counts = subst (λ t. LaysOutAtMost (length t) c.args.engine.now c.lay_out_joined.new.engine) parts c.lay_out_joined.ensures.counts in
-    ends_ok (λ ks. Edits (replacing c.args.pos c.args.count piece) old
+    rw c.put.ensures.engine (ends_ok (λ ks. Edits (replacing c.args.pos c.args.count piece) old
     (state_of c.lay_out_joined.new.engine c.args.form.width c.args.form.is_measured ks)) c.put.result _ _ _
     c.put.ensures.ok c.put.ensures.damage
     (Edits-after law few c.args.engine.now c.args.form.width c.args.form.is_measured kept c.requires c.args.pos c.args.count piece within
     c.front_border-front.result c.back_border-back.result f b c.in-Ok.new.items laid short c.lay_out_joined.new.engine
-    allowed c.lay_out_joined.ensures.rules counts)
+    allowed c.lay_out_joined.ensures.rules counts))
 
 pub returns-clause-err : goal.returns-clause-err
 returns-clause-err g c =
@@ -236,12 +236,12 @@ returns-clause-err g c =
     let old : SessionState = state_of c.args.engine.now c.args.form.width c.args.form.is_measured kept in
     let allowed = sym (ap₂ (λ (a : Option (List ℕ)) (t : List ℕ). paragraphs_refusal (cut_by by) a t) given parts) ∙ c.in-Ok.ensures.allowed in
     let counts = subst (λ t. LaysOutAtMost (length t) c.args.engine.now c.lay_out_joined.new.engine) parts c.lay_out_joined.ensures.counts in
-    ends_err (λ ks. EditsNot (replacing c.args.pos c.args.count piece) old
+    rw c.put.ensures.engine (ends_err (λ ks. EditsNot (replacing c.args.pos c.args.count piece) old
     (state_of c.lay_out_joined.new.engine c.args.form.width c.args.form.is_measured ks)) c.put.result _ _
     c.put.ensures.err c.put.ensures.fault
     (EditsNot-by_region law few c.args.engine.now c.args.form.width c.args.form.is_measured kept c.requires c.args.pos c.args.count piece within
     c.front_border-front.result c.back_border-back.result f b c.lay_out_joined.new.engine NoMemory short
-    allowed c.lay_out_joined.ensures.rules counts)
+    allowed c.lay_out_joined.ensures.rules counts))
 
 pub returns-clause-memory : goal.returns-clause-memory
 returns-clause-memory g c wants =
