@@ -60,7 +60,7 @@ impl Workspace {
         ensures filled { counts.new.filled ≡ counted counts.old.filled (length text.now) }
     {
         let filled = counts.take_filled(text.len());
-        let levels = &mut self.printed.levels;
+        let levels = &mut self.lists.levels;
         let Ok(base) = self
             .analysis
             .resolve(rules, text, levels, &mut counts.analysed)
@@ -68,27 +68,27 @@ impl Workspace {
             return Err(PrintFault::Memory);
         };
         let clusters = &mut self.clusters;
-        let Ok(()) = fill_ends(clusters, rules.options, text, &mut self.printed.ends) else {
+        let Ok(()) = fill_ends(clusters, rules.options, text, &mut self.lists.ends) else {
             return Err(PrintFault::Memory);
         };
         let text = Text {
             rules: *rules,
             characters: text,
             properties: &self.analysis.properties[..text.len()],
-            ends: &self.printed.ends,
+            ends: &self.lists.ends,
             base,
         };
         let written = &mut counts.written;
         if is_one_line(form, &text) {
-            let (levels, lines) = (&self.printed.levels, &mut self.printed.lines);
+            let (levels, lines) = (&self.lists.levels, &mut self.lists.lines);
             return write_one_line(writer, form, &text, levels, lines, filled, written);
         }
-        let (marks, lines) = (&mut self.printed.marks, &mut self.printed.lines);
+        let (marks, lines) = (&mut self.lists.marks, &mut self.lists.lines);
         let infos = &mut self.infos;
         let Ok(()) = fill_spans(clusters, &text, marks, infos, form.width, lines, filled) else {
             return Err(PrintFault::Memory);
         };
-        write_lines(writer, form, &text, &self.printed.levels, lines, written)
+        write_lines(writer, form, &text, &self.lists.levels, lines, written)
     }
 }
 

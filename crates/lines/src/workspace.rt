@@ -29,11 +29,10 @@ pub(crate) struct Workspace {
     pub(crate) analysis: Analysis,
     pub(crate) infos: InfoBuffers,
     pub(crate) clusters: ClusterBuffers,
-    // For paragraphs that are printed and not kept.
-    pub(crate) printed: LayoutBuffers,
-    // The lists of the last layout that was recycled, for the next paragraph that is kept.
-    spare_text: Vec<char>,
-    spare: LayoutBuffers,
+    // For paragraphs that are printed and not kept, and after `recycle` for the next one that is kept.
+    pub(crate) lists: LayoutBuffers,
+    // For the text of the next paragraph that is kept.
+    text: Vec<char>,
 }
 
 impl Drop for Workspace {
@@ -42,9 +41,8 @@ impl Drop for Workspace {
             analysis: _,
             infos: _,
             clusters: _,
-            printed: _,
-            spare_text: _,
-            spare: _,
+            lists: _,
+            text: _,
         } = self;
     }
 }
@@ -59,27 +57,23 @@ impl Workspace {
             },
             infos: InfoBuffers::new(alloc),
             clusters: ClusterBuffers::new(alloc),
-            printed: LayoutBuffers::new(alloc),
-            spare_text: Vec::new(alloc),
-            spare: LayoutBuffers::new(alloc),
+            lists: LayoutBuffers::new(alloc),
+            text: Vec::new(alloc),
         }
     }
 
     /// Keeps the lists of a layout that is no longer needed.
     pub(crate) fn recycle(&mut self, laid: Laid) {
-        let (text, lists) = laid.into_lists();
-        self.spare_text = text;
-        self.spare = lists;
+        (self.text, self.lists) = laid.into_lists();
     }
 
     /// Returns an empty list, with the capacity of a recycled text if that is about `len`.
     pub(crate) fn take_text(&mut self, alloc: Global, len: usize) -> Vec<char>
         ensures { result.items ≡ [] }
     {
-        let mut text = mem::replace(&mut self.spare_text, Vec::new(alloc));
-        text.clear();
-        if fits(text.capacity(), len) {
-            text
+        if fits(self.text.capacity(), len) {
+            self.text.clear();
+            mem::replace(&mut self.text, Vec::new(alloc))
         } else {
             Vec::new(alloc)
         }
@@ -88,9 +82,8 @@ impl Workspace {
     /// Returns lists for a paragraph of `len` characters that is kept: recycled ones if they have about this
     /// capacity, and otherwise empty ones.
     pub(crate) fn take_lists(&mut self, alloc: Global, len: usize) -> LayoutBuffers {
-        let lists = mem::replace(&mut self.spare, LayoutBuffers::new(alloc));
-        if fits(lists.levels.capacity(), len) {
-            lists
+        if fits(self.lists.levels.capacity(), len) {
+            mem::replace(&mut self.lists, LayoutBuffers::new(alloc))
         } else {
             LayoutBuffers::new(alloc)
         }
