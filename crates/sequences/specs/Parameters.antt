@@ -1,0 +1,39 @@
+-- The parameters of SGR and OSC 8 as text.
+use Rattle.std.specs.Prelude.{ℕ, ◌+◌, ◌-◌, ◌*◌, min, nat_le, ◌==◌, Bool, ◌&&◌, List, [], ◌∷◌, map, fold, take, drop, slice_index, Option, Some, None, if◌then◌else◌}
+use Rattle.std.specs.List.{after_first, list_any, prefix_len, slice_split}
+
+-- digits, colons and semicolons
+abbrev pub is_sgr : ℕ → Bool
+is_sgr c = nat_le 0x30 c && nat_le c 0x3B
+
+abbrev pub is_semicolon : ℕ → Bool
+is_semicolon c = c == 0x3B
+
+abbrev pub is_colon : ℕ → Bool
+is_colon c = c == 0x3A
+
+-- a decimal number, or 256 for all larger ones, since none of them has a meaning; nothing is 0
+abbrev pub number : List ℕ → ℕ
+number digits = fold (λ n c. min 256 (10 * n + (c - 0x30))) 0 digits
+
+-- the fields of one parameter, and the parameters of a text
+abbrev pub fields : List ℕ → List ℕ
+fields text = map number (slice_split is_colon text)
+
+abbrev pub parameters : List ℕ → List (List ℕ)
+parameters text = map fields (slice_split is_semicolon text)
+
+-- the parameters of SGR, given the text after CSI; `None` for another control sequence
+abbrev pub sgr : List ℕ → Option (List (List ℕ))
+sgr text = if slice_index text (prefix_len is_sgr text) == 0x6D then Some (parameters (take (prefix_len is_sgr text) text)) else None
+
+-- The link of OSC 8, given the string after OSC: its parameters, a semicolon and its URI. An empty URI ends a link, and is
+-- an empty link here. `None` for another string.
+abbrev pub osc_link : List ℕ → Option (List ℕ)
+osc_link (a ∷ b ∷ link) =
+    if a == 0x38 && (b == 0x3B && list_any is_semicolon link) then Some (ended (after_first is_semicolon link) link) else None
+  where
+    ended : List ℕ → List ℕ → List ℕ
+    ended [] link = []
+    ended (c ∷ uri) link = link
+osc_link text = None
