@@ -3,7 +3,6 @@ use Rattle.std.specs.Prelude.{ℕ, zero, suc, ◌-◌, nat_le, nat_lt, ◌==◌,
 use Rattle.sequences.specs.declared.look.Look.{Look}
 use Rattle.sequences.specs.declared.look.Color.{Color}
 use Rattle.sequences.specs.declared.look.Color.TheVariants.{Basic, Indexed, Rgb}
-use Rattle.sequences.specs.declared.look.Underline.{Underline}
 use Rattle.sequences.specs.declared.look.Underline.TheVariants.{Single, Double, Curly, Dotted, Dashed}
 use Rattle.sequences.specs.declared.look.Blink.TheVariants.{Slow, Rapid}
 use Rattle.sequences.specs.declared.look.TheConstants.{PLAIN}

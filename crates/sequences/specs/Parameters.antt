@@ -1,5 +1,5 @@
 -- The parameters of SGR and OSC 8 as text.
-use Rattle.std.specs.Prelude.{ℕ, ◌+◌, ◌-◌, ◌*◌, min, nat_le, ◌==◌, Bool, ◌&&◌, List, [], ◌∷◌, map, fold, take, drop, slice_index, Option, Some, None, if◌then◌else◌}
+use Rattle.std.specs.Prelude.{ℕ, ◌+◌, ◌-◌, ◌*◌, min, nat_le, ◌==◌, Bool, ◌&&◌, List, [], ◌∷◌, map, fold, take, slice_index, Option, Some, None, if◌then◌else◌}
 use Rattle.std.specs.List.{after_first, list_any, prefix_len, slice_split}
 
 -- digits, colons and semicolons

@@ -1,6 +1,6 @@
 -- What a text shows: the characters that remain, each with its style.
 use Rattle.std.specs.Prelude.{ℕ, zero, suc, ◌+◌, ◌-◌, ◌*◌, nat_le, ◌==◌, Bool, false, ◌&&◌, List, [], ◌∷◌, ◌++◌, length, map, take, Option, Some, None, unwrap_or, if◌then◌else◌}
-use Rattle.sequences.specs.Characters.{is_control, is_dropped, is_inline}
+use Rattle.sequences.specs.Characters.{is_dropped, is_inline}
 use Rattle.sequences.specs.Sequences.{after_escape, sequence_len, string_end, LONGEST}
 use Rattle.sequences.specs.Parameters.{osc_link, sgr}
 use Rattle.sequences.specs.Looks.{applied}
