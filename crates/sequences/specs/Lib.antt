@@ -1,4 +1,5 @@
 pub mod Characters
+pub mod Classes
 pub mod Sequences
 pub mod Looks
 pub mod Parameters

@@ -2,6 +2,9 @@
 //! dropped controls, and the style of each.
 #![tactic(auto)]
 
+mod characters;
+mod lengths;
 mod look;
 
+pub use lengths::{LONGEST_STRING, sequence_len};
 pub use look::{Blink, Color, Look, PLAIN, Underline};
