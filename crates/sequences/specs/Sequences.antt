@@ -2,6 +2,7 @@
 use Rattle.std.specs.Prelude.{ℕ, suc, ◌+◌, ◌-◌, nat_le, ◌==◌, Bool, ◌&&◌, ◌||◌, List, [], ◌∷◌, drop, slice_index, Option, Some, None, option_map, if◌then◌else◌}
 use Rattle.std.specs.List.{prefix_len}
 use Rattle.sequences.specs.Characters.{is_c1_introducer, is_inline}
+use Rattle.sequences.specs.declared.lengths.TheConstants.{LONGEST_STRING}
 
 abbrev pub is_parameter : ℕ → Bool
 is_parameter c = nat_le 0x30 c && nat_le c 0x3F
@@ -40,15 +41,14 @@ terminator_len is_osc text =
     if slice_index text 0 == 0x9C || (is_osc && slice_index text 0 == 0x07) then 1
     else if slice_index text 0 == 0x1B && slice_index text 1 == 0x5C then 2 else 0
 
--- The longest string that can have a meaning. A longer one ends at its terminator or before the next control.
-abbrev pub LONGEST : ℕ
-LONGEST = 4096
 
+-- A string that is not ended is incomplete. One that is too long to have a meaning ends with its terminator, or else before
+-- the character that no string contains.
 abbrev pub string_len : Bool → List ℕ → Option ℕ
 string_len is_osc text =
     let n = string_end text in
     let terminator = terminator_len is_osc (drop n text) in
-    if terminator == 0 && nat_le n LONGEST then None else Some (n + terminator)
+    if terminator == 0 && nat_le n LONGEST_STRING then None else Some (n + terminator)
 
 -- what opens a string after ESC: P for DCS, X for SOS, ] for OSC, ^ for PM and _ for APC
 abbrev pub opens_string : ℕ → Bool

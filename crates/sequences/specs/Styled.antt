@@ -1,7 +1,8 @@
 -- What a text shows: the characters that remain, each with its style.
 use Rattle.std.specs.Prelude.{ℕ, zero, suc, ◌+◌, ◌-◌, ◌*◌, nat_le, ◌==◌, Bool, false, ◌&&◌, List, [], ◌∷◌, ◌++◌, length, map, take, Option, Some, None, unwrap_or, if◌then◌else◌}
 use Rattle.sequences.specs.Characters.{is_dropped, is_inline}
-use Rattle.sequences.specs.Sequences.{after_escape, sequence_len, string_end, LONGEST}
+use Rattle.sequences.specs.Sequences.{after_escape, sequence_len, string_end}
+use Rattle.sequences.specs.declared.lengths.TheConstants.{LONGEST_STRING}
 use Rattle.sequences.specs.Parameters.{osc_link, sgr}
 use Rattle.sequences.specs.Looks.{applied}
 use Rattle.sequences.specs.Overstrikes.{is_underlined_only, strikes, struck, struck_look}
@@ -48,7 +49,7 @@ abbrev pub after_sequence : Pen → List ℕ → Pen
 after_sequence pen [] = pen
 after_sequence pen (c ∷ text) =
     if c == 0x5B then with_sgr pen (sgr text)
-    else if c == 0x5D && nat_le (string_end text) LONGEST then with_link pen (osc_link (take (string_end text) text))
+    else if c == 0x5D && nat_le (string_end text) LONGEST_STRING then with_link pen (osc_link (take (string_end text) text))
     else pen
 
 -- the style of a character with all that is struck over it
