@@ -1,15 +1,13 @@
 -- The sets of characters that a scan passes over.
-use Rattle.std.specs.Prelude.{ℕ, Bool, not}
+use Rattle.std.specs.Prelude.{ℕ, Bool}
 use Rattle.sequences.specs.Characters.{is_inline}
-use Rattle.sequences.specs.Parameters.{is_colon, is_semicolon, is_sgr}
+use Rattle.sequences.specs.Parameters.{is_sgr}
 use Rattle.sequences.specs.Sequences.{is_intermediate, is_parameter}
 use Rattle.sequences.specs.declared.characters.Class.{Class}
-use Rattle.sequences.specs.declared.characters.Class.TheVariants.{Parameter, Intermediate, Inline, Sgr, Field, Digit}
+use Rattle.sequences.specs.declared.characters.Class.TheVariants.{Parameter, Intermediate, Inline, Sgr}
 
 abbrev pub is_in : Class → ℕ → Bool
 is_in Parameter c = is_parameter c
 is_in Intermediate c = is_intermediate c
 is_in Inline c = is_inline c
 is_in Sgr c = is_sgr c
-is_in Field c = not (is_semicolon c)
-is_in Digit c = not (is_colon c)

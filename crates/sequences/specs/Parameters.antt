@@ -13,8 +13,11 @@ abbrev pub is_colon : ℕ → Bool
 is_colon c = c == 0x3A
 
 -- a decimal number, or 256 for all larger ones, since none of them has a meaning; nothing is 0
+abbrev pub with_digit : ℕ → ℕ → ℕ
+with_digit n digit = min 256 (10 * n + (digit - 0x30))
+
 abbrev pub number : List ℕ → ℕ
-number digits = fold (λ n c. min 256 (10 * n + (c - 0x30))) 0 digits
+number digits = fold with_digit 0 digits
 
 -- the fields of one parameter, and the parameters of a text
 abbrev pub fields : List ℕ → List ℕ

@@ -11,8 +11,6 @@ pub(crate) enum Class {
     Intermediate,
     Inline,
     Sgr,
-    Field,
-    Digit,
 }
 
 fn is_control(c: char) -> bool
@@ -56,8 +54,6 @@ fn is_in(class: Class, c: char) -> bool
         Class::Intermediate => ' ' <= c && c <= '/',
         Class::Inline => is_inline(c),
         Class::Sgr => '0' <= c && c <= ';',
-        Class::Field => c != ';',
-        Class::Digit => c != ':',
     }
 }
 

@@ -5,6 +5,7 @@
 mod characters;
 mod lengths;
 mod look;
+mod parts;
 
 pub use lengths::{LONGEST_STRING, sequence_len};
 pub use look::{Blink, Color, Look, PLAIN, Underline};
