@@ -1,2 +1,3 @@
+pub mod LookLemmas
 pub mod PartLemmas
 mod WorkedRows

@@ -14,7 +14,7 @@ module _ (separator : ℕ) where
   abbrev pub end_of : List ℕ → ℕ
   end_of text = position_or_len ends text
 
-  split_first : (text : List ℕ) → slice_split ends text ≡ take (end_of text) text ∷ parts_after separator (drop (end_of text) text)
+  pub split_first : (text : List ℕ) → slice_split ends text ≡ take (end_of text) text ∷ parts_after separator (drop (end_of text) text)
   split_first [] = refl
   split_first (x ∷ xs) =
       elim (cases_Bool (ends x)) [
@@ -68,3 +68,9 @@ value_at f rest parts k e = value-drop f parts k ∙ ap (λ xs. value (map f xs)
 
 pub single_at : (rest parts : List (List ℕ)) (k : ℕ) → rest ≡ drop k parts → value (map single (map fields parts)) k ≡ value (map single (map fields rest)) 0
 single_at rest parts k e = value-drop single (map fields parts) k ∙ ap (λ xs. value (map single xs) 0) (drop-map k parts ∙ ap (map fields) (sym e))
+
+-- the first parameter of a text, and the others
+pub parameters-first : (text : List ℕ) → 0 < length text
+    → parameters_after text ≡ fields_after (take (first_len 0x3B text) text) ∷ parameters_after (drop (first_len 0x3B text) text)
+parameters-first [] some = absurd (omega arith)
+parameters-first (c ∷ text) some = ap (map fields) (split_first 0x3B text)

@@ -6,6 +6,7 @@ mod characters;
 mod lengths;
 mod look;
 mod parts;
+mod sgr;
 
 pub use lengths::{LONGEST_STRING, sequence_len};
 pub use look::{Blink, Color, Look, PLAIN, Underline};

@@ -52,6 +52,7 @@ fn split_part(separator: char, text: &[char]) -> (&[char], &[char])
     ensures first { result.0.now ≡ take (first_len separator text.now) text.now }
     ensures rest { result.1.now ≡ drop (first_len separator text.now) text.now }
     ensures within { length result.1.now ≤ length text.now }
+    ensures less { 0 < length text.now → length result.1.now < length text.now }
 {
     text.split_at(first_len(separator, text))
 }
@@ -124,6 +125,7 @@ pub(crate) fn split_parameter(text: &[char]) -> (&[char], &[char])
     ensures first { result.0.now ≡ take (first_len 0x3B text.now) text.now }
     ensures rest { result.1.now ≡ drop (first_len 0x3B text.now) text.now }
     ensures within { length result.1.now ≤ length text.now }
+    ensures less { 0 < length text.now → length result.1.now < length text.now }
 {
     split_part(';', text)
 }
