@@ -2,6 +2,7 @@
 use Rattle.std.specs.Prelude.{ℕ, ◌==◌, Bool, true, false, ◌&&◌, ◌||◌, not, List, [], ◌∷◌, fold, Some, is_some, if◌then◌else◌}
 use Rattle.sequences.specs.Characters.{is_inline}
 use Rattle.sequences.specs.declared.look.Look.{Look}
+use Rattle.sequences.specs.declared.overstrikes.Struck.{Struck}
 use Rattle.sequences.specs.declared.look.Underline.TheVariants.{Single}
 
 -- the characters that follow, each directly after a BS
@@ -13,38 +14,26 @@ after_backspaces text = []
 abbrev pub strikes : ℕ → List ℕ → List ℕ
 strikes c text = if is_inline c then after_backspaces text else []
 
--- what is at a place: the character to show, and what overstrikes make of it
-pub record Struck : Type 0 where
-  pub char : ℕ
-  pub bold : Bool
-  pub underlined : Bool
-
 -- One more character. X over X is bold. A low line (U+005F) under or over X is an underline. A low line over a low line is
 -- the one or the other, as the character before was underlined and not bold or not, and a third one makes it both. Any other
 -- character takes the place of the one before.
 abbrev pub strike : Bool → Struck → ℕ → Struck
 strike after_underline s c =
-    if c == s.char then
+    if c == s.shown then
         (if c == 0x5F && not (s.bold || s.underlined) then record s { bold = not after_underline; underlined = after_underline }
         else if c == 0x5F then record s { bold = true; underlined = true }
         else record s { bold = true })
     else if c == 0x5F then record s { underlined = true }
-    else if s.char == 0x5F then record { char = c; bold = false; underlined = true }
-    else record { char = c; bold = false; underlined = false }
+    else if s.shown == 0x5F then record { shown = c; bold = false; underlined = true }
+    else record { shown = c; bold = false; underlined = false }
 
 -- the first character of a text, with all that is struck over it
 abbrev pub struck : Bool → ℕ → List ℕ → Struck
-struck after_underline c text = fold (strike after_underline) (record { char = c; bold = false; underlined = false }) (strikes c text)
+struck after_underline c text = fold (strike after_underline) (record { shown = c; bold = false; underlined = false }) (strikes c text)
 
--- the attributes of a character, given those that SGR has set
-abbrev pub bolder : Bool → Look → Look
-bolder bold look = if bold then record look { bold = true } else look
-
-abbrev pub underlined : Bool → Look → Look
-underlined is_underlined look = if is_underlined then record look { underline = Some Single } else look
-
+-- the attributes of a place, given those that SGR has set
 abbrev pub struck_look : Look → Struck → Look
-struck_look look s = underlined s.underlined (bolder s.bold look)
+struck_look look s = record look { bold = look.bold || s.bold; underline = if s.underlined then Some Single else look.underline }
 
 -- underlined, and not bold
 abbrev pub is_underlined_only : Look → Bool

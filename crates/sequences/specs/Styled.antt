@@ -63,7 +63,7 @@ more_len c text = unwrap_or (sequence_len (c ∷ text)) (1 + 2 * length (strikes
 
 -- what the first part shows
 abbrev pub first_shown : Pen → ℕ → List ℕ → List (ℕ × Style)
-first_shown pen c text = if is_dropped c then [] else ((struck pen.after_underline c text).char, struck_style pen c text) ∷ []
+first_shown pen c text = if is_dropped c then [] else ((struck pen.after_underline c text).shown, struck_style pen c text) ∷ []
 
 -- the pen after the first part
 abbrev pub after_first_part : Pen → ℕ → List ℕ → Pen

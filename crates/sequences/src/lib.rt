@@ -5,6 +5,7 @@
 mod characters;
 mod lengths;
 mod look;
+mod overstrikes;
 mod parts;
 mod sgr;
 
