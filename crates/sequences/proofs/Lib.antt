@@ -1,3 +1,5 @@
 pub mod LookLemmas
 pub mod PartLemmas
+pub mod SameLookLemmas
+pub mod StyleLemmas
 mod WorkedRows

@@ -6,3 +6,5 @@ pub mod Parameters
 pub mod Parts
 pub mod Overstrikes
 pub mod Styled
+pub mod StyledTexts
+pub mod SameLooks

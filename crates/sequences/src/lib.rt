@@ -7,7 +7,10 @@ mod lengths;
 mod look;
 mod overstrikes;
 mod parts;
+mod same_look;
 mod sgr;
+mod style;
 
 pub use lengths::{LONGEST_STRING, sequence_len};
 pub use look::{Blink, Color, Look, PLAIN, Underline};
+pub use style::{Link, NO_LINK, StyleRun, StyledText};

@@ -1,0 +1,79 @@
+-- Appending characters, runs and links to characters with styles.
+use Rattle.std.proofs.Common.{◌≡◌, ℕ, zero, suc, ◌+◌, ◌<◌, ◌≤◌, get_or, ◌-◌, Bool, true, false, List, [], ◌∷◌, ◌++◌, length, take, drop, nat_le, if◌then◌else◌, refl, sym, ap, ◌∙◌, arith}
+use Rattle.std.specs.Prelude.{OnErr, Result, Ok, Err}
+use Rattle.std.proofs.lemmas.Bool.{cond-true, cond-false, le-leb, lt-leb}
+use Rattle.std.proofs.lemmas.List.{append-nil, drop-append-le, take-append-le, length-drop, take_all, take_more}
+use Rattle.sequences.specs.SameLooks.{same_look}
+use Rattle.sequences.specs.declared.look.TheConstants.{PLAIN}
+use Rattle.sequences.proofs.SameLookLemmas.{same_look-true}
+use Rattle.sequences.specs.Styled.{DEFAULT, Style}
+use Rattle.sequences.specs.StyledTexts.{style_at, style_in, style_of, with_styles}
+use Rattle.sequences.specs.declared.look.Look.{Look}
+use Rattle.sequences.specs.declared.style.Link.{Link}
+use Rattle.sequences.specs.declared.style.StyleRun.{StyleRun}
+
+module _ (links : List ℕ) where
+  -- the style after one more run
+  style_at-push : (style : Style) (runs : List StyleRun) (run : StyleRun) (k : ℕ)
+      → style_at links style (runs ++ run ∷ []) k ≡ (if nat_le run.start k then style_in links run else style_at links style runs k)
+  style_at-push style [] run k = refl
+  style_at-push style (first ∷ runs) run k = style_at-push (if nat_le first.start k then style_in links first else style) runs run k
+
+  pub style_at-from : (runs : List StyleRun) (run : StyleRun) (k : ℕ) → run.start ≤ k → style_at links DEFAULT (runs ++ run ∷ []) k ≡ style_in links run
+  style_at-from runs run k from =
+      style_at-push DEFAULT runs run k ∙ cond-true (nat_le run.start k) (style_in links run) (style_at links DEFAULT runs k) (le-leb run.start k from)
+
+  style_at-before : (runs : List StyleRun) (run : StyleRun) (k : ℕ) → k < run.start → style_at links DEFAULT (runs ++ run ∷ []) k ≡ style_at links DEFAULT runs k
+  style_at-before runs run k before =
+      style_at-push DEFAULT runs run k ∙ cond-false (nat_le run.start k) (style_in links run) (style_at links DEFAULT runs k) (lt-leb run.start k before)
+
+  -- a run that starts at the end changes the style of no character
+  pub with_styles-run : (runs : List StyleRun) (run : StyleRun) (k : ℕ) (characters : List ℕ) → k + length characters ≤ run.start
+      → with_styles links (runs ++ run ∷ []) k characters ≡ with_styles links runs k characters
+  with_styles-run runs run k [] e = refl
+  with_styles-run runs run k (c ∷ characters) e =
+      ap (λ style. (c, style) ∷ with_styles links (runs ++ run ∷ []) (k + 1) characters) (style_at-before runs run k (omega arith))
+      ∙ ap (λ rest. (c, style_at links DEFAULT runs k) ∷ rest) (with_styles-run runs run (k + 1) characters (omega arith))
+
+  pub with_styles-push : (runs : List StyleRun) (k : ℕ) (characters : List ℕ) (c : ℕ)
+      → with_styles links runs k (characters ++ c ∷ []) ≡ with_styles links runs k characters ++ (c, style_at links DEFAULT runs (k + length characters)) ∷ []
+  with_styles-push runs k [] c = let e : k ≡ k + 0 = omega arith in ap (λ n. (c, style_at links DEFAULT runs n) ∷ []) e
+  with_styles-push runs k (d ∷ characters) c =
+      let e : k + 1 + length characters ≡ k + length (d ∷ characters) = omega arith in
+      ap (λ rest. (d, style_at links DEFAULT runs k) ∷ rest)
+      (with_styles-push runs (k + 1) characters c ∙ ap (λ n. with_styles links runs (k + 1) characters ++ (c, style_at links DEFAULT runs n) ∷ []) e)
+
+  -- the style at the end is that of the last run
+  pub style_at-last : (runs : List StyleRun) (run : StyleRun) (n : ℕ) → 0 < length runs → run ≡ get_or runs (length runs - 1) run → run.start ≤ n
+      → style_at links DEFAULT runs n ≡ style_in links run
+  style_at-last runs run n some e from =
+      let whole : length runs - 1 + 1 ≡ length runs = omega arith in
+      let split : runs ≡ take (length runs - 1) runs ++ run ∷ [] =
+          sym (take_all (length runs - 1 + 1) runs (omega arith)) ∙ take_more runs (length runs - 1) run (omega arith)
+          ∙ ap (λ r. take (length runs - 1) runs ++ r ∷ []) (sym e) in
+      ap (λ rs. style_at links DEFAULT rs n) split ∙ style_at-from (take (length runs - 1) runs) run n from
+
+  pub style_of-same : (look other : Look) (link : Link) → same_look look other ≡ true → style_of links look link ≡ style_of links other link
+  style_of-same look other link e = ap (λ l. style_of links l link) (same_look-true look other e)
+
+  pub style_of-default : (link : Link) → link.len ≡ 0 → style_of links PLAIN link ≡ DEFAULT
+  style_of-default link e =
+      let f : ℕ → Style = λ n. record { look = PLAIN; link = take n (drop link.start links) } in ap f e
+
+  pub style_at-none : (runs : List StyleRun) (n : ℕ) → length runs ≡ 0 → style_at links DEFAULT runs n ≡ DEFAULT
+  style_at-none [] n e = refl
+  style_at-none (run ∷ runs) n e = absurd (omega arith)
+
+  -- one more character, after the run for it was started
+  pub push_is : (runs : List StyleRun) (characters more : List ℕ) (c : ℕ) (style : Style) (before : List (ℕ × Style)) → more ≡ characters ++ c ∷ []
+      → style_at links DEFAULT runs (length characters) ≡ style → with_styles links runs 0 characters ≡ before
+      → with_styles links runs 0 more ≡ before ++ (c, style) ∷ []
+  push_is runs characters more c style before e at text =
+      let n : 0 + length characters ≡ length characters = omega arith in
+      ap (with_styles links runs 0) e ∙ with_styles-push runs 0 characters c
+      ∙ ap (λ k. with_styles links runs 0 characters ++ (c, style_at links DEFAULT runs k) ∷ []) n
+      ∙ ap (λ s. with_styles links runs 0 characters ++ (c, s) ∷ []) at ∙ ap (λ t. t ++ (c, style) ∷ []) text
+
+pub on_err : {T E P : Type 0} (r : Result T E) → P → OnErr r P
+on_err (Ok x) p = tt
+on_err (Err e) p = p

@@ -1,0 +1,123 @@
+//! Characters with their styles.
+ghost use Rattle.std.specs.Prelude.{◌≡◌, ◌+◌, ◌≤◌, true, length, All};
+ghost use Rattle.sequences.specs.SameLooks.{same_look};
+
+use crate::look::{Look, PLAIN};
+use crate::same_look::same_look;
+use std::alloc::{AllocError, Global};
+
+/// A part of a list of characters: the parameters of a link, a semicolon and its URI. Empty for no link.
+#[derive(Clone, Copy, Debug, PartialEq, Eq)]
+pub struct Link {
+    pub start: usize,
+    pub len: usize,
+}
+
+/// No link.
+pub const NO_LINK: Link = Link { start: 0, len: 0 };
+
+/// The style of the characters from an index on, up to the next run.
+#[derive(Clone, Copy, Debug, PartialEq, Eq)]
+pub struct StyleRun {
+    pub start: usize,
+    pub look: Look,
+    pub link: Link,
+}
+
+/// Characters with their styles. Those before the first run have the default style.
+#[derive(Debug, Drop)]
+pub struct StyledText {
+    pub characters: Vec<char>,
+    pub runs: Vec<StyleRun>,
+    /// The links of the runs.
+    pub links: Vec<char>,
+    ghost starts: { All (λ run. run.start ≤ length characters.items) runs.items },
+    ghost linked: { All (λ run. run.link.start + run.link.len ≤ length links.items) runs.items },
+}
+
+impl StyledText {
+    ghost use Rattle.std.specs.Prelude.{◌++◌, ◌∷◌, [], OnOk, OnErr};
+    ghost use Rattle.sequences.specs.Styled.{DEFAULT};
+    ghost use Rattle.sequences.specs.StyledTexts.{style_at, style_of, styled_of};
+
+    /// Makes an empty text. Allocates nothing.
+    pub fn new(alloc: Global) -> StyledText
+        ensures text { styled_of result ≡ [] }
+        ensures links { result.links.items ≡ [] }
+    {
+        StyledText {
+            characters: Vec::new(alloc),
+            runs: Vec::new(alloc),
+            links: Vec::new(alloc),
+        }
+    }
+
+    // Returns whether characters that are appended have a style.
+    fn ends_in(&self, look: Look, link: Link) -> bool
+        ensures { result ≡ true → style_at self.now.links.items DEFAULT self.now.runs.items (length self.now.characters.items)
+            ≡ style_of self.now.links.items look link }
+    {
+        match self.runs.last() {
+            Some(run) => has_style(*run, look, link),
+            None => is_default(look, link),
+        }
+    }
+
+    // Starts a run for the characters that are appended next, if one is needed.
+    fn start_run(&mut self, look: Look, link: Link) -> Result<(), AllocError>
+        requires { link.start + link.len ≤ length self.old.links.items }
+        ensures style { OnOk result (style_at self.new.links.items DEFAULT self.new.runs.items (length self.new.characters.items)
+            ≡ style_of self.new.links.items look link) }
+        ensures text { styled_of self.new ≡ styled_of self.old }
+        ensures characters { self.new.characters.items ≡ self.old.characters.items }
+        ensures links { self.new.links.items ≡ self.old.links.items }
+    {
+        if self.ends_in(look, link) {
+            return Ok(());
+        }
+        self.runs.push(StyleRun { start: self.characters.len(), look, link })?;
+        Ok(())
+    }
+
+    /// Appends a character. After a failed allocation, the characters and their styles are unchanged.
+    pub fn push(&mut self, c: char, look: Look, link: Link) -> Result<(), AllocError>
+        requires { link.start + link.len ≤ length self.old.links.items }
+        ensures ok { OnOk result (styled_of self.new ≡ styled_of self.old ++ (c, style_of self.old.links.items look link) ∷ []) }
+        ensures err { OnErr result (styled_of self.new ≡ styled_of self.old) }
+        ensures links { self.new.links.items ≡ self.old.links.items }
+    {
+        self.start_run(look, link)?;
+        self.characters.push(c)?;
+        Ok(())
+    }
+}
+
+// Returns whether a run has a style.
+fn has_style(run: StyleRun, look: Look, link: Link) -> bool
+    ensures look { result ≡ true → same_look run.look look ≡ true }
+    ensures link { result ≡ true → run.link ≡ link }
+{
+    if same_look(&run.look, &look) {
+        same_link(run.link, link)
+    } else {
+        false
+    }
+}
+
+fn same_link(link: Link, other: Link) -> bool
+    ensures { result ≡ true → link ≡ other }
+{
+    link.start == other.start && link.len == other.len
+}
+
+// Returns whether a style is the default.
+fn is_default(look: Look, link: Link) -> bool
+    ensures look { result ≡ true → same_look look PLAIN ≡ true }
+    ensures link { result ≡ true → link.len ≡ 0 }
+{
+    if same_look(&look, &PLAIN) {
+        link.len == 0
+    } else {
+        false
+    }
+}
