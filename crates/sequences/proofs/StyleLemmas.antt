@@ -1,6 +1,6 @@
 -- Appending characters, runs and links to characters with styles.
 use Rattle.std.proofs.Common.{◌≡◌, ℕ, zero, suc, ◌+◌, ◌<◌, ◌≤◌, get_or, ◌-◌, Bool, true, false, List, [], ◌∷◌, ◌++◌, length, take, drop, nat_le, if◌then◌else◌, refl, sym, ap, ◌∙◌, arith}
-use Rattle.std.specs.Prelude.{OnErr, Result, Ok, Err}
+use Rattle.std.specs.Prelude.{All, OnErr, Result, Ok, Err}
 use Rattle.std.proofs.lemmas.Bool.{cond-true, cond-false, le-leb, lt-leb}
 use Rattle.std.proofs.lemmas.List.{append-nil, drop-append-le, take-append-le, length-drop, take_all, take_more}
 use Rattle.sequences.specs.SameLooks.{same_look}
@@ -77,3 +77,26 @@ module _ (links : List ℕ) where
 pub on_err : {T E P : Type 0} (r : Result T E) → P → OnErr r P
 on_err (Ok x) p = tt
 on_err (Err e) p = p
+
+-- more links change the style of no character
+module _ (links more : List ℕ) where
+  style_in-links : (run : StyleRun) → run.link.start + run.link.len ≤ length links → style_in (links ++ more) run ≡ style_in links run
+  style_in-links run within =
+      let size = length-drop run.link.start links in
+      ap (λ link. let style : Style = record { look = run.look; link = link } in style)
+      (ap (take run.link.len) (drop-append-le run.link.start links more (omega arith))
+      ∙ take-append-le run.link.len (drop run.link.start links) more (omega arith))
+
+  style_at-links : (style : Style) (runs : List StyleRun) (k : ℕ) → All (λ run. run.link.start + run.link.len ≤ length links) runs
+      → style_at (links ++ more) style runs k ≡ style_at links style runs k
+  style_at-links style [] k linked = refl
+  style_at-links style (run ∷ runs) k linked =
+      ap (λ s. style_at (links ++ more) (if nat_le run.start k then s else style) runs k) (style_in-links run (linked 0 run (omega arith)))
+      ∙ style_at-links (if nat_le run.start k then style_in links run else style) runs k (λ i d h. linked (suc i) d (omega arith))
+
+  pub with_styles-links : (runs : List StyleRun) (k : ℕ) (characters : List ℕ) → All (λ run. run.link.start + run.link.len ≤ length links) runs
+      → with_styles (links ++ more) runs k characters ≡ with_styles links runs k characters
+  with_styles-links runs k [] linked = refl
+  with_styles-links runs k (c ∷ characters) linked =
+      ap (λ style. (c, style) ∷ with_styles (links ++ more) runs (k + 1) characters) (style_at-links DEFAULT runs k linked)
+      ∙ ap (λ rest. (c, style_at links DEFAULT runs k) ∷ rest) (with_styles-links runs (k + 1) characters linked)

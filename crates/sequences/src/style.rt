@@ -36,7 +36,7 @@ pub struct StyledText {
 }
 
 impl StyledText {
-    ghost use Rattle.std.specs.Prelude.{◌++◌, ◌∷◌, [], OnOk, OnErr};
+    ghost use Rattle.std.specs.Prelude.{◌++◌, ◌∷◌, [], take, drop, IfOk, OnOk, OnErr};
     ghost use Rattle.sequences.specs.Styled.{DEFAULT};
     ghost use Rattle.sequences.specs.StyledTexts.{style_at, style_of, styled_of};
 
@@ -50,6 +50,33 @@ impl StyledText {
             runs: Vec::new(alloc),
             links: Vec::new(alloc),
         }
+    }
+
+    /// Appends the text of a link. After a failed allocation, nothing has changed.
+    pub fn add_link(&mut self, link: &[char]) -> Result<Link, AllocError>
+        ensures link { IfOk result (λ added. take added.len (drop added.start self.new.links.items) ≡ link.now) }
+        ensures within { IfOk result (λ added. added.start + added.len ≤ length self.new.links.items) }
+        ensures len { OnOk result (length self.new.links.items ≡ length self.old.links.items + length link.now) }
+        ensures text { styled_of self.new ≡ styled_of self.old }
+        ensures err { OnErr result (self.new.links.items ≡ self.old.links.items) }
+    {
+        let added = Link { start: self.links.len(), len: link.len() };
+        self.links.extend_from_slice(link)?;
+        Ok(added)
+    }
+
+    /// Removes all characters, and all links but one.
+    pub fn clear(&mut self, link: Link) -> Link
+        requires { link.start + link.len ≤ length self.old.links.items }
+        ensures text { styled_of self.new ≡ [] }
+        ensures links { self.new.links.items ≡ take link.len (drop link.start self.old.links.items) }
+        ensures link { (result.start ≡ 0) × (result.len ≡ link.len) }
+    {
+        self.characters.clear();
+        self.runs.clear();
+        self.links.rotate_left(link.start);
+        self.links.truncate(link.len);
+        Link { start: 0, len: link.len }
     }
 
     // Returns whether characters that are appended have a style.
