@@ -1,6 +1,6 @@
 -- The parameters of SGR and OSC 8 as text.
-use Rattle.std.specs.Prelude.{ℕ, ◌+◌, ◌-◌, ◌*◌, min, nat_le, ◌==◌, Bool, ◌&&◌, List, [], ◌∷◌, map, fold, take, slice_index, Option, Some, None, if◌then◌else◌}
-use Rattle.std.specs.List.{after_first, list_any, prefix_len, slice_split}
+use Rattle.std.specs.Prelude.{ℕ, ◌+◌, ◌-◌, ◌*◌, min, nat_le, ◌==◌, Bool, ◌&&◌, List, [], ◌∷◌, length, map, fold, take, slice_index, Option, Some, None, if◌then◌else◌}
+use Rattle.std.specs.List.{position_or_len, prefix_len, slice_split}
 
 -- digits, colons and semicolons
 abbrev pub is_sgr : ℕ → Bool
@@ -30,13 +30,15 @@ parameters text = map fields (slice_split is_semicolon text)
 abbrev pub sgr : List ℕ → Option (List (List ℕ))
 sgr text = if slice_index text (prefix_len is_sgr text) == 0x6D then Some (parameters (take (prefix_len is_sgr text) text)) else None
 
--- The link of OSC 8, given the string after OSC: its parameters, a semicolon and its URI. An empty URI ends a link, and is
--- an empty link here. `None` for another string.
+-- A link: its parameters, a semicolon and its URI. An empty URI ends a link, and is an empty link here. Without a semicolon
+-- it has no URI.
+abbrev pub uri_link : List ℕ → Option (List ℕ)
+uri_link link =
+    if position_or_len is_semicolon link == length link then None
+    else if position_or_len is_semicolon link + 1 == length link then Some []
+    else Some link
+
+-- the link of OSC 8, given the string after OSC; `None` for another string
 abbrev pub osc_link : List ℕ → Option (List ℕ)
-osc_link (a ∷ b ∷ link) =
-    if a == 0x38 && (b == 0x3B && list_any is_semicolon link) then Some (ended (after_first is_semicolon link) link) else None
-  where
-    ended : List ℕ → List ℕ → List ℕ
-    ended [] link = []
-    ended (c ∷ uri) link = link
+osc_link (a ∷ b ∷ link) = if a == 0x38 && b == 0x3B then uri_link link else None
 osc_link text = None

@@ -3,6 +3,7 @@ use Rattle.std.specs.Prelude.{ℕ, zero, suc, ◌+◌, ◌-◌, ◌*◌, nat_le,
 use Rattle.sequences.specs.Characters.{is_dropped, is_inline}
 use Rattle.sequences.specs.Sequences.{after_escape, sequence_len, string_end}
 use Rattle.sequences.specs.declared.lengths.TheConstants.{LONGEST_STRING}
+use Rattle.sequences.specs.declared.links.TheConstants.{MAX_LINKS_LEN}
 use Rattle.sequences.specs.Parameters.{osc_link, sgr}
 use Rattle.sequences.specs.Looks.{applied}
 use Rattle.sequences.specs.Overstrikes.{is_underlined_only, strikes, struck, struck_look}
@@ -27,9 +28,9 @@ pub record Pen : Type 0 where
 abbrev pub START : Pen
 START = record { style = DEFAULT; links_len = 0; after_underline = false }
 
--- the greatest length of all links of a paragraph: 1 MB, at four bytes a character
-abbrev pub LINKS_LEN : ℕ
-LINKS_LEN = 262144
+-- the pen at the start of the next paragraph
+abbrev pub next_paragraph : Pen → Pen
+next_paragraph pen = record pen { links_len = length pen.style.link }
 
 -- SGR
 abbrev pub with_sgr : Pen → Option (List (List ℕ)) → Pen
@@ -40,7 +41,7 @@ with_sgr pen (Some parameters) = record pen { style = record { look = applied pe
 abbrev pub with_link : Pen → Option (List ℕ) → Pen
 with_link pen None = pen
 with_link pen (Some link) =
-    if nat_le (pen.links_len + length link) LINKS_LEN then
+    if nat_le (pen.links_len + length link) MAX_LINKS_LEN then
         record { style = record { look = pen.style.look; link = link }; links_len = pen.links_len + length link; after_underline = pen.after_underline }
     else record pen { style = record { look = pen.style.look; link = [] } }
 

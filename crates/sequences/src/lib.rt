@@ -4,6 +4,7 @@
 
 mod characters;
 mod lengths;
+mod links;
 mod look;
 mod overstrikes;
 mod parts;
@@ -12,5 +13,6 @@ mod sgr;
 mod style;
 
 pub use lengths::{LONGEST_STRING, sequence_len};
+pub use links::MAX_LINKS_LEN;
 pub use look::{Blink, Color, Look, PLAIN, Underline};
 pub use style::{Link, NO_LINK, StyleRun, StyledText};

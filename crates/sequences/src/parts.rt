@@ -22,8 +22,8 @@ fn number(digits: &[char]) -> u32
     n
 }
 
-// Returns the index of the first separator, or the length of the text.
-fn part_end(separator: char, text: &[char]) -> usize
+/// Returns the index of the first separator, or the length of the text.
+pub(crate) fn part_end(separator: char, text: &[char]) -> usize
     ensures end { result ≡ position_or_len (λ c. c == separator) text.now }
     ensures within { result ≤ length text.now }
 {
