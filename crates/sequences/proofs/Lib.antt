@@ -1,5 +1,6 @@
 pub mod LookLemmas
 pub mod PartLemmas
 pub mod SameLookLemmas
+pub mod ScannerLemmas
 pub mod StyleLemmas
 mod WorkedRows

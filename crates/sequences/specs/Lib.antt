@@ -8,3 +8,4 @@ pub mod Overstrikes
 pub mod Styled
 pub mod StyledTexts
 pub mod SameLooks
+pub mod Scanners

@@ -9,6 +9,7 @@ mod look;
 mod overstrikes;
 mod parts;
 mod same_look;
+mod scanner;
 mod sgr;
 mod style;
 
@@ -16,3 +17,4 @@ pub use lengths::{LONGEST_STRING, sequence_len};
 pub use links::MAX_LINKS_LEN;
 pub use look::{Blink, Color, Look, PLAIN, Underline};
 pub use style::{Link, NO_LINK, StyleRun, StyledText};
+pub use scanner::Scanner;
