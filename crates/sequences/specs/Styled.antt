@@ -45,12 +45,16 @@ with_link pen (Some link) =
         record { style = record { look = pen.style.look; link = link }; links_len = pen.links_len + length link; after_underline = pen.after_underline }
     else record pen { style = record { look = pen.style.look; link = [] } }
 
+-- OSC, given the text after it
+abbrev pub with_osc : Pen → List ℕ → Pen
+with_osc pen text = if nat_le (string_end text) LONGEST_STRING then with_link pen (osc_link (take (string_end text) text)) else pen
+
 -- after a sequence, given the text after ESC
 abbrev pub after_sequence : Pen → List ℕ → Pen
 after_sequence pen [] = pen
 after_sequence pen (c ∷ text) =
     if c == 0x5B then with_sgr pen (sgr text)
-    else if c == 0x5D && nat_le (string_end text) LONGEST_STRING then with_link pen (osc_link (take (string_end text) text))
+    else if c == 0x5D then with_osc pen text
     else pen
 
 -- the style of a character with all that is struck over it

@@ -1,5 +1,8 @@
 //! Finds the characters that a text shows, with their styles.
-ghost use Rattle.std.specs.Prelude.{◌+◌, ◌≤◌, length};
+ghost use Rattle.std.specs.Prelude.{◌≡◌, ◌+◌, ◌<◌, ◌≤◌, ◌∷◌, [], None, Some, length, drop, MatchOption};
+ghost use Rattle.sequences.specs.Parameters.{sgr};
+ghost use Rattle.sequences.specs.Parts.{parameters_after};
+ghost use Rattle.sequences.specs.Sequences.{after_escape};
 
 use crate::characters::{Class, char_at, is_dropped, is_inline, prefix_len};
 use crate::lengths::{LONGEST_STRING, sequence_len, string_end};
@@ -23,10 +26,10 @@ pub struct Scanner {
 }
 
 impl Scanner {
-    ghost use Rattle.std.specs.Prelude.{◌≡◌, ◌<◌, ◌∷◌, ◌++◌, [], Some, IfOk, OnOk, drop, slice_index};
+    ghost use Rattle.std.specs.Prelude.{◌*◌, ◌++◌, IfOk, OnOk, slice_index};
     ghost use Rattle.sequences.specs.Characters.{is_dropped};
     ghost use Rattle.sequences.specs.Scanners.{pen_of};
-    ghost use Rattle.sequences.specs.Styled.{START, next_paragraph, with_link};
+    ghost use Rattle.sequences.specs.Styled.{START, after_sequence, next_paragraph, with_link, with_osc, with_sgr};
     ghost use Rattle.sequences.specs.StyledTexts.{styled_of};
 
     /// Makes a scanner at the start of a file. Allocates nothing.
@@ -61,5 +64,79 @@ impl Scanner {
             self.link = NO_LINK;
         }
         Ok(())
+    }
+
+    // Applies SGR, given a control sequence with the last character of its introducer.
+    fn apply_sgr(&mut self, sequence: &[char])
+        requires { 0 < length sequence.now }
+        ensures text { styled_of self.new.text ≡ styled_of self.old.text }
+        ensures pen { pen_of self.new ≡ with_sgr (pen_of self.old) (sgr (drop 1 sequence.now)) }
+    {
+        if let Some(parameters) = sgr_parameters(sequence) {
+            self.look = applied(self.look, parameters);
+        }
+    }
+
+    // Applies OSC, given the text after it.
+    fn apply_osc(&mut self, text: &[char]) -> Result<(), AllocError>
+        ensures text { styled_of self.new.text ≡ styled_of self.old.text }
+        ensures pen { OnOk result (pen_of self.new ≡ with_osc (pen_of self.old) text.now) }
+    {
+        let len = string_end(text);
+        if len > LONGEST_STRING {
+            return Ok(());
+        }
+        match osc_link(&text[..len]) {
+            Some(link) => self.set_link(link),
+            None => Ok(()),
+        }
+    }
+
+    // Applies the sequence that a text begins with.
+    fn apply_sequence(&mut self, text: &[char]) -> Result<(), AllocError>
+        ensures text { styled_of self.new.text ≡ styled_of self.old.text }
+        ensures pen { OnOk result (pen_of self.new ≡ after_sequence (pen_of self.old) (after_escape text.now)) }
+    {
+        let Some((code, sequence)) = after_escape(text) else {
+            return Ok(());
+        };
+        if code == 0x5b {
+            self.apply_sgr(sequence);
+            Ok(())
+        } else if code == 0x5d {
+            self.apply_osc(&sequence[1..])
+        } else {
+            Ok(())
+        }
+    }
+}
+
+// Returns the code that follows ESC at the start of a text, and the text from the last character of the introducer on. A C1
+// control is read as its ESC form.
+fn after_escape(text: &[char]) -> Option<(u32, &[char])>
+    ensures { MatchOption result (after_escape text.now ≡ []) (λ found.
+        (after_escape text.now ≡ found.0 ∷ drop 1 found.1.now) × (0 < length found.1.now)) }
+{
+    let (first, rest) = text.split_first()?;
+    if *first == '\u{1b}' {
+        let (second, _) = rest.split_first()?;
+        Some((*second as u32, rest))
+    } else {
+        Some(((*first as u32).saturating_sub(0x40), text))
+    }
+}
+
+// Returns the parameters of SGR with the character before them, given a control sequence with the last character of its
+// introducer.
+fn sgr_parameters(sequence: &[char]) -> Option<&[char]>
+    requires { 0 < length sequence.now }
+    ensures { MatchOption result (sgr (drop 1 sequence.now) ≡ None) (λ found. sgr (drop 1 sequence.now) ≡ Some (parameters_after found.now)) }
+{
+    let (_, text) = sequence.split_at(1);
+    let len = prefix_len(Class::Sgr, text);
+    if char_at(text, len) == 'm' {
+        Some(sequence.split_at(len + 1).0)
+    } else {
+        None
     }
 }
