@@ -70,15 +70,18 @@ more_len c text = unwrap_or (sequence_len (c ∷ text)) (1 + 2 * length (strikes
 abbrev pub first_shown : Pen → ℕ → List ℕ → List (ℕ × Style)
 first_shown pen c text = if is_dropped c then [] else ((struck pen.after_underline c text).shown, struck_style pen c text) ∷ []
 
--- the pen after the first part
+-- the pen after a character with all that is struck over it
+abbrev pub after_character : Pen → ℕ → List ℕ → Pen
+after_character pen c text =
+    record pen { after_underline = is_inline c && is_underlined_only (struck_look pen.style.look (struck pen.after_underline c text)) }
+
+-- the pen after the first part, given its length if it is a sequence
+abbrev pub after_part : Pen → ℕ → List ℕ → Option ℕ → Pen
+after_part pen c text (Some n) = after_sequence pen (after_escape (c ∷ text))
+after_part pen c text None = if is_dropped c then pen else after_character pen c text
+
 abbrev pub after_first_part : Pen → ℕ → List ℕ → Pen
-after_first_part pen c text = by (sequence_len (c ∷ text))
-  where
-    by : Option ℕ → Pen
-    by (Some n) = after_sequence pen (after_escape (c ∷ text))
-    by None =
-        if is_dropped c then pen
-        else record pen { after_underline = is_inline c && is_underlined_only (struck_look pen.style.look (struck pen.after_underline c text)) }
+after_first_part pen c text = after_part pen c text (sequence_len (c ∷ text))
 
 -- What a text shows after `skip` characters, which belong to the part before them.
 abbrev pub styled_after : ℕ → Pen → List ℕ → List (ℕ × Style)

@@ -15,6 +15,7 @@ const ESC: char = '\u{1b}';
 pub fn sequence_len(text: &[char]) -> Option<usize>
     ensures len { result ≡ sequence_len text.now }
     ensures within { IfSome result (λ n. n ≤ length text.now) }
+    ensures some { IfSome result (λ n. 0 < n) }
 {
     let (first, rest) = text.split_first()?;
     if *first == ESC {
@@ -32,6 +33,7 @@ pub fn sequence_len(text: &[char]) -> Option<usize>
 fn len_after_escape(code: u32, rest: &[char]) -> Option<usize>
     ensures len { result ≡ len_after_escape (code ∷ rest.now) }
     ensures within { IfSome result (λ n. n ≤ length (code ∷ rest.now)) }
+    ensures some { IfSome result (λ n. 0 < n) }
 {
     if code == 0x5b {
         let len = csi_len(rest)?;

@@ -1,5 +1,7 @@
 //! Finds the characters that a text shows, with their styles.
-ghost use Rattle.std.specs.Prelude.{◌≡◌, ◌+◌, ◌<◌, ◌≤◌, ◌∷◌, [], None, Some, length, drop, MatchOption};
+ghost use Rattle.std.specs.Prelude.{◌≡◌, ◌+◌, ◌<◌, ◌≤◌, ◌∷◌, [], None, Some, length, drop, MatchOption, ◌&&◌};
+ghost use Rattle.sequences.specs.Characters.{is_inline};
+ghost use Rattle.sequences.specs.Overstrikes.{is_underlined_only};
 ghost use Rattle.sequences.specs.Parameters.{sgr};
 ghost use Rattle.sequences.specs.Parts.{parameters_after};
 ghost use Rattle.sequences.specs.Sequences.{after_escape};
@@ -26,10 +28,12 @@ pub struct Scanner {
 }
 
 impl Scanner {
-    ghost use Rattle.std.specs.Prelude.{◌*◌, ◌++◌, IfOk, OnOk, slice_index};
+    ghost use Rattle.std.specs.Prelude.{◌*◌, ◌++◌, suc, IfOk, OnOk};
     ghost use Rattle.sequences.specs.Characters.{is_dropped};
     ghost use Rattle.sequences.specs.Scanners.{pen_of};
-    ghost use Rattle.sequences.specs.Styled.{START, after_sequence, next_paragraph, with_link, with_osc, with_sgr};
+    ghost use Rattle.sequences.specs.Styled.{START, after_character, after_first_part, after_sequence, first_shown};
+    ghost use Rattle.sequences.specs.Styled.{more_len, next_paragraph, struck_style, with_link, with_osc, with_sgr};
+    ghost use Rattle.sequences.specs.Overstrikes.{strikes, struck};
     ghost use Rattle.sequences.specs.StyledTexts.{styled_of};
 
     /// Makes a scanner at the start of a file. Allocates nothing.
@@ -109,6 +113,40 @@ impl Scanner {
             Ok(())
         }
     }
+
+    // Appends a character with all that is struck over it, and returns the number of characters after the first one.
+    fn push_struck(&mut self, first: char, rest: &[char]) -> Result<usize, AllocError>
+        ensures len { IfOk result (λ len. len ≡ 2 * length (strikes first rest.now)) }
+        ensures within { IfOk result (λ len. len ≤ length rest.now) }
+        ensures text { OnOk result (styled_of self.new.text ≡ styled_of self.old.text
+            ++ ((struck (pen_of self.old).after_underline first rest.now).shown, struck_style (pen_of self.old) first rest.now) ∷ []) }
+        ensures pen { OnOk result (pen_of self.new ≡ after_character (pen_of self.old) first rest.now) }
+    {
+        let (at, count) = struck_first(self.after_underline, first, rest);
+        let look = struck_look(self.look, at);
+        self.text.push(at.shown, look, self.link)?;
+        self.after_underline = leaves_underline(first, look);
+        Ok(2 * count)
+    }
+
+    // Passes over the first part of a text, and returns its length.
+    fn pass(&mut self, first: char, rest: &[char], text: &[char]) -> Result<usize, AllocError>
+        requires { text.now ≡ first ∷ rest.now }
+        ensures len { IfOk result (λ len. len ≡ suc (more_len first rest.now)) }
+        ensures within { IfOk result (λ len. len ≤ length text.now) }
+        ensures text { OnOk result (styled_of self.new.text ≡ styled_of self.old.text ++ first_shown (pen_of self.old) first rest.now) }
+        ensures pen { OnOk result (pen_of self.new ≡ after_first_part (pen_of self.old) first rest.now) }
+    {
+        if let Some(len) = sequence_len(text) {
+            self.apply_sequence(text)?;
+            Ok(len)
+        } else if is_dropped(first) {
+            Ok(1)
+        } else {
+            let len = self.push_struck(first, rest)?;
+            Ok(len + 1)
+        }
+    }
 }
 
 // Returns the code that follows ESC at the start of a text, and the text from the last character of the introducer on. A C1
@@ -139,4 +177,11 @@ fn sgr_parameters(sequence: &[char]) -> Option<&[char]>
     } else {
         None
     }
+}
+
+// Returns whether a low line over a low line is an underline after a character with these attributes.
+fn leaves_underline(c: char, look: Look) -> bool
+    ensures { result ≡ (is_inline c && is_underlined_only look) }
+{
+    is_inline(c) && is_underlined_only(look)
 }
