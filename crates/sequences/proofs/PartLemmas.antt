@@ -1,5 +1,5 @@
 -- Taking the first part off a text.
-use Rattle.std.proofs.Common.{◌≡◌, ℕ, suc, ◌+◌, ◌-◌, ◌<◌, ◌≤◌, ◌==◌, Bool, true, false, not, List, [], ◌∷◌, length, map, take, drop, get_or, refl, sym, ap, ◌∙◌, if◌then◌else◌, zero, inl, inr, arith, add-one}
+use Rattle.std.proofs.Common.{◌≡◌, ℕ, suc, ◌+◌, ◌<◌, ◌==◌, Bool, not, List, [], ◌∷◌, length, map, take, drop, refl, sym, ap, ◌∙◌, if◌then◌else◌, zero, inl, inr, arith}
 use Rattle.std.specs.List.{count_by, position_or_len, slice_split, onto_first}
 use Rattle.std.proofs.lemmas.Bool.{cases_Bool, cond-true, cond-false, not_from_true, not_from_false, ne_eqb}
 use Rattle.std.proofs.lemmas.List.Splits.{slice_split-cons_yes, slice_split-cons_no, length-slice_split}

@@ -3,7 +3,7 @@ use Rattle.std.proofs.Common.{◌≡◌, ℕ, ◌+◌, ◌<◌, ◌≤◌, Bool,
 use Rattle.std.proofs.lemmas.Bool.{cond-true, cond-false, le-leb, lt-leb}
 use Rattle.std.proofs.lemmas.List.{length-drop, length-take-le, take_all}
 use Rattle.sequences.specs.Scanners.{pen_at}
-use Rattle.sequences.specs.Styled.{next_paragraph, with_link, Pen, Style}
+use Rattle.sequences.specs.Styled.{next_paragraph, with_link, Pen}
 use Rattle.sequences.specs.declared.links.TheConstants.{MAX_LINKS_LEN}
 use Rattle.sequences.specs.declared.look.Look.{Look}
 use Rattle.sequences.specs.declared.style.Link.{Link}

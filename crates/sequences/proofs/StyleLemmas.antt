@@ -1,8 +1,8 @@
 -- Appending characters, runs and links to characters with styles.
-use Rattle.std.proofs.Common.{◌≡◌, ℕ, zero, suc, ◌+◌, ◌<◌, ◌≤◌, get_or, ◌-◌, Bool, true, false, List, [], ◌∷◌, ◌++◌, length, take, drop, nat_le, if◌then◌else◌, refl, sym, ap, ◌∙◌, arith}
+use Rattle.std.proofs.Common.{◌≡◌, ℕ, suc, ◌+◌, ◌<◌, ◌≤◌, get_or, ◌-◌, true, List, [], ◌∷◌, ◌++◌, length, take, drop, nat_le, if◌then◌else◌, refl, sym, ap, ◌∙◌, arith}
 use Rattle.std.specs.Prelude.{All, OnErr, Result, Ok, Err}
 use Rattle.std.proofs.lemmas.Bool.{cond-true, cond-false, le-leb, lt-leb}
-use Rattle.std.proofs.lemmas.List.{append-nil, drop-append-le, take-append-le, length-drop, take_all, take_more}
+use Rattle.std.proofs.lemmas.List.{drop-append-le, take-append-le, length-drop, take_all, take_more}
 use Rattle.sequences.specs.SameLooks.{same_look}
 use Rattle.sequences.specs.declared.look.TheConstants.{PLAIN}
 use Rattle.sequences.proofs.SameLookLemmas.{same_look-true}

@@ -32,7 +32,7 @@ impl Scanner {
     ghost use Rattle.sequences.specs.Characters.{is_dropped};
     ghost use Rattle.sequences.specs.Scanners.{pen_of};
     ghost use Rattle.sequences.specs.Styled.{START, after_character, after_first_part, after_sequence, first_shown};
-    ghost use Rattle.sequences.specs.Styled.{more_len, next_paragraph, struck_style, with_link, with_osc, with_sgr};
+    ghost use Rattle.sequences.specs.Styled.{more_len, next_paragraph, pen_at_end, struck_style, styled, with_link, with_osc, with_sgr};
     ghost use Rattle.sequences.specs.Overstrikes.{strikes, struck};
     ghost use Rattle.sequences.specs.StyledTexts.{styled_of};
 
@@ -146,6 +146,36 @@ impl Scanner {
             let len = self.push_struck(first, rest)?;
             Ok(len + 1)
         }
+    }
+
+    // Passes over some characters of a text, and returns their number.
+    fn advance(&mut self, text: &[char]) -> Result<usize, AllocError>
+        requires { 0 < length text.now }
+        ensures some { IfOk result (λ len. 0 < len) }
+        ensures within { IfOk result (λ len. len ≤ length text.now) }
+        ensures text { IfOk result (λ len. styled_of self.new.text ++ styled (pen_of self.new) (drop len text.now)
+            ≡ styled_of self.old.text ++ styled (pen_of self.old) text.now) }
+        ensures pen { IfOk result (λ len. pen_at_end (pen_of self.new) (drop len text.now) ≡ pen_at_end (pen_of self.old) text.now) }
+    {
+        match text.split_first() {
+            Some((first, rest)) => {
+                let len = self.pass(*first, rest, text)?;
+                Ok(len)
+            }
+            None => unreachable!(),
+        }
+    }
+
+    /// Appends the characters that a text shows. After a failed allocation, some of them may be missing.
+    pub fn push_text(&mut self, text: &[char]) -> Result<(), AllocError>
+        ensures text { OnOk result (styled_of self.new.text ≡ styled_of self.old.text ++ styled (pen_of self.old) text.now) }
+        ensures pen { OnOk result (pen_of self.new ≡ pen_at_end (pen_of self.old) text.now) }
+    {
+        let mut at = 0;
+        while at < text.len() {
+            at += self.advance(text.split_at(at).1)?;
+        }
+        Ok(())
     }
 }
 

@@ -1,4 +1,4 @@
-use Rattle.std.proofs.Common.{◌∷◌, fold, length, sym, ap, ◌∙◌, arith}
+use Rattle.std.proofs.Common.{fold, length, sym, ap, ◌∙◌, arith}
 use Rattle.sequences.specs.Overstrikes.{after_backspaces, strike}
 use Rattle.sequences.proofs.overstrikes.strike_all.Goals as goal
 

@@ -1,4 +1,4 @@
-use Rattle.std.proofs.Common.{◌≡◌, ◌≤◌, drop, length}
+use Rattle.std.proofs.Common.{◌≡◌, drop}
 use Rattle.sequences.specs.Parts.{parts_after}
 use Rattle.sequences.proofs.parts.without_parts.Given as goal
 

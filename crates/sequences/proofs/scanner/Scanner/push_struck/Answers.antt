@@ -1,4 +1,4 @@
-use Rattle.std.proofs.Common.{ℕ, List, [], ◌∷◌, ◌++◌, ◌&&◌, Bool, sym, ap, ◌∙◌}
+use Rattle.std.proofs.Common.{ℕ, List, [], ◌∷◌, ◌++◌, ◌&&◌, ap, ◌∙◌}
 use Rattle.sequences.specs.Characters.{is_inline}
 use Rattle.sequences.specs.Overstrikes.{is_underlined_only, struck_look}
 use Rattle.sequences.specs.Scanners.{pen_at, pen_of}

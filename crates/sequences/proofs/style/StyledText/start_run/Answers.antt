@@ -1,4 +1,4 @@
-use Rattle.std.proofs.Common.{◌≤◌, ◌+◌, length, ap, sym, ◌∙◌, arith}
+use Rattle.std.proofs.Common.{◌≤◌, ◌+◌, length, ap, ◌∙◌, arith}
 use Rattle.sequences.specs.Styled.{DEFAULT}
 use Rattle.sequences.specs.StyledTexts.{style_at, styled_of, with_styles}
 use Rattle.sequences.specs.declared.style.StyleRun.{StyleRun}
