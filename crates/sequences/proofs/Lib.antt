@@ -1,6 +1,8 @@
+pub mod LawLemmas
 pub mod LookLemmas
 pub mod PartLemmas
 pub mod SameLookLemmas
+pub mod PlainLemmas
 pub mod ScannerLemmas
 pub mod StepLemmas
 pub mod StyleLemmas

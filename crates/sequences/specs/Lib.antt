@@ -9,3 +9,4 @@ pub mod Styled
 pub mod StyledTexts
 pub mod SameLooks
 pub mod Scanners
+pub mod Laws

@@ -3,6 +3,7 @@
 #![tactic(auto)]
 
 mod characters;
+mod laws;
 mod lengths;
 mod links;
 mod look;
@@ -13,6 +14,7 @@ mod scanner;
 mod sgr;
 mod style;
 
+pub use laws::{shows_itself, shows_no_controls, shows_plain_text, shows_the_same};
 pub use lengths::{LONGEST_STRING, sequence_len};
 pub use links::MAX_LINKS_LEN;
 pub use look::{Blink, Color, Look, PLAIN, Underline};

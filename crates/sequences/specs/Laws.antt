@@ -1,0 +1,28 @@
+-- What holds of all texts.
+use Rattle.std.specs.Prelude.{◌≡◌, ℕ, Bool, true, not, List, map}
+use Rattle.std.specs.List.{list_all}
+use Rattle.sequences.specs.Characters.{is_dropped}
+use Rattle.sequences.specs.Styled.{Pen, shown_text, styled, Style}
+
+-- the characters that are not dropped
+abbrev pub remains : ℕ → Bool
+remains c = not (is_dropped c)
+
+abbrev pub characters_of : List (ℕ × Style) → List ℕ
+characters_of shown = map (λ c. c.0) shown
+
+-- None of the characters that are shown is a dropped control.
+abbrev pub ShowsNoControls : Type 0
+ShowsNoControls = (pen : Pen) (text : List ℕ) → list_all remains (characters_of (styled pen text)) ≡ true
+
+-- A text without such controls is shown as it is, in the style that it begins in.
+abbrev pub ShowsPlainText : Type 0
+ShowsPlainText = (pen : Pen) (text : List ℕ) → list_all remains text ≡ true → styled pen text ≡ map (λ c. (c, pen.style)) text
+
+-- What is shown does not depend on the style that a text begins in.
+abbrev pub ShowsTheSame : Type 0
+ShowsTheSame = (pen : Pen) (text : List ℕ) → characters_of (styled pen text) ≡ shown_text text
+
+-- What a text shows is shown unchanged.
+abbrev pub ShowsItself : Type 0
+ShowsItself = (text : List ℕ) → shown_text (shown_text text) ≡ shown_text text

@@ -1,0 +1,23 @@
+//! Theorems about what texts show. Calls of these functions cost nothing at run time.
+ghost use Rattle.sequences.specs.Laws.{ShowsItself, ShowsNoControls, ShowsPlainText, ShowsTheSame};
+
+/// States, as a theorem, that none of the characters that a text shows is a control of a kind that is dropped.
+pub fn shows_no_controls()
+    ensures { ShowsNoControls }
+{}
+
+/// States, as a theorem, that a text without controls of a kind that is dropped is shown as it is, in the style
+/// that it begins in.
+pub fn shows_plain_text()
+    ensures { ShowsPlainText }
+{}
+
+/// States, as a theorem, that the characters that a text shows do not depend on the style that it begins in.
+pub fn shows_the_same()
+    ensures { ShowsTheSame }
+{}
+
+/// States, as a theorem, that what a text shows is shown unchanged.
+pub fn shows_itself()
+    ensures { ShowsItself }
+{}
