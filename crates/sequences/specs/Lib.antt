@@ -10,3 +10,5 @@ pub mod StyledTexts
 pub mod SameLooks
 pub mod Scanners
 pub mod Laws
+pub mod Output
+pub mod StyleRefs
