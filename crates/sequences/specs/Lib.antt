@@ -12,3 +12,4 @@ pub mod Scanners
 pub mod Laws
 pub mod Output
 pub mod StyleRefs
+pub mod Led
