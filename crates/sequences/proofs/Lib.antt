@@ -1,5 +1,6 @@
 pub mod LawLemmas
 pub mod LookLemmas
+pub mod OutputLemmas
 pub mod PartLemmas
 pub mod SameLookLemmas
 pub mod PlainLemmas

@@ -84,13 +84,16 @@ look_text look = if same_look look PLAIN then [] else sgr_of (parameters_of look
 abbrev pub look_between : Look → Look → List ℕ
 look_between before after = if same_look before after then [] else reset_text before ++ look_text after
 
--- ESC ] 8 ; PARAMETERS ; URI ESC \
 abbrev pub link_text : List ℕ → List ℕ
 link_text [] = codes ";"
 link_text (c ∷ link) = c ∷ link
 
+-- ESC ] 8 ; PARAMETERS ; URI ESC \
+abbrev pub osc_of : List ℕ → List ℕ
+osc_of link = 0x1B ∷ (codes "]8;" ++ (link_text link ++ (0x1B ∷ 0x5C ∷ [])))
+
 abbrev pub link_between : List ℕ → List ℕ → List ℕ
-link_between before after = if bytes_eq before after then [] else 0x1B ∷ (codes "]8;" ++ (link_text after ++ (0x1B ∷ 0x5C ∷ [])))
+link_between before after = if bytes_eq before after then [] else osc_of after
 
 -- what is written between characters with two styles
 unfoldable pub between : Style → Style → List ℕ

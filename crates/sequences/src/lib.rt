@@ -21,4 +21,4 @@ pub use links::MAX_LINKS_LEN;
 pub use look::{Blink, Color, Look, PLAIN, Underline};
 pub use style::{Link, NO_LINK, StyleRun, StyledText};
 pub use scanner::Scanner;
-pub use output::StyleRef;
+pub use output::{StyleRef, push_between};

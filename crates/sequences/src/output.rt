@@ -1,9 +1,11 @@
 //! Writes the sequences between characters with styles.
-ghost use Rattle.std.specs.Prelude.{◌≡◌, ◌<◌, ◌≤◌, ◌+◌, ◌++◌, ◌∷◌, [], OnOk, IfOk, IfSome, codes, length, flat_map, bytes_eq};
+ghost use Rattle.std.specs.Prelude.{◌≡◌, ◌<◌, ◌≤◌, ◌+◌, ◌++◌, ◌∷◌, [], OnOk, IfOk, IfSome, codes, length, take, drop};
 ghost use Rattle.sequences.specs.Led.{led};
 ghost use Rattle.sequences.specs.Output.{blink_parameter, color_parameter, color_parameters, digits, effect_parameters, flag_parameter};
 ghost use Rattle.sequences.specs.Output.{line_parameters, parameters_of, three, underline_color_parameter, underline_parameter};
+ghost use Rattle.sequences.specs.Output.{between, link_between, look_between, look_text, osc_of, reset_text, sgr_of};
 ghost use Rattle.sequences.specs.Output.{weight_parameters};
+ghost use Rattle.sequences.specs.StyleRefs.{style_by};
 
 use crate::look::{Blink, Color, Look, PLAIN, Underline};
 use crate::same_look::same_look;
@@ -164,4 +166,87 @@ fn push_parameters(look: &Look, out: &mut Vec<char>) -> Result<(), AllocError>
     push_lines(look, out)?;
     push_effects(look, out)?;
     push_colors(look, out)
+}
+
+// Replaces the semicolon at an index by the end of the introducer, or adds it there.
+fn end_introducer(at: usize, out: &mut Vec<char>) -> Result<(), AllocError>
+    requires { at ≤ length out.old.items }
+    ensures { OnOk result (out.new.items ≡ take at out.old.items ++ 91 ∷ drop (at + 1) out.old.items) }
+{
+    if at < out.len() {
+        out[at] = '[';
+    } else {
+        out.push('[')?;
+    }
+    Ok(())
+}
+
+fn push_sgr(look: &Look, out: &mut Vec<char>) -> Result<(), AllocError>
+    ensures { OnOk result (out.new.items ≡ out.old.items ++ sgr_of (parameters_of look.now)) }
+{
+    out.push('\u{1b}')?;
+    let start = out.len();
+    push_parameters(look, out)?;
+    end_introducer(start, out)?;
+    out.push('m')?;
+    Ok(())
+}
+
+fn push_reset(look: &Look, out: &mut Vec<char>) -> Result<(), AllocError>
+    ensures { OnOk result (out.new.items ≡ out.old.items ++ reset_text look.now) }
+{
+    if same_look(look, &PLAIN) {
+        return Ok(());
+    }
+    out.extend_from_slice(&['\u{1b}', '[', 'm'])
+}
+
+fn push_look(look: &Look, out: &mut Vec<char>) -> Result<(), AllocError>
+    ensures { OnOk result (out.new.items ≡ out.old.items ++ look_text look.now) }
+{
+    if same_look(look, &PLAIN) {
+        return Ok(());
+    }
+    push_sgr(look, out)
+}
+
+fn push_look_between(before: &Look, after: &Look, out: &mut Vec<char>) -> Result<(), AllocError>
+    ensures { OnOk result (out.new.items ≡ out.old.items ++ look_between before.now after.now) }
+{
+    if same_look(before, after) {
+        return Ok(());
+    }
+    push_reset(before, out)?;
+    push_look(after, out)
+}
+
+fn push_link(link: &[char], out: &mut Vec<char>) -> Result<(), AllocError>
+    ensures { OnOk result (out.new.items ≡ out.old.items ++ osc_of link.now) }
+{
+    out.extend_from_slice(&['\u{1b}', ']', '8', ';'])?;
+    if link.is_empty() {
+        out.push(';')?;
+    } else {
+        out.extend_from_slice(link)?;
+    }
+    out.extend_from_slice(&['\u{1b}', '\\'])
+}
+
+fn push_link_between(before: &[char], after: &[char], out: &mut Vec<char>) -> Result<(), AllocError>
+    ensures { OnOk result (out.new.items ≡ out.old.items ++ link_between before.now after.now) }
+{
+    if before == after {
+        return Ok(());
+    }
+    push_link(after, out)
+}
+
+#[tactic(auto, unfolding(crate::specs::Output::between))]
+/// Appends what is written between characters with two styles. Lines begin and end in the default style. After a failed
+/// allocation, some of it may be missing.
+pub fn push_between(before: &StyleRef, after: &StyleRef, out: &mut Vec<char>) -> Result<(), AllocError>
+    ensures { OnOk result (out.new.items ≡ out.old.items ++ between (style_by before.now) (style_by after.now)) }
+{
+    push_look_between(&before.look, &after.look, out)?;
+    push_link_between(before.link, after.link, out)
 }
