@@ -9,14 +9,8 @@ ghost use Rattle.sequences.specs.StyleRefs.{style_by};
 
 use crate::look::{Blink, Color, Look, PLAIN, Underline};
 use crate::same_look::same_look;
+use crate::style::StyleRef;
 use std::alloc::AllocError;
-
-/// A style: attributes and a link, which is its parameters, a semicolon and its URI, or empty for none.
-#[derive(Clone, Copy, Debug)]
-pub struct StyleRef<'a> {
-    pub look: Look,
-    pub link: &'a [char],
-}
 
 fn push_digit(n: u32, out: &mut Vec<char>) -> Result<(), AllocError>
     requires { n < 10 }

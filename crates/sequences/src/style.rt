@@ -24,6 +24,13 @@ pub struct StyleRun {
     pub link: Link,
 }
 
+/// A style: attributes and a link, which is its parameters, a semicolon and its URI, or empty for none.
+#[derive(Clone, Copy, Debug)]
+pub struct StyleRef<'a> {
+    pub look: Look,
+    pub link: &'a [char],
+}
+
 /// Characters with their styles. Those before the first run have the default style.
 #[derive(Debug, Drop)]
 pub struct StyledText {
@@ -36,9 +43,11 @@ pub struct StyledText {
 }
 
 impl StyledText {
-    ghost use Rattle.std.specs.Prelude.{◌++◌, ◌∷◌, [], take, drop, IfOk, OnOk, OnErr};
+    ghost use Rattle.std.specs.Prelude.{◌++◌, ◌∷◌, [], take, drop, slice_index_or, ◌<◌, IfOk, OnOk, OnErr};
     ghost use Rattle.sequences.specs.Styled.{DEFAULT};
-    ghost use Rattle.sequences.specs.StyledTexts.{style_at, style_of, styled_of};
+    ghost use Rattle.sequences.specs.StyledTexts.{style_at, style_in, style_of, styled_of};
+    ghost use Rattle.sequences.specs.StyleRefs.{style_by};
+    ghost use Rattle.sequences.specs.declared.style.StyleRun.{StyleRun};
 
     /// Makes an empty text. Allocates nothing.
     pub fn new(alloc: Global) -> StyledText
@@ -50,6 +59,16 @@ impl StyledText {
             runs: Vec::new(alloc),
             links: Vec::new(alloc),
         }
+    }
+
+    /// Returns the style of a run.
+    pub fn run_style(&self, run: usize) -> StyleRef<'_>
+        requires { run < length self.now.runs.items }
+        ensures { (d : StyleRun) → style_by result ≡ style_in self.now.links.items (slice_index_or self.now.runs.items run d) }
+    {
+        let run = self.runs[run];
+        let (_, from) = self.links.split_at(run.link.start);
+        StyleRef { look: run.look, link: from.split_at(run.link.len).0 }
     }
 
     /// Appends the text of a link. After a failed allocation, nothing has changed.
