@@ -1,5 +1,5 @@
 -- Appending characters, runs and links to characters with styles.
-use Rattle.std.proofs.Common.{◌≡◌, ℕ, suc, ◌+◌, ◌<◌, ◌≤◌, get_or, ◌-◌, true, List, [], ◌∷◌, ◌++◌, length, take, drop, nat_le, if◌then◌else◌, refl, sym, ap, ◌∙◌, arith}
+use Rattle.std.proofs.Common.{◌≡◌, ℕ, suc, ◌+◌, ◌<◌, ◌≤◌, get_or, ◌-◌, true, List, [], ◌∷◌, ◌++◌, length, map, take, drop, nat_le, if◌then◌else◌, refl, sym, ap, ◌∙◌, arith}
 use Rattle.std.specs.Prelude.{All, OnErr, Result, Ok, Err}
 use Rattle.std.proofs.lemmas.Bool.{cond-true, cond-false, le-leb, lt-leb}
 use Rattle.std.proofs.lemmas.List.{drop-append-le, take-append-le, length-drop, take_all, take_more}
@@ -77,6 +77,41 @@ module _ (links : List ℕ) where
 pub on_err : {T E P : Type 0} (r : Result T E) → P → OnErr r P
 on_err (Ok x) p = tt
 on_err (Err e) p = p
+
+-- characters after the start of the last run have one style
+module _ (links : List ℕ) where
+  style_at-later : (style : Style) (runs : List StyleRun) (n k : ℕ) → All (λ run. run.start ≤ n) runs → n ≤ k
+      → style_at links style runs k ≡ style_at links style runs n
+  style_at-later style [] n k starts le = refl
+  style_at-later style (run ∷ runs) n k starts le =
+      let here : run.start ≤ n = starts 0 run (omega arith) in
+      ap (λ b. style_at links (if b then style_in links run else style) runs k) (le-leb run.start k (omega arith) ∙ sym (le-leb run.start n here))
+      ∙ style_at-later (if nat_le run.start n then style_in links run else style) runs n k (λ i d h. starts (suc i) d (omega arith)) le
+
+  with_styles-later : (runs : List StyleRun) (n k : ℕ) (characters : List ℕ) → All (λ run. run.start ≤ n) runs → n ≤ k
+      → with_styles links runs k characters ≡ map (λ c. (c, style_at links DEFAULT runs n)) characters
+  with_styles-later runs n k [] starts le = refl
+  with_styles-later runs n k (c ∷ characters) starts le =
+      ap (λ style. (c, style) ∷ with_styles links runs (k + 1) characters) (style_at-later DEFAULT runs n k starts le)
+      ∙ ap (λ rest. (c, style_at links DEFAULT runs n) ∷ rest) (with_styles-later runs n (k + 1) characters starts (omega arith))
+
+  with_styles-append : (runs : List StyleRun) (k : ℕ) (characters more : List ℕ)
+      → with_styles links runs k (characters ++ more) ≡ with_styles links runs k characters ++ with_styles links runs (k + length characters) more
+  with_styles-append runs k [] more = ap (λ n. with_styles links runs n more) (let e : k ≡ k + 0 = omega arith in e)
+  with_styles-append runs k (c ∷ characters) more =
+      ap (λ rest. (c, style_at links DEFAULT runs k) ∷ rest)
+      (with_styles-append runs (k + 1) characters more
+      ∙ ap (λ n. with_styles links runs (k + 1) characters ++ with_styles links runs n more) (let e : k + 1 + length characters ≡ k + length (c ∷ characters) = omega arith in e))
+
+  -- more characters in one style, after the run for it was started
+  pub push_all_is : (runs : List StyleRun) (characters more all : List ℕ) (style : Style) (before : List (ℕ × Style)) → all ≡ characters ++ more
+      → All (λ run. run.start ≤ length characters) runs → style_at links DEFAULT runs (length characters) ≡ style → with_styles links runs 0 characters ≡ before
+      → with_styles links runs 0 all ≡ before ++ map (λ c. (c, style)) more
+  push_all_is runs characters more all style before e starts at text =
+      ap (with_styles links runs 0) e ∙ with_styles-append runs 0 characters more
+      ∙ ap (λ xs. xs ++ with_styles links runs (0 + length characters) more) text
+      ∙ ap (λ xs. before ++ xs) (with_styles-later runs (length characters) (0 + length characters) more starts (omega arith))
+      ∙ ap (λ (s : Style). before ++ map (λ c. (c, s)) more) at
 
 -- more links change the style of no character
 module _ (links more : List ℕ) where

@@ -43,7 +43,7 @@ pub struct StyledText {
 }
 
 impl StyledText {
-    ghost use Rattle.std.specs.Prelude.{◌++◌, ◌∷◌, [], take, drop, slice_index_or, ◌<◌, IfOk, OnOk, OnErr};
+    ghost use Rattle.std.specs.Prelude.{◌++◌, ◌∷◌, [], take, drop, map, slice_index_or, ◌<◌, IfOk, OnOk, OnErr};
     ghost use Rattle.sequences.specs.Styled.{DEFAULT};
     ghost use Rattle.sequences.specs.StyledTexts.{style_at, style_in, style_of, styled_of};
     ghost use Rattle.sequences.specs.StyleRefs.{style_by};
@@ -59,6 +59,19 @@ impl StyledText {
             runs: Vec::new(alloc),
             links: Vec::new(alloc),
         }
+    }
+
+    /// Appends characters in one style. After a failed allocation, the characters and their styles are unchanged.
+    pub fn push_all(&mut self, characters: &[char], look: Look, link: Link) -> Result<(), AllocError>
+        requires { link.start + link.len ≤ length self.old.links.items }
+        ensures ok { OnOk result (styled_of self.new
+            ≡ styled_of self.old ++ map (λ c. (c, style_of self.old.links.items look link)) characters.now) }
+        ensures err { OnErr result (styled_of self.new ≡ styled_of self.old) }
+        ensures links { self.new.links.items ≡ self.old.links.items }
+    {
+        self.start_run(look, link)?;
+        self.characters.extend_from_slice(characters)?;
+        Ok(())
     }
 
     /// Returns the style of a run.
