@@ -12,6 +12,13 @@ use Rattle.sequences.specs.declared.look.Look.{Look}
 use Rattle.sequences.specs.declared.style.Link.{Link}
 use Rattle.sequences.specs.declared.style.StyleRun.{StyleRun}
 
+-- a list ends with its last element
+pub last_split : {X : Type 0} (xs : List X) (x : X) → 0 < length xs → x ≡ get_or xs (length xs - 1) x → xs ≡ take (length xs - 1) xs ++ x ∷ []
+last_split xs x some e =
+    let whole : length xs - 1 + 1 ≡ length xs = omega arith in
+    sym (take_all (length xs - 1 + 1) xs (omega arith)) ∙ take_more xs (length xs - 1) x (omega arith)
+    ∙ ap (λ y. take (length xs - 1) xs ++ y ∷ []) (sym e)
+
 module _ (links : List ℕ) where
   -- the style after one more run
   style_at-push : (style : Style) (runs : List StyleRun) (run : StyleRun) (k : ℕ)
@@ -47,11 +54,7 @@ module _ (links : List ℕ) where
   pub style_at-last : (runs : List StyleRun) (run : StyleRun) (n : ℕ) → 0 < length runs → run ≡ get_or runs (length runs - 1) run → run.start ≤ n
       → style_at links DEFAULT runs n ≡ style_in links run
   style_at-last runs run n some e from =
-      let whole : length runs - 1 + 1 ≡ length runs = omega arith in
-      let split : runs ≡ take (length runs - 1) runs ++ run ∷ [] =
-          sym (take_all (length runs - 1 + 1) runs (omega arith)) ∙ take_more runs (length runs - 1) run (omega arith)
-          ∙ ap (λ r. take (length runs - 1) runs ++ r ∷ []) (sym e) in
-      ap (λ rs. style_at links DEFAULT rs n) split ∙ style_at-from (take (length runs - 1) runs) run n from
+      ap (λ rs. style_at links DEFAULT rs n) (last_split runs run some e) ∙ style_at-from (take (length runs - 1) runs) run n from
 
   pub style_of-same : (look other : Look) (link : Link) → same_look look other ≡ true → style_of links look link ≡ style_of links other link
   style_of-same look other link e = ap (λ l. style_of links l link) (same_look-true look other e)

@@ -13,3 +13,4 @@ pub mod Laws
 pub mod Output
 pub mod StyleRefs
 pub mod Led
+pub mod PlainRuns

@@ -6,7 +6,7 @@ ghost use Rattle.sequences.specs.Overstrikes.{struck_look};
 use crate::characters::is_inline;
 use crate::look::{Look, Underline};
 
-const BS: char = '\u{8}';
+pub(crate) const BS: char = '\u{8}';
 
 const LOW_LINE: char = '_';
 
