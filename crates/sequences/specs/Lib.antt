@@ -14,3 +14,5 @@ pub mod Output
 pub mod StyleRefs
 pub mod Led
 pub mod PlainRuns
+pub mod Pictures
+pub mod Escapes
