@@ -1,14 +1,12 @@
 -- What a text shows, one part after the other.
-use Rattle.std.proofs.Common.{Bool, true, false, not, ◌&&◌, map, ◌+◌, ◌-◌, ◌*◌, Some, None, if◌then◌else◌, ◌≡◌, ℕ, zero, suc, ◌≤◌, List, [], ◌∷◌, ◌++◌, length, take, drop, get_or, fold, ◌<◌, ◌==◌, arith, refl, sym, ap, ◌∙◌, append_assoc}
+use Rattle.std.proofs.Common.{Bool, true, false, not, ◌&&◌, map, ◌+◌, ◌≡◌, ℕ, zero, suc, ◌≤◌, List, [], ◌∷◌, ◌++◌, length, take, drop, get_or, fold, ◌<◌, ◌==◌, arith, refl, sym, ap, ◌∙◌, append_assoc}
 use Rattle.std.proofs.Math.ListN.{drop_of_length-le}
 use Rattle.std.proofs.lemmas.List.{append-nil, take-append-drop}
-use Rattle.std.specs.Prelude.{Option}
 use Rattle.std.specs.List.{list_all, prefix_len}
 use Rattle.std.proofs.lemmas.Bool.{and_from, and_parts, cond-false, cond-true, not-true}
 use Rattle.sequences.specs.Characters.{is_dropped, is_inline}
-use Rattle.sequences.specs.Overstrikes.{after_backspaces, is_underlined_only, strike, strikes, struck_look}
+use Rattle.sequences.specs.Overstrikes.{after_backspaces, is_underlined_only, strike, struck_look}
 use Rattle.sequences.specs.declared.look.Look.{Look}
-use Rattle.sequences.specs.declared.overstrikes.Struck.{Struck}
 use Rattle.sequences.specs.PlainRuns.{plain_pen, plain_step}
 use Rattle.sequences.proofs.LawLemmas.{plain_part}
 use Rattle.sequences.proofs.PlainLemmas.{no_backspaces, no_sequence, no_strikes, plain_look}

@@ -1,11 +1,10 @@
 //! Text in which nothing is a sequence, and text that needs no scan.
-ghost use Rattle.std.specs.Prelude.{◌≡◌, ◌<◌, ◌++◌, map, OnOk, OnErr};
+ghost use Rattle.std.specs.Prelude.{◌≡◌};
 ghost use Rattle.std.specs.List.{list_all};
 ghost use Rattle.sequences.specs.Laws.{remains};
 ghost use Rattle.sequences.specs.Pictures.{picture};
 
 use crate::characters::is_dropped;
-use std::alloc::AllocError;
 
 /// What is done with sequences and dropped controls.
 #[derive(Clone, Copy, Debug, PartialEq, Eq)]
@@ -39,15 +38,4 @@ pub fn picture(c: char) -> char
     } else {
         '\u{fffd}'
     }
-}
-
-/// Appends a text in which nothing is a sequence, and pictures show the controls of a kind that is dropped. After a failed
-/// allocation, some characters may be missing.
-pub fn push_pictures(text: &[char], out: &mut Vec<char>) -> Result<(), AllocError>
-    ensures { OnOk result (out.new.items ≡ out.old.items ++ map picture text.now) }
-{
-    for c in text {
-        out.push(picture(*c))?;
-    }
-    Ok(())
 }

@@ -16,7 +16,7 @@ mod scanner;
 mod sgr;
 mod style;
 
-pub use escapes::{Escapes, is_plain, picture, push_pictures};
+pub use escapes::{Escapes, is_plain, picture};
 pub use laws::{shows_itself, shows_no_controls, shows_plain_text, shows_the_same};
 pub use lengths::{LONGEST_STRING, sequence_len};
 pub use links::MAX_LINKS_LEN;

@@ -9,6 +9,7 @@ ghost use Rattle.sequences.specs.Parts.{parameters_after};
 ghost use Rattle.sequences.specs.Sequences.{after_escape};
 
 use crate::characters::{Class, char_at, is_dropped, is_inline, prefix_len};
+use crate::escapes::Escapes;
 use crate::lengths::{LONGEST_STRING, sequence_len, string_end};
 use crate::links::{MAX_LINKS_LEN, osc_link};
 use crate::look::{Look, PLAIN};
@@ -31,6 +32,7 @@ pub struct Scanner {
 
 impl Scanner {
     ghost use Rattle.std.specs.Prelude.{◌*◌, ◌++◌, suc, map, IfOk, OnOk};
+    ghost use Rattle.sequences.specs.Escapes.{styled_by};
     ghost use Rattle.sequences.specs.PlainRuns.{plain_pen};
     ghost use Rattle.sequences.specs.Scanners.{pen_of};
     ghost use Rattle.sequences.specs.Styled.{START, after_character, after_first_part, after_sequence, first_shown};
@@ -182,6 +184,23 @@ impl Scanner {
                 Ok(len)
             }
             None => unreachable!(),
+        }
+    }
+
+    /// Collects the characters that a paragraph shows in a mode, in place of those of the paragraph before. After a failed
+    /// allocation, some of them may be missing.
+    pub fn scan(&mut self, escapes: Escapes, paragraph: &[char]) -> Result<(), AllocError>
+        ensures text { OnOk result (styled_of self.new.text ≡ styled_by escapes (next_paragraph (pen_of self.old)) paragraph.now) }
+    {
+        self.start_paragraph();
+        match escapes {
+            Escapes::Keep => self.push_text(paragraph),
+            Escapes::Strip => {
+                self.push_text(paragraph)?;
+                self.text.strip();
+                Ok(())
+            }
+            Escapes::Text => self.text.push_pictures(paragraph),
         }
     }
 

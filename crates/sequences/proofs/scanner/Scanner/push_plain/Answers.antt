@@ -1,4 +1,4 @@
-use Rattle.std.proofs.Common.{ℕ, List, [], ◌∷◌, ◌++◌, ◌-◌, length, take, sym, ap, ◌∙◌, rules}
+use Rattle.std.proofs.Common.{ℕ, List, ◌-◌, length, take, sym, ap, ◌∙◌}
 use Rattle.sequences.specs.PlainRuns.{plain_pen}
 use Rattle.sequences.specs.Scanners.{pen_at, pen_of}
 use Rattle.sequences.proofs.StepLemmas.{plain_pen-last}
