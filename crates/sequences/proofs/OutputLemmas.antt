@@ -18,7 +18,7 @@ pub sgr_written : (old opened parameters ended all : List ℕ) (ps : List (List 
 sgr_written old opened parameters ended all ps start o s p e a =
     let front : take start parameters ≡ opened = ap (take start) p ∙ take_at opened (led ps) start (sym s) in
     let back : drop (start + 1) parameters ≡ join_with_byte 0x3B ps =
-        sym (drop-drop 1 start parameters) ∙ ap (λ xs. drop 1 (drop start xs)) p ∙ ap (drop 1) (drop_at opened (led ps) start (sym s)) ∙ led-drop ps in
+    sym (drop-drop 1 start parameters) ∙ ap (λ xs. drop 1 (drop start xs)) p ∙ ap (drop 1) (drop_at opened (led ps) start (sym s)) ∙ led-drop ps in
     a ∙ ap (λ xs. xs ++ 0x6D ∷ []) (e ∙ ap (λ xs. xs ++ 91 ∷ drop (start + 1) parameters) (front ∙ o) ∙ ap (λ xs. (old ++ 0x1B ∷ []) ++ 91 ∷ xs) back)
     ∙ append_assoc (old ++ 0x1B ∷ []) (91 ∷ join_with_byte 0x3B ps) (0x6D ∷ [])
     ∙ append_assoc old (0x1B ∷ []) ((91 ∷ join_with_byte 0x3B ps) ++ 0x6D ∷ [])

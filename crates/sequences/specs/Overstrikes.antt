@@ -20,9 +20,9 @@ strikes c text = if is_inline c then after_backspaces text else []
 abbrev pub strike : Bool → Struck → ℕ → Struck
 strike after_underline s c =
     if c == s.shown then
-        (if c == 0x5F && not (s.bold || s.underlined) then record s { bold = not after_underline; underlined = after_underline }
-        else if c == 0x5F then record s { bold = true; underlined = true }
-        else record s { bold = true })
+    (if c == 0x5F && not (s.bold || s.underlined) then record s { bold = not after_underline; underlined = after_underline }
+    else if c == 0x5F then record s { bold = true; underlined = true }
+    else record s { bold = true })
     else if c == 0x5F then record s { underlined = true }
     else if s.shown == 0x5F then record { shown = c; bold = false; underlined = true }
     else record { shown = c; bold = false; underlined = false }

@@ -42,7 +42,7 @@ abbrev pub with_link : Pen → Option (List ℕ) → Pen
 with_link pen None = pen
 with_link pen (Some link) =
     if nat_le (pen.links_len + length link) MAX_LINKS_LEN then
-        record { style = record { look = pen.style.look; link = link }; links_len = pen.links_len + length link; after_underline = pen.after_underline }
+    record { style = record { look = pen.style.look; link = link }; links_len = pen.links_len + length link; after_underline = pen.after_underline }
     else record pen { style = record { look = pen.style.look; link = [] } }
 
 -- OSC, given the text after it

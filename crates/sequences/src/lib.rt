@@ -21,6 +21,6 @@ pub use laws::{shows_itself, shows_no_controls, shows_plain_text, shows_the_same
 pub use lengths::{LONGEST_STRING, sequence_len};
 pub use links::MAX_LINKS_LEN;
 pub use look::{Blink, Color, Look, PLAIN, Underline};
-pub use style::{Link, NO_LINK, StyleRef, StyleRun, StyledText};
-pub use scanner::Scanner;
 pub use output::push_between;
+pub use scanner::Scanner;
+pub use style::{Link, NO_LINK, StyleRef, StyleRun, StyledText};

@@ -65,7 +65,12 @@ impl StyledText {
     }
 
     /// Appends characters in one style. After a failed allocation, the characters and their styles are unchanged.
-    pub fn push_all(&mut self, characters: &[char], look: Look, link: Link) -> Result<(), AllocError>
+    pub fn push_all(
+        &mut self,
+        characters: &[char],
+        look: Look,
+        link: Link,
+    ) -> Result<(), AllocError>
         requires { link.start + link.len ≤ length self.old.links.items }
         ensures ok { OnOk result (styled_of self.new
             ≡ styled_of self.old ++ map (λ c. (c, style_of self.old.links.items look link)) characters.now) }
@@ -111,7 +116,10 @@ impl StyledText {
     {
         let run = self.runs[run];
         let (_, from) = self.links.split_at(run.link.start);
-        StyleRef { look: run.look, link: from.split_at(run.link.len).0 }
+        StyleRef {
+            look: run.look,
+            link: from.split_at(run.link.len).0,
+        }
     }
 
     /// Appends the text of a link. After a failed allocation, nothing has changed.
@@ -122,7 +130,10 @@ impl StyledText {
         ensures text { styled_of self.new ≡ styled_of self.old }
         ensures err { OnErr result (self.new.links.items ≡ self.old.links.items) }
     {
-        let added = Link { start: self.links.len(), len: link.len() };
+        let added = Link {
+            start: self.links.len(),
+            len: link.len(),
+        };
         self.links.extend_from_slice(link)?;
         Ok(added)
     }
@@ -138,7 +149,10 @@ impl StyledText {
         self.runs.clear();
         self.links.rotate_left(link.start);
         self.links.truncate(link.len);
-        Link { start: 0, len: link.len }
+        Link {
+            start: 0,
+            len: link.len,
+        }
     }
 
     // Returns whether characters that are appended have a style.
@@ -164,7 +178,11 @@ impl StyledText {
         if self.ends_in(look, link) {
             return Ok(());
         }
-        self.runs.push(StyleRun { start: self.characters.len(), look, link })?;
+        self.runs.push(StyleRun {
+            start: self.characters.len(),
+            look,
+            link,
+        })?;
         Ok(())
     }
 
