@@ -16,7 +16,7 @@ inline_remains c e =
     ap (λ b. b && not (is_kept_control c)) parts.0
 
 -- ESC, BS and the C1 controls that introduce sequences are dropped
-not_among : (c dropped : ℕ) → is_dropped c ≡ false → is_dropped dropped ≡ true → (c == dropped) ≡ false
+pub not_among : (c dropped : ℕ) → is_dropped c ≡ false → is_dropped dropped ≡ true → (c == dropped) ≡ false
 not_among c dropped e d = go (c == dropped) refl
   where
     go : (b : Bool) → (c == dropped) ≡ b → b ≡ false
