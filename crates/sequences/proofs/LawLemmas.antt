@@ -128,7 +128,7 @@ first_characters pen other c text =
     ∙ ap (λ (x : ℕ). if is_dropped c then [] else x ∷ []) (struck-same pen.after_underline other.after_underline first first (strikes c text) refl)
     ∙ sym (shown_if (is_dropped c) (struck other.after_underline c text).shown (struck_style other c text))
 
-same_characters : (skip : ℕ) (pen other : Pen) (text : List ℕ) → characters_of (styled_after skip pen text) ≡ characters_of (styled_after skip other text)
+pub same_characters : (skip : ℕ) (pen other : Pen) (text : List ℕ) → characters_of (styled_after skip pen text) ≡ characters_of (styled_after skip other text)
 same_characters skip pen other [] = refl
 same_characters (suc skip) pen other (c ∷ text) = same_characters skip pen other text
 same_characters zero pen other (c ∷ text) =

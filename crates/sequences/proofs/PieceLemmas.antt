@@ -1,14 +1,19 @@
 -- No part of a text spans a character that neither is dropped nor can be in a string, so that what is after it plays no role.
-use Rattle.std.proofs.Common.{◌≡◌, ℕ, zero, suc, ◌+◌, ◌-◌, ◌*◌, ◌<◌, ◌≤◌, ◌==◌, Bool, true, false, ◌&&◌, ◌||◌, not, List, [], ◌∷◌, ◌++◌, length, map, take, drop, get_or, slice_index, nat_le, Some, None, if◌then◌else◌, refl, sym, ap, subst, ◌∙◌, inl, inr, arith}
-use Rattle.std.specs.Prelude.{MatchOption, Option, option_map, ⊤}
+use Rattle.std.proofs.Common.{◌≡◌, ℕ, zero, suc, ◌+◌, ◌-◌, ◌*◌, ◌<◌, ◌≤◌, ◌==◌, Bool, true, false, ◌&&◌, ◌||◌, List, [], ◌∷◌, ◌++◌, length, take, drop, slice_index, nat_le, Some, None, if◌then◌else◌, refl, sym, ap, subst, ◌∙◌, append_assoc, inl, inr, arith}
+use Rattle.std.specs.Prelude.{fold, MatchOption, Option, option_map, unwrap_or, ⊤}
 use Rattle.std.specs.List.{prefix_len}
-use Rattle.std.proofs.lemmas.Bool.{cases_Bool, eqb-true, cases_eq, cond-true, cond-false, cond_both, and_left, and_right, or_from,  false≢true}
+use Rattle.std.proofs.lemmas.Bool.{eqb-true, cases_eq, cond-false, cond_both, and_left, and_right, or_from, or_parts, not-true, false≢true}
 use Rattle.std.proofs.lemmas.Bool.Decides.{nat_tests}
-use Rattle.std.proofs.lemmas.List.{drop-append-le, length-drop, take-append-le}
+use Rattle.std.proofs.lemmas.List.{append-nil, drop-append-le, length-drop, take-append-le}
 use Rattle.sequences.specs.Characters.{is_c1_introducer, is_dropped, is_inline}
 use Rattle.sequences.specs.Parameters.{is_sgr, osc_link, parameters, sgr}
-use Rattle.sequences.specs.Sequences.{csi_end, csi_len, escape_len, is_csi_final, is_escape_final, is_intermediate, is_parameter, len_after_escape, opens_string, sequence_len, string_end, string_len, terminator_len}
-use Rattle.sequences.proofs.PlainLemmas.{not_among}
+use Rattle.sequences.specs.Sequences.{after_escape, csi_end, csi_len, escape_len, is_csi_final, is_escape_final, is_intermediate, is_parameter, len_after_escape, opens_string, sequence_len, string_end, string_len, terminator_len}
+use Rattle.sequences.specs.Laws.{characters_of, ends_piece, ShowsPieces}
+use Rattle.sequences.proofs.LawLemmas.{same_characters}
+use Rattle.sequences.specs.Overstrikes.{after_backspaces, is_underlined_only, strike, strikes, struck_look}
+use Rattle.sequences.specs.Styled.{after_first_part, after_part, after_sequence, first_shown, more_len, Pen, pen_after, pen_at_end, shown_text, START, Style, styled, styled_after, with_link, with_osc, with_sgr}
+use Rattle.sequences.specs.declared.overstrikes.Struck.{Struck}
+use Rattle.sequences.proofs.PlainLemmas.{no_backspaces, no_sequence, not_among}
 use Rattle.sequences.specs.declared.lengths.TheConstants.{LONGEST_STRING}
 
 -- a character between the spaces and the tildes can be in a string
@@ -212,3 +217,182 @@ module _ (c : ℕ) (kept : is_dropped c ≡ false) (outer : is_inline c ≡ fals
   sequence_len_within one x text =
       cond_both (x == 0x1B) _ _ (IsWithin (suc (length text))) (λ _. suc_within (length text) _ (len_after_escape_within one text))
       (λ _. cond_both (is_c1_introducer x) _ _ (IsWithin (suc (length text))) (λ _. len_after_escape_within one ((x - 0x40) ∷ text)) (λ _. tt))
+
+  -- what sequences do
+  take_whole : (one text : List ℕ) (n : ℕ) → n ≤ length text → take n (text ++ c ∷ one) ≡ take n text
+  take_whole one text n le = take-append-le n text (c ∷ one) le
+
+  abbrev sgr_by : ℕ → List ℕ → Option (List (List ℕ))
+  sgr_by final text = if final == 0x6D then Some (parameters text) else None
+
+  sgr_same : (one two text : List ℕ) → sgr (text ++ c ∷ one) ≡ sgr (text ++ c ∷ two)
+  sgr_same one two text =
+      let n = prefix_len is_sgr (text ++ c ∷ one) in
+      let le : n ≤ length text = prefix_within one is_sgr no_sgr text in
+      let same : n ≡ prefix_len is_sgr (text ++ c ∷ two) = prefix_same one two is_sgr no_sgr text in
+      ap (λ (d : ℕ). sgr_by d (take n (text ++ c ∷ one))) (index_same one two text n le)
+      ∙ ap (sgr_by (slice_index (text ++ c ∷ two) n)) (take_whole one text n le ∙ sym (take_whole two text n le))
+      ∙ ap (λ (k : ℕ). sgr_by (slice_index (text ++ c ∷ two) k) (take k (text ++ c ∷ two))) same
+
+  with_osc_same : (pen : Pen) (one two text : List ℕ) → with_osc pen (text ++ c ∷ one) ≡ with_osc pen (text ++ c ∷ two)
+  with_osc_same pen one two text =
+      let n = string_end (text ++ c ∷ one) in
+      let le : n ≤ length text = prefix_within one is_inline outer text in
+      let same : n ≡ string_end (text ++ c ∷ two) = prefix_same one two is_inline outer text in
+      ap (λ (t : List ℕ). if nat_le n LONGEST_STRING then with_link pen (osc_link t) else pen) (take_whole one text n le ∙ sym (take_whole two text n le))
+      ∙ ap (λ (k : ℕ). if nat_le k LONGEST_STRING then with_link pen (osc_link (take k (text ++ c ∷ two))) else pen) same
+
+  after_none : (pen : Pen) (one : List ℕ) → after_sequence pen (c ∷ one) ≡ pen
+  after_none pen one = cond-false (c == 0x5B) _ _ (not_equal 0x5B refl) ∙ cond-false (c == 0x5D) _ _ (not_equal 0x5D refl)
+
+  after_sequence_same : (pen : Pen) (one two text : List ℕ) → after_sequence pen (text ++ c ∷ one) ≡ after_sequence pen (text ++ c ∷ two)
+  after_sequence_same pen one two [] = after_none pen one ∙ sym (after_none pen two)
+  after_sequence_same pen one two (x ∷ text) =
+      ap (λ (found : Option (List (List ℕ))). if x == 0x5B then with_sgr pen found else (if x == 0x5D then with_osc pen (text ++ c ∷ one) else pen)) (sgr_same one two text)
+      ∙ ap (λ (after : Pen). if x == 0x5B then with_sgr pen (sgr (text ++ c ∷ two)) else (if x == 0x5D then after else pen)) (with_osc_same pen one two text)
+
+  after_escape_same : (pen : Pen) (one two : List ℕ) (x : ℕ) (text : List ℕ)
+      → after_sequence pen (after_escape (x ∷ (text ++ c ∷ one))) ≡ after_sequence pen (after_escape (x ∷ (text ++ c ∷ two)))
+  after_escape_same pen one two x text = go (x == 0x1B)
+    where
+      go : (b : Bool) → after_sequence pen (if b then text ++ c ∷ one else (x - 0x40) ∷ (text ++ c ∷ one)) ≡ after_sequence pen (if b then text ++ c ∷ two else (x - 0x40) ∷ (text ++ c ∷ two))
+      go true = after_sequence_same pen one two text
+      go false = after_sequence_same pen one two ((x - 0x40) ∷ text)
+
+  -- overstrikes
+  backspaces_none : (one : List ℕ) → after_backspaces (c ∷ one) ≡ []
+  backspaces_none one = no_backspaces c one kept
+
+  backspaces_same : (one two text : List ℕ) → after_backspaces (text ++ c ∷ one) ≡ after_backspaces (text ++ c ∷ two)
+  backspaces_same one two [] = backspaces_none one ∙ sym (backspaces_none two)
+  backspaces_same one two (x ∷ []) =
+      cond-false (x == 0x08 && is_inline c) _ _ (and_right (x == 0x08) (is_inline c) outer) ∙ sym (cond-false (x == 0x08 && is_inline c) _ _ (and_right (x == 0x08) (is_inline c) outer))
+  backspaces_same one two (x ∷ y ∷ text) = ap (λ (xs : List ℕ). if x == 0x08 && is_inline y then y ∷ xs else []) (backspaces_same one two text)
+
+  backspaces_within : (one text : List ℕ) → 2 * length (after_backspaces (text ++ c ∷ one)) ≤ length text
+  backspaces_within one [] = subst (λ (xs : List ℕ). 2 * length xs ≤ 0) (sym (backspaces_none one)) (omega arith)
+  backspaces_within one (x ∷ []) =
+      subst (λ (xs : List ℕ). 2 * length xs ≤ 1) (sym (cond-false (x == 0x08 && is_inline c) (c ∷ after_backspaces one) [] (and_right (x == 0x08) (is_inline c) outer))) (omega arith)
+  backspaces_within one (x ∷ y ∷ text) =
+      cond_both (x == 0x08 && is_inline y) (y ∷ after_backspaces (text ++ c ∷ one)) [] (λ xs. 2 * length xs ≤ length (x ∷ y ∷ text))
+      (λ _. let rest = backspaces_within one text in omega arith) (λ _. omega arith)
+
+  strikes_same : (one two : List ℕ) (x : ℕ) (text : List ℕ) → strikes x (text ++ c ∷ one) ≡ strikes x (text ++ c ∷ two)
+  strikes_same one two x text = ap (λ (xs : List ℕ). if is_inline x then xs else []) (backspaces_same one two text)
+
+  strikes_within : (one : List ℕ) (x : ℕ) (text : List ℕ) → 2 * length (strikes x (text ++ c ∷ one)) ≤ length text
+  strikes_within one x text =
+      cond_both (is_inline x) (after_backspaces (text ++ c ∷ one)) [] (λ xs. 2 * length xs ≤ length text) (λ _. backspaces_within one text) (λ _. omega arith)
+
+  -- the first part of a text
+  abbrev place_of : Pen → ℕ → List ℕ → Struck
+  place_of pen x xs = fold (strike pen.after_underline) (record { shown = x; bold = false; underlined = false }) xs
+
+  first_shown_same : (pen : Pen) (one two : List ℕ) (x : ℕ) (text : List ℕ) → first_shown pen x (text ++ c ∷ one) ≡ first_shown pen x (text ++ c ∷ two)
+  first_shown_same pen one two x text =
+      ap (λ (xs : List ℕ). if is_dropped x then [] else shown_with xs ∷ []) (strikes_same one two x text)
+    where
+      shown_with : List ℕ → ℕ × Style
+      shown_with xs = ((place_of pen x xs).shown, record { look = struck_look pen.style.look (place_of pen x xs); link = pen.style.link })
+
+  more_len_same : (one two : List ℕ) (x : ℕ) (text : List ℕ) → more_len x (text ++ c ∷ one) ≡ more_len x (text ++ c ∷ two)
+  more_len_same one two x text =
+      ap (λ (found : Option ℕ). unwrap_or found (1 + 2 * length (strikes x (text ++ c ∷ one))) - 1) (sequence_len_same one two x text)
+      ∙ ap (λ (xs : List ℕ). unwrap_or (sequence_len (x ∷ (text ++ c ∷ two))) (1 + 2 * length xs) - 1) (strikes_same one two x text)
+
+  more_len_within : (one : List ℕ) (x : ℕ) (text : List ℕ) → more_len x (text ++ c ∷ one) ≤ length text
+  more_len_within one x text = go (sequence_len (x ∷ (text ++ c ∷ one))) (sequence_len_within one x text)
+    where
+      go : (found : Option ℕ) → IsWithin (suc (length text)) found → unwrap_or found (1 + 2 * length (strikes x (text ++ c ∷ one))) - 1 ≤ length text
+      go None within = let least = strikes_within one x text in omega arith
+      go (Some len) within = omega arith
+
+  after_part_same : (pen : Pen) (one two : List ℕ) (x : ℕ) (text : List ℕ) (found : Option ℕ)
+      → after_part pen x (text ++ c ∷ one) found ≡ after_part pen x (text ++ c ∷ two) found
+  after_part_same pen one two x text (Some n) = after_escape_same pen one two x text
+  after_part_same pen one two x text None = ap (λ (xs : List ℕ). if is_dropped x then pen else after xs) (strikes_same one two x text)
+    where
+      after : List ℕ → Pen
+      after xs = record pen { after_underline = is_inline x && is_underlined_only (struck_look pen.style.look (place_of pen x xs)) }
+
+  after_first_part_same : (pen : Pen) (one two : List ℕ) (x : ℕ) (text : List ℕ) → after_first_part pen x (text ++ c ∷ one) ≡ after_first_part pen x (text ++ c ∷ two)
+  after_first_part_same pen one two x text =
+      ap (after_part pen x (text ++ c ∷ one)) (sequence_len_same one two x text) ∙ after_part_same pen one two x text (sequence_len (x ∷ (text ++ c ∷ two)))
+
+  -- at `c` itself
+  strikes_none : (rest : List ℕ) → strikes c rest ≡ []
+  strikes_none rest = cond-false (is_inline c) (after_backspaces rest) [] outer
+
+  first_shown_at : (pen : Pen) (rest : List ℕ) → first_shown pen c rest ≡ first_shown pen c []
+  first_shown_at pen rest = ap (λ (xs : List ℕ). if is_dropped c then [] else shown_with xs ∷ []) (strikes_none rest ∙ sym (strikes_none []))
+    where
+      shown_with : List ℕ → ℕ × Style
+      shown_with xs = ((place_of pen c xs).shown, record { look = struck_look pen.style.look (place_of pen c xs); link = pen.style.link })
+
+  more_len_at : (rest : List ℕ) → more_len c rest ≡ 0
+  more_len_at rest =
+      ap (λ (found : Option ℕ). unwrap_or found (1 + 2 * length (strikes c rest)) - 1) (no_sequence c rest kept)
+      ∙ ap (λ (xs : List ℕ). 1 + 2 * length xs - 1) (strikes_none rest)
+
+  after_first_part_at : (pen : Pen) (rest : List ℕ) → after_first_part pen c rest ≡ after_first_part pen c []
+  after_first_part_at pen rest =
+      ap (after_part pen c rest) (no_sequence c rest kept)
+      ∙ ap (λ (xs : List ℕ). if is_dropped c then pen else after xs) (strikes_none rest ∙ sym (strikes_none []))
+      ∙ ap (after_part pen c []) (sym (no_sequence c [] kept))
+    where
+      after : List ℕ → Pen
+      after xs = record pen { after_underline = is_inline c && is_underlined_only (struck_look pen.style.look (place_of pen c xs)) }
+
+  -- a text is shown piece by piece
+  pieces_text : (skip : ℕ) (pen : Pen) (text rest : List ℕ) → skip ≤ length text
+      → styled_after skip pen (text ++ c ∷ rest) ≡ styled_after skip pen (text ++ c ∷ []) ++ styled_after 0 (pen_after skip pen (text ++ c ∷ [])) rest
+  pieces_text zero pen [] rest le =
+      let next = after_first_part pen c [] in
+      ap (λ shown. shown ++ styled_after (more_len c rest) (after_first_part pen c rest) rest) (first_shown_at pen rest)
+      ∙ ap (λ (n : ℕ). first_shown pen c [] ++ styled_after n (after_first_part pen c rest) rest) (more_len_at rest)
+      ∙ ap (λ (p : Pen). first_shown pen c [] ++ styled_after 0 p rest) (after_first_part_at pen rest)
+      ∙ ap (λ shown. shown ++ styled_after 0 next rest) (sym (append-nil (first_shown pen c [])))
+  pieces_text (suc skip) pen [] rest le = absurd (omega arith)
+  pieces_text (suc skip) pen (x ∷ text) rest le = pieces_text skip pen text rest (omega arith)
+  pieces_text zero pen (x ∷ text) rest le =
+      let whole = text ++ c ∷ rest in
+      let piece = text ++ c ∷ [] in
+      let first = first_shown pen x piece in
+      let n = more_len x piece in
+      let next = after_first_part pen x piece in
+      ap (λ shown. shown ++ styled_after (more_len x whole) (after_first_part pen x whole) whole) (first_shown_same pen rest [] x text)
+      ∙ ap (λ (k : ℕ). first ++ styled_after k (after_first_part pen x whole) whole) (more_len_same rest [] x text)
+      ∙ ap (λ (p : Pen). first ++ styled_after n p whole) (after_first_part_same pen rest [] x text)
+      ∙ ap (λ shown. first ++ shown) (pieces_text n next text rest (more_len_within [] x text))
+      ∙ sym (append_assoc first (styled_after n next piece) (styled_after 0 (pen_after n next piece) rest))
+
+  pieces_pen : (skip : ℕ) (pen : Pen) (text rest : List ℕ) → skip ≤ length text
+      → pen_after skip pen (text ++ c ∷ rest) ≡ pen_after 0 (pen_after skip pen (text ++ c ∷ [])) rest
+  pieces_pen zero pen [] rest le =
+      ap (λ (n : ℕ). pen_after n (after_first_part pen c rest) rest) (more_len_at rest) ∙ ap (λ (p : Pen). pen_after 0 p rest) (after_first_part_at pen rest)
+  pieces_pen (suc skip) pen [] rest le = absurd (omega arith)
+  pieces_pen (suc skip) pen (x ∷ text) rest le = pieces_pen skip pen text rest (omega arith)
+  pieces_pen zero pen (x ∷ text) rest le =
+      let whole = text ++ c ∷ rest in
+      let piece = text ++ c ∷ [] in
+      ap (λ (k : ℕ). pen_after k (after_first_part pen x whole) whole) (more_len_same rest [] x text)
+      ∙ ap (λ (p : Pen). pen_after (more_len x piece) p whole) (after_first_part_same pen rest [] x text)
+      ∙ pieces_pen (more_len x piece) (after_first_part pen x piece) text rest (more_len_within [] x text)
+
+characters_of-append : (xs ys : List (ℕ × Style)) → characters_of (xs ++ ys) ≡ characters_of xs ++ characters_of ys
+characters_of-append [] ys = refl
+characters_of-append (x ∷ xs) ys = ap (λ rest. x.0 ∷ rest) (characters_of-append xs ys)
+
+pub shows_pieces : ShowsPieces
+unfolding styled pen_at_end shown_text
+shows_pieces = record {
+  text = λ pen piece rest c e. let parts = ends c e in pieces_text c parts.0 parts.1 0 pen piece rest (omega arith);
+  pen = λ pen piece rest c e. let parts = ends c e in pieces_pen c parts.0 parts.1 0 pen piece rest (omega arith);
+  characters = λ piece rest c e. let parts = ends c e in
+      ap characters_of (pieces_text c parts.0 parts.1 0 START piece rest (omega arith))
+      ∙ characters_of-append (styled_after 0 START (piece ++ c ∷ [])) _
+      ∙ ap (λ xs. characters_of (styled_after 0 START (piece ++ c ∷ [])) ++ xs) (same_characters 0 (pen_after 0 START (piece ++ c ∷ [])) START rest);
+}
+  where
+    ends : (c : ℕ) → ends_piece c ≡ true → (is_dropped c ≡ false) × (is_inline c ≡ false)
+    ends c e = or_parts (is_dropped c) (is_inline c) (not-true _ e)
