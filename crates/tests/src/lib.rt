@@ -18,4 +18,6 @@ mod surface;
 #[cfg(test)]
 mod tables;
 #[cfg(test)]
+mod terminal;
+#[cfg(test)]
 mod versions;

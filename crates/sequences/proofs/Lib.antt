@@ -1,0 +1,11 @@
+pub mod LawLemmas
+pub mod LookLemmas
+pub mod OutputLemmas
+pub mod PartLemmas
+pub mod SameLookLemmas
+pub mod PieceLemmas
+pub mod PlainLemmas
+pub mod ScannerLemmas
+pub mod StepLemmas
+pub mod StyleLemmas
+mod WorkedRows

@@ -1,0 +1,80 @@
+//! Characters that have a meaning to a terminal.
+ghost use Rattle.std.specs.Prelude.{◌≡◌, ◌≤◌, ℕ, length, slice_index};
+ghost use Rattle.std.specs.List.{prefix_len};
+ghost use Rattle.sequences.specs.Characters.{is_c1_introducer, is_control, is_dropped, is_inline, is_kept_control};
+ghost use Rattle.sequences.specs.Classes.{is_in};
+
+/// Sets of characters that a scan passes over.
+#[derive(Clone, Copy)]
+pub(crate) enum Class {
+    Parameter,
+    Intermediate,
+    Inline,
+    Sgr,
+    Remaining,
+}
+
+fn is_control(c: char) -> bool
+    ensures { result ≡ is_control c }
+{
+    c < ' ' || ('\u{7f}' <= c && c < '\u{a0}')
+}
+
+fn is_kept_control(c: char) -> bool
+    ensures { result ≡ is_kept_control c }
+{
+    ('\u{9}' <= c && c <= '\u{d}') || ('\u{1c}' <= c && c <= '\u{1e}') || c == '\u{85}'
+}
+
+// Returns whether a character is a control that is dropped.
+pub(crate) fn is_dropped(c: char) -> bool
+    ensures { result ≡ is_dropped c }
+{
+    is_control(c) && !is_kept_control(c)
+}
+
+// Returns whether strings and overstrikes may contain a character.
+pub(crate) fn is_inline(c: char) -> bool
+    ensures { result ≡ is_inline c }
+{
+    !(is_control(c) || c == '\u{2028}' || c == '\u{2029}')
+}
+
+pub(crate) fn is_c1_introducer(c: char) -> bool
+    ensures { result ≡ is_c1_introducer c }
+{
+    '\u{80}' <= c && c < '\u{a0}' && c != '\u{85}'
+}
+
+#[inline(always)] // so that each loop over a class tests for this class alone
+fn is_in(class: Class, c: char) -> bool
+    ensures { result ≡ is_in class c }
+{
+    match class {
+        Class::Parameter => '0' <= c && c <= '?',
+        Class::Intermediate => ' ' <= c && c <= '/',
+        Class::Inline => is_inline(c),
+        Class::Sgr => '0' <= c && c <= ';',
+        Class::Remaining => !is_dropped(c),
+    }
+}
+
+// Returns the number of characters of a class at the start of a text.
+#[inline(always)]
+pub(crate) fn prefix_len(class: Class, text: &[char]) -> usize
+    ensures len { result ≡ prefix_len (is_in class) text.now }
+    ensures within { result ≤ length text.now }
+{
+    let mut len = 0;
+    while len < text.len() && is_in(class, text[len]) {
+        len += 1;
+    }
+    len
+}
+
+// Returns a character of a text, or U+0000 past its end.
+pub(crate) fn char_at(text: &[char], at: usize) -> char
+    ensures { result ≡ slice_index text.now at }
+{
+    if at < text.len() { text[at] } else { '\0' }
+}

@@ -1,0 +1,26 @@
+//! What a text for a terminal shows: the characters that remain without control sequences, overstrikes and
+//! dropped controls, and the style of each.
+#![tactic(auto)]
+
+mod characters;
+mod escapes;
+mod laws;
+mod lengths;
+mod links;
+mod look;
+mod output;
+mod overstrikes;
+mod parts;
+mod same_look;
+mod scanner;
+mod sgr;
+mod style;
+
+pub use escapes::{Escapes, is_plain, picture};
+pub use laws::{shows_itself, shows_no_controls, shows_pieces, shows_plain_text, shows_the_same};
+pub use lengths::{LONGEST_STRING, sequence_len};
+pub use links::MAX_LINKS_LEN;
+pub use look::{Blink, Color, Look, PLAIN, Underline};
+pub use output::push_between;
+pub use scanner::Scanner;
+pub use style::{Link, NO_LINK, StyleRef, StyleRun, StyledText};

@@ -1,0 +1,32 @@
+//! The links of OSC 8.
+ghost use Rattle.std.specs.Prelude.{◌≡◌, ◌∷◌, ◌≤◌, [], length, MatchOption, Some, None};
+ghost use Rattle.sequences.specs.Parameters.{osc_link, uri_link};
+
+use crate::parts::part_end;
+
+/// The greatest length of all links of a paragraph, in characters: 1 MB, at four bytes a character.
+pub const MAX_LINKS_LEN: usize = 262_144;
+
+/// Returns the link that a string after OSC sets, which is empty if it ends a link, or `None` for another string.
+pub(crate) fn osc_link(text: &[char]) -> Option<&[char]>
+    ensures { MatchOption result (osc_link text.now ≡ None) (λ link. osc_link text.now ≡ Some link.now) }
+{
+    match text {
+        ['8', ';', link @ ..] => uri_link(link),
+        _ => None,
+    }
+}
+
+// Returns the link for its parameters, a semicolon and its URI.
+fn uri_link(link: &[char]) -> Option<&[char]>
+    ensures { MatchOption result (uri_link link.now ≡ None) (λ found. uri_link link.now ≡ Some found.now) }
+{
+    let end = part_end(';', link);
+    if end == link.len() {
+        None
+    } else if end + 1 == link.len() {
+        Some(&[])
+    } else {
+        Some(link)
+    }
+}

@@ -1,0 +1,62 @@
+//! The attributes of a character that SGR sets (ECMA-48, 8.3.117).
+
+/// A colour other than the default one.
+#[derive(Clone, Copy, Debug, PartialEq, Eq)]
+pub enum Color {
+    /// One of the 16 colours that have parameters of their own: 30 to 37 are 0 to 7, and 90 to 97 are 8 to 15.
+    Basic(u8),
+    /// One of 256 colours, as by `38;5;n`. A terminal may show it differently from the basic colour n.
+    Indexed(u8),
+    /// Red, green and blue.
+    Rgb(u8, u8, u8),
+}
+
+/// A kind of underline, in the order of `4:1` to `4:5`.
+#[derive(Clone, Copy, Debug, PartialEq, Eq)]
+pub enum Underline {
+    Single,
+    Double,
+    Curly,
+    Dotted,
+    Dashed,
+}
+
+/// A kind of blinking: 5 or 6.
+#[derive(Clone, Copy, Debug, PartialEq, Eq)]
+pub enum Blink {
+    Slow,
+    Rapid,
+}
+
+/// The attributes of a character. `None` is the default of each optional one.
+#[derive(Clone, Copy, Debug, PartialEq, Eq)]
+pub struct Look {
+    pub bold: bool,
+    pub faint: bool,
+    pub italic: bool,
+    pub underline: Option<Underline>,
+    pub blink: Option<Blink>,
+    pub inverse: bool,
+    pub conceal: bool,
+    pub strike: bool,
+    pub overline: bool,
+    pub foreground: Option<Color>,
+    pub background: Option<Color>,
+    pub underline_color: Option<Color>,
+}
+
+/// The default attributes.
+pub const PLAIN: Look = Look {
+    bold: false,
+    faint: false,
+    italic: false,
+    underline: None,
+    blink: None,
+    inverse: false,
+    conceal: false,
+    strike: false,
+    overline: false,
+    foreground: None,
+    background: None,
+    underline_color: None,
+};
