@@ -6,19 +6,23 @@ import os
 import threading
 import weakref
 from array import array
-from collections.abc import Iterable
+from collections.abc import Iterable, Iterator
+from contextlib import contextmanager
 from ctypes import Structure, byref, c_size_t
+from itertools import islice
 from struct import calcsize
 from typing import Any, Callable, NoReturn, Optional, SupportsIndex, TypeVar
 
 from ._declarations import NO_ROOM, OK
 from ._errors import check
 from ._library import SIZE_MAX
-from ._records import FORMATS, Break, Direction, Options, Print, Side
+from ._records import FORMATS, Break, Direction, Options, ParagraphText, Print, Side
 
 Flags = TypeVar("Flags", Options, Print)
 Record = TypeVar("Record", bound=tuple[Any, ...])
 Call = Callable[..., int]  # a function of the C library, or `Handle.call`
+Measure = Callable[[ParagraphText], Iterable[SupportsIndex]]
+_MOST_ADVANCES = 4_294_967_295  # of a paragraph, together
 
 
 class Handle:
@@ -33,6 +37,7 @@ class Handle:
 
     def _reset(self) -> None:
         self.closed, self.pointer = True, byref(self._kind())
+        self._is_refused = False
 
     def open(self, function: Call, *arguments: Any) -> int:
         """Calls a function that opens the handle, and returns the status."""
@@ -43,10 +48,27 @@ class Handle:
     def call(self, function: Call, *arguments: Any) -> int:
         """Calls a function with the handle as its first argument, and returns the status."""
         with self.lock:
+            self._check_use()
             return function(self.pointer, *arguments)
+
+    @contextmanager
+    def refusing(self) -> Iterator[None]:
+        """Refuses calls of this thread, by a `RuntimeError`. Calls of other threads wait."""
+        with self.lock:
+            self._check_use()
+            self._is_refused = True
+            try:
+                yield
+            finally:
+                self._is_refused = False
+
+    def _check_use(self) -> None:
+        if self._is_refused:
+            raise RuntimeError("a function `measure` must not use the session that calls it")
 
     def close(self) -> None:
         with self.lock:
+            self._check_use()
             self.closed = True
             self._close(self.pointer)
 
@@ -91,6 +113,28 @@ def uint32(number: SupportsIndex, name: str) -> int:
 def uint32s(given: Iterable[SupportsIndex], name: str) -> bytes:
     """Returns numbers as an array of `uint32_t`. Raises `ValueError` if one does not fit."""
     return array("I", [uint32(number, name) for number in given]).tobytes()
+
+
+def advances_of(given: Iterable[SupportsIndex], count: int) -> bytes:
+    """Returns what a function `measure` returns for `count` characters, as an array of `uint32_t`. Raises `ValueError` if it is
+    something else."""
+    try:
+        items = iter(given)
+    except TypeError:
+        raise ValueError(f"measure returned {type(given).__name__!r} object, not advances") from None
+    advances = [_advance(item) for item in islice(items, count + 1)]  # (the items may be infinite)
+    if len(advances) != count:
+        raise ValueError(f"measure returned {'too many' if len(advances) > count else len(advances)} advances for {count} characters")
+    if sum(advances) > _MOST_ADVANCES:
+        raise ValueError(f"the advances of a paragraph add up to {sum(advances)}")
+    return array("I", advances).tobytes()
+
+
+def _advance(given: SupportsIndex) -> int:
+    try:
+        return uint32(given, "advance")
+    except TypeError:
+        raise ValueError(f"measure returned {type(given).__name__!r} object as an advance") from None
 
 
 def flags(kind: type[Flags], given: Flags, name: str) -> Flags:
