@@ -3,7 +3,7 @@
 
     python3 examples/caption.py WIDTH PICTURE FONT... < TEXT
 
-A letter is drawn with the first FONT that has it. Needs Debian's python3-pil, python3-gi and gir1.2-harfbuzz-0.0.
+A letter is drawn with the first FONT that has it. Needs Debian's python3-pil, and what hordguli.harfbuzz needs.
 """
 import sys
 
@@ -11,11 +11,11 @@ import hordguli
 from hordguli.harfbuzz import UNITS, Measure
 from PIL import Image, ImageDraw, ImageFont
 
-SIZE, HEIGHT, MARGIN = 26, 44, 16  # of the letters, a line and the border, in pixels
+SIZE, HEIGHT, MARGIN = 26, 44, 16  # of the letters, of a line, and around the text, in pixels
 
 
 def draw(lines, measure, fonts, width):
-    """Returns a picture of the lines of a session."""
+    """Returns a picture of a session's lines, `width` pixels wide and with a margin."""
     picture = Image.new("L", (width + 2 * MARGIN, len(lines) * HEIGHT + 2 * MARGIN), "white")
     pen = ImageDraw.Draw(picture)
     for number, line in enumerate(lines):
@@ -30,8 +30,8 @@ def draw(lines, measure, fonts, width):
 if __name__ == "__main__":
     if len(sys.argv) < 4:
         sys.exit("usage: caption.py WIDTH PICTURE FONT... < TEXT")
-    columns, files = int(sys.argv[1]), sys.argv[3:]
+    pixels, files = int(sys.argv[1]), sys.argv[3:]
     by_size = Measure(files, SIZE)
     opened = [ImageFont.truetype(file, SIZE, layout_engine=ImageFont.Layout.RAQM) for file in files]
-    with hordguli.Session(sys.stdin.read(), columns * UNITS, measure=by_size) as text:
-        draw(text, by_size, opened, columns).save(sys.argv[2])
+    with hordguli.Session(sys.stdin.read(), pixels * UNITS, measure=by_size) as text:
+        draw(text, by_size, opened, pixels).save(sys.argv[2])

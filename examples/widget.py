@@ -3,8 +3,8 @@
 
     python3 examples/widget.py FONT...
 
-Left and Right move the caret on the screen, and with Shift they select. Home and End go to the ends of the line. Needs what
-examples/caption.py needs, and Debian's python3-gi-cairo and gir1.2-gtk-4.0.
+Left and Right move the caret on the screen, and with Shift they select. Home and End go to the ends of the line. Backspace and
+Delete delete a grapheme cluster. Needs what examples/caption.py needs, and Debian's python3-gi-cairo and gir1.2-gtk-4.0.
 """
 import sys
 
@@ -118,6 +118,13 @@ class Field(Gtk.DrawingArea):
         place = start + len(content)
         self.go(Edge(place, Side.AFTER) if content not in ("", "\n") else Edge(place), False)
 
+    def delete(self, pos):
+        """Deletes the selection, or else the grapheme cluster that contains the character at `pos`, if there is one."""
+        start, end = self.selection()
+        if start == end and 0 <= pos < self.session.counts.characters:
+            start, end = self.session.cluster(pos)
+        self.replace(start, end, "")
+
     def key_pressed(self, _, key, code, state):
         start, end = self.selection()
         is_selecting, c = bool(state & Gdk.ModifierType.SHIFT_MASK), chr(Gdk.keyval_to_unicode(key))
@@ -127,9 +134,9 @@ class Field(Gtk.DrawingArea):
             line = min(self.session.edge_caret(self.edge).line, len(self.session) - 1)
             self.go(self.session.line_edges(line)[key == Gdk.KEY_End], is_selecting)
         elif key == Gdk.KEY_BackSpace:
-            self.replace(max(0, start - (start == end)), end, "")
+            self.delete(start - 1)
         elif key == Gdk.KEY_Delete:
-            self.replace(start, max(end, min(start + (start == end), self.session.counts.characters)), "")
+            self.delete(start)
         elif key == Gdk.KEY_Return:
             self.replace(start, end, "\n")
         elif c.isprintable() and not state & (Gdk.ModifierType.CONTROL_MASK | Gdk.ModifierType.ALT_MASK):

@@ -1,4 +1,5 @@
-"""Measures text by font files, with HarfBuzz. Needs Debian's packages `python3-gi` and `gir1.2-harfbuzz-0.0`.
+"""Measures text by font files, with HarfBuzz. Needs Debian's packages `python3-gi`, `gir1.2-harfbuzz-0.0` and
+`libharfbuzz-gobject0`, without which importing this module is an `ImportError`.
 
     >>> import hordguli
     >>> from hordguli.harfbuzz import UNITS, Measure
@@ -17,11 +18,14 @@ from typing import Any, NamedTuple, Union
 
 from ._records import ParagraphText, Piece
 
+_PACKAGES = "python3-gi, gir1.2-harfbuzz-0.0 and libharfbuzz-gobject0"
+
 try:
     import_module("gi").require_version("HarfBuzz", "0.0")
     _hb = import_module("gi.repository.HarfBuzz")
-except (ImportError, ValueError) as error:
-    raise ImportError("hordguli.harfbuzz needs Debian's packages python3-gi and gir1.2-harfbuzz-0.0") from error
+    _hb.buffer_create()  # (fails if libharfbuzz-gobject0 is missing, on which gir1.2-harfbuzz-0.0 of Debian 12 does not depend)
+except (ImportError, ValueError, RuntimeError) as error:
+    raise ImportError(f"hordguli.harfbuzz needs Debian's packages {_PACKAGES}") from error
 
 UNITS = 64
 """The units of a pixel."""
@@ -59,8 +63,8 @@ class Measure:
     a HarfBuzz cluster, such as a ligature, has the advance of the cluster, and the others have 0. A tab is as wide as 8 spaces, so
     `Options.tab_width` sets tab stops there. Other control characters and separators have advance 0.
 
-    A paragraph is shaped as a whole. Where a line ends inside a word, because the word is wider than the line, letters that are
-    drawn apart can be wider or narrower than measured.
+    A paragraph is shaped as a whole. If a line ends inside a kerned pair, a ligature or a word whose letters join, what is drawn
+    can be wider or narrower than measured.
 
     Raises `OSError` if a file cannot be read, and `ValueError` if it is no font, if there is no font, or if the size is not from
     1/64 to 65,535. Several sessions may share a `Measure`.

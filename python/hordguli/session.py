@@ -57,6 +57,7 @@ from ._records import (
 from .tables import Tables, default_tables
 
 _MOST_CHARACTERS, _MOST_COLUMNS = 16_777_216, 65_535
+_MOST_KEPT = 4096  # characters of a text that a session keeps for the next edit
 
 
 class Session:
@@ -118,7 +119,7 @@ class Session:
             self._open(library.hordguli_session_open_measured, text, width, options, tables)
             self._is_measured = True
             try:
-                self._start_measuring(measure, options, tables)
+                self._start_measuring(text, measure, options, tables)
             except BaseException:
                 self.close()
                 raise
@@ -227,7 +228,7 @@ class Session:
 
         A session with a function `measure` keeps these advances until an edit changes the paragraph.
         """
-        data = uint32s(advances, "advance")
+        data = uint32s(advances, "advance").tobytes()
         with self._handle.lock:
             damage = self._set_advances(size(pos), data)
             if data and self._measure is not None:
@@ -248,15 +249,19 @@ class Session:
 
     # ---- Measuring ----
 
-    def _start_measuring(self, measure: Measure, options: Options, tables: Optional[Tables]) -> None:
-        # This session has the same levels and paragraph boundaries, also if the tables are closed meanwhile. It is empty
-        # between edits.
+    def _start_measuring(self, text: str, measure: Measure, options: Options, tables: Optional[Tables]) -> None:
+        # This session finds the levels and the paragraph boundaries of a text, also if the tables are closed meanwhile. Between
+        # edits, it has the last text, if that is short.
         self._sample = Session("", _MOST_COLUMNS, flags(Options, options, "options") | Options.NOBREAK, tables=tables)
+        self._sample_length: Optional[int] = 0  # (`None` if it is not known)
         # The advances of each paragraph, as arrays of `uint32_t`.
         self._advances: list[bytes] = []
+        # The number, the start and the text of the paragraph that the last edit has made, and the length of the whole text. `None` if
+        # it has made several, or a long one. Most edits are in the same paragraph as the one before.
+        self._recent: Optional[tuple[int, int, str, int]] = None
         self._measure = measure
         with self._handle.lock:
-            found = [self._measured(paragraph) for paragraph in self._paragraph_texts()]
+            found = [self._measured(paragraph) for paragraph in self._paragraph_texts(text, self.counts.paragraphs)]
             self._set_advances(0, b"".join(found))
             self._advances = found
 
@@ -268,16 +273,17 @@ class Session:
         if self._measure is None:
             return get_record(Damage, self._call, *call)
         with self._handle.lock:
-            counts = self.counts
-            if pos + count > counts.characters or counts.characters - count + len(text) > _MOST_CHARACTERS:
+            recent = self._recently_touched(pos, count)
+            characters = recent[4] if recent else self.counts.characters
+            length = characters - count + len(text)
+            if pos + count > characters or length > _MOST_CHARACTERS:
                 return get_record(Damage, self._call, *call)  # (which fails)
-            first, end = self._touched(pos, count, counts.paragraphs)
-            start = self._start(first, counts)
-            prefix = self.text(start, pos - start)
-            suffix = self.text(pos + count, self._start(end, counts) - pos - count)
-            old, deleted = self._advances[first:end], self.text(pos, count)
-            new = self._new_advances(prefix, text, suffix, old)
-            length = counts.characters - count + len(text)
+            first, end, start, content = recent[:4] if recent else self._touched(pos, count)
+            prefix, deleted, suffix = content[: pos - start], content[pos - start : pos - start + count], content[pos - start + count :]
+            old = self._advances[first:end]
+            changed = prefix + text + suffix
+            new = old if text == deleted else self._new_advances(changed, len(prefix), len(suffix), old)
+            self._recent = None  # (in case of an exception)
             try:
                 damage = get_record(Damage, self._call, *call)
                 lines = self._set_advances(start, b"".join(new)).new_lines
@@ -285,55 +291,85 @@ class Session:
             except BaseException:
                 self._undo(pos, text, length, deleted, start, b"".join(old))
                 raise
-        return damage._replace(new_lines=lines)
+            if len(new) == 1 and len(changed) <= _MOST_KEPT:
+                self._recent = first, start, changed, length
+        return Damage(*damage[:2], lines, *damage[3:])
 
-    def _touched(self, pos: int, count: int, paragraphs: int) -> tuple[int, int]:
-        """Returns the first paragraph that an edit touches, and the one after the last: the edit touches what it adjoins."""
+    def _recently_touched(self, pos: int, count: int) -> Optional[tuple[int, int, int, str, int]]:
+        """Returns what `_touched` returns and the length of the whole text, without a call of the library, if the edit touches only
+        the paragraph of the last edit."""
+        if self._recent is None or self._handle.closed:
+            return None
+        first, start, text, length = self._recent
+        end = start + len(text)
+        is_alone = (pos > start or start == 0) and (pos + count < end or end == length)
+        return (first, first + 1, start, text, length) if is_alone else None
+
+    def _touched(self, pos: int, count: int) -> tuple[int, int, int, str]:
+        """Returns the first paragraph that an edit touches, the one after the last, where they start, and their text.
+
+        An edit touches the paragraphs that it adjoins.
+        """
+        paragraphs = len(self._advances)
+        if paragraphs == 0:
+            return 0, 0, 0, ""
         first = self.place(pos - 1).paragraph if pos > 0 else 0
-        return first, min(self.place(pos + count).paragraph + 1, paragraphs)
+        info = self._info(first)
+        end, stop = first + 1, info.start + info.length
+        if pos + count >= stop and end < paragraphs:
+            end = min(self.place(pos + count).paragraph + 1, paragraphs)
+            last = self._info(end - 1)
+            stop = last.start + last.length
+        length = stop - info.start
+        characters = get_array(4, self._call, library.hordguli_text_utf32, info.start, length, capacity=length)
+        return first, end, info.start, text_of(characters)
 
-    def _start(self, paragraph: int, counts: Counts) -> int:
-        """Returns the position of a paragraph's first character, or the end of the text for the number of paragraphs."""
-        return counts.characters if paragraph == counts.paragraphs else self._info(paragraph).start
-
-    def _info(self, paragraph: int) -> ParagraphInfo:
+    def _info(self, paragraph: int, levels: Optional[bytearray] = None) -> ParagraphInfo:
+        """Returns the numbers of a paragraph, and fills `levels`, which is as long as the paragraph."""
         buffer = bytearray(FORMATS[ParagraphInfo].size)
-        make_call(self._call, library.hordguli_paragraph, paragraph, address(buffer), 0, None, None)
+        arrays = (0, None, None) if levels is None else (len(levels), address(levels), None)
+        make_call(self._call, library.hordguli_paragraph, paragraph, address(buffer), *arrays)
         return ParagraphInfo(*FORMATS[ParagraphInfo].unpack(buffer))
 
-    def _new_advances(self, prefix: str, text: str, suffix: str, old: list[bytes]) -> list[bytes]:
-        """Returns the advances of each paragraph of three texts together. Those of an adjoining paragraph stay the same."""
-        try:
-            self._sample.replace(0, self._sample.counts.characters, prefix + text + suffix)
-            paragraphs = self._sample._paragraph_texts()
-        finally:
-            self._sample.delete(0, self._sample.counts.characters)
+    def _new_advances(self, text: str, prefix: int, suffix: int, old: list[bytes]) -> list[bytes]:
+        """Returns the advances of each paragraph of a text. Its first `prefix` and last `suffix` characters have not changed.
+
+        If these are all of a paragraph, its old advances are returned.
+        """
+        paragraphs = self._find_paragraphs(text)
         new: list[Optional[bytes]] = [None] * len(paragraphs)
-        if prefix and len(old[0]) == 4 * len(prefix) == 4 * len(paragraphs[0].text):
+        if prefix and len(old[0]) == 4 * prefix == 4 * len(paragraphs[0].text):
             new[0] = old[0]
-        if suffix and len(old[-1]) == 4 * len(suffix) == 4 * len(paragraphs[-1].text):
+        if suffix and len(old[-1]) == 4 * suffix == 4 * len(paragraphs[-1].text):
             new[-1] = old[-1]
         return [self._measured(one) if its is None else its for one, its in zip(paragraphs, new)]
 
-    def _paragraph_texts(self) -> list[ParagraphText]:
-        """Returns the paragraphs of the whole text, for a function `measure`."""
-        text = self.text()
+    def _find_paragraphs(self, text: str) -> list[ParagraphText]:
+        """Returns the paragraphs of any text."""
+        sample, length = self._sample, self._sample_length
+        self._sample_length = None  # (in case of an exception)
+        count = sample.replace(0, sample.counts.characters if length is None else length, text).new_paragraphs
+        found = sample._paragraph_texts(text, count)
+        if len(text) > _MOST_KEPT:
+            sample.delete(0, len(text))
+        self._sample_length = len(text) if len(text) <= _MOST_KEPT else 0
+        return found
+
+    def _paragraph_texts(self, text: str, count: int) -> list[ParagraphText]:
+        """Returns the paragraphs of the session, whose text and number are given, for a function `measure`."""
         found = []
-        for index in range(self.counts.paragraphs):
-            paragraph = self.paragraph(index)
-            runs, start = [], 0
-            for level, characters in groupby(paragraph.levels):
-                runs.append(Run(start, len(list(characters)), level))
-                start += runs[-1].length
-            content = text[paragraph.start : paragraph.start + paragraph.length]
-            found.append(ParagraphText(content, paragraph.base_level, tuple(runs)))
+        for index in range(count):
+            length = len(text) if count == 1 else self._info(index).length
+            levels = bytearray(length)
+            paragraph = self._info(index, levels)
+            content = text if count == 1 else text[paragraph.start : paragraph.start + length]
+            found.append(ParagraphText(content, paragraph.base, _level_runs(levels)))
         return found
 
     def _measured(self, paragraph: ParagraphText) -> bytes:
         """Calls the function `measure`, and returns the advances that it returns."""
         assert self._measure is not None
-        with self._handle.refusing():
-            return advances_of(self._measure(paragraph), len(paragraph.text))
+        return self._handle.run_refusing(advances_of, self._measure, paragraph)
 
     def _set_advances(self, pos: int, data: bytes) -> Damage:
         return get_record(Damage, self._call, library.hordguli_set_advances, pos, len(data) // 4, data)
@@ -611,6 +647,17 @@ class Session:
     def position_of_utf16(self, unit: SupportsIndex) -> Position:
         """Returns the character that has a UTF-16 code unit of the text, and how many of its own units come before."""
         return get_record(Position, self._call, library.hordguli_position_of_utf16, size(unit))
+
+
+def _level_runs(levels: bytearray) -> tuple[Run, ...]:
+    """Returns the level runs of a paragraph in logical order."""
+    if levels.count(levels[0]) == len(levels):  # (in most paragraphs; this is 20 times as fast)
+        return (Run(0, len(levels), levels[0]),)
+    runs, start = [], 0
+    for level, characters in groupby(levels):
+        runs.append(Run(start, len(list(characters)), level))
+        start += runs[-1].length
+    return tuple(runs)
 
 
 def _raw(edge: Edge) -> RawEdge:

@@ -78,6 +78,8 @@ def test_an_edit_measures_the_new_text_of_what_it_changes():
             (lambda: text.insert(len("o\nxabcwo\nthree\n"), "end"), ["end"]),
             (lambda: text.delete(0, 2), []),
             (lambda: text.insert(0, ""), []),
+            (lambda: text.insert(3, ""), []),
+            (lambda: text.replace(1, 2, text.text(1, 2)), []),
             (lambda: text.insert(0, "\n"), ["\n"]),
         ):
             measure.calls.clear()
@@ -85,6 +87,21 @@ def test_an_edit_measures_the_new_text_of_what_it_changes():
             assert [one.text for one in measure.calls] == measured
             assert measure.calls == [one for one in paragraph_texts(text.text(), Options.WEAK_LTR) if one.text in measured]
             assert state_of(text) == state_of(fresh(text.text(), 50))
+
+
+def test_edits_of_long_paragraphs_are_measured():
+    with Session("x\n", 700, measure=Recorder()) as text:
+        for edit in (
+            lambda: text.insert(1, f"one {HEBREW} " * 1000),
+            lambda: text.insert(5000, "y"),
+            lambda: text.insert(5001, "\n"),
+            lambda: text.delete(10, 7000),
+            lambda: text.insert(9, "z"),
+            lambda: text.delete(0, text.counts.characters),
+            lambda: text.insert(0, f"two {HEBREW}"),
+        ):
+            edit()
+            assert state_of(text) == state_of(fresh(text.text(), 700))
 
 
 def test_separators_are_joined_and_split():
@@ -167,14 +184,15 @@ def test_measured_edits_equal_advances_that_are_set(version, start, width, optio
         for pos, count, inserted in edits:
             pos = min(pos, len(model))
             count = min(count, len(model) - pos)
-            before, old_spans, growth = list(text), spans(model), len(inserted) - count
+            before, old, old_spans, growth = list(text), model, spans(model), len(inserted) - count
             measure.calls.clear()
             damage = text.replace(pos, count, inserted)
             model = model[:pos] + inserted + model[pos + count :]
             with fresh(model, width, option, tables) as other:
                 assert text.text() == model and state_of(text) == state_of(other)
             is_old = lambda start, end: (start, end) in old_spans if end <= pos else start >= pos + len(inserted) and (start - growth, end - growth) in old_spans
-            assert measure.calls == [one for one, span in zip(paragraph_texts(model, option, tables), spans(model)) if not is_old(*span)]
+            new = [one for one, span in zip(paragraph_texts(model, option, tables), spans(model)) if not is_old(*span)]
+            assert measure.calls == ([] if model == old else new)
             same = lambda lines: [line._replace(start=0) for line in lines]
             after = list(text)
             assert same(after[: damage.first_line]) == same(before[: damage.first_line])
@@ -268,7 +286,8 @@ def test_an_exception_leaves_the_session_as_it_was(error):
 
 def test_a_failing_edit_measures_nothing():
     measure = Recorder()
-    with Session("abc", 50, measure=measure) as text:
+    with Session("ab", 50, measure=measure) as text:
+        text.insert(2, "c")
         measure.calls.clear()
         for error, edit, message in (
             (IndexError, lambda: text.insert(4, "x"), "position 4 is out of range"),
