@@ -66,8 +66,8 @@ class Measure:
     A paragraph is shaped as a whole. If a line ends inside a kerned pair, a ligature or a word whose letters join, what is drawn
     can be wider or narrower than measured.
 
-    Raises `OSError` if a file cannot be read, and `ValueError` if it is no font, if there is no font, or if the size is not from
-    1/64 to 65,535. Several sessions may share a `Measure`.
+    Raises `OSError` if a file cannot be read, and `ValueError` if it is no font, if no font is given, or if the size is not from 1/64
+    to 65,535. Several sessions may share a `Measure`.
 
     >>> measure = Measure("/usr/share/fonts/truetype/noto/NotoSans-Regular.ttf", 26)
     >>> measure(hordguli.ParagraphText("AV", 0, (hordguli.Run(0, 2, 0),)))
@@ -76,11 +76,11 @@ class Measure:
 
     def __init__(self, fonts: Union[File, Iterable[File]], size: float) -> None:
         files = [fonts] if isinstance(fonts, (str, os.PathLike)) else list(fonts)
-        scale = round(size * UNITS)
         if not files:
             raise ValueError("no font is given")
-        if not 1 <= scale <= 65_535 * UNITS:
+        if not 1 / UNITS <= size <= 65_535:
             raise ValueError(f"size {size} is out of range")
+        scale = round(size * UNITS)
         self._fonts = [_open(os.fspath(file), scale) for file in files]
         self._known: dict[str, tuple[list[int], Any, str]] = {}
         space = _shape(self._fonts[0], " ", 0, 1, _hb.script_t.COMMON, 0)

@@ -104,6 +104,9 @@ def test_a_character_is_in_the_first_font_that_has_it():
     ((NOTO, 0), ValueError, "size 0 is out of range"),
     ((NOTO, -26), ValueError, "size -26 is out of range"),
     ((NOTO, 65_536), ValueError, "size 65536 is out of range"),
+    ((NOTO, 0.015), ValueError, "size 0.015 is out of range"),
+    ((NOTO, float("inf")), ValueError, "size inf is out of range"),
+    ((NOTO, float("nan")), ValueError, "size nan is out of range"),
 ])
 def test_fonts_and_sizes_are_checked(given, error, message):
     with pytest.raises(error) as caught:

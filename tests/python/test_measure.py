@@ -303,6 +303,12 @@ def test_a_failing_edit_measures_nothing():
             assert message in (None, str(caught.value)) and measure.calls == [] and text.text() == "abc"
     with pytest.raises(hordguli.ClosedError):
         text.insert(0, "x")
+    text = Session("ab", 50, measure=measure)
+    text.insert(2, "c")
+    measure.calls.clear()
+    text._handle._reset()  # (as in a forked child, if another thread was using the session)
+    with pytest.raises(hordguli.ClosedError):
+        text.insert(0, "x")
     for width in (0, 1 << 31):
         with pytest.raises(ValueError):
             Session("abc", width, measure=measure)

@@ -36,7 +36,8 @@ def test_a_tab_is_a_piece():
 @settings(max_examples=400)
 @given(changed_texts, st.integers(1, 200), options)
 def test_pieces_cover_the_line_in_visual_order(start, width, option):
-    option &= ~(Options.REORDER_NSM | Options.REORDER_CLUSTERS)
+    # (these options put some characters of a piece into another order)
+    is_plain = not option & (Options.REORDER_NSM | Options.REORDER_CLUSTERS)
     with Session.open_measured(start, width, option | Options.tab_width(8)) as text:
         text.set_advances(0, [ord(c) % 7 for c in start])
         for line in text:
@@ -48,4 +49,4 @@ def test_pieces_cover_the_line_in_visual_order(start, width, option):
                 assert ("\t" in piece.text) == (piece.text == "\t") and {line.levels[place] for place in places} == {piece.level}
                 right = piece.right
                 order += reversed(places) if piece.level % 2 else places
-            assert right == line.width and tuple(order) == line.visual_to_logical
+            assert right == line.width and (not is_plain or tuple(order) == line.visual_to_logical)
