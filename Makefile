@@ -37,6 +37,9 @@
 #   make test-arm64 Tests bin/arm64 by qemu-user, and compares its output with that of bin: 20 processor minutes.
 #   make test-threads  Runs the C library's test of threads under ThreadSanitizer and helgrind, after make c: a minute.
 #   make test-draw  Tests examples/draw.c with HarfBuzz, cairo and Noto fonts (installs Debian packages): 20 seconds.
+#   make test-widget  Tests examples/widget.py with GTK 4 under Xvfb, after make c (installs Debian packages): a minute.
+#   make test-guide Tests the programs of docs/guide.md, and the pictures there, after make c (installs Debian packages): 20 seconds.
+#   make test-pango Compares measured sessions with Pango, in C and in Python, after make c (installs Debian packages): two minutes.
 #   make test-python  Tests the Python package, compares it with python-bidi and pyfribidi, and runs its mutants, after make c.
 #   make test-rust  Tests the Rust crates, also with Rust 1.63 (Debian 12), and runs their mutants, after make c.
 #   make test-hosts Runs examples/many on three hosts on the loopback address, and kills one during a run.
@@ -49,7 +52,7 @@ TABLES = DerivedBidiClass BidiBrackets BidiMirroring LineBreak DerivedGeneralCat
 OPTIONS = --width 44 --basedir
 
 .PHONY: all program cross-compiler quick ucd ucd-17 ucd-tests image demo check tmux parallel linters test attack bench-program conformance-program conformance bench c fribidi fribidi-compare \
-	callers install uninstall python deb dist test-packages test-reproducible test-arm64 test-threads test-draw test-python test-rust test-hosts release
+	callers install uninstall python deb dist test-packages test-reproducible test-arm64 test-threads test-draw test-widget test-guide test-pango test-python test-rust test-hosts release
 
 DIST = dist
 ARCH = amd64
@@ -205,6 +208,16 @@ test-threads: c ucd
 
 test-draw: program c ucd
 	@tests/examples/draw
+
+test-widget:
+	@tests/examples/widget
+
+test-guide:
+	@tests/examples/guide
+
+test-pango:
+	tests/c/pango
+	tests/python/pango
 
 test-python: ucd
 	tests/python/run --all

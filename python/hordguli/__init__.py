@@ -7,7 +7,7 @@
 - `display` returns one visual string, as `get_display` of python-bidi does. `wrap` returns visual lines.
 - `levels`, `base_level`, `breaks`, `row`, `row_runs` and `properties` are for programs that lay out lines themselves.
 - `Session` keeps a text and its lines under edits, and has what an editor needs: carets, hits, selections. Its columns are
-  those of a terminal, or by `Session.open_measured` those of any font.
+  those of a terminal, or with a function `measure` those of any font. `hordguli.harfbuzz.Measure` measures by font files.
 
 Positions are indexes into a `str`. Positions, lines and columns are counted from 0. Exceptions:
 
@@ -15,6 +15,7 @@ Positions are indexes into a `str`. Positions, lines and columns are counted fro
 - `ValueError` for a width, for options, for a Unicode version, and for a lone surrogate (`UnicodeEncodeError`)
 - `ValueError` from `Session`, `wrap` and `explain` for a text of more than 16,777,216 characters, or a paragraph of more than
   1,048,576; the other functions have no such limits
+- `ValueError` for what a function `measure` returns, and `RuntimeError` if it uses the session that calls it
 - `NotMeasuredError` for the advances of a session that is not measured
 - `TypeError` for a `Print` in place of `Options`, and for copying or pickling sessions and tables
 - `MemoryError`, `ClosedError`, `TableError`
@@ -43,6 +44,8 @@ from ._records import (
     Line,
     Options,
     Paragraph,
+    ParagraphText,
+    Piece,
     Place,
     Position,
     Print,
@@ -75,6 +78,8 @@ __all__ = [
     "NotMeasuredError",
     "Options",
     "Paragraph",
+    "ParagraphText",
+    "Piece",
     "Place",
     "Position",
     "Print",

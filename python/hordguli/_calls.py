@@ -3,22 +3,30 @@
 import ctypes
 import operator
 import os
+import sys
 import threading
 import weakref
 from array import array
 from collections.abc import Iterable
 from ctypes import Structure, byref, c_size_t
+from itertools import islice
 from struct import calcsize
 from typing import Any, Callable, NoReturn, Optional, SupportsIndex, TypeVar
 
 from ._declarations import NO_ROOM, OK
 from ._errors import check
 from ._library import SIZE_MAX
-from ._records import FORMATS, Break, Direction, Options, Print, Side
+from ._records import FORMATS, Break, Direction, Options, ParagraphText, Print, Side
 
 Flags = TypeVar("Flags", Options, Print)
 Record = TypeVar("Record", bound=tuple[Any, ...])
+Result = TypeVar("Result")
 Call = Callable[..., int]  # a function of the C library, or `Handle.call`
+Measure = Callable[[ParagraphText], Iterable[SupportsIndex]]
+_MOST_ADVANCES = 4_294_967_295  # of a paragraph, together
+_INT = frozenset({int})
+_TAKES_FLOATS = sys.version_info < (3, 10)  # of arrays of integers
+_REFUSED = "a function `measure` must not use the session that calls it"
 
 
 class Handle:
@@ -33,6 +41,7 @@ class Handle:
 
     def _reset(self) -> None:
         self.closed, self.pointer = True, byref(self._kind())
+        self._is_refused = False
 
     def open(self, function: Call, *arguments: Any) -> int:
         """Calls a function that opens the handle, and returns the status."""
@@ -43,10 +52,23 @@ class Handle:
     def call(self, function: Call, *arguments: Any) -> int:
         """Calls a function with the handle as its first argument, and returns the status."""
         with self.lock:
+            if self._is_refused:
+                raise RuntimeError(_REFUSED)
             return function(self.pointer, *arguments)
+
+    def run_refusing(self, call: Callable[..., Result], *arguments: Any) -> Result:
+        """Makes a call that must not use the handle: that raises `RuntimeError`. Other threads that use it wait."""
+        with self.lock:
+            self._is_refused = True
+            try:
+                return call(*arguments)
+            finally:
+                self._is_refused = False
 
     def close(self) -> None:
         with self.lock:
+            if self._is_refused:
+                raise RuntimeError(_REFUSED)
             self.closed = True
             self._close(self.pointer)
 
@@ -88,9 +110,35 @@ def uint32(number: SupportsIndex, name: str) -> int:
     return value
 
 
-def uint32s(given: Iterable[SupportsIndex], name: str) -> bytes:
+def uint32s(given: Iterable[SupportsIndex], name: str) -> "array[int]":
     """Returns numbers as an array of `uint32_t`. Raises `ValueError` if one does not fit."""
-    return array("I", [uint32(number, name) for number in given]).tobytes()
+    numbers: list[Any] = list(given)
+    try:
+        if _TAKES_FLOATS and not _INT.issuperset(map(type, numbers)):
+            raise TypeError
+        return array("I", numbers)
+    except (TypeError, OverflowError):
+        return array("I", [uint32(number, name) for number in numbers])  # (raises the error for the wrong number)
+
+
+def advances_of(measure: Measure, paragraph: ParagraphText) -> bytes:
+    """Calls a function `measure`. Returns the advances as an array of `uint32_t`, or raises `ValueError` for anything else."""
+    given, count = measure(paragraph), len(paragraph.text)
+    try:
+        items = iter(given)
+    except TypeError:
+        raise ValueError(f"measure returned {type(given).__name__!r} object, not advances") from None
+    found = list(islice(items, count + 1))  # (the items may be infinite)
+    try:
+        advances = uint32s(found, "advance")
+    except TypeError:
+        wrong = next((type(item).__name__ for item in found if not hasattr(item, "__index__")), "unknown")
+        raise ValueError(f"measure returned {wrong!r} object as an advance") from None
+    if len(advances) != count:
+        raise ValueError(f"measure returned {'too many' if len(advances) > count else len(advances)} advances for {count} characters")
+    if sum(advances) > _MOST_ADVANCES:
+        raise ValueError(f"the advances of a paragraph add up to {sum(advances)}")
+    return advances.tobytes()
 
 
 def flags(kind: type[Flags], given: Flags, name: str) -> Flags:
@@ -145,7 +193,9 @@ def get_size(call: Call, *arguments: Any) -> int:
 def get_record(kind: type[Record], call: Call, *arguments: Any) -> Record:
     layout = FORMATS[kind]
     buffer = bytearray(layout.size)
-    make_call(call, *arguments, address(buffer))
+    status = call(*arguments, address(buffer))
+    if status != OK:
+        check(status, *arguments)
     return kind(*layout.unpack(buffer))
 
 

@@ -20,7 +20,7 @@ class ClosedError(ValueError):
 
 
 class NotMeasuredError(ValueError):
-    """The session was not opened by `Session.open_measured`."""
+    """The session is not measured: it was opened without a function `measure`, and not by `Session.open_measured`."""
 
 
 class Cause(enum.IntEnum):

@@ -4,11 +4,13 @@ tools/generate_declarations writes the lines below each comment `from hordguli.h
 """
 
 import enum
+import re
 from struct import Struct
 from typing import Any, NamedTuple
 
 
 _TAB_WIDTH = 0xFF00  # (bits of `Options`)
+_TAB_OR_MORE = re.compile("\t|[^\t]+")
 
 
 class Options(enum.IntFlag):
@@ -205,6 +207,21 @@ class Edge(NamedTuple):
     side: Side = Side.BEFORE
 
 
+class Piece(NamedTuple):
+    """A part of a line in one direction, for drawing: a directional run, or the part of one before, between or after tabs.
+
+    `start`: position of its first character in the text. `text`: its characters in logical order and not mirrored, as a shaper
+    needs them. `level`: that of all its characters, odd if it is right-to-left. `left`, `right`: its columns, from the left edge
+    of the line's shown part.
+    """
+
+    start: int
+    text: str
+    level: int
+    left: int
+    right: int
+
+
 class Line(NamedTuple):
     """A line. The tuples have one item per shown character; positions count from the start of the line.
 
@@ -213,6 +230,7 @@ class Line(NamedTuple):
     `padding`: columns left of the shown part if it is padded. `base_level`: 0 or 1. `is_first`: the first of its paragraph.
     `levels`: after L1, in logical order. `logical_to_visual`, `visual_to_logical`: the position maps.
     `columns`: the columns at each visual position. `runs`: the directional runs, from left to right.
+    `logical_text`: the shown part in logical order, not mirrored.
     """
 
     text: str
@@ -227,6 +245,41 @@ class Line(NamedTuple):
     logical_to_visual: tuple[int, ...]
     visual_to_logical: tuple[int, ...]
     columns: tuple[int, ...]
+    runs: tuple[Run, ...]
+    logical_text: str
+
+    def left_to_right(self) -> list[Piece]:
+        """Returns the pieces of the shown part from left to right, for drawing. A tab is a piece of its own.
+
+        >>> with hordguli.Session("ab \\u05d0(\\u05d1)") as text:
+        ...     [(piece.text, piece.level, piece.left) for piece in text[0].left_to_right()]
+        [('ab ', 0, 0), ('\u05d0(\u05d1)', 1, 3)]
+        """
+        pieces: list[Piece] = []
+        left = 0
+        for start, length, level in self.runs:
+            for first, end in _between_tabs(self.logical_text, start, start + length, level):
+                right = left + sum(self.columns[place] for place in self.logical_to_visual[first:end])
+                pieces.append(Piece(self.start + first, self.logical_text[first:end], level, left, right))
+                left = right
+        return pieces
+
+
+def _between_tabs(text: str, start: int, end: int, level: int) -> list[tuple[int, int]]:
+    """Returns the start and the end of each tab of a run, and of what is between tabs, from left to right."""
+    found = [(part.start(), part.end()) for part in _TAB_OR_MORE.finditer(text, start, end)]
+    return found[::-1] if level % 2 else found
+
+
+class ParagraphText(NamedTuple):
+    """What a function `measure` measures: a paragraph.
+
+    `text`: its characters, with its separator. `base_level`: 0 or 1. `runs`: its level runs in logical order, with levels before
+    L1. They cover all characters, and `start` counts from the start of the paragraph.
+    """
+
+    text: str
+    base_level: int
     runs: tuple[Run, ...]
 
 

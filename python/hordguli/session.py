@@ -3,13 +3,17 @@
 import operator
 from collections.abc import Iterable, Iterator
 from ctypes import byref, c_uint32
+from itertools import groupby
 from struct import calcsize
 from types import TracebackType
-from typing import Optional, SupportsIndex, Union, overload
+from typing import Any, Optional, SupportsIndex, Union, overload
 
 from ._calls import (
     Call,
     Handle,
+    Measure,
+    address,
+    advances_of,
     flags,
     get_array,
     get_info,
@@ -27,6 +31,7 @@ from ._calls import (
 from ._declarations import RawEdge, RawSession
 from ._library import library
 from ._records import (
+    FORMATS,
     Caret,
     Cluster,
     Counts,
@@ -39,6 +44,7 @@ from ._records import (
     Options,
     Paragraph,
     ParagraphInfo,
+    ParagraphText,
     Place,
     Position,
     Print,
@@ -50,6 +56,9 @@ from ._records import (
 )
 from .tables import Tables, default_tables
 
+_MOST_CHARACTERS, _MOST_COLUMNS = 16_777_216, 65_535
+_MOST_KEPT = 4096  # characters of a text that a session keeps for the next edit
+
 
 class Session:
     """A text and its layout in lines, which is kept up to date when the text is edited or the width changes.
@@ -58,7 +67,6 @@ class Session:
     paragraphs and columns are counted from 0. Positions are indexes into the text as a `str`. A column is a terminal cell.
 
     `width` is in columns, from 1 to 65,535. `options` are `Options`. Without `tables`, `default_tables()` are used.
-    `Session.open_measured` opens a session whose columns are pixels, or another unit.
 
     Methods raise `IndexError` if a position, line or paragraph is past the end, `ValueError` if the text would be too long or
     has a lone surrogate, `MemoryError`, and `ClosedError` after `close`. After an exception, the session is unchanged.
@@ -70,7 +78,31 @@ class Session:
     ...     text.lines()
     Damage(first_line=0, old_lines=2, new_lines=3, first_paragraph=0, old_paragraphs=1, new_paragraphs=1)
     ['one and', 'two', 'three']
+
+    With a function `measure`, the session lays out text in any font. The width and all columns are in a unit that the function
+    chooses, such as 1/64 pixel, and the width is from 1 to 2,147,483,647. `measure(paragraph)` returns the advance of each
+    character of a `ParagraphText`: whole numbers from 0 on. `hordguli.harfbuzz.Measure` measures by font files.
+
+    The session calls `measure` for each paragraph when it opens. Before an edit, it calls `measure` for each paragraph whose text
+    the edit will change, with the new text. If `measure` raises an exception, the session is unchanged. Further exceptions:
+
+    - `ValueError` if `measure` returns the wrong number of advances, or one that is negative or no whole number, or if the
+      advances of a paragraph add up to more than 4,294,967,295. A paragraph that joins others is also refused if their old
+      advances add up to more.
+    - `RuntimeError` if `measure` uses the session. Other threads that use it wait until the edit ends.
+    - `MemoryError`: an edit that fails halfway is undone. If memory runs out again meanwhile, the session is closed.
+
+    >>> advances = {"i": 4 * 64, "n": 9 * 64, " ": 5 * 64}
+    >>> measure = lambda paragraph: [advances[c] for c in paragraph.text]
+    >>> with hordguli.Session("inn in", width=30 * 64, measure=measure) as text:
+    ...     text.lines(), text[0].width, text.insert(3, "i").new_lines
+    (['inn', 'in'], 1408, 2)
+
+    `Session.open_measured` opens a session whose advances the program sets itself.
     """
+
+    _is_measured = False
+    _measure: Optional[Measure] = None
 
     def __init__(
         self,
@@ -79,9 +111,18 @@ class Session:
         options: Options = Options.WEAK_LTR,
         *,
         tables: Optional[Tables] = None,
+        measure: Optional[Measure] = None,
     ) -> None:
-        self._open(library.hordguli_session_open, text, width, options, tables)
-        self._is_measured = False
+        if measure is None:
+            self._open(library.hordguli_session_open, text, width, options, tables)
+        else:
+            self._open(library.hordguli_session_open_measured, text, width, options, tables)
+            self._is_measured = True
+            try:
+                self._start_measuring(text, measure, options, tables)
+            except BaseException:
+                self.close()
+                raise
 
     @classmethod
     def open_measured(
@@ -126,7 +167,11 @@ class Session:
 
     def close(self) -> None:
         """Frees the session. Safe to call again. Other calls then raise `ClosedError`."""
-        self._handle.close()
+        with self._handle.lock:
+            self._handle.close()
+            if self._measure is not None:
+                self._sample.close()
+                self._advances.clear()
 
     @property
     def closed(self) -> bool:
@@ -146,11 +191,11 @@ class Session:
     def insert(self, pos: SupportsIndex, text: str) -> Damage:
         """Inserts text before the character at `pos`, or at the end of the text. Returns which lines were replaced."""
         data = text.encode()
-        return get_record(Damage, self._call, library.hordguli_insert, size(pos), data, len(data))
+        return self._edit(text, size(pos), 0, library.hordguli_insert, size(pos), data, len(data))
 
     def delete(self, pos: SupportsIndex, count: SupportsIndex) -> Damage:
         """Deletes `count` characters from `pos` on. Returns which lines were replaced."""
-        return get_record(Damage, self._call, library.hordguli_delete, size(pos), size(count))
+        return self._edit("", size(pos), size(count), library.hordguli_delete, size(pos), size(count))
 
     def replace(self, pos: SupportsIndex, count: SupportsIndex, text: str) -> Damage:
         """Replaces the `count` characters from `pos` on by text, in one edit. Returns which lines were replaced.
@@ -160,7 +205,7 @@ class Session:
         (1, 'a--cd')
         """
         data = text.encode()
-        return get_record(Damage, self._call, library.hordguli_replace, size(pos), size(count), data, len(data))
+        return self._edit(text, size(pos), size(count), library.hordguli_replace, size(pos), size(count), data, len(data))
 
     def set_width(self, width: SupportsIndex) -> Damage:
         """Sets the width, in columns, and rewraps all paragraphs. Raises `ValueError` if it is not from 1 to 65,535."""
@@ -180,9 +225,15 @@ class Session:
         advances of all new paragraphs. From line `first_line` of the edit's damage on, its `old_lines` have then become the
         `new_lines` of this damage. Raises `NotMeasuredError` if the session is not measured, and `ValueError` if the advances of
         a paragraph would add up to more than 4,294,967,295.
+
+        A session with a function `measure` keeps these advances until an edit changes the paragraph.
         """
-        data = uint32s(advances, "advance")
-        return get_record(Damage, self._call, library.hordguli_set_advances, size(pos), len(data) // 4, data)
+        data = uint32s(advances, "advance").tobytes()
+        with self._handle.lock:
+            damage = self._set_advances(size(pos), data)
+            if data and self._measure is not None:
+                self._keep_advances(size(pos), data, damage.first_paragraph, damage.new_paragraphs)
+        return damage
 
     @property
     def width(self) -> int:
@@ -195,6 +246,156 @@ class Session:
             self.set_measured_width(width)
         else:
             self.set_width(width)
+
+    # ---- Measuring ----
+
+    def _start_measuring(self, text: str, measure: Measure, options: Options, tables: Optional[Tables]) -> None:
+        # This session finds the levels and the paragraph boundaries of a text, also if the tables are closed meanwhile. Between
+        # edits, it has the last text, if that is short.
+        self._sample = Session("", _MOST_COLUMNS, flags(Options, options, "options") | Options.NOBREAK, tables=tables)
+        self._sample_length: Optional[int] = 0  # (`None` if it is not known)
+        # The advances of each paragraph, as arrays of `uint32_t`.
+        self._advances: list[bytes] = []
+        # The number, the start and the text of the paragraph that the last edit has made, and the length of the whole text. `None` if
+        # it has made several, or a long one. Most edits are in the same paragraph as the one before.
+        self._recent: Optional[tuple[int, int, str, int]] = None
+        self._measure = measure
+        with self._handle.lock:
+            found = [self._measured(paragraph) for paragraph in self._paragraph_texts(text, self.counts.paragraphs)]
+            self._set_advances(0, b"".join(found))
+            self._advances = found
+
+    def _edit(self, text: str, pos: int, count: int, *call: Any) -> Damage:
+        """Makes an edit by a call of the C library. In a session that measures, sets the advances too.
+
+        The edit replaces the `count` characters from `pos` on by text.
+        """
+        if self._measure is None:
+            return get_record(Damage, self._call, *call)
+        with self._handle.lock:
+            recent = self._recently_touched(pos, count)
+            characters = recent[4] if recent else self.counts.characters
+            length = characters - count + len(text)
+            if pos + count > characters or length > _MOST_CHARACTERS:
+                return get_record(Damage, self._call, *call)  # (which fails)
+            first, end, start, content = recent[:4] if recent else self._touched(pos, count)
+            prefix, deleted, suffix = content[: pos - start], content[pos - start : pos - start + count], content[pos - start + count :]
+            old = self._advances[first:end]
+            changed = prefix + text + suffix
+            new = old if text == deleted else self._new_advances(changed, len(prefix), len(suffix), old)
+            self._recent = None  # (in case of an exception)
+            try:
+                damage = get_record(Damage, self._call, *call)
+                lines = self._set_advances(start, b"".join(new)).new_lines
+                self._advances[first:end] = new
+            except BaseException:
+                self._undo(pos, text, length, deleted, start, b"".join(old))
+                raise
+            if len(new) == 1 and len(changed) <= _MOST_KEPT:
+                self._recent = first, start, changed, length
+        return Damage(*damage[:2], lines, *damage[3:])
+
+    def _recently_touched(self, pos: int, count: int) -> Optional[tuple[int, int, int, str, int]]:
+        """Returns what `_touched` returns and the length of the whole text, without a call of the library, if the edit touches only
+        the paragraph of the last edit."""
+        if self._recent is None or self._handle.closed:
+            return None
+        first, start, text, length = self._recent
+        end = start + len(text)
+        is_alone = (pos > start or start == 0) and (pos + count < end or end == length)
+        return (first, first + 1, start, text, length) if is_alone else None
+
+    def _touched(self, pos: int, count: int) -> tuple[int, int, int, str]:
+        """Returns the first paragraph that an edit touches, the one after the last, where they start, and their text.
+
+        An edit touches the paragraphs that it adjoins.
+        """
+        paragraphs = len(self._advances)
+        if paragraphs == 0:
+            return 0, 0, 0, ""
+        first = self.place(pos - 1).paragraph if pos > 0 else 0
+        info = self._info(first)
+        end, stop = first + 1, info.start + info.length
+        if pos + count >= stop and end < paragraphs:
+            end = min(self.place(pos + count).paragraph + 1, paragraphs)
+            last = self._info(end - 1)
+            stop = last.start + last.length
+        length = stop - info.start
+        characters = get_array(4, self._call, library.hordguli_text_utf32, info.start, length, capacity=length)
+        return first, end, info.start, text_of(characters)
+
+    def _info(self, paragraph: int, levels: Optional[bytearray] = None) -> ParagraphInfo:
+        """Returns the numbers of a paragraph, and fills `levels`, which is as long as the paragraph."""
+        buffer = bytearray(FORMATS[ParagraphInfo].size)
+        arrays = (0, None, None) if levels is None else (len(levels), address(levels), None)
+        make_call(self._call, library.hordguli_paragraph, paragraph, address(buffer), *arrays)
+        return ParagraphInfo(*FORMATS[ParagraphInfo].unpack(buffer))
+
+    def _new_advances(self, text: str, prefix: int, suffix: int, old: list[bytes]) -> list[bytes]:
+        """Returns the advances of each paragraph of a text. Its first `prefix` and last `suffix` characters have not changed.
+
+        If these are all of a paragraph, its old advances are returned.
+        """
+        paragraphs = self._find_paragraphs(text)
+        new: list[Optional[bytes]] = [None] * len(paragraphs)
+        if prefix and len(old[0]) == 4 * prefix == 4 * len(paragraphs[0].text):
+            new[0] = old[0]
+        if suffix and len(old[-1]) == 4 * suffix == 4 * len(paragraphs[-1].text):
+            new[-1] = old[-1]
+        return [self._measured(one) if its is None else its for one, its in zip(paragraphs, new)]
+
+    def _find_paragraphs(self, text: str) -> list[ParagraphText]:
+        """Returns the paragraphs of any text."""
+        sample, length = self._sample, self._sample_length
+        self._sample_length = None  # (in case of an exception)
+        count = sample.replace(0, sample.counts.characters if length is None else length, text).new_paragraphs
+        found = sample._paragraph_texts(text, count)
+        if len(text) > _MOST_KEPT:
+            sample.delete(0, len(text))
+        self._sample_length = len(text) if len(text) <= _MOST_KEPT else 0
+        return found
+
+    def _paragraph_texts(self, text: str, count: int) -> list[ParagraphText]:
+        """Returns the paragraphs of the session, whose text and number are given, for a function `measure`."""
+        found = []
+        for index in range(count):
+            length = len(text) if count == 1 else self._info(index).length
+            levels = bytearray(length)
+            paragraph = self._info(index, levels)
+            content = text if count == 1 else text[paragraph.start : paragraph.start + length]
+            found.append(ParagraphText(content, paragraph.base, _level_runs(levels)))
+        return found
+
+    def _measured(self, paragraph: ParagraphText) -> bytes:
+        """Calls the function `measure`, and returns the advances that it returns."""
+        assert self._measure is not None
+        return self._handle.run_refusing(advances_of, self._measure, paragraph)
+
+    def _set_advances(self, pos: int, data: bytes) -> Damage:
+        return get_record(Damage, self._call, library.hordguli_set_advances, pos, len(data) // 4, data)
+
+    def _keep_advances(self, pos: int, data: bytes, first: int, number: int) -> None:
+        """Stores advances that were set from `pos` on in `number` paragraphs."""
+        start = self._info(first).start
+        for index in range(first, first + number):
+            old = self._advances[index]
+            before, after = max(0, pos - start), pos + len(data) // 4 - start
+            self._advances[index] = old[: 4 * before] + data[4 * max(0, start - pos) :][: len(old) - 4 * before] + old[4 * after :]
+            start += len(old) // 4
+
+    def _undo(self, pos: int, text: str, length: int, deleted: str, start: int, advances: bytes) -> None:
+        """Undoes an edit, or closes the session. `length` is that of the edited text.
+
+        `advances` are the old ones of the touched paragraphs, from `start` on.
+        """
+        data = deleted.encode()
+        try:
+            # (`KeyboardInterrupt` is raised after the call during which the key is pressed, so the edit can have been made)
+            if self.counts.characters == length and self.text(pos, len(text)) == text:
+                get_record(Damage, self._call, library.hordguli_replace, pos, len(text), data, len(data))
+                self._set_advances(start, advances)
+        except BaseException:
+            self.close()
 
     # ---- Sizes ----
 
@@ -298,6 +499,7 @@ class Session:
             numbers(vtol, "I"),
             numbers(columns, "N"),
             tuple(runs),
+            text_of(get_array(4, self._call, library.hordguli_text_utf32, info.start, info.shown, capacity=info.shown)),
         )
 
     def __iter__(self) -> Iterator[Line]:
@@ -445,6 +647,17 @@ class Session:
     def position_of_utf16(self, unit: SupportsIndex) -> Position:
         """Returns the character that has a UTF-16 code unit of the text, and how many of its own units come before."""
         return get_record(Position, self._call, library.hordguli_position_of_utf16, size(unit))
+
+
+def _level_runs(levels: bytearray) -> tuple[Run, ...]:
+    """Returns the level runs of a paragraph in logical order."""
+    if levels.count(levels[0]) == len(levels):  # (in most paragraphs; this is 20 times as fast)
+        return (Run(0, len(levels), levels[0]),)
+    runs, start = [], 0
+    for level, characters in groupby(levels):
+        runs.append(Run(start, len(list(characters)), level))
+        start += runs[-1].length
+    return tuple(runs)
 
 
 def _raw(edge: Edge) -> RawEdge:

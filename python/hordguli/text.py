@@ -6,11 +6,12 @@ from collections.abc import Iterable
 from ctypes import byref, c_size_t, c_uint32
 from typing import Optional, SupportsIndex, Union, overload
 
-from ._calls import Call, address, flags, get_array, get_records, get_size, make_call, numbers, text_of, uint32, utf32
+from ._calls import Call, Measure, address, flags, get_array, get_records, get_size, make_call, numbers, text_of, uint32, utf32
 from ._declarations import BIDI_CLASSES, LINE_CLASSES, MARK, WIDE
 from ._errors import check
 from ._library import library, quick_base, quick_levels, quick_row
 from ._records import BRACKETS, FORMATS, Character, Options, Print, RawCharacter, Row, Run
+from .session import Session
 from .tables import Buffers, Tables, default_tables
 
 _BASE_DIRECTIONS = {None: 0, "L": 2, "R": 3, "AL": 3}  # (plain numbers, for speed)
@@ -123,18 +124,25 @@ def wrap(
     show: Print = Print.DEFAULT,
     *,
     tables: Optional[Tables] = None,
+    measure: Optional[Measure] = None,
 ) -> list[str]:
     """Breaks a text into lines of at most `width` columns, and returns them in visual order.
 
-    `options` are those of a `Session`. `show` selects what is returned for each line, as in `Session.lines`.
+    `options` and `measure` are those of a `Session`. `show` selects what is returned for each line, as in `Session.lines`.
 
-    Raises `ValueError` if the width is not from 1 to 65,535, or the text is too long or has a lone surrogate.
+    Raises `ValueError` if the width is not from 1 to 65,535, or the text is too long or has a lone surrogate. With `measure`, the
+    width is from 1 to 2,147,483,647, and the errors are also those of `measure` in a `Session`.
 
     >>> hordguli.wrap("The quick brown fox", width=10)
+    ['The quick', 'brown fox']
+    >>> hordguli.wrap("The quick brown fox", width=100, measure=lambda paragraph: [7] * len(paragraph.text))
     ['The quick', 'brown fox']
     """
     data = text.encode()
     chosen, items = flags(Options, options, "options"), flags(Print, show, "show")
+    if measure is not None:
+        with Session(text, width, chosen, tables=tables, measure=measure) as session:
+            return session.lines(show=items)
     arguments = chosen, uint32(width, "width"), items, data, len(data)
     call = (tables or default_tables())._handle.call
     return get_array(1, call, library.hordguli_layout, *arguments, capacity=4096).decode().split("\n")[:-1]

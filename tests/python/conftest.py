@@ -39,6 +39,16 @@ def measured(content, width):
     return text
 
 
+def tens(paragraph):
+    """A function `measure`: each character has advance 10."""
+    return [10] * len(paragraph.text)
+
+
+def measuring(content, width):
+    """Opens a session that measures its text."""
+    return hordguli.Session(content, width, measure=tens)
+
+
 def state_of(text):
     """Returns all that a session holds, except its work counters."""
     paragraphs = tuple(text.paragraph(index) for index in range(text.counts.paragraphs))

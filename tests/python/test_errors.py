@@ -4,6 +4,8 @@ import copy
 import itertools
 import os
 import pickle
+import subprocess
+import sys
 import threading
 
 import hordguli
@@ -409,3 +411,28 @@ def test_closed_tables_raise():
 def test_closed_default_tables_are_opened_again():
     hordguli.default_tables().close()
     assert hordguli.levels("a") == [0]
+
+
+# ---- What hordguli.harfbuzz needs ----
+
+# How each package is missing, with what Python then raises.
+MISSING = {
+    "python3-gi": "sys.modules['gi'] = None",
+    "gir1.2-harfbuzz-0.0": "gi.require_version = lambda *_: int('none')",
+    "libharfbuzz-gobject0": "gi.require_version, harfbuzz.buffer_create = print, fail",
+}
+
+
+@pytest.mark.parametrize("package", MISSING)
+def test_the_packages_that_harfbuzz_needs_are_named(package):
+    lines = [
+        "import sys, types",
+        "def fail(): raise RuntimeError",
+        "gi, repository, harfbuzz = (types.ModuleType(name) for name in ('gi', 'gi.repository', 'gi.repository.HarfBuzz'))",
+        "sys.modules.update({one.__name__: one for one in (gi, repository, harfbuzz)})",
+        MISSING[package],
+        "import hordguli.harfbuzz",
+    ]
+    ran = subprocess.run([sys.executable, "-c", "\n".join(lines)], stdout=subprocess.DEVNULL, stderr=subprocess.PIPE)
+    said = ran.stderr.decode().strip().split("\n")[-1]
+    assert (ran.returncode, said) == (1, "ImportError: hordguli.harfbuzz needs Debian's packages python3-gi, gir1.2-harfbuzz-0.0 and libharfbuzz-gobject0")

@@ -11,7 +11,7 @@ import time
 
 import hordguli
 import pytest
-from conftest import measured, state_of
+from conftest import measured, measuring, state_of, tens
 
 HEBREW = "\u05d0\u05d1\u05d2"
 
@@ -233,7 +233,17 @@ MEASURED_EDITS = {
     "set_measured_width": lambda text: text.set_measured_width(35),
     "delete from a measured session": lambda text: text.delete(9, 1),
 }
+MEASURING_EDITS = {
+    "insert in a session that measures": lambda text: text.insert(2, f"x{HEBREW}\ny"),
+    "delete in a session that measures": lambda text: text.delete(2, 4),
+    "a join in a session that measures": lambda text: text.delete(9, 1),
+    "replace in a session that measures": lambda text: text.replace(1, 5, HEBREW),
+    "replace of all in a session that measures": lambda text: text.replace(0, 12, "a\nb\n"),
+    "set_advances in a session that measures": lambda text: text.set_advances(2, range(1, 8)),
+}
 FUNCTIONS = {
+    "Session that measures": lambda: hordguli.Session(f"ab {HEBREW}\nc", 30, measure=tens).text(),
+    "wrap that measures": lambda: hordguli.wrap(f"ab {HEBREW}\nc", 30, measure=tens),
     "open_measured": lambda: hordguli.Session.open_measured(f"ab {HEBREW}", 9).text(),
     "Session": lambda: hordguli.Session(f"ab {HEBREW}", 9).text(),
     "Tables": lambda: hordguli.Tables().closed,
@@ -274,6 +284,7 @@ def refuse_each():
         total += count
     start = f"e\u0301 {HEBREW} cd\nef"
     opened = [(hordguli.Session, 80, *edit) for edit in EDITS.items()] + [(measured, 80, *edit) for edit in MEASURED_EDITS.items()]
+    opened += [(measuring, 35, *edit) for edit in MEASURING_EDITS.items()]
     for kind, width, name, call in opened:
         with kind(start, width) as text, kind(start, width) as other:
             before = state_of(text)

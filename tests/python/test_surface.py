@@ -128,7 +128,7 @@ def test_all_names_are_in_the_manual():
     assert [name for name in hordguli.__all__ if name not in shown] == []
 
 
-@pytest.mark.parametrize("name", ["hordguli", "hordguli.text", "hordguli.session", "hordguli.tables"])
+@pytest.mark.parametrize("name", ["hordguli", "hordguli.text", "hordguli.session", "hordguli.tables", "hordguli._records"])
 def test_examples_of_docstrings(name):
     failed, count = doctest.testmod(sys.modules[name], extraglobs={"hordguli": hordguli})
     assert failed == 0 and count > 0

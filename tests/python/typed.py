@@ -2,6 +2,7 @@
 
 import hordguli
 from hordguli import Options, Print
+from hordguli.harfbuzz import Measure, Part
 
 DIRECTION = Options.RTL
 BOTH = Options.RTL | Options.NOBREAK | Options.tab_width(8)
@@ -21,6 +22,20 @@ measured: hordguli.Session = hordguli.Session.open_measured("a", 640, BOTH)
 damage: hordguli.Damage = measured.set_advances(0, [640])
 narrowed: hordguli.Damage = measured.set_measured_width(64)
 
+
+def tens(paragraph: hordguli.ParagraphText) -> list[int]:
+    return [10] * len(paragraph.text)
+
+
+fitted: hordguli.Session = hordguli.Session("a", 640, BOTH, measure=tens)
+measure = Measure(["a.ttf"], 26)
+wrapped: list[str] = hordguli.wrap("a", 640, measure=measure)
+pieces: list[hordguli.Piece] = fitted[0].left_to_right()
+parts: list[Part] = measure.parts(pieces[0])
+
+hordguli.Session("a", 640, measure=str)  # type: ignore[arg-type]
+hordguli.Session("a", 640, BOTH, None, tens)  # type: ignore[misc]
+measure.parts("a")  # type: ignore[arg-type]
 measured.set_advances(0, ["a"])  # type: ignore[list-item]
 hordguli.Session.open_measured("a")  # type: ignore[call-arg]
 hordguli.Session("a", 80, SHOWN)  # type: ignore[arg-type]
