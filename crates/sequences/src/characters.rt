@@ -1,7 +1,8 @@
 //! Characters that have a meaning to a terminal.
 ghost use Rattle.std.specs.Prelude.{◌≡◌, ◌≤◌, ℕ, length, slice_index};
 ghost use Rattle.std.specs.List.{prefix_len};
-ghost use Rattle.sequences.specs.Characters.{is_c1_introducer, is_control, is_dropped, is_inline, is_kept_control};
+ghost use Rattle.sequences.specs.Characters.{is_c1_introducer, is_control, is_dropped, is_inline};
+ghost use Rattle.sequences.specs.Characters.{is_kept_control};
 ghost use Rattle.sequences.specs.Classes.{is_in};
 
 /// Sets of characters that a scan passes over.

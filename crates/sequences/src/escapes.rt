@@ -24,8 +24,8 @@ pub fn is_plain(text: &[char]) -> bool
     text.iter().all(|c| !is_dropped(*c))
 }
 
-/// Returns the character that stands for a control of a kind that is dropped: U+2400 to U+241F and U+2421 for C0 and
-/// U+007F, and U+FFFD for C1. Returns other characters unchanged.
+/// Returns the character that stands for a control of a kind that is dropped: U+2400 to U+241F and U+2421 for
+/// C0 and U+007F, and U+FFFD for C1. Returns other characters unchanged.
 pub fn picture(c: char) -> char
     ensures { result ≡ picture c }
 {

@@ -1,13 +1,15 @@
 //! Theorems about what texts show. Calls of these functions cost nothing at run time.
-ghost use Rattle.sequences.specs.Laws.{ShowsItself, ShowsNoControls, ShowsPieces, ShowsPlainText, ShowsTheSame};
+ghost use Rattle.sequences.specs.Laws.{ShowsItself, ShowsNoControls, ShowsPieces, ShowsPlainText};
+ghost use Rattle.sequences.specs.Laws.{ShowsTheSame};
 
-/// States, as a theorem, that none of the characters that a text shows is a control of a kind that is dropped.
+/// States, as a theorem, that none of the characters that a text shows is a control of a kind that is
+/// dropped.
 pub fn shows_no_controls()
     ensures { ShowsNoControls }
 {}
 
-/// States, as a theorem, that a text without controls of a kind that is dropped is shown as it is, in the style
-/// that it begins in.
+/// States, as a theorem, that a text without controls of a kind that is dropped is shown as it is, in the
+/// style that it begins in.
 pub fn shows_plain_text()
     ensures { ShowsPlainText }
 {}
@@ -22,8 +24,8 @@ pub fn shows_itself()
     ensures { ShowsItself }
 {}
 
-/// States, as a theorem, that a text shows what its pieces show, where each piece ends with a control that remains, with
-/// U+2028 or with U+2029. No sequence and no overstrike spans such a character.
+/// States, as a theorem, that a text shows what its pieces show, where each piece ends with a control that
+/// remains, with U+2028 or with U+2029. No sequence and no overstrike spans such a character.
 pub fn shows_pieces()
     ensures { ShowsPieces }
 {}

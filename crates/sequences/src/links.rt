@@ -7,7 +7,8 @@ use crate::parts::part_end;
 /// The greatest length of all links of a paragraph, in characters: 1 MB, at four bytes a character.
 pub const MAX_LINKS_LEN: usize = 262_144;
 
-/// Returns the link that a string after OSC sets, which is empty if it ends a link, or `None` for another string.
+/// Returns the link that a string after OSC sets, which is empty if it ends a link, or `None` for another
+/// string.
 pub(crate) fn osc_link(text: &[char]) -> Option<&[char]>
     ensures { MatchOption result (osc_link text.now ≡ None) (λ link. osc_link text.now ≡ Some link.now) }
 {

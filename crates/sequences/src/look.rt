@@ -3,7 +3,8 @@
 /// A colour other than the default one.
 #[derive(Clone, Copy, Debug, PartialEq, Eq)]
 pub enum Color {
-    /// One of the 16 colours that have parameters of their own: 30 to 37 are 0 to 7, and 90 to 97 are 8 to 15.
+    /// One of the 16 colours that have parameters of their own: 30 to 37 are 0 to 7, and 90 to 97 are 8 to
+    /// 15.
     Basic(u8),
     /// One of 256 colours, as by `38;5;n`. A terminal may show it differently from the basic colour n.
     Indexed(u8),

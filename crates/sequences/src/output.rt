@@ -1,9 +1,13 @@
 //! Writes the sequences between characters with styles.
-ghost use Rattle.std.specs.Prelude.{◌≡◌, ◌<◌, ◌≤◌, ◌+◌, ◌++◌, ◌∷◌, [], OnOk, IfOk, IfSome, codes, length, take, drop};
+ghost use Rattle.std.specs.Prelude.{◌≡◌, ◌<◌, ◌≤◌, ◌+◌, ◌++◌, ◌∷◌, [], OnOk, IfOk, IfSome, codes, length};
+ghost use Rattle.std.specs.Prelude.{take, drop};
 ghost use Rattle.sequences.specs.Led.{led};
-ghost use Rattle.sequences.specs.Output.{blink_parameter, color_parameter, color_parameters, digits, effect_parameters, flag_parameter};
-ghost use Rattle.sequences.specs.Output.{line_parameters, parameters_of, three, underline_color_parameter, underline_parameter};
-ghost use Rattle.sequences.specs.Output.{between, link_between, look_between, look_text, osc_of, reset_text, sgr_of};
+ghost use Rattle.sequences.specs.Output.{blink_parameter, color_parameter, color_parameters, digits};
+ghost use Rattle.sequences.specs.Output.{effect_parameters, flag_parameter};
+ghost use Rattle.sequences.specs.Output.{line_parameters, parameters_of, three, underline_color_parameter};
+ghost use Rattle.sequences.specs.Output.{underline_parameter};
+ghost use Rattle.sequences.specs.Output.{between, link_between, look_between, look_text, osc_of, reset_text};
+ghost use Rattle.sequences.specs.Output.{sgr_of};
 ghost use Rattle.sequences.specs.Output.{weight_parameters};
 ghost use Rattle.sequences.specs.StyleRefs.{style_by};
 
@@ -236,14 +240,15 @@ fn push_link_between(before: &[char], after: &[char], out: &mut Vec<char>) -> Re
 }
 
 #[tactic(auto, unfolding(crate::specs::Output::between))]
-/// Appends what is written between characters with two styles. Lines begin and end in the default style. After a failed
-/// allocation, some of it may be missing.
+/// Appends what is written between characters with two styles. Lines begin and end in the default style.
+/// After a failed allocation, some of it may be missing.
 pub fn push_between(
     before: &StyleRef,
     after: &StyleRef,
     out: &mut Vec<char>,
 ) -> Result<(), AllocError>
-    ensures { OnOk result (out.new.items ≡ out.old.items ++ between (style_by before.now) (style_by after.now)) }
+    ensures { OnOk result (out.new.items
+        ≡ out.old.items ++ between (style_by before.now) (style_by after.now)) }
 {
     push_look_between(&before.look, &after.look, out)?;
     push_link_between(before.link, after.link, out)

@@ -61,7 +61,8 @@ fn strike(after_underline: bool, at: Struck, c: char) -> Struck
 // Returns the character that follows a BS at the start of a text, and the text after it.
 fn after_backspace(text: &[char]) -> Option<(char, &[char])>
     ensures { MatchOption result (after_backspaces text.now ≡ []) (λ found.
-        (after_backspaces text.now ≡ found.0 ∷ after_backspaces found.1.now) × (length found.1.now + 2 ≤ length text.now)) }
+        (after_backspaces text.now ≡ found.0 ∷ after_backspaces found.1.now)
+        × (length found.1.now + 2 ≤ length text.now)) }
 {
     match text {
         [b, c, rest @ ..] if *b == BS && is_inline(*c) => Some((*c, rest)),

@@ -1,7 +1,7 @@
 //! The parameters of SGR and their fields.
 //!
-//! A text of parameters is passed with the character before it, and so is a parameter. An empty text then has no
-//! parameters, and an empty parameter has one field.
+//! A text of parameters is passed with the character before it, and so is a parameter. An empty text then has
+//! no parameters, and an empty parameter has one field.
 ghost use Rattle.std.specs.Prelude.{◌≡◌, ◌==◌, ◌≤◌, ◌<◌, ◌+◌, length, drop, map, take, count_by};
 ghost use Rattle.std.specs.List.{position_or_len};
 ghost use Rattle.sequences.specs.Looks.{single, value};

@@ -1,6 +1,7 @@
 //! Whether attributes are equal, and the numbers of SGR for kinds of underlines and of blinking.
 ghost use Rattle.std.specs.Prelude.{◌≡◌};
-ghost use Rattle.sequences.specs.SameLooks.{blink_number, same_color, same_colors, same_flag, same_flags, same_look};
+ghost use Rattle.sequences.specs.SameLooks.{blink_number, same_color, same_colors, same_flag, same_flags};
+ghost use Rattle.sequences.specs.SameLooks.{same_look};
 ghost use Rattle.sequences.specs.SameLooks.{underline_kind};
 
 use crate::look::{Blink, Color, Look, Underline};

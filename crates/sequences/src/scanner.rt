@@ -18,8 +18,8 @@ use crate::sgr::applied;
 use crate::style::{Link, NO_LINK, StyledText};
 use std::alloc::{AllocError, Global};
 
-/// Collects the characters that texts show, with their styles. Each text continues in the style in which the text
-/// before it has ended.
+/// Collects the characters that texts show, with their styles. Each text continues in the style in which the
+/// text before it has ended.
 #[derive(Debug, Drop)]
 pub struct Scanner {
     /// The characters of the paragraph so far.
@@ -36,8 +36,10 @@ impl Scanner {
     ghost use Rattle.sequences.specs.Pictures.{picture};
     ghost use Rattle.sequences.specs.PlainRuns.{plain_pen};
     ghost use Rattle.sequences.specs.Scanners.{pen_of};
-    ghost use Rattle.sequences.specs.Styled.{DEFAULT, START, after_character, after_first_part, after_sequence, first_shown};
-    ghost use Rattle.sequences.specs.Styled.{more_len, next_paragraph, pen_at_end, struck_style, styled, with_link, with_osc, with_sgr};
+    ghost use Rattle.sequences.specs.Styled.{DEFAULT, START, after_character, after_first_part};
+    ghost use Rattle.sequences.specs.Styled.{after_sequence, first_shown};
+    ghost use Rattle.sequences.specs.Styled.{more_len, next_paragraph, pen_at_end, struck_style, styled};
+    ghost use Rattle.sequences.specs.Styled.{with_link, with_osc, with_sgr};
     ghost use Rattle.sequences.specs.Overstrikes.{strikes, struck};
     ghost use Rattle.sequences.specs.StyledTexts.{styled_of};
 
@@ -104,7 +106,8 @@ impl Scanner {
     // Applies the sequence that a text begins with.
     fn apply_sequence(&mut self, text: &[char]) -> Result<(), AllocError>
         ensures text { styled_of self.new.text ≡ styled_of self.old.text }
-        ensures pen { OnOk result (pen_of self.new ≡ after_sequence (pen_of self.old) (after_escape text.now)) }
+        ensures pen { OnOk result (pen_of self.new
+            ≡ after_sequence (pen_of self.old) (after_escape text.now)) }
     {
         let Some((code, sequence)) = after_escape(text) else {
             return Ok(());
@@ -119,12 +122,17 @@ impl Scanner {
         }
     }
 
-    // Appends a character with all that is struck over it, and returns the number of characters after the first one.
+    // Appends a character with all that is struck over it, and returns the number of characters after the
+    // first one.
     fn push_struck(&mut self, first: char, rest: &[char]) -> Result<usize, AllocError>
         ensures len { IfOk result (λ len. len ≡ 2 * length (strikes first rest.now)) }
         ensures within { IfOk result (λ len. len ≤ length rest.now) }
         ensures text { OnOk result (styled_of self.new.text ≡ styled_of self.old.text
-            ++ ((struck (pen_of self.old).after_underline first rest.now).shown, struck_style (pen_of self.old) first rest.now) ∷ []) }
+            ++ (
+              (struck (pen_of self.old).after_underline first rest.now).shown,
+              struck_style
+                  (pen_of self.old) first rest.now,
+            ) ∷ []) }
         ensures pen { OnOk result (pen_of self.new ≡ after_character (pen_of self.old) first rest.now) }
     {
         let (at, count) = struck_first(self.after_underline, first, rest);
@@ -139,7 +147,8 @@ impl Scanner {
         requires { text.now ≡ first ∷ rest.now }
         ensures len { IfOk result (λ len. len ≡ suc (more_len first rest.now)) }
         ensures within { IfOk result (λ len. len ≤ length text.now) }
-        ensures text { OnOk result (styled_of self.new.text ≡ styled_of self.old.text ++ first_shown (pen_of self.old) first rest.now) }
+        ensures text { OnOk result (styled_of self.new.text
+            ≡ styled_of self.old.text ++ first_shown (pen_of self.old) first rest.now) }
         ensures pen { OnOk result (pen_of self.new ≡ after_first_part (pen_of self.old) first rest.now) }
     {
         if let Some(len) = sequence_len(text) {
@@ -156,7 +165,8 @@ impl Scanner {
     // Appends characters that nothing is struck over.
     fn push_plain(&mut self, run: &[char]) -> Result<(), AllocError>
         requires { 0 < length run.now }
-        ensures text { OnOk result (styled_of self.new.text ≡ styled_of self.old.text ++ map (λ c. (c, (pen_of self.old).style)) run.now) }
+        ensures text { OnOk result (styled_of self.new.text
+            ≡ styled_of self.old.text ++ map (λ c. (c, (pen_of self.old).style)) run.now) }
         ensures pen { OnOk result (pen_of self.new ≡ plain_pen (pen_of self.old) run.now) }
     {
         self.text.push_all(run, self.look, self.link)?;
@@ -169,9 +179,11 @@ impl Scanner {
         requires { 0 < length text.now }
         ensures some { IfOk result (λ len. 0 < len) }
         ensures within { IfOk result (λ len. len ≤ length text.now) }
-        ensures text { IfOk result (λ len. styled_of self.new.text ++ styled (pen_of self.new) (drop len text.now)
+        ensures text { IfOk result (λ len. styled_of self.new.text
+            ++ styled (pen_of self.new) (drop len text.now)
             ≡ styled_of self.old.text ++ styled (pen_of self.old) text.now) }
-        ensures pen { IfOk result (λ len. pen_at_end (pen_of self.new) (drop len text.now) ≡ pen_at_end (pen_of self.old) text.now) }
+        ensures pen { IfOk result (λ len. pen_at_end (pen_of self.new) (drop len text.now)
+            ≡ pen_at_end (pen_of self.old) text.now) }
     {
         // Most texts have few sequences.
         let len = plain_len(text);
@@ -196,17 +208,20 @@ impl Scanner {
     }
 
     fn push_pictures(&mut self, text: &[char]) -> Result<(), AllocError>
-        ensures text { OnOk result (styled_of self.new.text ≡ styled_of self.old.text ++ map (λ c. (picture c, DEFAULT)) text.now) }
+        ensures text { OnOk result (styled_of self.new.text
+            ≡ styled_of self.old.text ++ map (λ c. (picture c, DEFAULT)) text.now) }
         ensures pen { pen_of self.new ≡ pen_of self.old }
     {
         self.text.push_pictures(text)
     }
 
-    /// Collects the characters that a paragraph shows in a mode, in place of those of the paragraph before. After a failed
-    /// allocation, some of them may be missing.
+    /// Collects the characters that a paragraph shows in a mode, in place of those of the paragraph before.
+    /// After a failed allocation, some of them may be missing.
     pub fn scan(&mut self, escapes: Escapes, paragraph: &[char]) -> Result<(), AllocError>
-        ensures text { OnOk result (styled_of self.new.text ≡ styled_by escapes (next_paragraph (pen_of self.old)) paragraph.now) }
-        ensures pen { OnOk result (pen_of self.new ≡ pen_by escapes (next_paragraph (pen_of self.old)) paragraph.now) }
+        ensures text { OnOk result (styled_of self.new.text
+            ≡ styled_by escapes (next_paragraph (pen_of self.old)) paragraph.now) }
+        ensures pen { OnOk result (pen_of self.new
+            ≡ pen_by escapes (next_paragraph (pen_of self.old)) paragraph.now) }
     {
         self.start_paragraph();
         match escapes {
@@ -222,7 +237,8 @@ impl Scanner {
 
     /// Appends the characters that a text shows. After a failed allocation, some of them may be missing.
     pub fn push_text(&mut self, text: &[char]) -> Result<(), AllocError>
-        ensures text { OnOk result (styled_of self.new.text ≡ styled_of self.old.text ++ styled (pen_of self.old) text.now) }
+        ensures text { OnOk result (styled_of self.new.text
+            ≡ styled_of self.old.text ++ styled (pen_of self.old) text.now) }
         ensures pen { OnOk result (pen_of self.new ≡ pen_at_end (pen_of self.old) text.now) }
     {
         let mut at = 0;
@@ -233,8 +249,8 @@ impl Scanner {
     }
 }
 
-// Returns the code that follows ESC at the start of a text, and the text from the last character of the introducer on. A C1
-// control is read as its ESC form.
+// Returns the code that follows ESC at the start of a text, and the text from the last character of the
+// introducer on. A C1 control is read as its ESC form.
 fn after_escape(text: &[char]) -> Option<(u32, &[char])>
     ensures { MatchOption result (after_escape text.now ≡ []) (λ found.
         (after_escape text.now ≡ found.0 ∷ drop 1 found.1.now) × (0 < length found.1.now)) }
@@ -248,11 +264,12 @@ fn after_escape(text: &[char]) -> Option<(u32, &[char])>
     }
 }
 
-// Returns the parameters of SGR with the character before them, given a control sequence with the last character of its
-// introducer.
+// Returns the parameters of SGR with the character before them, given a control sequence with the last
+// character of its introducer.
 fn sgr_parameters(sequence: &[char]) -> Option<&[char]>
     requires { 0 < length sequence.now }
-    ensures { MatchOption result (sgr (drop 1 sequence.now) ≡ None) (λ found. sgr (drop 1 sequence.now) ≡ Some (parameters_after found.now)) }
+    ensures { MatchOption result (sgr (drop 1 sequence.now) ≡ None)
+        (λ found. sgr (drop 1 sequence.now) ≡ Some (parameters_after found.now)) }
 {
     let (_, text) = sequence.split_at(1);
     let len = prefix_len(Class::Sgr, text);

@@ -1,7 +1,9 @@
 //! What SGR does to the attributes of characters.
 ghost use Rattle.std.specs.Prelude.{◌≡◌, ◌<◌, ◌≤◌, map, drop, length};
-ghost use Rattle.sequences.specs.Looks.{applied_after, changed, color_len, color_of, end_attribute, field_color, indexed};
-ghost use Rattle.sequences.specs.Looks.{is_color, rgb, set_attribute, set_basic, single, taken, value, with_color};
+ghost use Rattle.sequences.specs.Looks.{applied_after, changed, color_len, color_of, end_attribute};
+ghost use Rattle.sequences.specs.Looks.{field_color, indexed};
+ghost use Rattle.sequences.specs.Looks.{is_color, rgb, set_attribute, set_basic, single, taken, value};
+ghost use Rattle.sequences.specs.Looks.{with_color};
 ghost use Rattle.sequences.specs.Looks.{with_fields, with_parameter, with_underline};
 ghost use Rattle.sequences.specs.Parts.{fields_after, parameters_after};
 

@@ -64,7 +64,8 @@ impl StyledText {
         }
     }
 
-    /// Appends characters in one style. After a failed allocation, the characters and their styles are unchanged.
+    /// Appends characters in one style. After a failed allocation, the characters and their styles are
+    /// unchanged.
     pub fn push_all(
         &mut self,
         characters: &[char],
@@ -82,10 +83,11 @@ impl StyledText {
         Ok(())
     }
 
-    /// Appends a text in which nothing is a sequence, in the default style, with pictures in place of the controls of a kind
-    /// that is dropped. After a failed allocation, some characters may be missing.
+    /// Appends a text in which nothing is a sequence, in the default style, with pictures in place of the
+    /// controls of a kind that is dropped. After a failed allocation, some characters may be missing.
     pub fn push_pictures(&mut self, text: &[char]) -> Result<(), AllocError>
-        ensures text { OnOk result (styled_of self.new ≡ styled_of self.old ++ map (λ c. (picture c, DEFAULT)) text.now) }
+        ensures text { OnOk result (styled_of self.new
+            ≡ styled_of self.old ++ map (λ c. (picture c, DEFAULT)) text.now) }
         ensures links { self.new.links.items ≡ self.old.links.items }
     {
         for c in text {
@@ -112,7 +114,8 @@ impl StyledText {
     /// Returns the style of a run.
     pub fn run_style(&self, run: usize) -> StyleRef<'_>
         requires { run < length self.now.runs.items }
-        ensures { (d : StyleRun) → style_by result ≡ style_in self.now.links.items (slice_index_or self.now.runs.items run d) }
+        ensures { (d : StyleRun) → style_by result
+            ≡ style_in self.now.links.items (slice_index_or self.now.runs.items run d) }
     {
         let run = self.runs[run];
         let (_, from) = self.links.split_at(run.link.start);
@@ -124,9 +127,11 @@ impl StyledText {
 
     /// Appends the text of a link. After a failed allocation, nothing has changed.
     pub fn add_link(&mut self, link: &[char]) -> Result<Link, AllocError>
-        ensures link { IfOk result (λ added. take added.len (drop added.start self.new.links.items) ≡ link.now) }
+        ensures link { IfOk result (λ added. take added.len (drop added.start self.new.links.items)
+            ≡ link.now) }
         ensures within { IfOk result (λ added. added.start + added.len ≤ length self.new.links.items) }
-        ensures len { OnOk result (length self.new.links.items ≡ length self.old.links.items + length link.now) }
+        ensures len { OnOk result (length self.new.links.items
+            ≡ length self.old.links.items + length link.now) }
         ensures text { styled_of self.new ≡ styled_of self.old }
         ensures err { OnErr result (self.new.links.items ≡ self.old.links.items) }
     {
@@ -157,7 +162,8 @@ impl StyledText {
 
     // Returns whether characters that are appended have a style.
     fn ends_in(&self, look: Look, link: Link) -> bool
-        ensures { result ≡ true → style_at self.now.links.items DEFAULT self.now.runs.items (length self.now.characters.items)
+        ensures { result ≡ true
+            → style_at self.now.links.items DEFAULT self.now.runs.items (length self.now.characters.items)
             ≡ style_of self.now.links.items look link }
     {
         match self.runs.last() {
@@ -169,7 +175,8 @@ impl StyledText {
     // Starts a run for the characters that are appended next, if one is needed.
     fn start_run(&mut self, look: Look, link: Link) -> Result<(), AllocError>
         requires { link.start + link.len ≤ length self.old.links.items }
-        ensures style { OnOk result (style_at self.new.links.items DEFAULT self.new.runs.items (length self.new.characters.items)
+        ensures style { OnOk result (style_at self.new.links.items DEFAULT self.new.runs.items
+            (length self.new.characters.items)
             ≡ style_of self.new.links.items look link) }
         ensures text { styled_of self.new ≡ styled_of self.old }
         ensures characters { self.new.characters.items ≡ self.old.characters.items }
@@ -189,7 +196,8 @@ impl StyledText {
     /// Appends a character. After a failed allocation, the characters and their styles are unchanged.
     pub fn push(&mut self, c: char, look: Look, link: Link) -> Result<(), AllocError>
         requires { link.start + link.len ≤ length self.old.links.items }
-        ensures ok { OnOk result (styled_of self.new ≡ styled_of self.old ++ (c, style_of self.old.links.items look link) ∷ []) }
+        ensures ok { OnOk result (styled_of self.new
+            ≡ styled_of self.old ++ (c, style_of self.old.links.items look link) ∷ []) }
         ensures err { OnErr result (styled_of self.new ≡ styled_of self.old) }
         ensures links { self.new.links.items ≡ self.old.links.items }
     {
@@ -202,7 +210,8 @@ impl StyledText {
 // Returns whether a run has a style.
 fn has_style(run: StyleRun, look: Look, link: Link) -> bool
     ensures look { result ≡ true → same_look run.look look ≡ true }
-    ensures link { result ≡ true → (links : List ℕ) → take run.link.len (drop run.link.start links) ≡ take link.len (drop link.start links) }
+    ensures link { result ≡ true → (links : List ℕ) → take run.link.len (drop run.link.start links)
+        ≡ take link.len (drop link.start links) }
 {
     if same_look(&run.look, &look) {
         same_link(run.link, link)
@@ -213,7 +222,8 @@ fn has_style(run: StyleRun, look: Look, link: Link) -> bool
 
 // Returns whether links are at the same place or empty.
 fn same_link(link: Link, other: Link) -> bool
-    ensures { result ≡ true → (links : List ℕ) → take link.len (drop link.start links) ≡ take other.len (drop other.start links) }
+    ensures { result ≡ true → (links : List ℕ) → take link.len (drop link.start links)
+        ≡ take other.len (drop other.start links) }
 {
     if link.len != other.len {
         return false;
