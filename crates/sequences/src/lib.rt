@@ -1,5 +1,15 @@
 //! What a text for a terminal shows: the characters that remain without control sequences, overstrikes and
 //! dropped controls, and the style of each.
+//!
+//! A `Scanner` collects the characters of a paragraph. `push_between` writes what changes from one style to the
+//! next:
+//!
+//! ```rust
+//! let mut scanner = Scanner::new(rt.alloc());
+//! scanner.push_text(&['a', '\u{1b}', '[', '1', 'm', 'b'])?;
+//! // The characters are a and b, and a run that starts at 1 is bold.
+//! assert!(rt; scanner.text.characters.len() == 2 && scanner.text.runs[0].start == 1);
+//! ```
 #![tactic(auto)]
 
 mod characters;
