@@ -7,8 +7,8 @@
 //! ```rust
 //! let mut scanner = Scanner::new(rt.alloc());
 //! scanner.push_text(&['a', '\u{1b}', '[', '1', 'm', 'b'])?;
-//! // The characters are a and b, and a run that starts at 1 is bold.
-//! assert!(rt; scanner.text.characters.len() == 2 && scanner.text.runs[0].start == 1);
+//! assert!(rt; scanner.text.characters.as_slice() == ['a', 'b'].as_slice());
+//! assert!(rt; scanner.text.runs.len() == 1); // b is bold
 //! ```
 #![tactic(auto)]
 

@@ -381,3 +381,13 @@ fn plain_text_has_no_controls_that_are_dropped(rt: HostRuntime) {
     shows_plain_text();
     shows_the_same();
 }
+
+// The example in the first lines of `sequences`.
+#[test]
+fn bold_character_begins_a_run(rt: HostRuntime) -> Result<(), Fail> {
+    let mut scanner = Scanner::new(rt.alloc());
+    scanner.push_text(&['a', '\u{1b}', '[', '1', 'm', 'b'])?;
+    assert!(rt; scanner.text.characters.as_slice() == ['a', 'b'].as_slice());
+    assert!(rt; scanner.text.runs.len() == 1); // b is bold
+    Ok(())
+}
