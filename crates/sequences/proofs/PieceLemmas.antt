@@ -85,8 +85,8 @@ module _ (c : ℕ) (kept : is_dropped c ≡ false) (outer : is_inline c ≡ fals
       let n = prefix_len is_parameter (text ++ c ∷ one) in
       let le : n ≤ length text = prefix_within one is_parameter no_parameter text in
       let rest : prefix_len is_intermediate (drop n (text ++ c ∷ one)) ≤ length (drop n text) =
-          subst (λ (t : List ℕ). prefix_len is_intermediate t ≤ length (drop n text)) (sym (drop_whole one text n le))
-          (prefix_within one is_intermediate no_intermediate (drop n text)) in
+      subst (λ (t : List ℕ). prefix_len is_intermediate t ≤ length (drop n text)) (sym (drop_whole one text n le))
+      (prefix_within one is_intermediate no_intermediate (drop n text)) in
       omega (arith, length-drop n text)
 
   csi_end_same : (one two text : List ℕ) → csi_end (text ++ c ∷ one) ≡ csi_end (text ++ c ∷ two)
@@ -171,7 +171,7 @@ module _ (c : ℕ) (kept : is_dropped c ≡ false) (outer : is_inline c ≡ fals
       let le : n ≤ length text = prefix_within one is_inline outer text in
       let terminator = terminator_len is_osc (drop n (text ++ c ∷ one)) in
       let rest : terminator ≤ length (drop n text) =
-          subst (λ (t : List ℕ). terminator_len is_osc t ≤ length (drop n text)) (sym (drop_whole one text n le)) (terminator_within is_osc one (drop n text)) in
+      subst (λ (t : List ℕ). terminator_len is_osc t ≤ length (drop n text)) (sym (drop_whole one text n le)) (terminator_within is_osc one (drop n text)) in
       cond_both (terminator == 0 && nat_le n LONGEST_STRING) None (Some (n + terminator)) (IsWithin (length text)) (λ _. tt) (λ _. omega (arith, length-drop n text))
 
   -- all sequences, after ESC

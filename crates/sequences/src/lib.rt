@@ -27,7 +27,10 @@ mod sgr;
 mod style;
 
 pub use escapes::{Escapes, is_plain, picture};
-pub use laws::{shows_itself, shows_no_controls, shows_pieces, shows_plain_text, shows_the_same};
+pub use laws::{
+    shows_itself, shows_no_controls, shows_pieces, shows_plain_text, shows_the_same,
+    writes_plain_text,
+};
 pub use lengths::{LONGEST_STRING, sequence_len};
 pub use links::MAX_LINKS_LEN;
 pub use look::{Blink, Color, Look, PLAIN, Underline};

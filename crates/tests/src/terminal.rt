@@ -48,22 +48,23 @@ fn push_line(text: &StyledText, out: &mut Vec<char>) -> Result<(), AllocError> {
 }
 
 // Returns what the characters that a text shows are written as.
-fn rewritten(alloc: Global, text: &str) -> Result<Vec<char>, AllocError> {
-    let mut characters = Vec::new(alloc);
-    push_characters(text, &mut characters)?;
+fn rewritten(alloc: Global, text: &[char]) -> Result<Vec<char>, AllocError> {
     let mut scanner = Scanner::new(alloc);
-    scanner.push_text(&characters)?;
+    scanner.push_text(text)?;
     let mut out = Vec::new(alloc);
     push_line(&scanner.text, &mut out)?;
     Ok(out)
 }
 
-// Returns whether a text is written as expected.
+// Returns whether a text is written as expected, and whether that is written as itself.
 fn is_written_as(alloc: Global, text: &str, expected: &str) -> Result<bool, AllocError> {
+    let mut characters = Vec::new(alloc);
+    push_characters(text, &mut characters)?;
     let mut wanted = Vec::new(alloc);
     push_characters(expected, &mut wanted)?;
-    let out = rewritten(alloc, text)?;
-    Ok(out.as_slice() == wanted.as_slice())
+    let out = rewritten(alloc, &characters)?;
+    let again = rewritten(alloc, &out)?;
+    Ok(out.as_slice() == wanted.as_slice() && again.as_slice() == wanted.as_slice())
 }
 
 #[test]
@@ -380,6 +381,7 @@ fn plain_text_has_no_controls_that_are_dropped(rt: HostRuntime) {
     shows_pieces();
     shows_plain_text();
     shows_the_same();
+    writes_plain_text();
 }
 
 // The example in the first lines of `sequences`.
