@@ -1,5 +1,5 @@
 //! Functions that store lines, paragraphs and text of a session, and convert positions to offsets and back.
-ghost use Rattle.std.specs.Prelude.{[], ◌≡◌, ◌+◌, ◌≤◌, length, option_map, slice_get, IfErr, IfOk};
+ghost use Rattle.std.specs.Prelude.{◌≡◌, ◌+◌, ◌≤◌, length, option_map, slice_get, IfErr, IfOk};
 ghost use Rattle.std.specs.List.{slice_range};
 ghost use Rattle.session.specs.Kept.{lines_in};
 ghost use Rattle.session.specs.Places.{first_line_at, line_starts, paragraph_starts};
@@ -258,34 +258,20 @@ pub extern "C" fn hordguli_core_runs(
     with_object!(session, alloc, object, find_runs(&object, n, array, count))
 }
 
-// The most bytes that are reserved for output before its size is known.
-const FIRST_ROOM: usize = 1_024;
-
-// Makes a page for output that goes to an array of `len` bytes. If no memory can be reserved, the page grows
-// later.
-fn page_for(alloc: Global, len: usize) -> Page
-    ensures { result.bytes.items ≡ [] }
-{
-    let mut page = Page::new(alloc);
-    let _ = page.bytes.reserve_exact(len.min(FIRST_ROOM));
-    page
-}
-
-// Returns lines in the form in which they are printed. They go to an array of `len` bytes.
+// Returns lines in the form in which they are printed.
 fn printed(
     alloc: Global,
     session: &SessionObject,
     first: usize,
     count: usize,
     print: &Print,
-    len: usize,
 ) -> Result<Page, RangeFault>
     ensures within { IfOk result (λ page. first + count ≤ length (lines_in session.now.kept)) }
     ensures ok { IfOk result (λ page. page.bytes.items ≡ lines_page session.now first count print.now) }
     ensures err { IfErr result (RangeNot (length (lines_in session.now.kept)) first count
         (lines_page session.now first count print.now)) }
 {
-    let mut page = page_for(alloc, len);
+    let mut page = Page::new(alloc);
     match session.print_lines(&mut page, first, count, print) {
         Ok(()) => Ok(page),
         Err(fault) => Err(fault),
@@ -303,7 +289,7 @@ fn put_lines(
 ) -> Status
     ensures { PutsLines first count print.now result session.now (array.old, len.old) (array.new, len.new) }
 {
-    match printed(alloc, session, first, count, print, array.len()) {
+    match printed(alloc, session, first, count, print) {
         Ok(page) => put_bytes(&page.bytes, array, len),
         Err(RangeFault::OutOfRange) => Status::OutOfRange,
         Err(RangeFault::Write(_)) => Status::NoMemory,
@@ -336,20 +322,19 @@ pub extern "C" fn hordguli_core_lines_utf8(
     )
 }
 
-// Returns characters as UTF-8. They go to an array of `len` bytes.
+// Returns characters as UTF-8.
 fn encoded(
     alloc: Global,
     session: &SessionObject,
     pos: usize,
     count: usize,
-    len: usize,
 ) -> Result<Page, RangeFault>
     ensures within { IfOk result (λ page. pos + count ≤ length (text_at session.now)) }
     ensures ok { IfOk result (λ page. page.bytes.items ≡ utf8_part session.now.kept pos count) }
     ensures err { IfErr result (RangeNot (length (text_at session.now)) pos count
         (utf8_part session.now.kept pos count)) }
 {
-    let mut page = page_for(alloc, len);
+    let mut page = Page::new(alloc);
     match session.write_text(&mut page, pos, count) {
         Ok(()) => Ok(page),
         Err(fault) => Err(fault),
@@ -366,7 +351,7 @@ fn put_text(
 ) -> Status
     ensures { PutsText pos count result session.now (array.old, len.old) (array.new, len.new) }
 {
-    match encoded(alloc, session, pos, count, array.len()) {
+    match encoded(alloc, session, pos, count) {
         Ok(page) => put_bytes(&page.bytes, array, len),
         Err(RangeFault::OutOfRange) => Status::OutOfRange,
         Err(RangeFault::Write(_)) => Status::NoMemory,

@@ -2,7 +2,8 @@
 use Rattle.std.specs.Prelude.{◌≡◌, ℕ, Bool, true, not, ◌||◌, List, [], ◌∷◌, ◌++◌, map}
 use Rattle.std.specs.List.{list_all}
 use Rattle.sequences.specs.Characters.{is_dropped, is_inline}
-use Rattle.sequences.specs.Styled.{Pen, pen_at_end, shown_text, styled, Style}
+use Rattle.sequences.specs.Output.{written}
+use Rattle.sequences.specs.Styled.{DEFAULT, Pen, pen_at_end, shown_text, styled, Style}
 
 -- the characters that are not dropped
 abbrev pub remains : ℕ → Bool
@@ -39,3 +40,7 @@ pub record ShowsPieces : Type 0 where
   pub pen : (pen : Pen) (piece rest : List ℕ) (c : ℕ) → ends_piece c ≡ true
       → pen_at_end pen (piece ++ c ∷ rest) ≡ pen_at_end (pen_at_end pen (piece ++ c ∷ [])) rest
   pub characters : (piece rest : List ℕ) (c : ℕ) → ends_piece c ≡ true → shown_text (piece ++ c ∷ rest) ≡ shown_text (piece ++ c ∷ []) ++ shown_text rest
+
+-- Characters in the default style are written as they are.
+abbrev pub WritesPlainText : Type 0
+WritesPlainText = (text : List ℕ) → written (map (λ c. (c, DEFAULT)) text) ≡ text

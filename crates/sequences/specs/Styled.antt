@@ -18,8 +18,8 @@ pub record Style : Type 0 where
 abbrev pub DEFAULT : Style
 DEFAULT = record { look = PLAIN; link = [] }
 
--- what a text before leaves for the text after it: the style, the length of all links of the paragraph so far, and whether
--- the last character is underlined and not bold
+-- What a text leaves for the text after it: a style, the length of all links of the paragraph so far, and whether the last
+-- character is underlined and not bold.
 pub record Pen : Type 0 where
   pub style : Style
   pub links_len : ℕ

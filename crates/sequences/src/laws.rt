@@ -1,6 +1,7 @@
 //! Theorems about what texts show. Calls of these functions cost nothing at run time.
 ghost use Rattle.sequences.specs.Laws.{ShowsItself, ShowsNoControls, ShowsPieces, ShowsPlainText};
 ghost use Rattle.sequences.specs.Laws.{ShowsTheSame};
+ghost use Rattle.sequences.specs.Laws.{WritesPlainText};
 
 /// States, as a theorem, that none of the characters that a text shows is a control of a kind that is
 /// dropped.
@@ -28,4 +29,9 @@ pub fn shows_itself()
 /// remains, with U+2028 or with U+2029. No sequence and no overstrike spans such a character.
 pub fn shows_pieces()
     ensures { ShowsPieces }
+{}
+
+/// States, as a theorem, that a line in the default style is written without sequences.
+pub fn writes_plain_text()
+    ensures { WritesPlainText }
 {}

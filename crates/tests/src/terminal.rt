@@ -48,22 +48,23 @@ fn push_line(text: &StyledText, out: &mut Vec<char>) -> Result<(), AllocError> {
 }
 
 // Returns what the characters that a text shows are written as.
-fn rewritten(alloc: Global, text: &str) -> Result<Vec<char>, AllocError> {
-    let mut characters = Vec::new(alloc);
-    push_characters(text, &mut characters)?;
+fn rewritten(alloc: Global, text: &[char]) -> Result<Vec<char>, AllocError> {
     let mut scanner = Scanner::new(alloc);
-    scanner.push_text(&characters)?;
+    scanner.push_text(text)?;
     let mut out = Vec::new(alloc);
     push_line(&scanner.text, &mut out)?;
     Ok(out)
 }
 
-// Returns whether a text is written as expected.
+// Returns whether a text is written as expected, and whether that is written as itself.
 fn is_written_as(alloc: Global, text: &str, expected: &str) -> Result<bool, AllocError> {
+    let mut characters = Vec::new(alloc);
+    push_characters(text, &mut characters)?;
     let mut wanted = Vec::new(alloc);
     push_characters(expected, &mut wanted)?;
-    let out = rewritten(alloc, text)?;
-    Ok(out.as_slice() == wanted.as_slice())
+    let out = rewritten(alloc, &characters)?;
+    let again = rewritten(alloc, &out)?;
+    Ok(out.as_slice() == wanted.as_slice() && again.as_slice() == wanted.as_slice())
 }
 
 #[test]
@@ -380,4 +381,15 @@ fn plain_text_has_no_controls_that_are_dropped(rt: HostRuntime) {
     shows_pieces();
     shows_plain_text();
     shows_the_same();
+    writes_plain_text();
+}
+
+// The example in the first lines of `sequences`.
+#[test]
+fn bold_character_begins_a_run(rt: HostRuntime) -> Result<(), Fail> {
+    let mut scanner = Scanner::new(rt.alloc());
+    scanner.push_text(&['a', '\u{1b}', '[', '1', 'm', 'b'])?;
+    assert!(rt; scanner.text.characters.as_slice() == ['a', 'b'].as_slice());
+    assert!(rt; scanner.text.runs.len() == 1); // b is bold
+    Ok(())
 }
