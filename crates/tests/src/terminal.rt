@@ -2,7 +2,7 @@
 use sequences::{
     Escapes, Link, MAX_LINKS_LEN, NO_LINK, PLAIN, Scanner, StyleRef, StyledText, is_plain, picture,
     push_between, sequence_len, shows_itself, shows_no_controls, shows_pieces, shows_plain_text,
-    shows_the_same,
+    shows_the_same, writes_plain_text,
 };
 use std::alloc::{AllocError, Global};
 use std::test::Fail;
