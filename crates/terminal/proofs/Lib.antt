@@ -1,0 +1,4 @@
+pub mod CellLemmas
+pub mod NumberLemmas
+pub mod SameStyles
+pub mod WrittenLemmas

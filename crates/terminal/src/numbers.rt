@@ -1,0 +1,28 @@
+//! The styles of characters by numbers: 0 is the default style, and the runs of a text are counted from 1.
+ghost use Rattle.std.specs.Prelude.{◌≡◌, ◌≤◌, length, All};
+ghost use Rattle.sequences.specs.StyleRefs.{style_by};
+ghost use Rattle.terminal.specs.Numbers.{numbered};
+
+use sequences::{PLAIN, StyleRef, StyledText};
+
+/// The shown characters of a line in logical order, the numbers of their styles, and the text that has these
+/// styles.
+#[derive(Clone, Copy)]
+pub(crate) struct Part<'a> {
+    pub(crate) characters: &'a [char],
+    pub(crate) numbers: &'a [usize],
+    pub(crate) text: &'a StyledText,
+    ghost known: { All (λ n. n ≤ length text.now.runs.items) numbers.now },
+}
+
+/// Returns the style with a number.
+pub(crate) fn style_numbered(text: &StyledText, number: usize) -> StyleRef<'_>
+    requires { number ≤ length text.now.runs.items }
+    ensures { style_by result ≡ numbered text.now.links.items text.now.runs.items number }
+{
+    if number == 0 {
+        StyleRef { look: PLAIN, link: &[] }
+    } else {
+        text.run_style(number - 1)
+    }
+}
