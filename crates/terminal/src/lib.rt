@@ -4,3 +4,4 @@
 
 mod line;
 mod numbers;
+mod paragraph;
