@@ -48,10 +48,10 @@ cells_tab visual c k plain nine =
     let width : width_at visual k ≡ get_or (widths_of n None text) k 0 = ap (λ a. get_or (widths_of n a text) k 0) none in
     cond-false (is_measured visual) (c ∷ []) (cells visual c k) plain
     ∙ elim (cases_Bool (is_tab n (get_or text k 0))) [
-      inl tab ↦
+      | inl tab ↦
           let some : 0 < width_at visual k = omega (arith, width, tab_takes n k text within tab) in
           cond-true (is_tab n (get_or text k 0)) (replicate (width_at visual k) 32) (c ∷ []) tab ∙ sym (placed_some (width_at visual k) c some)
-    | inr other ↦
+      | inr other ↦
           let zero : width_at visual k ≡ 0 = width ∙ width_plain n k text within other ∙ ap columns_of nine ∙ control in
           cond-false (is_tab n (get_or text k 0)) (replicate (width_at visual k) 32) (c ∷ []) other ∙ ap (λ m. placed m c) (sym zero)
     ]

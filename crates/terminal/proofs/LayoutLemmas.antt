@@ -46,17 +46,17 @@ module _ (f : ℕ × Line → List ℕ) (lines : List Line) (n : ℕ) where
       → old ++ flat_map f (drop n (enumerate_from 0 lines)) ≡ all → new ++ flat_map f (drop (n + 1) (enumerate_from 0 lines)) ≡ all
   next_line old new all within e h =
       elim (slice_get_cases lines n).1 [
-        inl found ↦
+        | inl found ↦
             let line : Line = found.0 in
             let rest : List ℕ = flat_map f (drop (n + 1) (enumerate_from 0 lines)) in
             let zero : 0 + n ≡ n = omega arith in
             let first : get_or (enumerate_from 0 lines) n (0, line) ≡ (n, line) =
-                get_or-enumerate_from 0 lines n (0, line) within ∙ rw (zero, found.3) refl in
+            get_or-enumerate_from 0 lines n (0, line) within ∙ rw (zero, found.3) refl in
             let split : drop n (enumerate_from 0 lines) ≡ (n, line) ∷ drop (n + 1) (enumerate_from 0 lines) =
-                drop_more (enumerate_from 0 lines) n (0, line) (omega (arith, within, length-enumerate_from 0 lines))
-                ∙ ap (λ x. x ∷ drop (n + 1) (enumerate_from 0 lines)) first in
+            drop_more (enumerate_from 0 lines) n (0, line) (omega (arith, within, length-enumerate_from 0 lines))
+            ∙ ap (λ x. x ∷ drop (n + 1) (enumerate_from 0 lines)) first in
             ap (λ xs. xs ++ rest) (e line found.2) ∙ append_assoc old (f (n, line)) rest ∙ ap (λ xs. old ++ flat_map f xs) (sym split) ∙ h
-      | inr past ↦ absurd (omega (arith, within, past.0))
+        | inr past ↦ absurd (omega (arith, within, past.0))
       ]
 
   pub last_line : (old all : List ℕ) → length lines ≤ n → old ++ flat_map f (drop n (enumerate_from 0 lines)) ≡ all → old ≡ all

@@ -1,5 +1,9 @@
+pub mod BlockLemmas
 pub mod CellLemmas
 pub mod LayoutLemmas
 pub mod NumberLemmas
+pub mod ParagraphLemmas
+pub mod PlainLemmas
 pub mod SameStyles
 pub mod WrittenLemmas
+mod WorkedRows

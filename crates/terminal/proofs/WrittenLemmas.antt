@@ -33,9 +33,9 @@ module _ (visual : Visual) (styles : List Style) where
       let k : ℕ = get_or vtol at 0 in
       let c : ℕ = get_or chars at 0 in
       let first : styled_chars visual styles (drop at chars) (drop at vtol) ≡ in_style style cells ++ rest =
-          ap (λ xs. styled_chars visual styles xs (drop at vtol)) (drop_more chars at 0 within)
-          ∙ ap (λ xs. styled_chars visual styles (c ∷ drop (at + 1) chars) xs) (drop_more vtol at 0 also)
-          ∙ ap (λ t. in_style t (line_cells visual c k) ++ rest) (sym s) ∙ ap (λ xs. in_style style xs ++ rest) (sym e) in
+      ap (λ xs. styled_chars visual styles xs (drop at vtol)) (drop_more chars at 0 within)
+      ∙ ap (λ xs. styled_chars visual styles (c ∷ drop (at + 1) chars) xs) (drop_more vtol at 0 also)
+      ∙ ap (λ t. in_style t (line_cells visual c k) ++ rest) (sym s) ∙ ap (λ xs. in_style style xs ++ rest) (sym e) in
       ap (λ xs. xs ++ written_after style rest) n ∙ append_assoc old (between before style ++ cells) (written_after style rest)
       ∙ ap (λ xs. old ++ xs) (append_assoc (between before style) cells (written_after style rest) ∙ sym (written-one before style cells rest some)
       ∙ ap (written_after before) (sym first)) ∙ h
@@ -45,7 +45,7 @@ module _ (visual : Visual) (styles : List Style) where
       → old ++ written_after style (styled_chars visual styles (drop at chars) (drop at vtol)) ≡ all → old ++ between style DEFAULT ≡ all
   end_line chars vtol at style old all end h =
       let none : styled_chars visual styles (drop at chars) (drop at vtol) ≡ [] =
-          none_left (drop at chars) (drop at vtol) (omega (arith, end, length-drop at chars, length-drop at vtol)) in
+      none_left (drop at chars) (drop at vtol) (omega (arith, end, length-drop at chars, length-drop at vtol)) in
       ap (λ xs. old ++ written_after style xs) (sym none) ∙ h
     where
       none_left : (xs ys : List ℕ) → min (length xs) (length ys) ≡ 0 → styled_chars visual styles xs ys ≡ []

@@ -20,6 +20,10 @@ styled_nth width print layout styles nth =
 abbrev pub styled_layout : ℕ → Print → Layout → List Style → List ℕ
 styled_layout width print layout styles = flat_map (styled_nth width print layout styles) (enumerate_from 0 layout.lines)
 
--- the printed bytes of a paragraph's fresh layout, given its characters and their styles
+-- the printed bytes of a paragraph's fresh layout, given the styles of its characters
+unfoldable pub styled_bytes : Rules → ℕ → Print → List ℕ → List Style → List ℕ
+styled_bytes rules width print text styles = encode_utf8_all (styled_layout width print (layout_of rules width text) styles)
+
+-- the same, given characters with their styles
 abbrev pub styled_paragraph : Rules → ℕ → Print → List (ℕ × Style) → List ℕ
-styled_paragraph rules width print shown = encode_utf8_all (styled_layout width print (layout_of rules width (characters_of shown)) (styles_of shown))
+styled_paragraph rules width print shown = styled_bytes rules width print (characters_of shown) (styles_of shown)

@@ -2,6 +2,12 @@
 //! their characters.
 #![tactic(auto)]
 
+mod block;
+mod form;
+mod laws;
 mod line;
 mod numbers;
 mod paragraph;
+
+pub use form::{Escapes, Form};
+pub use laws::prints_plain_lines;

@@ -14,7 +14,12 @@ use sequences::{StyledText, push_between};
 use std::alloc::AllocError;
 
 // Appends what is between characters with two styles.
-fn push_change(text: &StyledText, before: usize, number: usize, out: &mut Vec<char>) -> Result<(), AllocError>
+fn push_change(
+    text: &StyledText,
+    before: usize,
+    number: usize,
+    out: &mut Vec<char>,
+) -> Result<(), AllocError>
     requires before { before ≤ length text.now.runs.items }
     requires number { number ≤ length text.now.runs.items }
     ensures { OnOk result (out.new.items ≡ out.old.items
@@ -24,7 +29,11 @@ fn push_change(text: &StyledText, before: usize, number: usize, out: &mut Vec<ch
     if before == number {
         return Ok(());
     }
-    push_between(&style_numbered(text, before), &style_numbered(text, number), out)
+    push_between(
+        &style_numbered(text, before),
+        &style_numbered(text, number),
+        out,
+    )
 }
 
 // Appends a character, or spaces in its place.
@@ -104,7 +113,11 @@ fn number_at(line: &VisualLine<'_>, part: &Part<'_>, place: usize) -> usize
     ensures within { result ≤ length part.now.text.now.runs.items }
 {
     let k = line.vtol()[place] as usize;
-    if k < part.numbers.len() { part.numbers[k] } else { 0 }
+    if k < part.numbers.len() {
+        part.numbers[k]
+    } else {
+        0
+    }
 }
 
 // Appends the character at a visual position of a line, and returns the number of its style. `before` is that of the
@@ -141,7 +154,12 @@ fn push_place(
 
 // Appends the characters of a line in visual order with their styles, without what resets the last style. Returns the
 // number of the last style.
-fn push_chars(line: &VisualLine<'_>, part: &Part<'_>, print: &Print, out: &mut Vec<char>) -> Result<usize, AllocError>
+fn push_chars(
+    line: &VisualLine<'_>,
+    part: &Part<'_>,
+    print: &Print,
+    out: &mut Vec<char>,
+) -> Result<usize, AllocError>
     requires text { part.now.characters.now ≡ line.now.text }
     requires plain { is_measured line.now ≡ false }
     ensures number { IfOk result (λ number. number ≤ length part.now.text.now.runs.items) }
@@ -162,7 +180,11 @@ fn padding(line: &VisualLine<'_>, width: u32, print: &Print) -> usize
     requires { is_measured line.now ≡ false }
     ensures { replicate result 32 ≡ padding width print.now line.now }
 {
-    if print.nopad { 0 } else { line.padding(width) as usize }
+    if print.nopad {
+        0
+    } else {
+        line.padding(width) as usize
+    }
 }
 
 /// Appends a line with the styles of its characters. `part` has the shown characters of the line.

@@ -11,5 +11,5 @@ returns-then-char_at-eq9 c = λ c'.
     let k = get_or line.vtol c.args.place 0 in
     let nine : get_or line.text k 0 ≡ 9 = search rules in
     let width : c.columns_at.result ≡ width_at line k =
-        c.columns_at.ensures ∙ cond-true (nat_lt c.args.place (length line.vtol)) (width_at line k) 0 (lt-ltb c.args.place (length line.vtol) c.requires.place) in
+    c.columns_at.ensures ∙ cond-true (nat_lt c.args.place (length line.vtol)) (width_at line k) 0 (lt-ltb c.args.place (length line.vtol) c.requires.place) in
     cells_tab line c' k c.requires.plain nine ∙ ap (λ m. placed m c') (sym width)
