@@ -3,7 +3,7 @@ use Rattle.std.proofs.Common.{◌≡◌, ℕ, ◌&&◌, Bool, List, [], ◌∷�
 use Rattle.std.specs.Prelude.{codes, not, ◌==◌, ◌||◌, if◌then◌else◌}
 use Rattle.sequences.specs.Laws.{characters_of}
 use Rattle.sequences.specs.Output.{between, written}
-use Rattle.sequences.specs.Styled.{START, pen_at_end, shown_text, styled}
+use Rattle.sequences.specs.Styled.{START, pen_at_end, styled}
 use Rattle.terminal.specs.Texts.{blocks, picture, shown_blocks}
 use Rattle.terminal.specs.declared.form.Escapes.TheVariants.{Strip}
 
@@ -18,21 +18,18 @@ abbrev is_cut : ℕ → ℕ → Bool
 is_cut before after = (before == 10 || before == 13) && not (before == 13 && after == 10)
 
 lines : blocks is_cut (codes "a\nb") ≡ codes "a\n" ∷ codes "b" ∷ []
-unfolding shown_text
 lines = refl
 
 -- a sequence is passed over to look for LF
 cr_sequence_lf : blocks is_cut (text_of (codes "a|^[31m\nb")) ≡ text_of (codes "a|^[31m\n") ∷ codes "b" ∷ []
-unfolding shown_text
 cr_sequence_lf = refl
 
 cr_sequence_other : blocks is_cut (text_of (codes "a|^[31mb")) ≡ text_of (codes "a|") ∷ text_of (codes "^[31mb") ∷ []
-unfolding shown_text
 cr_sequence_other = refl
 
 -- the next block inherits the style
 inherits : map written (shown_blocks START (blocks is_cut (text_of (codes "^[31ma\nb")))) ≡ text_of (codes "^[31ma\n^[m") ∷ text_of (codes "^[31mb^[m") ∷ []
-unfolding shown_text styled written pen_at_end between
+unfolding styled written pen_at_end between
 inherits = refl
 
 picture_of_escape : picture 0x1B ≡ 0x241B

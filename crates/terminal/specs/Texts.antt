@@ -1,5 +1,5 @@
 -- What a text for a terminal shows, and what is written for it.
-use Rattle.std.specs.Prelude.{ℕ, ◌+◌, nat_lt, ◌==◌, Bool, ◌&&◌, ◌||◌, not, List, [], ◌∷◌, length, map, take, drop, slice_index, if◌then◌else◌}
+use Rattle.std.specs.Prelude.{ℕ, zero, suc, ◌+◌, nat_lt, ◌==◌, Bool, ◌&&◌, ◌||◌, not, List, [], ◌∷◌, length, map, take, drop, if◌then◌else◌}
 use Rattle.std.specs.List.{flat_map, onto_first}
 use Rattle.std.specs.Str.{chars}
 use Rattle.std.specs.Str.Lossy.{utf8_lossy}
@@ -7,7 +7,7 @@ use Rattle.bidi.specs.Cuts.{paragraphs}
 use Rattle.lines.specs.Layouts.{Rules, cut_by}
 use Rattle.sequences.specs.Characters.{is_dropped, is_inline}
 use Rattle.sequences.specs.Laws.{characters_of}
-use Rattle.sequences.specs.Styled.{DEFAULT, Pen, Style, START, next_paragraph, pen_at_end, shown_text, styled}
+use Rattle.sequences.specs.Styled.{DEFAULT, Pen, Style, START, more_len, next_paragraph, pen_at_end, styled}
 use Rattle.terminal.specs.Forms.{print_of}
 use Rattle.terminal.specs.Lines.{in_style}
 use Rattle.terminal.specs.Paragraphs.{styled_paragraph}
@@ -47,15 +47,25 @@ in_mode Text shown = shown
 abbrev pub is_apart : ℕ → Bool
 is_apart c = not (is_inline c || is_dropped c)
 
+-- The first character of a text that is neither in a sequence nor dropped, or 0 if there is none. The first `skip` characters
+-- belong to the part before them.
+abbrev pub next_after : ℕ → List ℕ → ℕ
+next_after skip [] = 0
+next_after (suc skip) (c ∷ text) = next_after skip text
+next_after zero (c ∷ text) = if is_dropped c then next_after (more_len c text) text else c
+
+abbrev pub next_character : List ℕ → ℕ
+next_character text = next_after 0 text
+
 -- characters with their styles in groups as long as the given ones
 abbrev pub regrouped : List (List ℕ) → List (ℕ × Style) → List (List (ℕ × Style))
 regrouped [] shown = []
 regrouped (group ∷ groups) shown = take (length group) shown ∷ regrouped groups (drop (length group) shown)
 
 module _ (is_cut : ℕ → ℕ → Bool) where
-  -- whether a paragraph ends after such a character, given the text after it: there is a boundary before the next character that is shown
+  -- whether a paragraph ends after such a character, given the text after it: there is a boundary before the next character
   abbrev pub ends_block : ℕ → List ℕ → Bool
-  ends_block c text = is_apart c && is_cut c (slice_index (shown_text text) 0)
+  ends_block c text = is_apart c && is_cut c (next_character text)
 
   -- a text with its sequences, cut where paragraphs end
   abbrev pub blocks : List ℕ → List (List ℕ)
