@@ -1,9 +1,9 @@
 -- What a block shows, one paragraph at a time.
-use Rattle.std.proofs.Common.{◌≡◌, ℕ, zero, suc, ◌+◌, ◌-◌, ◌<◌, ◌≤◌, Bool, true, false, List, [], ◌∷◌, ◌++◌, length, map, take, drop, get_or, Option, Some, None, refl, sym, subst, ap, ap₂, inl, inr, ◌∙◌, append_assoc, arith}
+use Rattle.std.proofs.Common.{◌≡◌, ℕ, zero, suc, ◌+◌, ◌-◌, ◌<◌, ◌≤◌, Bool, List, [], ◌∷◌, ◌++◌, length, map, take, drop, get_or, Some, None, refl, sym, subst, ap, ap₂, inl, inr, ◌∙◌, append_assoc, arith}
 use Rattle.std.specs.Prelude.{slice_range}
 use Rattle.std.specs.List.{flat_map}
 use Rattle.std.proofs.lemmas.Bool.{cases_Bool, cond-true, cond-false}
-use Rattle.std.proofs.lemmas.List.{append-nil, drop-drop, drop-map, drop_all, length-append, length-drop, length-map, length-take-le, nil_from_length, take-map, take_all}
+use Rattle.std.proofs.lemmas.List.{append-nil, drop-drop, drop-map, length-append, length-drop, length-map, length-take-le, nil_from_length, take-map, take_all}
 use Rattle.bidi.specs.Cuts.{SplitsAt, paragraphs}
 use Rattle.bidi.specs.Pieces.{ArePieces, IsPiece, ParagraphsArePieces}
 use Rattle.lines.specs.Layouts.{IsParagraph, Rules, cut_by}

@@ -1,6 +1,6 @@
 -- The lines of a layout with styles, one at a time.
-use Rattle.std.proofs.Common.{◌≡◌, ℕ, ◌+◌, ◌<◌, ◌≤◌, List, [], ◌∷◌, ◌++◌, length, map, drop, get_or, Option, Some, None, Result, Ok, Err, refl, sym, ap, inl, inr, ◌∙◌, append_assoc, arith}
-use Rattle.std.specs.Prelude.{◌&&◌, option_map, slice_get, unwrap_or, OnOk, if◌then◌else◌}
+use Rattle.std.proofs.Common.{◌≡◌, ℕ, ◌+◌, ◌<◌, ◌≤◌, List, [], ◌∷◌, ◌++◌, length, map, drop, get_or, Some, Result, Ok, Err, refl, sym, ap, inl, inr, ◌∙◌, append_assoc, arith}
+use Rattle.std.specs.Prelude.{◌&&◌, option_map, slice_get, OnOk, if◌then◌else◌}
 use Rattle.std.specs.List.{enumerate_from, flat_map}
 use Rattle.std.proofs.lemmas.List.{append-nil, drop_all, drop_more, drop-map}
 use Rattle.std.proofs.lemmas.List.FromFn.{get_or-enumerate_from, length-enumerate_from}

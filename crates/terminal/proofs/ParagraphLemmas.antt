@@ -1,5 +1,5 @@
 -- Paragraphs of which the styles are known by numbers.
-use Rattle.std.proofs.Common.{◌≡◌, ℕ, ◌<◌, List, length, map, get_or, encode_utf8_all, None, sym, subst, ap, ap₂, ◌∙◌}
+use Rattle.std.proofs.Common.{◌≡◌, ℕ, ◌<◌, List, length, get_or, encode_utf8_all, None, sym, subst, ap, ap₂, ◌∙◌}
 use Rattle.lines.specs.Layouts.{AreWithin, Layout, Rules, layout_of}
 use Rattle.lines.specs.declared.printing.print.Print.{Print}
 use Rattle.sequences.specs.Styled.{DEFAULT, Style}

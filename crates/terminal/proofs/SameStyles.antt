@@ -1,9 +1,9 @@
 -- Nothing is written between characters of one style.
-use Rattle.std.proofs.Common.{◌≡◌, ℕ, ◌==◌, Bool, true, false, ◌&&◌, Some, None, refl, ap₂, ◌∙◌, ◌++◌, [], if◌then◌else◌}
+use Rattle.std.proofs.Common.{◌≡◌, ◌==◌, Bool, true, false, ◌&&◌, Some, None, refl, ap₂, ◌++◌, []}
 use Rattle.std.specs.Prelude.{Option, bytes_eq}
 use Rattle.std.proofs.lemmas.Bool.{and_from, cond-true, eq-eqb}
 use Rattle.std.proofs.lemmas.Slice.Eq.{bytes_eq-Decides}
-use Rattle.sequences.specs.Output.{between, link_between, look_between, look_text, osc_of, reset_text}
+use Rattle.sequences.specs.Output.{between, look_text, osc_of, reset_text}
 use Rattle.sequences.specs.SameLooks.{blink_number, same_color, same_colors, same_flag, same_flags, same_look, underline_kind}
 use Rattle.sequences.specs.Styled.{Style}
 use Rattle.sequences.specs.declared.look.Look.{Look}

@@ -1,11 +1,9 @@
 -- Examples of the definitions. In these texts ^ is ESC, and | is CR.
-use Rattle.std.proofs.Common.{◌≡◌, ℕ, ◌&&◌, Bool, List, [], ◌∷◌, ◌++◌, map, refl}
+use Rattle.std.proofs.Common.{◌≡◌, ℕ, ◌&&◌, Bool, List, [], ◌∷◌, map, refl}
 use Rattle.std.specs.Prelude.{codes, not, ◌==◌, ◌||◌, if◌then◌else◌}
-use Rattle.sequences.specs.Laws.{characters_of}
 use Rattle.sequences.specs.Output.{between, written}
 use Rattle.sequences.specs.Styled.{START, pen_at_end, styled}
 use Rattle.terminal.specs.Texts.{blocks, picture, shown_blocks}
-use Rattle.terminal.specs.declared.form.Escapes.TheVariants.{Strip}
 
 abbrev typed : ℕ → ℕ
 typed c = if c == 94 then 27 else (if c == 124 then 13 else c)

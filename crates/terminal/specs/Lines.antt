@@ -1,5 +1,5 @@
 -- The printed characters of a line with styles.
-use Rattle.std.specs.Prelude.{ℕ, ◌&&◌, List, [], ◌∷◌, ◌++◌, codes, map, slice_index_or, encode_utf8_all, if◌then◌else◌}
+use Rattle.std.specs.Prelude.{ℕ, ◌&&◌, List, [], ◌∷◌, ◌++◌, codes, map, slice_index_or, if◌then◌else◌}
 use Rattle.lines.specs.Bytes.{cells, direction_line, ordered_chars, padding}
 use Rattle.lines.specs.Visual.{Visual, is_measured}
 use Rattle.lines.specs.declared.printing.print.Print.{Print}

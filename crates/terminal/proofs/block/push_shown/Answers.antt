@@ -1,4 +1,4 @@
-use Rattle.std.proofs.Common.{◌≡◌, ◌∙◌, List, map, ap, sym}
+use Rattle.std.proofs.Common.{◌∙◌, map, ap, sym}
 use Rattle.sequences.specs.StyledTexts.{styled_of}
 use Rattle.terminal.specs.Numbers.{numbered}
 use Rattle.terminal.specs.Texts.{block_page, in_mode}

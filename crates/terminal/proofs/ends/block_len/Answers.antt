@@ -1,4 +1,4 @@
-use Rattle.std.proofs.Common.{◌≡◌, ◌+◌, ◌∙◌, ℕ, true, false, drop, get_or, take, ap, ap₂, sym, below_more, arith}
+use Rattle.std.proofs.Common.{◌≡◌, ◌∙◌, get_or, ap₂, sym, below_more, arith}
 use Rattle.lines.specs.Engine.{rules_of}
 use Rattle.lines.specs.Layouts.{cut_by}
 use Rattle.terminal.specs.Texts.{ends_block}

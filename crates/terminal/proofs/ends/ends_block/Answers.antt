@@ -1,9 +1,9 @@
-use Rattle.std.proofs.Common.{◌≡◌, ◌∙◌, ◌==◌, ◌&&◌, true, false, ap, sym}
+use Rattle.std.proofs.Common.{◌∙◌, ◌&&◌, ap, sym}
 use Rattle.std.proofs.lemmas.Bool.{ne_eqb}
 use Rattle.lines.specs.Engine.{rules_of}
 use Rattle.lines.specs.Layouts.{cut_by}
 use Rattle.ucd.specs.Tables.{class_of}
-use Rattle.terminal.specs.Texts.{is_apart, next_character}
+use Rattle.terminal.specs.Texts.{next_character}
 use Rattle.terminal.proofs.EndLemmas.{cut_same}
 use Rattle.terminal.proofs.ends.ends_block.Goals as goal
 

@@ -1,4 +1,4 @@
-use Rattle.std.proofs.Common.{◌≡◌, ◌∙◌, false, get_or, None, ap, sym, rules}
+use Rattle.std.proofs.Common.{◌≡◌, ◌∙◌, false, get_or, None, sym, rules}
 use Rattle.sequences.specs.Characters.{is_dropped}
 use Rattle.sequences.specs.Sequences.{sequence_len}
 use Rattle.terminal.proofs.EndLemmas.{control_skipped, none_skipped, sequence_skipped}

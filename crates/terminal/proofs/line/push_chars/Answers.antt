@@ -1,4 +1,4 @@
-use Rattle.std.proofs.Common.{◌<◌, ◌≤◌, ◌≡◌, min, get_or, length, refl, arith}
+use Rattle.std.proofs.Common.{refl, arith}
 use Rattle.lines.specs.Bytes.{ordered_chars}
 use Rattle.terminal.specs.Numbers.{numbered}
 use Rattle.terminal.specs.Parts.{styles_in}

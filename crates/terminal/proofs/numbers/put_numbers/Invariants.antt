@@ -1,7 +1,4 @@
-use Rattle.std.proofs.Common.{◌≡◌, ◌≤◌, ◌<◌, ℕ, get_or, length, take}
-use Rattle.sequences.specs.Styled.{DEFAULT}
-use Rattle.sequences.specs.StyledTexts.{style_at}
-use Rattle.terminal.specs.Numbers.{numbered}
+use Rattle.std.proofs.Common.{length}
 use Rattle.terminal.proofs.NumberLemmas.{IsNumbered}
 use Rattle.terminal.proofs.numbers.put_numbers.Given as goal
 

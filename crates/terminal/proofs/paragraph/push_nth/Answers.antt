@@ -1,4 +1,4 @@
-use Rattle.std.proofs.Common.{◌≡◌, ◌∙◌, get_or, length, map, ap, arith}
+use Rattle.std.proofs.Common.{◌≡◌, ◌∙◌, get_or, ap}
 use Rattle.std.proofs.lemmas.List.{get_or-map}
 use Rattle.std.proofs.lemmas.Option.{get_or_from_slice_get}
 use Rattle.lines.specs.Layouts.{start_of}

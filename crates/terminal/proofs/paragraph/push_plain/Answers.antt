@@ -1,4 +1,4 @@
-use Rattle.std.proofs.Common.{◌≡◌, ◌∙◌, ◌++◌, ap, ap₂, refl, sym}
+use Rattle.std.proofs.Common.{◌∙◌, ◌++◌, ap, ap₂, refl, sym}
 use Rattle.lines.specs.Engine.{rules_of}
 use Rattle.lines.specs.Pages.{paragraph_bytes}
 use Rattle.lines.specs.declared.printing.print.Print.{Print}
