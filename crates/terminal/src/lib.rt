@@ -1,5 +1,7 @@
-//! Runs a text for a terminal: lays out the paragraphs that it shows, and writes their lines with the styles of
-//! their characters.
+//! Lays out what a text for a terminal shows, and adds the lines to a page, each character in its style.
+//!
+//! `push_text` takes characters with their control sequences. For a text in which nothing is a sequence, replace each
+//! character by its `picture` first.
 #![tactic(auto)]
 
 mod block;
