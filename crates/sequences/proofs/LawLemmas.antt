@@ -28,7 +28,7 @@ struck-remains after_underline s (b ∷ []) e = e
 struck-remains after_underline s (b ∷ c ∷ text) e =
     cond_both (b == 0x08 && is_inline c) (c ∷ after_backspaces text) [] (λ xs. is_dropped (fold (strike after_underline) s xs).shown ≡ false)
     (λ both. struck-remains after_underline (strike after_underline s c) text
-        (strike-shown (λ x. is_dropped x ≡ false) after_underline s c e (inline_remains c (and_parts (b == 0x08) (is_inline c) both).1)))
+    (strike-shown (λ x. is_dropped x ≡ false) after_underline s c e (inline_remains c (and_parts (b == 0x08) (is_inline c) both).1)))
     (λ _. e)
 
 first-remains : (after_underline : Bool) (c : ℕ) (text : List ℕ) → is_dropped c ≡ false → is_dropped (struck after_underline c text).shown ≡ false
@@ -73,8 +73,10 @@ plain_part pen c text e none = (
   where
     place : List ℕ → Struck
     place xs = fold (strike pen.after_underline) (record { shown = c; bold = false; underlined = false }) xs
+
     with_look : Look → ℕ × Style
     with_look look = (c, record { look = look; link = pen.style.link })
+
     shown_by : List ℕ → ℕ × Style
     shown_by xs = ((place xs).shown, record { look = struck_look pen.style.look (place xs); link = pen.style.link })
 
@@ -95,9 +97,9 @@ shown_over old c = if c == old then old else (if c == 0x5F then old else c)
 
 shown_by_tests : (same first low under after_underline : Bool) (s : Struck) (c : ℕ)
     → (if same then (if first then record s { bold = not after_underline; underlined = after_underline }
-          else (if low then record s { bold = true; underlined = true } else record s { bold = true }))
-      else (if low then record s { underlined = true }
-      else (if under then record { shown = c; bold = false; underlined = true } else record { shown = c; bold = false; underlined = false }))).shown
+    else (if low then record s { bold = true; underlined = true } else record s { bold = true }))
+    else (if low then record s { underlined = true }
+    else (if under then record { shown = c; bold = false; underlined = true } else record { shown = c; bold = false; underlined = false }))).shown
     ≡ (if same then s.shown else (if low then s.shown else c))
 shown_by_tests true true low under after_underline s c = refl
 shown_by_tests true false true under after_underline s c = refl
@@ -126,7 +128,7 @@ first_characters pen other c text =
     ∙ ap (λ (x : ℕ). if is_dropped c then [] else x ∷ []) (struck-same pen.after_underline other.after_underline first first (strikes c text) refl)
     ∙ sym (shown_if (is_dropped c) (struck other.after_underline c text).shown (struck_style other c text))
 
-same_characters : (skip : ℕ) (pen other : Pen) (text : List ℕ) → characters_of (styled_after skip pen text) ≡ characters_of (styled_after skip other text)
+pub same_characters : (skip : ℕ) (pen other : Pen) (text : List ℕ) → characters_of (styled_after skip pen text) ≡ characters_of (styled_after skip other text)
 same_characters skip pen other [] = refl
 same_characters (suc skip) pen other (c ∷ text) = same_characters skip pen other text
 same_characters zero pen other (c ∷ text) =
@@ -147,7 +149,6 @@ shows_no_controls pen text = all_remain 0 pen text
 pub shows_plain_text : ShowsPlainText
 unfolding styled
 shows_plain_text pen text e = plain_text pen text e
-
 
 pub shows_the_same : ShowsTheSame
 unfolding styled shown_text

@@ -3,6 +3,7 @@ pub mod LookLemmas
 pub mod OutputLemmas
 pub mod PartLemmas
 pub mod SameLookLemmas
+pub mod PieceLemmas
 pub mod PlainLemmas
 pub mod ScannerLemmas
 pub mod StepLemmas

@@ -16,7 +16,7 @@ inline_remains c e =
     ap (λ b. b && not (is_kept_control c)) parts.0
 
 -- ESC, BS and the C1 controls that introduce sequences are dropped
-not_among : (c dropped : ℕ) → is_dropped c ≡ false → is_dropped dropped ≡ true → (c == dropped) ≡ false
+pub not_among : (c dropped : ℕ) → is_dropped c ≡ false → is_dropped dropped ≡ true → (c == dropped) ≡ false
 not_among c dropped e d = go (c == dropped) refl
   where
     go : (b : Bool) → (c == dropped) ≡ b → b ≡ false
@@ -37,7 +37,7 @@ no_sequence c text e =
     cond-false (c == 0x1B) _ _ (escape_is_dropped c e) ∙ cond-false (is_c1_introducer c) _ _ (introducer_is_dropped c e)
 
 -- without a BS after it, nothing is struck over a character
-no_backspaces : (c : ℕ) (text : List ℕ) → is_dropped c ≡ false → after_backspaces (c ∷ text) ≡ []
+pub no_backspaces : (c : ℕ) (text : List ℕ) → is_dropped c ≡ false → after_backspaces (c ∷ text) ≡ []
 no_backspaces c [] e = refl
 no_backspaces c (d ∷ text) e = cond-false (c == 0x08 && is_inline d) _ _ (ap (λ b. b && is_inline d) (backspace_is_dropped c e))
 

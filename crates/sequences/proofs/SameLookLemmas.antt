@@ -66,8 +66,18 @@ same_color-true (Some (Rgb r g b)) (Some (Indexed m)) e = absurd (false≢true e
 look_of : (bold faint italic : Bool) (underline : Option Underline) (blink : Option Blink) (inverse conceal strike overline : Bool)
     (foreground background underline_color : Option Color) → Look
 look_of bold faint italic underline blink inverse conceal strike overline foreground background underline_color = record {
-  bold = bold; faint = faint; italic = italic; underline = underline; blink = blink; inverse = inverse; conceal = conceal;
-  strike = strike; overline = overline; foreground = foreground; background = background; underline_color = underline_color;
+  bold = bold;
+  faint = faint;
+  italic = italic;
+  underline = underline;
+  blink = blink;
+  inverse = inverse;
+  conceal = conceal;
+  strike = strike;
+  overline = overline;
+  foreground = foreground;
+  background = background;
+  underline_color = underline_color;
 }
 
 is_look_of : (a : Look) → a ≡ look_of a.bold a.faint a.italic a.underline a.blink a.inverse a.conceal a.strike a.overline a.foreground a.background a.underline_color

@@ -1,8 +1,9 @@
 -- Appending characters, runs and links to characters with styles.
-use Rattle.std.proofs.Common.{◌≡◌, ℕ, suc, ◌+◌, ◌<◌, ◌≤◌, get_or, ◌-◌, true, List, [], ◌∷◌, ◌++◌, length, take, drop, nat_le, if◌then◌else◌, refl, sym, ap, ◌∙◌, arith}
+use Rattle.std.proofs.Common.{◌≡◌, ℕ, suc, ◌+◌, ◌<◌, ◌≤◌, get_or, ◌-◌, true, List, [], ◌∷◌, ◌++◌, length, map, take, drop, nat_le, if◌then◌else◌, refl, sym, ap, ◌∙◌, arith}
 use Rattle.std.specs.Prelude.{All, OnErr, Result, Ok, Err}
 use Rattle.std.proofs.lemmas.Bool.{cond-true, cond-false, le-leb, lt-leb}
 use Rattle.std.proofs.lemmas.List.{drop-append-le, take-append-le, length-drop, take_all, take_more}
+use Rattle.sequences.specs.Escapes.{unstyled}
 use Rattle.sequences.specs.SameLooks.{same_look}
 use Rattle.sequences.specs.declared.look.TheConstants.{PLAIN}
 use Rattle.sequences.proofs.SameLookLemmas.{same_look-true}
@@ -11,6 +12,13 @@ use Rattle.sequences.specs.StyledTexts.{style_at, style_in, style_of, with_style
 use Rattle.sequences.specs.declared.look.Look.{Look}
 use Rattle.sequences.specs.declared.style.Link.{Link}
 use Rattle.sequences.specs.declared.style.StyleRun.{StyleRun}
+
+-- a list ends with its last element
+pub last_split : {X : Type 0} (xs : List X) (x : X) → 0 < length xs → x ≡ get_or xs (length xs - 1) x → xs ≡ take (length xs - 1) xs ++ x ∷ []
+last_split xs x some e =
+    let whole : length xs - 1 + 1 ≡ length xs = omega arith in
+    sym (take_all (length xs - 1 + 1) xs (omega arith)) ∙ take_more xs (length xs - 1) x (omega arith)
+    ∙ ap (λ y. take (length xs - 1) xs ++ y ∷ []) (sym e)
 
 module _ (links : List ℕ) where
   -- the style after one more run
@@ -47,11 +55,7 @@ module _ (links : List ℕ) where
   pub style_at-last : (runs : List StyleRun) (run : StyleRun) (n : ℕ) → 0 < length runs → run ≡ get_or runs (length runs - 1) run → run.start ≤ n
       → style_at links DEFAULT runs n ≡ style_in links run
   style_at-last runs run n some e from =
-      let whole : length runs - 1 + 1 ≡ length runs = omega arith in
-      let split : runs ≡ take (length runs - 1) runs ++ run ∷ [] =
-          sym (take_all (length runs - 1 + 1) runs (omega arith)) ∙ take_more runs (length runs - 1) run (omega arith)
-          ∙ ap (λ r. take (length runs - 1) runs ++ r ∷ []) (sym e) in
-      ap (λ rs. style_at links DEFAULT rs n) split ∙ style_at-from (take (length runs - 1) runs) run n from
+      ap (λ rs. style_at links DEFAULT rs n) (last_split runs run some e) ∙ style_at-from (take (length runs - 1) runs) run n from
 
   pub style_of-same : (look other : Look) (link : Link) → same_look look other ≡ true → style_of links look link ≡ style_of links other link
   style_of-same look other link e = ap (λ l. style_of links l link) (same_look-true look other e)
@@ -78,6 +82,41 @@ pub on_err : {T E P : Type 0} (r : Result T E) → P → OnErr r P
 on_err (Ok x) p = tt
 on_err (Err e) p = p
 
+-- characters after the start of the last run have one style
+module _ (links : List ℕ) where
+  style_at-later : (style : Style) (runs : List StyleRun) (n k : ℕ) → All (λ run. run.start ≤ n) runs → n ≤ k
+      → style_at links style runs k ≡ style_at links style runs n
+  style_at-later style [] n k starts le = refl
+  style_at-later style (run ∷ runs) n k starts le =
+      let here : run.start ≤ n = starts 0 run (omega arith) in
+      ap (λ b. style_at links (if b then style_in links run else style) runs k) (le-leb run.start k (omega arith) ∙ sym (le-leb run.start n here))
+      ∙ style_at-later (if nat_le run.start n then style_in links run else style) runs n k (λ i d h. starts (suc i) d (omega arith)) le
+
+  with_styles-later : (runs : List StyleRun) (n k : ℕ) (characters : List ℕ) → All (λ run. run.start ≤ n) runs → n ≤ k
+      → with_styles links runs k characters ≡ map (λ c. (c, style_at links DEFAULT runs n)) characters
+  with_styles-later runs n k [] starts le = refl
+  with_styles-later runs n k (c ∷ characters) starts le =
+      ap (λ style. (c, style) ∷ with_styles links runs (k + 1) characters) (style_at-later DEFAULT runs n k starts le)
+      ∙ ap (λ rest. (c, style_at links DEFAULT runs n) ∷ rest) (with_styles-later runs n (k + 1) characters starts (omega arith))
+
+  with_styles-append : (runs : List StyleRun) (k : ℕ) (characters more : List ℕ)
+      → with_styles links runs k (characters ++ more) ≡ with_styles links runs k characters ++ with_styles links runs (k + length characters) more
+  with_styles-append runs k [] more = ap (λ n. with_styles links runs n more) (let e : k ≡ k + 0 = omega arith in e)
+  with_styles-append runs k (c ∷ characters) more =
+      ap (λ rest. (c, style_at links DEFAULT runs k) ∷ rest)
+      (with_styles-append runs (k + 1) characters more
+      ∙ ap (λ n. with_styles links runs (k + 1) characters ++ with_styles links runs n more) (let e : k + 1 + length characters ≡ k + length (c ∷ characters) = omega arith in e))
+
+  -- more characters in one style, after the run for it was started
+  pub push_all_is : (runs : List StyleRun) (characters more all : List ℕ) (style : Style) (before : List (ℕ × Style)) → all ≡ characters ++ more
+      → All (λ run. run.start ≤ length characters) runs → style_at links DEFAULT runs (length characters) ≡ style → with_styles links runs 0 characters ≡ before
+      → with_styles links runs 0 all ≡ before ++ map (λ c. (c, style)) more
+  push_all_is runs characters more all style before e starts at text =
+      ap (with_styles links runs 0) e ∙ with_styles-append runs 0 characters more
+      ∙ ap (λ xs. xs ++ with_styles links runs (0 + length characters) more) text
+      ∙ ap (λ xs. before ++ xs) (with_styles-later runs (length characters) (0 + length characters) more starts (omega arith))
+      ∙ ap (λ (s : Style). before ++ map (λ c. (c, s)) more) at
+
 -- more links change the style of no character
 module _ (links more : List ℕ) where
   style_in-links : (run : StyleRun) → run.link.start + run.link.len ≤ length links → style_in (links ++ more) run ≡ style_in links run
@@ -100,3 +139,9 @@ module _ (links more : List ℕ) where
   with_styles-links runs k (c ∷ characters) linked =
       ap (λ style. (c, style) ∷ with_styles (links ++ more) runs (k + 1) characters) (style_at-links DEFAULT runs k linked)
       ∙ ap (λ rest. (c, style_at links DEFAULT runs k) ∷ rest) (with_styles-links runs (k + 1) characters linked)
+
+-- without runs, all characters have the default style
+pub with_styles-none : (links : List ℕ) (runs : List StyleRun) (k : ℕ) (characters : List ℕ)
+    → with_styles links [] k characters ≡ unstyled (with_styles links runs k characters)
+with_styles-none links runs k [] = refl
+with_styles-none links runs k (c ∷ characters) = ap (λ rest. (c, DEFAULT) ∷ rest) (with_styles-none links runs (k + 1) characters)

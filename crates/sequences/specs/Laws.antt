@@ -1,8 +1,9 @@
 -- What holds of all texts.
-use Rattle.std.specs.Prelude.{◌≡◌, ℕ, Bool, true, not, List, map}
+use Rattle.std.specs.Prelude.{◌≡◌, ℕ, Bool, true, not, ◌||◌, List, [], ◌∷◌, ◌++◌, map}
 use Rattle.std.specs.List.{list_all}
-use Rattle.sequences.specs.Characters.{is_dropped}
-use Rattle.sequences.specs.Styled.{Pen, shown_text, styled, Style}
+use Rattle.sequences.specs.Characters.{is_dropped, is_inline}
+use Rattle.sequences.specs.Output.{written}
+use Rattle.sequences.specs.Styled.{DEFAULT, Pen, pen_at_end, shown_text, styled, Style}
 
 -- the characters that are not dropped
 abbrev pub remains : ℕ → Bool
@@ -26,3 +27,20 @@ ShowsTheSame = (pen : Pen) (text : List ℕ) → characters_of (styled pen text)
 -- What a text shows is shown unchanged.
 abbrev pub ShowsItself : Type 0
 ShowsItself = (text : List ℕ) → shown_text (shown_text text) ≡ shown_text text
+
+-- The characters at which a text can be cut, which neither are dropped nor can be in a string: the controls that remain, U+2028
+-- and U+2029.
+abbrev pub ends_piece : ℕ → Bool
+ends_piece c = not (is_dropped c || is_inline c)
+
+-- What a text shows is what its pieces show, one after the other.
+pub record ShowsPieces : Type 0 where
+  pub text : (pen : Pen) (piece rest : List ℕ) (c : ℕ) → ends_piece c ≡ true
+      → styled pen (piece ++ c ∷ rest) ≡ styled pen (piece ++ c ∷ []) ++ styled (pen_at_end pen (piece ++ c ∷ [])) rest
+  pub pen : (pen : Pen) (piece rest : List ℕ) (c : ℕ) → ends_piece c ≡ true
+      → pen_at_end pen (piece ++ c ∷ rest) ≡ pen_at_end (pen_at_end pen (piece ++ c ∷ [])) rest
+  pub characters : (piece rest : List ℕ) (c : ℕ) → ends_piece c ≡ true → shown_text (piece ++ c ∷ rest) ≡ shown_text (piece ++ c ∷ []) ++ shown_text rest
+
+-- Characters in the default style are written as they are.
+abbrev pub WritesPlainText : Type 0
+WritesPlainText = (text : List ℕ) → written (map (λ c. (c, DEFAULT)) text) ≡ text

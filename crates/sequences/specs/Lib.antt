@@ -13,3 +13,6 @@ pub mod Laws
 pub mod Output
 pub mod StyleRefs
 pub mod Led
+pub mod PlainRuns
+pub mod Pictures
+pub mod Escapes

@@ -33,8 +33,8 @@ end_attribute n look =
     else if n == 29 then record look { strike = false }
     else look
 
--- 30 to 37, 39, 40 to 47, 49, 90 to 97 and 100 to 107 are colours, 53 and 55 set and end an overline, and 59
--- is the default colour of underlines
+-- 30 to 37, 90 to 97 and 39 are foregrounds, and 40 to 47, 100 to 107 and 49 are backgrounds. 53 and 55 set and end an
+-- overline, and 59 is the default colour of underlines.
 abbrev pub set_basic : ℕ → Look → Look
 set_basic n look =
     if nat_lt n 38 then record look { foreground = Some (Basic (n - 30)) }

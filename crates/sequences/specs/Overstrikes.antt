@@ -15,14 +15,14 @@ abbrev pub strikes : ℕ → List ℕ → List ℕ
 strikes c text = if is_inline c then after_backspaces text else []
 
 -- One more character. X over X is bold. A low line (U+005F) under or over X is an underline. A low line over a low line is
--- the one or the other, as the character before was underlined and not bold or not, and a third one makes it both. Any other
--- character takes the place of the one before.
+-- underlined if the character before is underlined and not bold, and else bold. A third one makes it both. Any other character
+-- takes the place of the one before.
 abbrev pub strike : Bool → Struck → ℕ → Struck
 strike after_underline s c =
     if c == s.shown then
-        (if c == 0x5F && not (s.bold || s.underlined) then record s { bold = not after_underline; underlined = after_underline }
-        else if c == 0x5F then record s { bold = true; underlined = true }
-        else record s { bold = true })
+    (if c == 0x5F && not (s.bold || s.underlined) then record s { bold = not after_underline; underlined = after_underline }
+    else if c == 0x5F then record s { bold = true; underlined = true }
+    else record s { bold = true })
     else if c == 0x5F then record s { underlined = true }
     else if s.shown == 0x5F then record { shown = c; bold = false; underlined = true }
     else record { shown = c; bold = false; underlined = false }

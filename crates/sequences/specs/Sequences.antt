@@ -41,7 +41,6 @@ terminator_len is_osc text =
     if slice_index text 0 == 0x9C || (is_osc && slice_index text 0 == 0x07) then 1
     else if slice_index text 0 == 0x1B && slice_index text 1 == 0x5C then 2 else 0
 
-
 -- A string that is not ended is incomplete. One that is too long to have a meaning ends with its terminator, or else before
 -- the character that no string contains.
 abbrev pub string_len : Bool → List ℕ → Option ℕ

@@ -18,8 +18,8 @@ pub record Style : Type 0 where
 abbrev pub DEFAULT : Style
 DEFAULT = record { look = PLAIN; link = [] }
 
--- what a text before leaves for the text after it: the style, the length of all links of the paragraph so far, and whether
--- the last character is underlined and not bold
+-- What a text leaves for the text after it: a style, the length of all links of the paragraph so far, and whether the last
+-- character is underlined and not bold.
 pub record Pen : Type 0 where
   pub style : Style
   pub links_len : ℕ
@@ -42,7 +42,7 @@ abbrev pub with_link : Pen → Option (List ℕ) → Pen
 with_link pen None = pen
 with_link pen (Some link) =
     if nat_le (pen.links_len + length link) MAX_LINKS_LEN then
-        record { style = record { look = pen.style.look; link = link }; links_len = pen.links_len + length link; after_underline = pen.after_underline }
+    record { style = record { look = pen.style.look; link = link }; links_len = pen.links_len + length link; after_underline = pen.after_underline }
     else record pen { style = record { look = pen.style.look; link = [] } }
 
 -- OSC, given the text after it

@@ -11,6 +11,7 @@ pub(crate) enum Class {
     Intermediate,
     Inline,
     Sgr,
+    Remaining,
 }
 
 fn is_control(c: char) -> bool
@@ -54,6 +55,7 @@ fn is_in(class: Class, c: char) -> bool
         Class::Intermediate => ' ' <= c && c <= '/',
         Class::Inline => is_inline(c),
         Class::Sgr => '0' <= c && c <= ';',
+        Class::Remaining => !is_dropped(c),
     }
 }
 

@@ -1,5 +1,6 @@
 //! Theorems about what texts show. Calls of these functions cost nothing at run time.
-ghost use Rattle.sequences.specs.Laws.{ShowsItself, ShowsNoControls, ShowsPlainText, ShowsTheSame};
+ghost use Rattle.sequences.specs.Laws.{ShowsItself, ShowsNoControls, ShowsPieces, ShowsPlainText, ShowsTheSame};
+ghost use Rattle.sequences.specs.Laws.{WritesPlainText};
 
 /// States, as a theorem, that none of the characters that a text shows is a control of a kind that is dropped.
 pub fn shows_no_controls()
@@ -20,4 +21,15 @@ pub fn shows_the_same()
 /// States, as a theorem, that what a text shows is shown unchanged.
 pub fn shows_itself()
     ensures { ShowsItself }
+{}
+
+/// States, as a theorem, that a text shows what its pieces show, where each piece ends with a control that remains, with
+/// U+2028 or with U+2029. No sequence and no overstrike spans such a character.
+pub fn shows_pieces()
+    ensures { ShowsPieces }
+{}
+
+/// States, as a theorem, that a line in the default style is written without sequences.
+pub fn writes_plain_text()
+    ensures { WritesPlainText }
 {}

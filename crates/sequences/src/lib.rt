@@ -1,8 +1,19 @@
 //! What a text for a terminal shows: the characters that remain without control sequences, overstrikes and
 //! dropped controls, and the style of each.
+//!
+//! A `Scanner` collects the characters of a paragraph. `push_between` writes what changes from one style to the
+//! next:
+//!
+//! ```rust
+//! let mut scanner = Scanner::new(rt.alloc());
+//! scanner.push_text(&['a', '\u{1b}', '[', '1', 'm', 'b'])?;
+//! assert!(rt; scanner.text.characters.as_slice() == ['a', 'b'].as_slice());
+//! assert!(rt; scanner.text.runs.len() == 1); // b is bold
+//! ```
 #![tactic(auto)]
 
 mod characters;
+mod escapes;
 mod laws;
 mod lengths;
 mod links;
@@ -15,10 +26,14 @@ mod scanner;
 mod sgr;
 mod style;
 
-pub use laws::{shows_itself, shows_no_controls, shows_plain_text, shows_the_same};
+pub use escapes::{Escapes, is_plain, picture};
+pub use laws::{
+    shows_itself, shows_no_controls, shows_pieces, shows_plain_text, shows_the_same,
+    writes_plain_text,
+};
 pub use lengths::{LONGEST_STRING, sequence_len};
 pub use links::MAX_LINKS_LEN;
 pub use look::{Blink, Color, Look, PLAIN, Underline};
-pub use style::{Link, NO_LINK, StyleRef, StyleRun, StyledText};
-pub use scanner::Scanner;
 pub use output::push_between;
+pub use scanner::Scanner;
+pub use style::{Link, NO_LINK, StyleRef, StyleRun, StyledText};

@@ -238,7 +238,11 @@ fn push_link_between(before: &[char], after: &[char], out: &mut Vec<char>) -> Re
 #[tactic(auto, unfolding(crate::specs::Output::between))]
 /// Appends what is written between characters with two styles. Lines begin and end in the default style. After a failed
 /// allocation, some of it may be missing.
-pub fn push_between(before: &StyleRef, after: &StyleRef, out: &mut Vec<char>) -> Result<(), AllocError>
+pub fn push_between(
+    before: &StyleRef,
+    after: &StyleRef,
+    out: &mut Vec<char>,
+) -> Result<(), AllocError>
     ensures { OnOk result (out.new.items ≡ out.old.items ++ between (style_by before.now) (style_by after.now)) }
 {
     push_look_between(&before.look, &after.look, out)?;

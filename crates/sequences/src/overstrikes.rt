@@ -6,7 +6,7 @@ ghost use Rattle.sequences.specs.Overstrikes.{struck_look};
 use crate::characters::is_inline;
 use crate::look::{Look, Underline};
 
-const BS: char = '\u{8}';
+pub(crate) const BS: char = '\u{8}';
 
 const LOW_LINE: char = '_';
 
@@ -22,19 +22,37 @@ pub(crate) struct Struck {
 fn strike(after_underline: bool, at: Struck, c: char) -> Struck
     ensures { result ≡ strike after_underline at c }
 {
-    let plain = Struck { shown: c, bold: false, underlined: false };
+    let plain = Struck {
+        shown: c,
+        bold: false,
+        underlined: false,
+    };
     if c == at.shown {
         if c != LOW_LINE {
             Struck { bold: true, ..at }
         } else if at.bold || at.underlined {
-            Struck { bold: true, underlined: true, ..at }
+            Struck {
+                bold: true,
+                underlined: true,
+                ..at
+            }
         } else {
-            Struck { bold: !after_underline, underlined: after_underline, ..at }
+            Struck {
+                bold: !after_underline,
+                underlined: after_underline,
+                ..at
+            }
         }
     } else if c == LOW_LINE {
-        Struck { underlined: true, ..at }
+        Struck {
+            underlined: true,
+            ..at
+        }
     } else if at.shown == LOW_LINE {
-        Struck { underlined: true, ..plain }
+        Struck {
+            underlined: true,
+            ..plain
+        }
     } else {
         plain
     }
@@ -57,7 +75,11 @@ pub(crate) fn struck_first(after_underline: bool, first: char, text: &[char]) ->
     ensures count { result.1 ≡ length (strikes first text.now) }
     ensures within { 2 * result.1 ≤ length text.now }
 {
-    let at = Struck { shown: first, bold: false, underlined: false };
+    let at = Struck {
+        shown: first,
+        bold: false,
+        underlined: false,
+    };
     if is_inline(first) {
         strike_all(after_underline, at, text)
     } else {

@@ -1,16 +1,19 @@
 //! Finds the characters that a text shows, with their styles.
 ghost use Rattle.std.specs.Prelude.{◌≡◌, ◌+◌, ◌<◌, ◌≤◌, ◌∷◌, [], None, Some, length, drop, MatchOption, ◌&&◌};
-ghost use Rattle.sequences.specs.Characters.{is_inline};
-ghost use Rattle.sequences.specs.Overstrikes.{is_underlined_only};
+ghost use Rattle.std.specs.Prelude.{not, true, take};
+ghost use Rattle.std.specs.List.{list_all};
+ghost use Rattle.sequences.specs.Characters.{is_dropped, is_inline};
+ghost use Rattle.sequences.specs.Overstrikes.{after_backspaces, is_underlined_only};
 ghost use Rattle.sequences.specs.Parameters.{sgr};
 ghost use Rattle.sequences.specs.Parts.{parameters_after};
 ghost use Rattle.sequences.specs.Sequences.{after_escape};
 
 use crate::characters::{Class, char_at, is_dropped, is_inline, prefix_len};
+use crate::escapes::Escapes;
 use crate::lengths::{LONGEST_STRING, sequence_len, string_end};
 use crate::links::{MAX_LINKS_LEN, osc_link};
 use crate::look::{Look, PLAIN};
-use crate::overstrikes::{is_underlined_only, struck_first, struck_look};
+use crate::overstrikes::{BS, is_underlined_only, struck_first, struck_look};
 use crate::sgr::applied;
 use crate::style::{Link, NO_LINK, StyledText};
 use std::alloc::{AllocError, Global};
@@ -28,10 +31,12 @@ pub struct Scanner {
 }
 
 impl Scanner {
-    ghost use Rattle.std.specs.Prelude.{◌*◌, ◌++◌, suc, IfOk, OnOk};
-    ghost use Rattle.sequences.specs.Characters.{is_dropped};
+    ghost use Rattle.std.specs.Prelude.{◌*◌, ◌++◌, suc, map, IfOk, OnOk};
+    ghost use Rattle.sequences.specs.Escapes.{pen_by, styled_by, unstyled};
+    ghost use Rattle.sequences.specs.Pictures.{picture};
+    ghost use Rattle.sequences.specs.PlainRuns.{plain_pen};
     ghost use Rattle.sequences.specs.Scanners.{pen_of};
-    ghost use Rattle.sequences.specs.Styled.{START, after_character, after_first_part, after_sequence, first_shown};
+    ghost use Rattle.sequences.specs.Styled.{DEFAULT, START, after_character, after_first_part, after_sequence, first_shown};
     ghost use Rattle.sequences.specs.Styled.{more_len, next_paragraph, pen_at_end, struck_style, styled, with_link, with_osc, with_sgr};
     ghost use Rattle.sequences.specs.Overstrikes.{strikes, struck};
     ghost use Rattle.sequences.specs.StyledTexts.{styled_of};
@@ -148,6 +153,17 @@ impl Scanner {
         }
     }
 
+    // Appends characters that nothing is struck over.
+    fn push_plain(&mut self, run: &[char]) -> Result<(), AllocError>
+        requires { 0 < length run.now }
+        ensures text { OnOk result (styled_of self.new.text ≡ styled_of self.old.text ++ map (λ c. (c, (pen_of self.old).style)) run.now) }
+        ensures pen { OnOk result (pen_of self.new ≡ plain_pen (pen_of self.old) run.now) }
+    {
+        self.text.push_all(run, self.look, self.link)?;
+        self.after_underline = leaves_underline(run[run.len() - 1], self.look);
+        Ok(())
+    }
+
     // Passes over some characters of a text, and returns their number.
     fn advance(&mut self, text: &[char]) -> Result<usize, AllocError>
         requires { 0 < length text.now }
@@ -157,12 +173,50 @@ impl Scanner {
             ≡ styled_of self.old.text ++ styled (pen_of self.old) text.now) }
         ensures pen { IfOk result (λ len. pen_at_end (pen_of self.new) (drop len text.now) ≡ pen_at_end (pen_of self.old) text.now) }
     {
+        // Most texts have few sequences.
+        let len = plain_len(text);
+        if len > 0 {
+            self.push_plain(text.split_at(len).0)?;
+            return Ok(len);
+        }
         match text.split_first() {
             Some((first, rest)) => {
                 let len = self.pass(*first, rest, text)?;
                 Ok(len)
             }
             None => unreachable!(),
+        }
+    }
+
+    fn strip(&mut self)
+        ensures text { styled_of self.new.text ≡ unstyled (styled_of self.old.text) }
+        ensures pen { pen_of self.new ≡ pen_of self.old }
+    {
+        self.text.strip();
+    }
+
+    fn push_pictures(&mut self, text: &[char]) -> Result<(), AllocError>
+        ensures text { OnOk result (styled_of self.new.text ≡ styled_of self.old.text ++ map (λ c. (picture c, DEFAULT)) text.now) }
+        ensures pen { pen_of self.new ≡ pen_of self.old }
+    {
+        self.text.push_pictures(text)
+    }
+
+    /// Collects the characters that a paragraph shows in a mode, in place of those of the paragraph before. After a failed
+    /// allocation, some of them may be missing.
+    pub fn scan(&mut self, escapes: Escapes, paragraph: &[char]) -> Result<(), AllocError>
+        ensures text { OnOk result (styled_of self.new.text ≡ styled_by escapes (next_paragraph (pen_of self.old)) paragraph.now) }
+        ensures pen { OnOk result (pen_of self.new ≡ pen_by escapes (next_paragraph (pen_of self.old)) paragraph.now) }
+    {
+        self.start_paragraph();
+        match escapes {
+            Escapes::Keep => self.push_text(paragraph),
+            Escapes::Strip => {
+                self.push_text(paragraph)?;
+                self.strip();
+                Ok(())
+            }
+            Escapes::Text => self.push_pictures(paragraph),
         }
     }
 
@@ -214,4 +268,18 @@ fn leaves_underline(c: char, look: Look) -> bool
     ensures { result ≡ (is_inline c && is_underlined_only look) }
 {
     is_inline(c) && is_underlined_only(look)
+}
+
+// Returns a number of characters at the start of a text that are shown as they are.
+fn plain_len(text: &[char]) -> usize
+    ensures within { result ≤ length text.now }
+    ensures kept { list_all (λ c. not (is_dropped c)) (take result text.now) ≡ true }
+    ensures alone { 0 < result → after_backspaces (drop result text.now) ≡ [] }
+{
+    let len = prefix_len(Class::Remaining, text);
+    if len > 0 && char_at(text, len) == BS {
+        len - 1
+    } else {
+        len
+    }
 }

@@ -66,16 +66,29 @@ fn with_color(n: u32, color: Option<Color>, look: Look) -> Look
 {
     match color {
         None => look,
-        Some(_) if n == 38 => Look { foreground: color, ..look },
-        Some(_) if n == 48 => Look { background: color, ..look },
-        Some(_) => Look { underline_color: color, ..look },
+        Some(_) if n == 38 => Look {
+            foreground: color,
+            ..look
+        },
+        Some(_) if n == 48 => Look {
+            background: color,
+            ..look
+        },
+        Some(_) => Look {
+            underline_color: color,
+            ..look
+        },
     }
 }
 
 fn indexed(n: u32) -> Option<Color>
     ensures { result ≡ indexed n }
 {
-    if n < 256 { Some(Color::Indexed(n as u8)) } else { None }
+    if n < 256 {
+        Some(Color::Indexed(n as u8))
+    } else {
+        None
+    }
 }
 
 fn rgb(r: u32, g: u32, b: u32) -> Option<Color>
@@ -94,7 +107,11 @@ fn color_after(following: &[char]) -> Option<Color>
 {
     match single_at(following, 0) {
         5 => indexed(single_at(following, 1)),
-        2 => rgb(single_at(following, 1), single_at(following, 2), single_at(following, 3)),
+        2 => rgb(
+            single_at(following, 1),
+            single_at(following, 2),
+            single_at(following, 3),
+        ),
         _ => None,
     }
 }
@@ -119,14 +136,38 @@ fn set_attribute(n: u32, look: Look) -> Look
 {
     match n {
         1 => Look { bold: true, ..look },
-        2 => Look { faint: true, ..look },
-        3 => Look { italic: true, ..look },
-        4 => Look { underline: Some(Underline::Single), ..look },
-        5 => Look { blink: Some(Blink::Slow), ..look },
-        6 => Look { blink: Some(Blink::Rapid), ..look },
-        7 => Look { inverse: true, ..look },
-        8 => Look { conceal: true, ..look },
-        _ => Look { strike: true, ..look },
+        2 => Look {
+            faint: true,
+            ..look
+        },
+        3 => Look {
+            italic: true,
+            ..look
+        },
+        4 => Look {
+            underline: Some(Underline::Single),
+            ..look
+        },
+        5 => Look {
+            blink: Some(Blink::Slow),
+            ..look
+        },
+        6 => Look {
+            blink: Some(Blink::Rapid),
+            ..look
+        },
+        7 => Look {
+            inverse: true,
+            ..look
+        },
+        8 => Look {
+            conceal: true,
+            ..look
+        },
+        _ => Look {
+            strike: true,
+            ..look
+        },
     }
 }
 
@@ -134,14 +175,39 @@ fn end_attribute(n: u32, look: Look) -> Look
     ensures { result ≡ end_attribute n look }
 {
     match n {
-        21 => Look { underline: Some(Underline::Double), ..look },
-        22 => Look { bold: false, faint: false, ..look },
-        23 => Look { italic: false, ..look },
-        24 => Look { underline: None, ..look },
-        25 => Look { blink: None, ..look },
-        27 => Look { inverse: false, ..look },
-        28 => Look { conceal: false, ..look },
-        29 => Look { strike: false, ..look },
+        21 => Look {
+            underline: Some(Underline::Double),
+            ..look
+        },
+        22 => Look {
+            bold: false,
+            faint: false,
+            ..look
+        },
+        23 => Look {
+            italic: false,
+            ..look
+        },
+        24 => Look {
+            underline: None,
+            ..look
+        },
+        25 => Look {
+            blink: None,
+            ..look
+        },
+        27 => Look {
+            inverse: false,
+            ..look
+        },
+        28 => Look {
+            conceal: false,
+            ..look
+        },
+        29 => Look {
+            strike: false,
+            ..look
+        },
         _ => look,
     }
 }
@@ -151,23 +217,50 @@ fn set_basic(n: u32, look: Look) -> Look
     ensures { result ≡ set_basic n look }
 {
     if n < 38 {
-        Look { foreground: Some(Color::Basic((n - 30) as u8)), ..look }
+        Look {
+            foreground: Some(Color::Basic((n - 30) as u8)),
+            ..look
+        }
     } else if n == 39 {
-        Look { foreground: None, ..look }
+        Look {
+            foreground: None,
+            ..look
+        }
     } else if 40 <= n && n < 48 {
-        Look { background: Some(Color::Basic((n - 40) as u8)), ..look }
+        Look {
+            background: Some(Color::Basic((n - 40) as u8)),
+            ..look
+        }
     } else if n == 49 {
-        Look { background: None, ..look }
+        Look {
+            background: None,
+            ..look
+        }
     } else if n == 53 {
-        Look { overline: true, ..look }
+        Look {
+            overline: true,
+            ..look
+        }
     } else if n == 55 {
-        Look { overline: false, ..look }
+        Look {
+            overline: false,
+            ..look
+        }
     } else if n == 59 {
-        Look { underline_color: None, ..look }
+        Look {
+            underline_color: None,
+            ..look
+        }
     } else if 90 <= n && n < 98 {
-        Look { foreground: Some(Color::Basic((n - 82) as u8)), ..look }
+        Look {
+            foreground: Some(Color::Basic((n - 82) as u8)),
+            ..look
+        }
     } else if 100 <= n && n < 108 {
-        Look { background: Some(Color::Basic((n - 92) as u8)), ..look }
+        Look {
+            background: Some(Color::Basic((n - 92) as u8)),
+            ..look
+        }
     } else {
         look
     }
@@ -177,12 +270,30 @@ fn with_underline(k: u32, look: Look) -> Look
     ensures { result ≡ with_underline k look }
 {
     match k {
-        0 => Look { underline: None, ..look },
-        1 => Look { underline: Some(Underline::Single), ..look },
-        2 => Look { underline: Some(Underline::Double), ..look },
-        3 => Look { underline: Some(Underline::Curly), ..look },
-        4 => Look { underline: Some(Underline::Dotted), ..look },
-        5 => Look { underline: Some(Underline::Dashed), ..look },
+        0 => Look {
+            underline: None,
+            ..look
+        },
+        1 => Look {
+            underline: Some(Underline::Single),
+            ..look
+        },
+        2 => Look {
+            underline: Some(Underline::Double),
+            ..look
+        },
+        3 => Look {
+            underline: Some(Underline::Curly),
+            ..look
+        },
+        4 => Look {
+            underline: Some(Underline::Dotted),
+            ..look
+        },
+        5 => Look {
+            underline: Some(Underline::Dashed),
+            ..look
+        },
         _ => look,
     }
 }
@@ -206,8 +317,16 @@ fn field_color(parameter: &[char]) -> Option<Color>
 {
     match (field(parameter, 1), field_count(parameter)) {
         (5, 3) => indexed(field(parameter, 2)),
-        (2, 5) => rgb(field(parameter, 2), field(parameter, 3), field(parameter, 4)),
-        (2, 6) => rgb(field(parameter, 3), field(parameter, 4), field(parameter, 5)),
+        (2, 5) => rgb(
+            field(parameter, 2),
+            field(parameter, 3),
+            field(parameter, 4),
+        ),
+        (2, 6) => rgb(
+            field(parameter, 3),
+            field(parameter, 4),
+            field(parameter, 5),
+        ),
         _ => None,
     }
 }

@@ -1,7 +1,8 @@
 //! Characters with their styles.
-ghost use Rattle.std.specs.Prelude.{◌≡◌, ◌+◌, ◌≤◌, true, length, All};
+ghost use Rattle.std.specs.Prelude.{◌≡◌, ◌+◌, ◌≤◌, ℕ, true, List, length, take, drop, All};
 ghost use Rattle.sequences.specs.SameLooks.{same_look};
 
+use crate::escapes::picture;
 use crate::look::{Look, PLAIN};
 use crate::same_look::same_look;
 use std::alloc::{AllocError, Global};
@@ -43,9 +44,11 @@ pub struct StyledText {
 }
 
 impl StyledText {
-    ghost use Rattle.std.specs.Prelude.{◌++◌, ◌∷◌, [], take, drop, slice_index_or, ◌<◌, IfOk, OnOk, OnErr};
+    ghost use Rattle.std.specs.Prelude.{◌++◌, ◌∷◌, [], map, slice_index_or, ◌<◌, IfOk, OnOk, OnErr};
     ghost use Rattle.sequences.specs.Styled.{DEFAULT};
     ghost use Rattle.sequences.specs.StyledTexts.{style_at, style_in, style_of, styled_of};
+    ghost use Rattle.sequences.specs.Escapes.{unstyled};
+    ghost use Rattle.sequences.specs.Pictures.{picture};
     ghost use Rattle.sequences.specs.StyleRefs.{style_by};
     ghost use Rattle.sequences.specs.declared.style.StyleRun.{StyleRun};
 
@@ -61,6 +64,51 @@ impl StyledText {
         }
     }
 
+    /// Appends characters in one style. After a failed allocation, the characters and their styles are unchanged.
+    pub fn push_all(
+        &mut self,
+        characters: &[char],
+        look: Look,
+        link: Link,
+    ) -> Result<(), AllocError>
+        requires { link.start + link.len ≤ length self.old.links.items }
+        ensures ok { OnOk result (styled_of self.new
+            ≡ styled_of self.old ++ map (λ c. (c, style_of self.old.links.items look link)) characters.now) }
+        ensures err { OnErr result (styled_of self.new ≡ styled_of self.old) }
+        ensures links { self.new.links.items ≡ self.old.links.items }
+    {
+        self.start_run(look, link)?;
+        self.characters.extend_from_slice(characters)?;
+        Ok(())
+    }
+
+    /// Appends a text in which nothing is a sequence, in the default style, with pictures in place of the controls of a kind
+    /// that is dropped. After a failed allocation, some characters may be missing.
+    pub fn push_pictures(&mut self, text: &[char]) -> Result<(), AllocError>
+        ensures text { OnOk result (styled_of self.new ≡ styled_of self.old ++ map (λ c. (picture c, DEFAULT)) text.now) }
+        ensures links { self.new.links.items ≡ self.old.links.items }
+    {
+        for c in text {
+            self.push_picture(*c)?;
+        }
+        Ok(())
+    }
+
+    fn push_picture(&mut self, c: char) -> Result<(), AllocError>
+        ensures text { OnOk result (styled_of self.new ≡ styled_of self.old ++ (picture c, DEFAULT) ∷ []) }
+        ensures links { self.new.links.items ≡ self.old.links.items }
+    {
+        self.push(picture(c), PLAIN, NO_LINK)
+    }
+
+    /// Sets the default style for all characters.
+    pub fn strip(&mut self)
+        ensures text { styled_of self.new ≡ unstyled (styled_of self.old) }
+        ensures links { self.new.links.items ≡ self.old.links.items }
+    {
+        self.runs.clear();
+    }
+
     /// Returns the style of a run.
     pub fn run_style(&self, run: usize) -> StyleRef<'_>
         requires { run < length self.now.runs.items }
@@ -68,7 +116,10 @@ impl StyledText {
     {
         let run = self.runs[run];
         let (_, from) = self.links.split_at(run.link.start);
-        StyleRef { look: run.look, link: from.split_at(run.link.len).0 }
+        StyleRef {
+            look: run.look,
+            link: from.split_at(run.link.len).0,
+        }
     }
 
     /// Appends the text of a link. After a failed allocation, nothing has changed.
@@ -79,7 +130,10 @@ impl StyledText {
         ensures text { styled_of self.new ≡ styled_of self.old }
         ensures err { OnErr result (self.new.links.items ≡ self.old.links.items) }
     {
-        let added = Link { start: self.links.len(), len: link.len() };
+        let added = Link {
+            start: self.links.len(),
+            len: link.len(),
+        };
         self.links.extend_from_slice(link)?;
         Ok(added)
     }
@@ -95,7 +149,10 @@ impl StyledText {
         self.runs.clear();
         self.links.rotate_left(link.start);
         self.links.truncate(link.len);
-        Link { start: 0, len: link.len }
+        Link {
+            start: 0,
+            len: link.len,
+        }
     }
 
     // Returns whether characters that are appended have a style.
@@ -121,7 +178,11 @@ impl StyledText {
         if self.ends_in(look, link) {
             return Ok(());
         }
-        self.runs.push(StyleRun { start: self.characters.len(), look, link })?;
+        self.runs.push(StyleRun {
+            start: self.characters.len(),
+            look,
+            link,
+        })?;
         Ok(())
     }
 
@@ -141,7 +202,7 @@ impl StyledText {
 // Returns whether a run has a style.
 fn has_style(run: StyleRun, look: Look, link: Link) -> bool
     ensures look { result ≡ true → same_look run.look look ≡ true }
-    ensures link { result ≡ true → run.link ≡ link }
+    ensures link { result ≡ true → (links : List ℕ) → take run.link.len (drop run.link.start links) ≡ take link.len (drop link.start links) }
 {
     if same_look(&run.look, &look) {
         same_link(run.link, link)
@@ -150,10 +211,14 @@ fn has_style(run: StyleRun, look: Look, link: Link) -> bool
     }
 }
 
+// Returns whether links are at the same place or empty.
 fn same_link(link: Link, other: Link) -> bool
-    ensures { result ≡ true → link ≡ other }
+    ensures { result ≡ true → (links : List ℕ) → take link.len (drop link.start links) ≡ take other.len (drop other.start links) }
 {
-    link.start == other.start && link.len == other.len
+    if link.len != other.len {
+        return false;
+    }
+    link.start == other.start || link.len == 0
 }
 
 // Returns whether a style is the default.

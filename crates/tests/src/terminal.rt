@@ -1,5 +1,9 @@
 //! Tests what texts for a terminal show and how it is written: each row is a text and what it is written as.
-use sequences::{Link, NO_LINK, PLAIN, Scanner, StyleRef, StyledText, push_between};
+use sequences::{
+    Escapes, Link, MAX_LINKS_LEN, NO_LINK, PLAIN, Scanner, StyleRef, StyledText, is_plain, picture,
+    push_between, sequence_len, shows_itself, shows_no_controls, shows_pieces, shows_plain_text,
+    shows_the_same, writes_plain_text,
+};
 use std::alloc::{AllocError, Global};
 use std::test::Fail;
 
@@ -12,7 +16,12 @@ fn push_characters(text: &str, out: &mut Vec<char>) -> Result<(), AllocError> {
 }
 
 // Returns the style in which a character is shown, given that of the character before it, and the next run.
-fn style_at<'a>(text: &'a StyledText, k: usize, next: usize, before: StyleRef<'a>) -> (StyleRef<'a>, usize) {
+fn style_at<'a>(
+    text: &'a StyledText,
+    k: usize,
+    next: usize,
+    before: StyleRef<'a>,
+) -> (StyleRef<'a>, usize) {
     if next < text.runs.len() && text.runs[next].start == k {
         (text.run_style(next), next + 1)
     } else {
@@ -22,7 +31,10 @@ fn style_at<'a>(text: &'a StyledText, k: usize, next: usize, before: StyleRef<'a
 
 // Writes characters with their styles as one line.
 fn push_line(text: &StyledText, out: &mut Vec<char>) -> Result<(), AllocError> {
-    let plain = StyleRef { look: PLAIN, link: &[] };
+    let plain = StyleRef {
+        look: PLAIN,
+        link: &[],
+    };
     let mut before = plain;
     let mut next = 0;
     for (k, c) in text.characters.iter().enumerate() {
@@ -36,22 +48,23 @@ fn push_line(text: &StyledText, out: &mut Vec<char>) -> Result<(), AllocError> {
 }
 
 // Returns what the characters that a text shows are written as.
-fn rewritten(alloc: Global, text: &str) -> Result<Vec<char>, AllocError> {
-    let mut characters = Vec::new(alloc);
-    push_characters(text, &mut characters)?;
+fn rewritten(alloc: Global, text: &[char]) -> Result<Vec<char>, AllocError> {
     let mut scanner = Scanner::new(alloc);
-    scanner.push_text(&characters)?;
+    scanner.push_text(text)?;
     let mut out = Vec::new(alloc);
     push_line(&scanner.text, &mut out)?;
     Ok(out)
 }
 
-// Returns whether a text is written as expected.
+// Returns whether a text is written as expected, and whether that is written as itself.
 fn is_written_as(alloc: Global, text: &str, expected: &str) -> Result<bool, AllocError> {
+    let mut characters = Vec::new(alloc);
+    push_characters(text, &mut characters)?;
     let mut wanted = Vec::new(alloc);
     push_characters(expected, &mut wanted)?;
-    let out = rewritten(alloc, text)?;
-    Ok(out.as_slice() == wanted.as_slice())
+    let out = rewritten(alloc, &characters)?;
+    let again = rewritten(alloc, &out)?;
+    Ok(out.as_slice() == wanted.as_slice() && again.as_slice() == wanted.as_slice())
 }
 
 #[test]
@@ -63,7 +76,10 @@ fn sequences_other_than_sgr_and_links_are_dropped(rt: HostRuntime) -> Result<(),
         ("a\u{1b}]0;title\u{7}b", "ab"),
         ("a\u{1b}]0;title\u{1b}\\b", "ab"),
         ("a\u{9d}0;title\u{9c}b", "ab"),
-        ("a\u{1b}P1q\u{1b}\\b\u{1b}Xc\u{1b}\\d\u{1b}^e\u{9c}f\u{1b}_g\u{1b}\\h", "abdfh"),
+        (
+            "a\u{1b}P1q\u{1b}\\b\u{1b}Xc\u{1b}\\d\u{1b}^e\u{9c}f\u{1b}_g\u{1b}\\h",
+            "abdfh",
+        ),
         ("a\u{1b}(Bb\u{1b}7c\u{1b}#8d\u{84}e", "abcde"),
         ("a\u{1b}[1 mb\u{1b}[>1mc", "abc"),
     ] {
@@ -91,7 +107,8 @@ fn incomplete_sequences_are_text(rt: HostRuntime) -> Result<(), Fail> {
 
 #[test]
 fn controls_are_dropped_but_those_of_lines_and_columns(rt: HostRuntime) -> Result<(), Fail> {
-    let text = "\0a\t\n\u{b}\u{c}\r\u{e}\u{1b}b\u{1c}\u{1d}\u{1e}\u{1f} ~\u{7f}\u{80}\u{85}\u{86}\u{9f}\u{a0}\u{ad}\u{2028}\u{2029}";
+    let text =
+        "\0a\t\n\u{b}\u{c}\r\u{e}\u{1b}b\u{1c}\u{1d}\u{1e}\u{1f} ~\u{7f}\u{80}\u{85}\u{86}\u{9f}\u{a0}\u{ad}\u{2028}\u{2029}";
     let expected = "a\t\n\u{b}\u{c}\r\u{1c}\u{1d}\u{1e} ~\u{85}\u{a0}\u{ad}\u{2028}\u{2029}";
     assert!(rt; is_written_as(rt.alloc(), text, expected)?);
     Ok(())
@@ -101,16 +118,28 @@ fn controls_are_dropped_but_those_of_lines_and_columns(rt: HostRuntime) -> Resul
 fn attributes_are_written_in_order(rt: HostRuntime) -> Result<(), Fail> {
     for (text, expected) in [
         ("\u{1b}[1ma", "\u{1b}[1ma\u{1b}[m"),
-        ("\u{1b}[53;9;8;7;5;4;3;2;1ma", "\u{1b}[1;2;3;4;5;7;8;9;53ma\u{1b}[m"),
+        (
+            "\u{1b}[53;9;8;7;5;4;3;2;1ma",
+            "\u{1b}[1;2;3;4;5;7;8;9;53ma\u{1b}[m",
+        ),
         ("\u{1b}[1;2;3;22ma", "\u{1b}[3ma\u{1b}[m"),
         ("\u{1b}[1;3;23;22ma", "a"),
         ("\u{1b}[21ma\u{1b}[24mb", "\u{1b}[4:2ma\u{1b}[mb"),
         ("\u{1b}[4:3ma\u{1b}[4:0mb", "\u{1b}[4:3ma\u{1b}[mb"),
-        ("\u{1b}[4:4ma\u{1b}[4:5mb\u{1b}[4:9mc", "\u{1b}[4:4ma\u{1b}[m\u{1b}[4:5mbc\u{1b}[m"),
+        (
+            "\u{1b}[4:4ma\u{1b}[4:5mb\u{1b}[4:9mc",
+            "\u{1b}[4:4ma\u{1b}[m\u{1b}[4:5mbc\u{1b}[m",
+        ),
         ("\u{1b}[6ma\u{1b}[25mb", "\u{1b}[6ma\u{1b}[mb"),
         ("\u{1b}[7;8;9;53;27;28;29;55ma", "a"),
-        ("\u{1b}[31ma\u{1b}[0mb\u{1b}[1mc\u{1b}[md", "\u{1b}[31ma\u{1b}[mb\u{1b}[1mc\u{1b}[md"),
-        ("\u{1b}[1ma\u{1b}[31mb", "\u{1b}[1ma\u{1b}[m\u{1b}[1;31mb\u{1b}[m"),
+        (
+            "\u{1b}[31ma\u{1b}[0mb\u{1b}[1mc\u{1b}[md",
+            "\u{1b}[31ma\u{1b}[mb\u{1b}[1mc\u{1b}[md",
+        ),
+        (
+            "\u{1b}[1ma\u{1b}[31mb",
+            "\u{1b}[1ma\u{1b}[m\u{1b}[1;31mb\u{1b}[m",
+        ),
         ("\u{1b}[1m\u{1b}[mab\u{1b}[3m", "ab"),
     ] {
         assert!(rt; is_written_as(rt.alloc(), text, expected)?, "{text}");
@@ -125,7 +154,10 @@ fn colors_keep_their_kind(rt: HostRuntime) -> Result<(), Fail> {
         ("\u{1b}[97;100ma", "\u{1b}[97;100ma\u{1b}[m"),
         ("\u{1b}[31;42;39;49ma", "a"),
         ("\u{1b}[38;5;1ma", "\u{1b}[38;5;1ma\u{1b}[m"),
-        ("\u{1b}[38:5:255;48:5:0ma", "\u{1b}[38;5;255;48;5;0ma\u{1b}[m"),
+        (
+            "\u{1b}[38:5:255;48:5:0ma",
+            "\u{1b}[38;5;255;48;5;0ma\u{1b}[m",
+        ),
         ("\u{1b}[38;2;1;20;255ma", "\u{1b}[38;2;1;20;255ma\u{1b}[m"),
         ("\u{1b}[48:2:1:2:3ma", "\u{1b}[48;2;1;2;3ma\u{1b}[m"),
         ("\u{1b}[48:2::1:2:3ma", "\u{1b}[48;2;1;2;3ma\u{1b}[m"),
@@ -147,13 +179,30 @@ fn colors_keep_their_kind(rt: HostRuntime) -> Result<(), Fail> {
 #[test]
 fn links_keep_their_parameters(rt: HostRuntime) -> Result<(), Fail> {
     for (text, expected) in [
-        ("\u{1b}]8;id=1;u:v;w\u{7}a", "\u{1b}]8;id=1;u:v;w\u{1b}\\a\u{1b}]8;;\u{1b}\\"),
-        ("\u{1b}]8;;u\u{1b}\\a\u{1b}]8;;\u{1b}\\b", "\u{1b}]8;;u\u{1b}\\a\u{1b}]8;;\u{1b}\\b"),
-        ("\u{1b}]8;;u\u{7}a\u{1b}]8;;v\u{7}b\u{1b}]8;x;\u{7}c",
-            "\u{1b}]8;;u\u{1b}\\a\u{1b}]8;;v\u{1b}\\b\u{1b}]8;;\u{1b}\\c"),
-        ("\u{1b}]8;;u\u{7}a\u{1b}]8;u\u{7}b", "\u{1b}]8;;u\u{1b}\\ab\u{1b}]8;;\u{1b}\\"),
-        ("\u{1b}]8;;u\u{7}a\u{1b}]8;;u\u{7}b", "\u{1b}]8;;u\u{1b}\\ab\u{1b}]8;;\u{1b}\\"),
-        ("\u{1b}[1m\u{1b}]8;;u\u{7}a", "\u{1b}[1m\u{1b}]8;;u\u{1b}\\a\u{1b}[m\u{1b}]8;;\u{1b}\\"),
+        (
+            "\u{1b}]8;id=1;u:v;w\u{7}a",
+            "\u{1b}]8;id=1;u:v;w\u{1b}\\a\u{1b}]8;;\u{1b}\\",
+        ),
+        (
+            "\u{1b}]8;;u\u{1b}\\a\u{1b}]8;;\u{1b}\\b",
+            "\u{1b}]8;;u\u{1b}\\a\u{1b}]8;;\u{1b}\\b",
+        ),
+        (
+            "\u{1b}]8;;u\u{7}a\u{1b}]8;;v\u{7}b\u{1b}]8;x;\u{7}c",
+            "\u{1b}]8;;u\u{1b}\\a\u{1b}]8;;v\u{1b}\\b\u{1b}]8;;\u{1b}\\c",
+        ),
+        (
+            "\u{1b}]8;;u\u{7}a\u{1b}]8;u\u{7}b",
+            "\u{1b}]8;;u\u{1b}\\ab\u{1b}]8;;\u{1b}\\",
+        ),
+        (
+            "\u{1b}]8;;u\u{7}a\u{1b}]8;;u\u{7}b",
+            "\u{1b}]8;;u\u{1b}\\ab\u{1b}]8;;\u{1b}\\",
+        ),
+        (
+            "\u{1b}[1m\u{1b}]8;;u\u{7}a",
+            "\u{1b}[1m\u{1b}]8;;u\u{1b}\\a\u{1b}[m\u{1b}]8;;\u{1b}\\",
+        ),
     ] {
         assert!(rt; is_written_as(rt.alloc(), text, expected)?, "{text}");
     }
@@ -171,7 +220,10 @@ fn overstrikes_are_bold_or_underlined(rt: HostRuntime) -> Result<(), Fail> {
         ("x\u{8}x\u{8}x", "\u{1b}[1mx\u{1b}[m"),
         ("_\u{8}_", "\u{1b}[1m_\u{1b}[m"),
         ("_\u{8}x_\u{8}_", "\u{1b}[4mx_\u{1b}[m"),
-        ("_\u{8}x\u{8}x_\u{8}_", "\u{1b}[1;4mx\u{1b}[m\u{1b}[1m_\u{1b}[m"),
+        (
+            "_\u{8}x\u{8}x_\u{8}_",
+            "\u{1b}[1;4mx\u{1b}[m\u{1b}[1m_\u{1b}[m",
+        ),
         ("_\u{8}x\n_\u{8}_", "\u{1b}[4mx\u{1b}[m\n\u{1b}[1m_\u{1b}[m"),
         ("\u{1b}[31mx\u{8}x", "\u{1b}[1;31mx\u{1b}[m"),
         ("ש\u{8}ש\u{5b8}\u{8}\u{5b8}", "\u{1b}[1mש\u{5b8}\u{1b}[m"),
@@ -219,7 +271,10 @@ fn style_stays_in_the_next_paragraph(rt: HostRuntime) -> Result<(), Fail> {
     let mut out = Vec::new(rt.alloc());
     push_line(&scanner.text, &mut out)?;
     let mut expected = Vec::new(rt.alloc());
-    push_characters("\u{1b}[1m\u{1b}]8;;u\u{1b}\\cd\u{1b}[m\u{1b}]8;;\u{1b}\\", &mut expected)?;
+    push_characters(
+        "\u{1b}[1m\u{1b}]8;;u\u{1b}\\cd\u{1b}[m\u{1b}]8;;\u{1b}\\",
+        &mut expected,
+    )?;
     assert!(rt; out.as_slice() == expected.as_slice());
     Ok(())
 }
@@ -231,6 +286,110 @@ fn characters_are_appended_with_links(rt: HostRuntime) -> Result<(), Fail> {
     text.push('a', PLAIN, NO_LINK)?;
     text.push('b', PLAIN, link)?;
     assert!(rt; text.characters.len() == 2 && text.runs.len() == 1);
-    assert!(rt; text.clear(link) == Link { start: 0, len: 2 } && text.links.as_slice() == [';', 'u'].as_slice());
+    assert!(rt;
+        text.clear(link) == Link { start: 0, len: 2 }
+            && text.links.as_slice() == [';', 'u'].as_slice()
+    );
+    Ok(())
+}
+
+// Returns what a paragraph is written as in a mode.
+fn scanned(alloc: Global, escapes: Escapes, text: &str) -> Result<Vec<char>, AllocError> {
+    let mut characters = Vec::new(alloc);
+    push_characters(text, &mut characters)?;
+    let mut scanner = Scanner::new(alloc);
+    scanner.scan(escapes, &characters)?;
+    let mut out = Vec::new(alloc);
+    push_line(&scanner.text, &mut out)?;
+    Ok(out)
+}
+
+#[test]
+fn modes_keep_styles_drop_them_or_show_controls(rt: HostRuntime) -> Result<(), Fail> {
+    let text = "a\u{1b}[1mb_\u{8}c\u{7f}\u{9c}\n";
+    for (escapes, expected) in [
+        (
+            Escapes::Keep,
+            "a\u{1b}[1mb\u{1b}[m\u{1b}[1;4mc\u{1b}[m\u{1b}[1m\n\u{1b}[m",
+        ),
+        (Escapes::Strip, "abc\n"),
+        (Escapes::Text, "a\u{241b}[1mb_\u{2408}c\u{2421}\u{fffd}\n"),
+    ] {
+        let mut wanted = Vec::new(rt.alloc());
+        push_characters(expected, &mut wanted)?;
+        assert!(rt;
+            scanned(rt.alloc(), escapes, text)?.as_slice() == wanted.as_slice(),
+            "{escapes:?}"
+        );
+    }
+    Ok(())
+}
+
+#[test]
+fn text_without_styles_has_no_runs(rt: HostRuntime) -> Result<(), Fail> {
+    let mut text = Vec::new(rt.alloc());
+    push_characters(
+        "a\u{1b}[1m\u{1b}[mb\u{1b}]8;;u\u{7}\u{1b}]8;;\u{7}c\u{1b}[2Kd",
+        &mut text,
+    )?;
+    let mut scanner = Scanner::new(rt.alloc());
+    scanner.push_text(&text)?;
+    assert!(rt; scanner.text.characters.len() == 4 && scanner.text.runs.is_empty());
+    Ok(())
+}
+
+// Appends a link of 4,001 characters, and a letter.
+fn push_long_link(text: &mut Vec<char>) -> Result<(), AllocError> {
+    push_characters("\u{1b}]8;;", text)?;
+    for _ in 0..4_000 {
+        text.push('u')?;
+    }
+    push_characters("\u{7}a", text)
+}
+
+#[test]
+fn links_past_one_megabyte_are_dropped(rt: HostRuntime) -> Result<(), Fail> {
+    let mut text = Vec::new(rt.alloc());
+    for _ in 0..66 {
+        push_long_link(&mut text)?;
+    }
+    let mut scanner = Scanner::new(rt.alloc());
+    scanner.push_text(&text)?;
+    assert!(rt;
+        scanner.text.links.len() == 65 * 4_001 && scanner.text.links.len() <= MAX_LINKS_LEN
+    );
+    assert!(rt; scanner.text.runs.len() == 66);
+    if let Some(run) = scanner.text.runs.last() {
+        assert!(rt; run.link.len == 0);
+    }
+    Ok(())
+}
+
+#[test]
+fn plain_text_has_no_controls_that_are_dropped(rt: HostRuntime) {
+    assert!(rt;
+        is_plain(&['a', '\t', '\u{85}', 'א']) && !is_plain(&['a', '\u{7f}']) && is_plain(&[])
+    );
+    assert!(rt;
+        picture('\u{1b}') == '\u{241b}' && picture('\n') == '\n' && picture('\u{80}') == '\u{fffd}'
+    );
+    assert!(rt;
+        sequence_len(&['\u{1b}', '[', 'm', 'a']) == Some(3) && sequence_len(&['a']) == None
+    );
+    shows_itself();
+    shows_no_controls();
+    shows_pieces();
+    shows_plain_text();
+    shows_the_same();
+    writes_plain_text();
+}
+
+// The example in the first lines of `sequences`.
+#[test]
+fn bold_character_begins_a_run(rt: HostRuntime) -> Result<(), Fail> {
+    let mut scanner = Scanner::new(rt.alloc());
+    scanner.push_text(&['a', '\u{1b}', '[', '1', 'm', 'b'])?;
+    assert!(rt; scanner.text.characters.as_slice() == ['a', 'b'].as_slice());
+    assert!(rt; scanner.text.runs.len() == 1); // b is bold
     Ok(())
 }

@@ -1,5 +1,6 @@
-use Rattle.std.proofs.Common.{◌≡◌, ◌<◌, ◌≤◌, ◌-◌, length, get_or, ap, subst, sym, ◌∙◌, arith, rules}
-use Rattle.sequences.specs.StyledTexts.{style_of}
+use Rattle.std.proofs.Common.{ℕ, List, ◌≡◌, ◌<◌, ◌≤◌, ◌-◌, length, get_or, ap, subst, sym, ◌∙◌, arith, rules}
+use Rattle.sequences.specs.Styled.{Style}
+use Rattle.sequences.specs.declared.look.Look.{Look}
 use Rattle.sequences.specs.declared.look.TheConstants.{PLAIN}
 use Rattle.sequences.specs.declared.style.StyleRun.{StyleRun}
 use Rattle.sequences.proofs.StyleLemmas.{style_at-last, style_at-none, style_of-default, style_of-same}
@@ -15,7 +16,10 @@ returns-in-Some c e =
     let from : run.start ≤ length text.characters.items = subst P (sym last) (text.starts (length text.runs.items - 1) run (omega arith)) in
     style_at-last text.links.items text.runs.items run _ some last from
     ∙ style_of-same text.links.items run.look c.args.look run.link (c.has_style.ensures.look e)
-    ∙ ap (style_of text.links.items c.args.look) (c.has_style.ensures.link e)
+    ∙ ap (linked c.args.look) (c.has_style.ensures.link e text.links.items)
+  where
+    linked : Look → List ℕ → Style
+    linked look link = record { look = look; link = link }
 
 pub returns-in-None : goal.returns-in-None
 returns-in-None c e =
