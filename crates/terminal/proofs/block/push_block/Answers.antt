@@ -1,0 +1,24 @@
+use Rattle.std.proofs.Common.{◌∙◌, ◌++◌, ap}
+use Rattle.lines.specs.Engine.{rules_of}
+use Rattle.sequences.specs.Scanners.{pen_of}
+use Rattle.sequences.specs.Styled.{next_paragraph, styled}
+use Rattle.terminal.specs.Texts.{block_page}
+use Rattle.terminal.proofs.BlockLemmas.{block_short}
+use Rattle.terminal.proofs.block.push_block.Goals as goal
+
+pub push_shown-requires-clause-short : goal.push_shown-requires-clause-short
+push_shown-requires-clause-short c =
+    let pen = pen_of c.args.scanner.now in
+    let block = c.args.block.now in
+    block_short c.push_text.new.self.text pen block (c.in_ok-push_text.ensures.text ∙ ap (λ xs. xs ++ styled pen block) c.requires.empty) c.requires.short
+
+pub returns-clause-ok : goal.returns-clause-ok
+returns-clause-ok c =
+    let pen = pen_of c.args.scanner.now in
+    let block = c.args.block.now in
+    c.in_ok-push_shown.ensures.ok
+    ∙ ap (λ shown. c.args.page.now.bytes.items ++ block_page (rules_of c.args.engine.now) c.args.form.now shown)
+    (c.in_ok-push_text.ensures.text ∙ ap (λ xs. xs ++ styled pen block) c.requires.empty)
+
+pub returns-clause-pen : goal.returns-clause-pen
+returns-clause-pen c = c.start_paragraph.ensures.pen ∙ ap next_paragraph c.in_ok-push_text.ensures.pen

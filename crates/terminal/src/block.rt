@@ -1,0 +1,163 @@
+//! Adds the lines of what a text shows, one block at a time. A block ends where a paragraph ends, and no sequence and no
+//! overstrike spans its end.
+ghost use Rattle.std.specs.Prelude.{◌≡◌, ◌≤◌, ◌<◌, ◌++◌, ◌∷◌, ◌-◌, [], ℕ, List, drop, length, map, slice_index, slice_range, take, All, OnOk};
+ghost use Rattle.std.specs.List.{flat_map};
+ghost use Rattle.lines.specs.Engine.{rules_of, SameRules};
+ghost use Rattle.lines.specs.Layouts.{cut_by, IsParagraph};
+ghost use Rattle.lines.specs.declared.engine.TheConstants.{PARAGRAPH_LIMIT};
+ghost use Rattle.sequences.specs.Laws.{characters_of};
+ghost use Rattle.sequences.specs.Scanners.{pen_of};
+ghost use Rattle.sequences.specs.Styled.{Style, next_paragraph, pen_at_end, styled};
+ghost use Rattle.sequences.specs.StyledTexts.{styled_of};
+ghost use Rattle.terminal.specs.Forms.{print_of};
+ghost use Rattle.terminal.specs.Numbers.{numbered};
+ghost use Rattle.terminal.specs.Paragraphs.{styled_paragraph, styles_of};
+ghost use Rattle.terminal.specs.Parts.{styles_in};
+ghost use Rattle.terminal.specs.Texts.{block_page, in_mode, styled_paragraphs};
+
+use crate::form::{Escapes, Form};
+use crate::numbers::{Part, number_styles};
+use crate::paragraph::push_paragraph;
+use bidi::paragraphs_are_pieces;
+use lines::Engine;
+use sequences::{Scanner, StyledText};
+use std::alloc::{AllocError, Global};
+use stream::Page;
+
+/// Buffers that are reused from one block to the next.
+#[derive(Drop)]
+pub(crate) struct Buffers {
+    numbers: Vec<usize>,
+    out: Vec<char>,
+}
+
+impl Buffers {
+    /// Makes empty buffers. Allocates nothing.
+    pub(crate) fn new(alloc: Global) -> Buffers {
+        Buffers {
+            numbers: Vec::new(alloc),
+            out: Vec::new(alloc),
+        }
+    }
+}
+
+// Replaces the numbers with zeros.
+fn put_zeros(len: usize, numbers: &mut Vec<usize>) -> Result<(), AllocError>
+    ensures { OnOk result ((length numbers.new.items ≡ len) × ((k : ℕ) → slice_index numbers.new.items k ≡ 0)) }
+{
+    numbers.clear();
+    numbers.resize(len, 0)?;
+    Ok(())
+}
+
+// Replaces the numbers with those of the styles that a text's characters have in a mode.
+fn number_mode(
+    escapes: Escapes,
+    text: &StyledText,
+    numbers: &mut Vec<usize>,
+) -> Result<(), AllocError>
+    ensures styles { OnOk result (map (numbered text.now.links.items text.now.runs.items) numbers.new.items
+        ≡ styles_of (in_mode escapes (styled_of text.now))) }
+    ensures len { OnOk result (length numbers.new.items ≡ length text.now.characters.items) }
+    ensures known { OnOk result (All (λ n. n ≤ length text.now.runs.items) numbers.new.items) }
+{
+    match escapes {
+        Escapes::Strip => put_zeros(text.characters.len(), numbers),
+        Escapes::Keep | Escapes::Text => number_styles(text, numbers),
+    }
+}
+
+// Returns where the paragraph at an index of a block ends.
+fn paragraph_end(engine: &Engine, characters: &[char], at: usize) -> usize
+    requires at { at < length characters.now }
+    requires short { length characters.now ≤ PARAGRAPH_LIMIT }
+    ensures within { (at < result) × (result ≤ length characters.now) }
+    ensures paragraph { IsParagraph (rules_of engine.now) (slice_range characters.now at result) }
+    ensures split { (shown : List (ℕ × Style)) → characters.now ≡ characters_of shown
+        → styled_paragraphs (cut_by (rules_of engine.now)) (drop at shown)
+        ≡ take (result - at) (drop at shown) ∷ styled_paragraphs (cut_by (rules_of engine.now)) (drop result shown) }
+{
+    paragraphs_are_pieces();
+    let (_, rest) = characters.split_at(at);
+    match engine.first_cut(rest) {
+        Some(k) => at + k,
+        None => characters.len(),
+    }
+}
+
+// Adds the lines of the paragraphs of a block, given the styles of its characters.
+fn push_parts(
+    alloc: Global,
+    page: &mut Page,
+    engine: &mut Engine,
+    form: &Form,
+    part: &Part<'_>,
+    out: &mut Vec<char>,
+) -> Result<(), AllocError>
+    requires short { length part.now.characters.now ≤ PARAGRAPH_LIMIT }
+    requires width { 0 < form.now.width }
+    requires len { length part.now.numbers.now ≡ length part.now.characters.now }
+    ensures ok { (shown : List (ℕ × Style)) → part.now.characters.now ≡ characters_of shown → styles_of shown ≡ styles_in part.now
+        → OnOk result (page.new.bytes.items ≡ page.old.bytes.items ++ flat_map
+        (styled_paragraph (rules_of engine.old) form.now.width (print_of form.now))
+        (styled_paragraphs (cut_by (rules_of engine.old)) shown)) }
+    ensures rules { SameRules engine.old engine.new }
+{
+    let mut at = 0;
+    while at < part.characters.len() {
+        let end = paragraph_end(engine, part.characters, at);
+        push_paragraph(alloc, page, engine, form, &part.paragraph(at, end), out)?;
+        at = end;
+    }
+    Ok(())
+}
+
+// Adds the lines of what a block shows.
+fn push_shown(
+    alloc: Global,
+    page: &mut Page,
+    engine: &mut Engine,
+    form: &Form,
+    text: &StyledText,
+    buffers: &mut Buffers,
+) -> Result<(), AllocError>
+    requires short { length text.now.characters.items ≤ PARAGRAPH_LIMIT }
+    requires width { 0 < form.now.width }
+    ensures ok { OnOk result (page.new.bytes.items ≡ page.old.bytes.items
+        ++ block_page (rules_of engine.old) form.now (styled_of text.now)) }
+    ensures rules { SameRules engine.old engine.new }
+{
+    number_mode(form.escapes, text, &mut buffers.numbers)?;
+    let part = Part {
+        characters: &text.characters,
+        numbers: &buffers.numbers,
+        text,
+    };
+    push_parts(alloc, page, engine, form, &part, &mut buffers.out)
+}
+
+/// Adds the lines of what a block shows. The scanner begins the next block. After a failed allocation, what it holds
+/// does not matter.
+pub(crate) fn push_block(
+    alloc: Global,
+    page: &mut Page,
+    engine: &mut Engine,
+    form: &Form,
+    scanner: &mut Scanner,
+    block: &[char],
+    buffers: &mut Buffers,
+) -> Result<(), AllocError>
+    requires empty { styled_of scanner.old.text ≡ [] }
+    requires short { length block.now ≤ PARAGRAPH_LIMIT }
+    requires width { 0 < form.now.width }
+    ensures ok { OnOk result (page.new.bytes.items ≡ page.old.bytes.items
+        ++ block_page (rules_of engine.old) form.now (styled (pen_of scanner.old) block.now)) }
+    ensures pen { OnOk result (pen_of scanner.new ≡ next_paragraph (pen_at_end (pen_of scanner.old) block.now)) }
+    ensures empty { OnOk result (styled_of scanner.new.text ≡ []) }
+    ensures rules { SameRules engine.old engine.new }
+{
+    scanner.push_text(block)?;
+    push_shown(alloc, page, engine, form, &scanner.text, buffers)?;
+    scanner.start_paragraph();
+    Ok(())
+}

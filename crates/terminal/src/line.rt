@@ -1,0 +1,207 @@
+//! Writes lines with styles.
+ghost use Rattle.std.specs.Prelude.{◌≡◌, ◌≤◌, ◌<◌, ◌++◌, ◌∷◌, [], ℕ, false, length, min, replicate, slice_index, IfOk, OnOk, ◌==◌, if◌then◌else◌};
+ghost use Rattle.lines.specs.Bytes.{ordered_chars, padding};
+ghost use Rattle.lines.specs.Visual.{is_measured};
+ghost use Rattle.sequences.specs.Output.{between, written_after};
+ghost use Rattle.sequences.specs.Styled.{DEFAULT};
+ghost use Rattle.terminal.specs.Lines.{line_cells, style_on, styled_chars, styled_line};
+ghost use Rattle.terminal.specs.Numbers.{numbered};
+ghost use Rattle.terminal.specs.Parts.{styles_in};
+
+use crate::numbers::{Part, style_numbered};
+use lines::{Print, VisualLine};
+use sequences::{StyledText, push_between};
+use std::alloc::AllocError;
+
+// Appends what is between characters with two styles.
+fn push_change(
+    text: &StyledText,
+    before: usize,
+    number: usize,
+    out: &mut Vec<char>,
+) -> Result<(), AllocError>
+    requires before { before ≤ length text.now.runs.items }
+    requires number { number ≤ length text.now.runs.items }
+    ensures { OnOk result (out.new.items ≡ out.old.items
+        ++ between (numbered text.now.links.items text.now.runs.items before)
+        (numbered text.now.links.items text.now.runs.items number)) }
+{
+    if before == number {
+        return Ok(());
+    }
+    push_between(
+        &style_numbered(text, before),
+        &style_numbered(text, number),
+        out,
+    )
+}
+
+// Appends a character, or spaces in its place.
+fn push_cells(spaces: usize, c: char, out: &mut Vec<char>) -> Result<(), AllocError>
+    ensures text { OnOk result (out.new.items ≡ out.old.items ++ (if spaces == 0 then c ∷ [] else replicate spaces 32)) }
+    ensures some { 0 < length (if spaces == 0 then c ∷ [] else replicate spaces 32) }
+{
+    if spaces == 0 {
+        out.push(c)?;
+        return Ok(());
+    }
+    push_spaces(spaces, out)
+}
+
+// Appends spaces.
+fn push_spaces(count: usize, out: &mut Vec<char>) -> Result<(), AllocError>
+    ensures { OnOk result (out.new.items ≡ out.old.items ++ replicate count 32) }
+{
+    for _ in 0..count {
+        out.push(' ')?;
+    }
+    Ok(())
+}
+
+// Returns a character of a text, or U+0000 past its end.
+fn char_at(text: &[char], at: usize) -> char
+    ensures { result ≡ slice_index text.now at }
+{
+    if at < text.len() { text[at] } else { '\0' }
+}
+
+// Returns the number of spaces in place of the tab at a visual position of a line, or 0 for another character.
+fn spaces_at(line: &VisualLine<'_>, text: &[char], place: usize) -> usize
+    requires text { text.now ≡ line.now.text }
+    requires plain { is_measured line.now ≡ false }
+    requires place { place < length line.now.vtol }
+    ensures { (c : ℕ) → line_cells line.now c (slice_index line.now.vtol place)
+        ≡ (if result == 0 then c ∷ [] else replicate result 32) }
+{
+    if char_at(text, line.vtol()[place] as usize) == '\t' {
+        line.columns_at(place)
+    } else {
+        0
+    }
+}
+
+// Returns the number of characters in visual order.
+fn ordered_len(line: &VisualLine<'_>, print: &Print) -> usize
+    ensures { result ≡ min (length (ordered_chars print.now line.now)) (length line.now.vtol) }
+{
+    if print.nomirror {
+        line.vtol().len()
+    } else {
+        line.chars().len().min(line.vtol().len())
+    }
+}
+
+// Returns the character at a visual position of a line, mirrored unless `print.nomirror` is set.
+fn ordered_at(line: &VisualLine<'_>, text: &[char], print: &Print, place: usize) -> char
+    requires text { text.now ≡ line.now.text }
+    requires place { place < length line.now.vtol }
+    requires within { place < length (ordered_chars print.now line.now) }
+    ensures { result ≡ slice_index (ordered_chars print.now line.now) place }
+{
+    if print.nomirror {
+        char_at(text, line.vtol()[place] as usize)
+    } else {
+        line.chars()[place]
+    }
+}
+
+// Returns the number of the style at a visual position of a line.
+fn number_at(line: &VisualLine<'_>, part: &Part<'_>, place: usize) -> usize
+    requires place { place < length line.now.vtol }
+    ensures style { numbered part.now.text.now.links.items part.now.text.now.runs.items result
+        ≡ style_on (styles_in part.now) (slice_index line.now.vtol place) }
+    ensures within { result ≤ length part.now.text.now.runs.items }
+{
+    let k = line.vtol()[place] as usize;
+    if k < part.numbers.len() {
+        part.numbers[k]
+    } else {
+        0
+    }
+}
+
+// Appends the character at a visual position of a line, and returns the number of its style. `before` is that of the
+// character before it.
+fn push_place(
+    line: &VisualLine<'_>,
+    part: &Part<'_>,
+    print: &Print,
+    place: usize,
+    before: usize,
+    out: &mut Vec<char>,
+) -> Result<usize, AllocError>
+    requires text { part.now.characters.now ≡ line.now.text }
+    requires plain { is_measured line.now ≡ false }
+    requires place { place < length line.now.vtol }
+    requires within { place < length (ordered_chars print.now line.now) }
+    requires before { before ≤ length part.now.text.now.runs.items }
+    ensures style { IfOk result (λ number. numbered part.now.text.now.links.items part.now.text.now.runs.items number
+        ≡ style_on (styles_in part.now) (slice_index line.now.vtol place)) }
+    ensures number { IfOk result (λ number. number ≤ length part.now.text.now.runs.items) }
+    ensures text { IfOk result (λ number. out.new.items ≡ out.old.items
+        ++ (between (numbered part.now.text.now.links.items part.now.text.now.runs.items before)
+        (numbered part.now.text.now.links.items part.now.text.now.runs.items number)
+        ++ line_cells line.now (slice_index (ordered_chars print.now line.now) place) (slice_index line.now.vtol place))) }
+    ensures some { OnOk result (0 < length (line_cells line.now (slice_index (ordered_chars print.now line.now) place)
+        (slice_index line.now.vtol place))) }
+{
+    let number = number_at(line, part, place);
+    push_change(part.text, before, number, out)?;
+    let spaces = spaces_at(line, part.characters, place);
+    push_cells(spaces, ordered_at(line, part.characters, print, place), out)?;
+    Ok(number)
+}
+
+// Appends the characters of a line in visual order with their styles, without what resets the last style. Returns the
+// number of the last style.
+fn push_chars(
+    line: &VisualLine<'_>,
+    part: &Part<'_>,
+    print: &Print,
+    out: &mut Vec<char>,
+) -> Result<usize, AllocError>
+    requires text { part.now.characters.now ≡ line.now.text }
+    requires plain { is_measured line.now ≡ false }
+    ensures number { IfOk result (λ number. number ≤ length part.now.text.now.runs.items) }
+    ensures text { IfOk result (λ number. out.new.items
+        ++ between (numbered part.now.text.now.links.items part.now.text.now.runs.items number) DEFAULT
+        ≡ out.old.items ++ written_after DEFAULT
+        (styled_chars line.now (styles_in part.now) (ordered_chars print.now line.now) line.now.vtol)) }
+{
+    let mut before = 0;
+    for place in 0..ordered_len(line, print) {
+        before = push_place(line, part, print, place, before, out)?;
+    }
+    Ok(before)
+}
+
+// Returns the number of spaces before a line.
+fn padding(line: &VisualLine<'_>, width: u32, print: &Print) -> usize
+    requires { is_measured line.now ≡ false }
+    ensures { replicate result 32 ≡ padding width print.now line.now }
+{
+    if print.nopad {
+        0
+    } else {
+        line.padding(width) as usize
+    }
+}
+
+/// Appends a line with the styles of its characters. `part` has the shown characters of the line.
+pub(crate) fn push_line(
+    line: &VisualLine<'_>,
+    part: &Part<'_>,
+    width: u32,
+    print: &Print,
+    out: &mut Vec<char>,
+) -> Result<(), AllocError>
+    requires text { part.now.characters.now ≡ line.now.text }
+    requires plain { is_measured line.now ≡ false }
+    ensures { OnOk result (out.new.items ≡ out.old.items ++ styled_line width print.now line.now (styles_in part.now)) }
+{
+    push_spaces(padding(line, width, print), out)?;
+    let last = push_chars(line, part, print, out)?;
+    push_change(part.text, last, 0, out)?;
+    out.push('\n')?;
+    Ok(())
+}

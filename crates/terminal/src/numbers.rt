@@ -1,0 +1,114 @@
+//! The styles of characters by numbers: 0 is the default style, and the runs of a text are counted from 1.
+ghost use Rattle.std.specs.Prelude.{◌≡◌, ◌≤◌, ◌<◌, ℕ, drop, length, map, slice_index, slice_range, All, OnOk};
+ghost use Rattle.sequences.specs.StyleRefs.{style_by};
+ghost use Rattle.sequences.specs.Styled.{DEFAULT};
+ghost use Rattle.sequences.specs.StyledTexts.{style_at, styled_of};
+ghost use Rattle.terminal.specs.Numbers.{numbered};
+ghost use Rattle.terminal.specs.Paragraphs.{styles_of};
+
+use sequences::{PLAIN, StyleRef, StyledText};
+use std::alloc::AllocError;
+
+/// Characters in logical order with the numbers of their styles, and the text that has these styles.
+#[derive(Clone, Copy)]
+pub(crate) struct Part<'a> {
+    pub(crate) characters: &'a [char],
+    pub(crate) numbers: &'a [usize],
+    pub(crate) text: &'a StyledText,
+    ghost known: { All (λ n. n ≤ length text.now.runs.items) numbers.now },
+    ghost long: { length characters.now ≤ length numbers.now },
+}
+
+impl<'a> Part<'a> {
+    /// Returns the characters in a range.
+    pub(crate) fn range(&self, start: usize, end: usize) -> Part<'a>
+        requires { (start ≤ end) × (end ≤ length self.now.characters.now) }
+        ensures characters { result.characters.now ≡ slice_range self.now.characters.now start end }
+        ensures numbers { result.numbers.now ≡ drop start self.now.numbers.now }
+        ensures text { result.text.now ≡ self.now.text.now }
+    {
+        Part {
+            characters: &self.characters[start..end],
+            numbers: &self.numbers[start..],
+            text: self.text,
+        }
+    }
+
+    /// Returns the characters in a range, with their numbers alone.
+    pub(crate) fn paragraph(&self, start: usize, end: usize) -> Part<'a>
+        requires within { (start ≤ end) × (end ≤ length self.now.characters.now) }
+        requires len { length self.now.numbers.now ≡ length self.now.characters.now }
+        ensures characters { result.characters.now ≡ slice_range self.now.characters.now start end }
+        ensures numbers { result.numbers.now ≡ slice_range self.now.numbers.now start end }
+        ensures len { length result.numbers.now ≡ length result.characters.now }
+        ensures text { result.text.now ≡ self.now.text.now }
+    {
+        Part {
+            characters: &self.characters[start..end],
+            numbers: &self.numbers[start..end],
+            text: self.text,
+        }
+    }
+}
+
+/// Returns the style with a number.
+pub(crate) fn style_numbered(text: &StyledText, number: usize) -> StyleRef<'_>
+    requires { number ≤ length text.now.runs.items }
+    ensures { style_by result ≡ numbered text.now.links.items text.now.runs.items number }
+{
+    if number == 0 {
+        StyleRef {
+            look: PLAIN,
+            link: &[],
+        }
+    } else {
+        text.run_style(number - 1)
+    }
+}
+
+// Replaces the numbers in a range.
+fn put_number(numbers: &mut [usize], start: usize, end: usize, number: usize)
+    requires { (start ≤ end) × (end ≤ length numbers.old) }
+    ensures inside { (k : ℕ) → start ≤ k → k < end → slice_index numbers.new k ≡ number }
+    ensures before { (k : ℕ) → k < start → slice_index numbers.new k ≡ slice_index numbers.old k }
+    ensures after { (k : ℕ) → end ≤ k → slice_index numbers.new k ≡ slice_index numbers.old k }
+{
+    for k in start..end {
+        numbers[k] = number;
+    }
+}
+
+// Replaces the numbers of a text's characters, all of which are 0, with those of their styles. The style of a character is that
+// of the last run that starts at it or before it, so the last runs are taken first.
+fn put_numbers(text: &StyledText, numbers: &mut [usize])
+    requires len { length numbers.old ≡ length text.now.characters.items }
+    requires zero { (k : ℕ) → slice_index numbers.old k ≡ 0 }
+    ensures styles { (k : ℕ) → k < length text.now.characters.items
+        → numbered text.now.links.items text.now.runs.items (slice_index numbers.new k)
+        ≡ style_at text.now.links.items DEFAULT text.now.runs.items k }
+    ensures known { (k : ℕ) → slice_index numbers.new k ≤ length text.now.runs.items }
+{
+    let mut end = text.characters.len();
+    let mut left = text.runs.len();
+    while left > 0 {
+        let start = text.runs[left - 1].start;
+        if start < end {
+            put_number(numbers, start, end, left);
+            end = start;
+        }
+        left -= 1;
+    }
+}
+
+/// Replaces the numbers with those of the styles of a text's characters.
+pub(crate) fn number_styles(text: &StyledText, numbers: &mut Vec<usize>) -> Result<(), AllocError>
+    ensures styles { OnOk result (map (numbered text.now.links.items text.now.runs.items) numbers.new.items
+        ≡ styles_of (styled_of text.now)) }
+    ensures len { OnOk result (length numbers.new.items ≡ length text.now.characters.items) }
+    ensures known { OnOk result (All (λ n. n ≤ length text.now.runs.items) numbers.new.items) }
+{
+    numbers.clear();
+    numbers.resize(text.characters.len(), 0)?;
+    put_numbers(text, numbers);
+    Ok(())
+}
