@@ -1,6 +1,7 @@
-//! Adds the lines of what a text shows, one block at a time. A block ends where a paragraph ends, and no sequence and no
-//! overstrike spans its end.
-ghost use Rattle.std.specs.Prelude.{◌≡◌, ◌≤◌, ◌<◌, ◌++◌, ◌∷◌, ◌-◌, [], ℕ, List, drop, length, map, slice_index, slice_range, take, All, OnOk};
+//! Adds the lines of what a text shows, one block at a time. A block ends where a paragraph ends, and no
+//! sequence and no overstrike spans its end.
+ghost use Rattle.std.specs.Prelude.{◌≡◌, ◌≤◌, ◌<◌, ◌++◌, ◌∷◌, ◌-◌, [], ℕ, List, drop, length, map};
+ghost use Rattle.std.specs.Prelude.{slice_index, slice_range, take, All, OnOk};
 ghost use Rattle.std.specs.List.{flat_map};
 ghost use Rattle.lines.specs.Engine.{rules_of, SameRules};
 ghost use Rattle.lines.specs.Layouts.{cut_by, IsParagraph};
@@ -43,7 +44,8 @@ impl Buffers {
 
 // Replaces the numbers with zeros.
 fn put_zeros(len: usize, numbers: &mut Vec<usize>) -> Result<(), AllocError>
-    ensures { OnOk result ((length numbers.new.items ≡ len) × ((k : ℕ) → slice_index numbers.new.items k ≡ 0)) }
+    ensures { OnOk result ((length numbers.new.items ≡ len)
+        × ((k : ℕ) → slice_index numbers.new.items k ≡ 0)) }
 {
     numbers.clear();
     numbers.resize(len, 0)?;
@@ -75,7 +77,8 @@ fn paragraph_end(engine: &Engine, characters: &[char], at: usize) -> usize
     ensures paragraph { IsParagraph (rules_of engine.now) (slice_range characters.now at result) }
     ensures split { (shown : List (ℕ × Style)) → characters.now ≡ characters_of shown
         → styled_paragraphs (cut_by (rules_of engine.now)) (drop at shown)
-        ≡ take (result - at) (drop at shown) ∷ styled_paragraphs (cut_by (rules_of engine.now)) (drop result shown) }
+        ≡ take (result - at) (drop at shown) ∷ styled_paragraphs (cut_by (rules_of engine.now))
+        (drop result shown) }
 {
     paragraphs_are_pieces();
     let (_, rest) = characters.split_at(at);
@@ -97,7 +100,8 @@ fn push_parts(
     requires short { length part.now.characters.now ≤ PARAGRAPH_LIMIT }
     requires width { 0 < form.now.width }
     requires len { length part.now.numbers.now ≡ length part.now.characters.now }
-    ensures ok { (shown : List (ℕ × Style)) → part.now.characters.now ≡ characters_of shown → styles_of shown ≡ styles_in part.now
+    ensures ok { (shown : List (ℕ × Style)) → part.now.characters.now ≡ characters_of shown
+        → styles_of shown ≡ styles_in part.now
         → OnOk result (page.new.bytes.items ≡ page.old.bytes.items ++ flat_map
         (styled_paragraph (rules_of engine.old) form.now.width (print_of form.now))
         (styled_paragraphs (cut_by (rules_of engine.old)) shown)) }
@@ -136,8 +140,8 @@ fn push_shown(
     push_parts(alloc, page, engine, form, &part, &mut buffers.out)
 }
 
-/// Adds the lines of what a block shows. The scanner begins the next block. After a failed allocation, what it holds
-/// does not matter.
+/// Adds the lines of what a block shows. The scanner begins the next block. After a failed allocation, what
+/// it holds does not matter.
 pub(crate) fn push_block(
     alloc: Global,
     page: &mut Page,
@@ -152,7 +156,8 @@ pub(crate) fn push_block(
     requires width { 0 < form.now.width }
     ensures ok { OnOk result (page.new.bytes.items ≡ page.old.bytes.items
         ++ block_page (rules_of engine.old) form.now (styled (pen_of scanner.old) block.now)) }
-    ensures pen { OnOk result (pen_of scanner.new ≡ next_paragraph (pen_at_end (pen_of scanner.old) block.now)) }
+    ensures pen { OnOk result (pen_of scanner.new
+        ≡ next_paragraph (pen_at_end (pen_of scanner.old) block.now)) }
     ensures empty { OnOk result (styled_of scanner.new.text ≡ []) }
     ensures rules { SameRules engine.old engine.new }
 {

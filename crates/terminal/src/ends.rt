@@ -27,7 +27,8 @@ fn is_apart(c: char) -> bool
         || c == '\u{2029}'
 }
 
-// Returns the length of the sequence or of the dropped control that a text begins with, or `None` if there is neither.
+// Returns the length of the sequence or of the dropped control that a text begins with, or `None` if there is
+// neither.
 fn skipped_len(text: &[char]) -> Option<usize>
     requires { 0 < length text.now }
     ensures within { IfSome result (λ n. (0 < n) × (n ≤ length text.now)) }
@@ -43,7 +44,8 @@ fn skipped_len(text: &[char]) -> Option<usize>
     }
 }
 
-// Returns the first character of a text that is neither in a sequence nor dropped, or U+0000 if there is none.
+// Returns the first character of a text that is neither in a sequence nor dropped, or U+0000 if there is
+// none.
 fn next_character(text: &[char]) -> char
     ensures { result ≡ next_character text.now }
 {

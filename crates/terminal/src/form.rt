@@ -10,7 +10,8 @@ pub enum Escapes {
     Keep,
     /// The output has no styles.
     Strip,
-    /// Nothing is a sequence or an overstrike. The controls that are otherwise dropped are shown as other characters.
+    /// Nothing is a sequence or an overstrike. The controls that are otherwise dropped are shown as other
+    /// characters.
     Text,
 }
 

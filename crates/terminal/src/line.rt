@@ -1,5 +1,6 @@
 //! Writes lines with styles.
-ghost use Rattle.std.specs.Prelude.{◌≡◌, ◌≤◌, ◌<◌, ◌++◌, ◌∷◌, [], ℕ, false, length, min, replicate, slice_index, IfOk, OnOk, ◌==◌, if◌then◌else◌};
+ghost use Rattle.std.specs.Prelude.{◌≡◌, ◌≤◌, ◌<◌, ◌++◌, ◌∷◌, [], ℕ, false, length, min, replicate};
+ghost use Rattle.std.specs.Prelude.{slice_index, IfOk, OnOk, ◌==◌, if◌then◌else◌};
 ghost use Rattle.lines.specs.Bytes.{ordered_chars, padding};
 ghost use Rattle.lines.specs.Visual.{is_measured};
 ghost use Rattle.sequences.specs.Output.{between, written_after};
@@ -38,7 +39,8 @@ fn push_change(
 
 // Appends a character, or spaces in its place.
 fn push_cells(spaces: usize, c: char, out: &mut Vec<char>) -> Result<(), AllocError>
-    ensures text { OnOk result (out.new.items ≡ out.old.items ++ (if spaces == 0 then c ∷ [] else replicate spaces 32)) }
+    ensures text { OnOk result (out.new.items
+        ≡ out.old.items ++ (if spaces == 0 then c ∷ [] else replicate spaces 32)) }
     ensures some { 0 < length (if spaces == 0 then c ∷ [] else replicate spaces 32) }
 {
     if spaces == 0 {
@@ -65,7 +67,8 @@ fn char_at(text: &[char], at: usize) -> char
     if at < text.len() { text[at] } else { '\0' }
 }
 
-// Returns the number of spaces in place of the tab at a visual position of a line, or 0 for another character.
+// Returns the number of spaces in place of the tab at a visual position of a line, or 0 for another
+// character.
 fn spaces_at(line: &VisualLine<'_>, text: &[char], place: usize) -> usize
     requires text { text.now ≡ line.now.text }
     requires plain { is_measured line.now ≡ false }
@@ -120,8 +123,8 @@ fn number_at(line: &VisualLine<'_>, part: &Part<'_>, place: usize) -> usize
     }
 }
 
-// Appends the character at a visual position of a line, and returns the number of its style. `before` is that of the
-// character before it.
+// Appends the character at a visual position of a line, and returns the number of its style. `before` is that
+// of the character before it.
 fn push_place(
     line: &VisualLine<'_>,
     part: &Part<'_>,
@@ -135,14 +138,17 @@ fn push_place(
     requires place { place < length line.now.vtol }
     requires within { place < length (ordered_chars print.now line.now) }
     requires before { before ≤ length part.now.text.now.runs.items }
-    ensures style { IfOk result (λ number. numbered part.now.text.now.links.items part.now.text.now.runs.items number
+    ensures style { IfOk result
+        (λ number. numbered part.now.text.now.links.items part.now.text.now.runs.items number
         ≡ style_on (styles_in part.now) (slice_index line.now.vtol place)) }
     ensures number { IfOk result (λ number. number ≤ length part.now.text.now.runs.items) }
     ensures text { IfOk result (λ number. out.new.items ≡ out.old.items
         ++ (between (numbered part.now.text.now.links.items part.now.text.now.runs.items before)
         (numbered part.now.text.now.links.items part.now.text.now.runs.items number)
-        ++ line_cells line.now (slice_index (ordered_chars print.now line.now) place) (slice_index line.now.vtol place))) }
-    ensures some { OnOk result (0 < length (line_cells line.now (slice_index (ordered_chars print.now line.now) place)
+        ++ line_cells line.now (slice_index (ordered_chars print.now line.now) place)
+        (slice_index line.now.vtol place))) }
+    ensures some { OnOk result (0 < length (line_cells line.now (slice_index
+        (ordered_chars print.now line.now) place)
         (slice_index line.now.vtol place))) }
 {
     let number = number_at(line, part, place);
@@ -152,8 +158,8 @@ fn push_place(
     Ok(number)
 }
 
-// Appends the characters of a line in visual order with their styles, without what resets the last style. Returns the
-// number of the last style.
+// Appends the characters of a line in visual order with their styles, without what resets the last style.
+// Returns the number of the last style.
 fn push_chars(
     line: &VisualLine<'_>,
     part: &Part<'_>,
@@ -197,7 +203,8 @@ pub(crate) fn push_line(
 ) -> Result<(), AllocError>
     requires text { part.now.characters.now ≡ line.now.text }
     requires plain { is_measured line.now ≡ false }
-    ensures { OnOk result (out.new.items ≡ out.old.items ++ styled_line width print.now line.now (styles_in part.now)) }
+    ensures { OnOk result (out.new.items
+        ≡ out.old.items ++ styled_line width print.now line.now (styles_in part.now)) }
 {
     push_spaces(padding(line, width, print), out)?;
     let last = push_chars(line, part, print, out)?;

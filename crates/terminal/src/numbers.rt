@@ -78,8 +78,8 @@ fn put_number(numbers: &mut [usize], start: usize, end: usize, number: usize)
     }
 }
 
-// Replaces the numbers of a text's characters, all of which are 0, with those of their styles. The style of a character is that
-// of the last run that starts at it or before it, so the last runs are taken first.
+// Replaces the numbers of a text's characters, all of which are 0, with those of their styles. The style of a
+// character is that of the last run that starts at it or before it, so the last runs are taken first.
 fn put_numbers(text: &StyledText, numbers: &mut [usize])
     requires len { length numbers.old ≡ length text.now.characters.items }
     requires zero { (k : ℕ) → slice_index numbers.old k ≡ 0 }

@@ -1,5 +1,7 @@
 //! Writes paragraphs with styles.
-ghost use Rattle.std.specs.Prelude.{◌≡◌, ◌≤◌, ◌<◌, ◌++◌, ◌↔◌, ◌&&◌, [], ℕ, None, Some, encode_utf8_all, length, slice_get, slice_index, EachIndex, IfOk, IsTrue, OnOk, if◌then◌else◌};
+ghost use Rattle.std.specs.Prelude.{◌≡◌, ◌≤◌, ◌<◌, ◌++◌, ◌↔◌, ◌&&◌, [], ℕ, None, Some, encode_utf8_all};
+ghost use Rattle.std.specs.Prelude.{length, slice_get, slice_index, EachIndex, IfOk, IsTrue, OnOk};
+ghost use Rattle.std.specs.Prelude.{if◌then◌else◌};
 ghost use Rattle.lines.specs.Bytes.{direction_line};
 ghost use Rattle.lines.specs.Engine.{rules_of, SameRules};
 ghost use Rattle.lines.specs.Layouts.{AreWithin, IsParagraph, layout_of};
@@ -49,7 +51,8 @@ fn push_nth(
     requires text { part.now.characters.now ≡ laid.now.text }
     requires plain { laid.now.advances ≡ None }
     requires within { AreWithin (length laid.now.text) laid.now.lines }
-    ensures { (line : Line) → slice_get laid.now.lines n ≡ Some line → OnOk result (out.new.items ≡ out.old.items
+    ensures { (line : Line) → slice_get laid.now.lines n ≡ Some line → OnOk result (out.new.items
+        ≡ out.old.items
         ++ styled_nth width print.now laid.now (styles_in part.now) (n, line)) }
 {
     let Some(line) = laid.line(n) else {
@@ -72,7 +75,8 @@ fn push_layout(
     requires text { part.now.characters.now ≡ laid.now.text }
     requires plain { laid.now.advances ≡ None }
     requires within { AreWithin (length laid.now.text) laid.now.lines }
-    ensures { OnOk result (out.new.items ≡ out.old.items ++ styled_layout width print.now laid.now (styles_in part.now)) }
+    ensures { OnOk result (out.new.items
+        ≡ out.old.items ++ styled_layout width print.now laid.now (styles_in part.now)) }
 {
     for n in 0..laid.line_count() {
         push_nth(laid, n, part, width, print, out)?;
@@ -101,7 +105,8 @@ fn push_plain(
     requires paragraph { IsParagraph (rules_of engine.old) paragraph.now }
     requires width { 0 < form.now.width }
     ensures ok { OnOk result (page.new.bytes.items ≡ page.old.bytes.items
-        ++ styled_paragraph (rules_of engine.old) form.now.width (print_of form.now) (in_style DEFAULT paragraph.now)) }
+        ++ styled_paragraph (rules_of engine.old) form.now.width (print_of form.now)
+        (in_style DEFAULT paragraph.now)) }
     ensures rules { SameRules engine.old engine.new }
 {
     let print = form.print();
@@ -144,7 +149,8 @@ fn push_styled(
     requires paragraph { IsParagraph (rules_of engine.old) part.now.characters.now }
     requires width { 0 < form.now.width }
     ensures ok { OnOk result (page.new.bytes.items ≡ page.old.bytes.items
-        ++ styled_bytes (rules_of engine.old) form.now.width (print_of form.now) part.now.characters.now (styles_in part.now)) }
+        ++ styled_bytes (rules_of engine.old) form.now.width (print_of form.now) part.now.characters.now
+        (styles_in part.now)) }
     ensures rules { SameRules engine.old engine.new }
 {
     let width = u32::from(form.width);
@@ -175,7 +181,8 @@ pub(crate) fn push_paragraph(
     requires width { 0 < form.now.width }
     requires len { length part.now.numbers.now ≡ length part.now.characters.now }
     ensures ok { OnOk result (page.new.bytes.items ≡ page.old.bytes.items
-        ++ styled_bytes (rules_of engine.old) form.now.width (print_of form.now) part.now.characters.now (styles_in part.now)) }
+        ++ styled_bytes (rules_of engine.old) form.now.width (print_of form.now) part.now.characters.now
+        (styles_in part.now)) }
     ensures rules { SameRules engine.old engine.new }
 {
     // Fast path: without styles, the lines are written without being kept.

@@ -13,8 +13,9 @@ use sequences::Scanner;
 use std::alloc::{AllocError, Global};
 use stream::Page;
 
-/// Returns what stands for a character in a text in which nothing is a sequence: the picture of a control that is
-/// dropped otherwise, U+2400 to U+241F or U+2421, or U+FFFD for one of C1. Other characters stand for themselves.
+/// Returns what stands for a character in a text in which nothing is a sequence: the picture of a control
+/// that is dropped otherwise, U+2400 to U+241F or U+2421, or U+FFFD for one of C1. Other characters stand for
+/// themselves.
 pub fn picture(c: char) -> char
     ensures { result ≡ picture c }
 {
@@ -29,8 +30,8 @@ pub fn picture(c: char) -> char
     }
 }
 
-/// Adds the lines of what a text shows to a page. The text begins in the default style, and must not have more characters
-/// than a paragraph may have. After a failed allocation, some lines may be missing.
+/// Adds the lines of what a text shows to a page. The text begins in the default style, and must not have
+/// more characters than a paragraph may have. After a failed allocation, some lines may be missing.
 pub fn push_text(
     alloc: Global,
     page: &mut Page,
