@@ -124,11 +124,14 @@ def uint32s(given: Iterable[SupportsIndex], name: str) -> "array[int]":
 def advances_of(measure: Measure, paragraph: ParagraphText) -> bytes:
     """Calls a function `measure`. Returns the advances as an array of `uint32_t`, or raises `ValueError` for anything else."""
     given, count = measure(paragraph), len(paragraph.text)
-    try:
-        items = iter(given)
-    except TypeError:
-        raise ValueError(f"measure returned {type(given).__name__!r} object, not advances") from None
-    found = list(islice(items, count + 1))  # (the items may be infinite)
+    if type(given) is list:
+        found = given
+    else:
+        try:
+            items = iter(given)
+        except TypeError:
+            raise ValueError(f"measure returned {type(given).__name__!r} object, not advances") from None
+        found = list(islice(items, count + 1))  # (the items may be infinite)
     try:
         advances = uint32s(found, "advance")
     except TypeError:

@@ -1,5 +1,10 @@
-"""Measures text by font files, with HarfBuzz. Needs Debian's packages `python3-gi`, `gir1.2-harfbuzz-0.0` and
-`libharfbuzz-gobject0`, without which importing this module is an `ImportError`.
+"""Measures text by font files, with HarfBuzz. Importing this module is an `ImportError` where none of these is installed:
+
+1. HarfBuzz's library `libharfbuzz.so.0`, from Debian's package `libharfbuzz0b`
+2. PyGObject with HarfBuzz: Debian's packages `python3-gi`, `gir1.2-harfbuzz-0.0` and `libharfbuzz-gobject0`
+3. the package `uharfbuzz`
+
+The first that is installed is used. All measure the same, the library fastest.
 
     >>> import hordguli
     >>> from hordguli.harfbuzz import UNITS, Measure
@@ -13,28 +18,22 @@
 import os
 import unicodedata
 from collections.abc import Iterable
-from importlib import import_module
-from typing import Any, NamedTuple, Union
+from typing import Any, NamedTuple, Optional, Union
 
 from ._records import ParagraphText, Piece
-
-_PACKAGES = "python3-gi, gir1.2-harfbuzz-0.0 and libharfbuzz-gobject0"
-
-try:
-    import_module("gi").require_version("HarfBuzz", "0.0")
-    _hb = import_module("gi.repository.HarfBuzz")
-    _hb.buffer_create()  # (fails if libharfbuzz-gobject0 is missing, on which gir1.2-harfbuzz-0.0 of Debian 12 does not depend)
-except (ImportError, ValueError, RuntimeError) as error:
-    raise ImportError(f"hordguli.harfbuzz needs Debian's packages {_PACKAGES}") from error
+from ._shapers import find_shaper
 
 UNITS = 64
 """The units of a pixel."""
 
+_Shaper = find_shaper()
 _CONTEXT = 5  # HarfBuzz looks at so many characters before and after those that it shapes.
 _SPACES_OF_A_TAB = 8
+_LONGEST_KNOWN, _MOST_KNOWN = 128, 4096  # characters of a run whose advances are kept, and runs
+_CHUNK, _MOST_STAYING = 64, 256  # characters that are looked at together, and those that are known to stay in a part
 _CONTROLS = {"Cc", "Zl", "Zp"}
 _MARKS = {"Mn", "Mc", "Me"}
-_NO_SCRIPT = {_hb.script_t.COMMON, _hb.script_t.INHERITED, _hb.script_t.UNKNOWN}
+_COMMON = "Zyyy"
 
 File = Union[str, "os.PathLike[str]"]
 
@@ -67,7 +66,8 @@ class Measure:
     can be wider or narrower than measured.
 
     Raises `OSError` if a file cannot be read, and `ValueError` if it is no font, if no font is given, or if the size is not from 1/64
-    to 65,535. Several sessions may share a `Measure`.
+    to 65,535. Several sessions and threads may share a `Measure`. It keeps the advances of up to 4,096 short runs and as many of their
+    parts, so an edit shapes only what it changes and the runs next to that.
 
     >>> measure = Measure("/usr/share/fonts/truetype/noto/NotoSans-Regular.ttf", 26)
     >>> measure(hordguli.ParagraphText("AV", 0, (hordguli.Run(0, 2, 0),)))
@@ -81,79 +81,114 @@ class Measure:
         if not 1 / UNITS <= size <= 65_535:
             raise ValueError(f"size {size} is out of range")
         scale = round(size * UNITS)
-        self._fonts = [_open(os.fspath(file), scale) for file in files]
-        self._known: dict[str, tuple[list[int], Any, str]] = {}
-        space = _shape(self._fonts[0], " ", 0, 1, _hb.script_t.COMMON, 0)
-        self._tab = _SPACES_OF_A_TAB * sum(advance for _, advance in space)
+        self._shaper = _Shaper()
+        self._fonts = [self._open(os.fspath(file), scale) for file in files]
+        # What is known about characters, and the characters that stay in a part of a font and script.
+        self._known: dict[str, tuple[list[int], Optional[str], str]] = {}
+        self._staying: dict[tuple[int, str], str] = {}
+        # The advances of the last level runs and parts. An edit leaves most of those of a paragraph as they were.
+        self._runs: dict[Any, list[int]] = {}
+        self._parts: dict[Any, list[int]] = {}
+        self._tab = _SPACES_OF_A_TAB * sum(self._part(" ", 0, 1, 0, _COMMON, 0))
+
+    def _open(self, file: str, scale: int) -> Any:
+        with open(file, "rb"):  # (raises `OSError`, which HarfBuzz does not)
+            return self._shaper.open(file, scale)
 
     def __call__(self, paragraph: ParagraphText) -> list[int]:
         """Returns the advance of each character."""
-        text, advances = paragraph.text, [0] * len(paragraph.text)
+        advances: list[int] = []
         for start, length, level in paragraph.runs:
-            for first, end, font, script in self._split(text, start, start + length):
-                for place, advance in _shape(self._fonts[font], text, first, end, script, level):
-                    advances[place] += advance
-        return [self._tab if c == "\t" else max(0, advance) for c, advance in zip(text, advances)]
+            advances += self._run(paragraph.text, start, start + length, level)
+        return advances
 
     def parts(self, piece: Piece) -> list[Part]:
         """Returns the parts of a piece of a line from left to right, for drawing. Tabs and other control characters are in no part."""
         parts, left = [], piece.left
         split = self._split(piece.text, 0, len(piece.text))
         for first, end, font, script in split[::-1] if piece.level % 2 else split:
-            glyphs = _shape(self._fonts[font], piece.text, first, end, script, piece.level)
-            right = left + sum(advance for _, advance in glyphs)
+            right = left + sum(self._part(piece.text, first, end, font, script, piece.level))
             parts.append(Part(piece.start + first, piece.text[first:end], font, left, right))
             left = right
         return parts
 
-    def _split(self, text: str, start: int, end: int) -> list[tuple[int, int, int, Any]]:
+    def _run(self, text: str, start: int, end: int, level: int) -> list[int]:
+        """Returns the advance of each character of a level run."""
+        before = max(0, start - _CONTEXT)
+        content = text[before : end + _CONTEXT]
+        key = content, start - before, end - start, level % 2
+        advances = self._runs.get(key)
+        if advances is None:
+            advances = [self._tab if c == "\t" else 0 for c in text[start:end]]
+            for first, stop, font, script in self._split(text, start, end):
+                advances[first - start : stop - start] = self._part(text, first, stop, font, script, level)
+            _keep(self._runs, key, content, advances)
+        return advances
+
+    def _part(self, text: str, first: int, end: int, font: int, script: str, level: int) -> list[int]:
+        """Returns the advance of each character of a part of a level run that is shaped on its own."""
+        before = max(0, first - _CONTEXT)
+        content = text[before : end + _CONTEXT]
+        first, length = first - before, end - first
+        key = content, first, length, font, script, level % 2
+        advances = self._parts.get(key)
+        if advances is None:
+            clusters, advances = self._shaper.shape(self._fonts[font], content, first, length, script, level % 2 == 1)
+            if level % 2:
+                clusters, advances = clusters[::-1], advances[::-1]
+            if clusters != list(range(first, first + length)):
+                sums = [0] * (first + length)
+                for place, advance in zip(clusters, advances):
+                    sums[place] += advance
+                advances = sums[first:]
+            if min(advances) < 0:
+                advances = [max(0, advance) for advance in advances]
+            _keep(self._parts, key, content, advances)
+        return advances
+
+    def _split(self, text: str, start: int, end: int) -> list[tuple[int, int, int, str]]:
         """Returns the start, end, font and script of each part of a level run that is shaped on its own."""
-        found: list[tuple[int, int, int, Any]] = []
-        known = [self._of(c) for c in text[start:end]]
+        found: list[tuple[int, int, int, str]] = []
         # Spaces, digits and punctuation have no script. They get that of the letters before them, or else after them.
-        script = next((its for _, its, _ in known if its is not None), _hb.script_t.COMMON)
-        font = 0
-        for place, (fonts, own_script, category) in enumerate(known, start):
+        script = next((its for its in map(self._script_of, text[start:end]) if its is not None), _COMMON)
+        place, font = start, 0
+        while place < end:
+            c = text[place]
+            fonts, own_script, category = self._of(c)
             script = script if own_script is None else own_script
             stays = place > start and (category == "Cf" or category in _MARKS and font in fonts)
             if fonts and not stays:
                 font = fonts[0]
+            place += 1
             if category in _CONTROLS:
                 continue
-            if found and found[-1][1:] == (place, font, script):
-                found[-1] = (found[-1][0], place + 1, font, script)
-            else:
-                found.append((place, place + 1, font, script))
+            if not found or found[-1][1:] != (place - 1, font, script):
+                found.append((place - 1, place, font, script))
+            state = font, script
+            staying = self._staying.get(state, "")
+            if c not in staying and len(staying) < _MOST_STAYING:
+                self._staying[state] = staying = staying + c
+            # The characters in `staying` change neither the font nor the script.
+            chunk = text[place : min(end, place + _CHUNK)]
+            place += len(chunk) - len(chunk.lstrip(staying))
+            found[-1] = (found[-1][0], place, font, script)
         return found
 
-    def _of(self, c: str) -> tuple[list[int], Any, str]:
+    def _script_of(self, c: str) -> Optional[str]:
+        return self._of(c)[1]
+
+    def _of(self, c: str) -> tuple[list[int], Optional[str], str]:
         """Returns the fonts that have a character, its script or `None`, and its general category."""
         known = self._known.get(c)
         if known is None:
-            fonts = [at for at, font in enumerate(self._fonts) if _hb.font_get_nominal_glyph(font, ord(c))[0]]
-            script = _hb.unicode_script(_hb.unicode_funcs_get_default(), ord(c))
-            known = self._known[c] = fonts, None if script in _NO_SCRIPT else script, unicodedata.category(c)
+            fonts = [at for at, font in enumerate(self._fonts) if self._shaper.has(font, c)]
+            known = self._known[c] = fonts, self._shaper.script(c), unicodedata.category(c)
         return known
 
 
-def _open(file: str, scale: int) -> Any:
-    """Returns a font of HarfBuzz."""
-    with open(file, "rb"):  # (raises `OSError`, which HarfBuzz does not)
-        face = _hb.face_create(_hb.blob_create_from_file(file), 0)
-    if _hb.face_get_glyph_count(face) == 0:
-        raise ValueError(f"{file} is no font")
-    font = _hb.font_create(face)
-    _hb.font_set_scale(font, scale, scale)
-    return font
-
-
-def _shape(font: Any, text: str, first: int, end: int, script: Any, level: int) -> list[tuple[int, int]]:
-    """Shapes characters of a text. Returns the position of the cluster and the advance of each glyph."""
-    before = max(0, first - _CONTEXT)
-    buffer = _hb.buffer_create()
-    _hb.buffer_add_utf32(buffer, [ord(c) for c in text[before : end + _CONTEXT]], first - before, end - first)
-    _hb.buffer_set_direction(buffer, _hb.direction_t.RTL if level % 2 else _hb.direction_t.LTR)
-    _hb.buffer_set_script(buffer, script)
-    _hb.shape(font, buffer, [])
-    infos, positions = _hb.buffer_get_glyph_infos(buffer), _hb.buffer_get_glyph_positions(buffer)
-    return [(before + info.cluster, position.x_advance) for info, position in zip(infos, positions)]
+def _keep(known: dict[Any, list[int]], key: Any, content: str, advances: list[int]) -> None:
+    """Keeps the advances of a run or part, if it is short. Forgets all others if there are too many."""
+    if len(content) <= _LONGEST_KNOWN:
+        if len(known) >= _MOST_KNOWN:
+            known.clear()
+        known[key] = advances

@@ -53,6 +53,7 @@ class Tables:
     ) -> None:
         version = _number(UNICODE_VERSION if unicode is None else unicode)
         self._handle = Handle(RawTables, library.hordguli_tables_close)
+        self._is_builtin = files is None
         fault = bytearray(FORMATS[TableFault].size)
         folder: Optional[str] = None
         if files is None:

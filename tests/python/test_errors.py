@@ -415,18 +415,23 @@ def test_closed_default_tables_are_opened_again():
 
 # ---- What hordguli.harfbuzz needs ----
 
-# How each package is missing, with what Python then raises.
+# How each package of PyGObject is missing, with what Python then raises.
 MISSING = {
     "python3-gi": "sys.modules['gi'] = None",
     "gir1.2-harfbuzz-0.0": "gi.require_version = lambda *_: int('none')",
     "libharfbuzz-gobject0": "gi.require_version, harfbuzz.buffer_create = print, fail",
 }
+# How the library is missing: there is no file, or it is no library of HarfBuzz.
+LIBRARIES = "libnone.so.0", "libc.so.6"
 
 
+@pytest.mark.parametrize("library", LIBRARIES)
 @pytest.mark.parametrize("package", MISSING)
-def test_the_packages_that_harfbuzz_needs_are_named(package):
+def test_what_harfbuzz_needs_is_named(package, library):
     lines = [
-        "import sys, types",
+        "import sys, types, hordguli._shapers",
+        f"hordguli._shapers.NAME = {library!r}",
+        "sys.modules['uharfbuzz'] = None",
         "def fail(): raise RuntimeError",
         "gi, repository, harfbuzz = (types.ModuleType(name) for name in ('gi', 'gi.repository', 'gi.repository.HarfBuzz'))",
         "sys.modules.update({one.__name__: one for one in (gi, repository, harfbuzz)})",
@@ -435,4 +440,4 @@ def test_the_packages_that_harfbuzz_needs_are_named(package):
     ]
     ran = subprocess.run([sys.executable, "-c", "\n".join(lines)], stdout=subprocess.DEVNULL, stderr=subprocess.PIPE)
     said = ran.stderr.decode().strip().split("\n")[-1]
-    assert (ran.returncode, said) == (1, "ImportError: hordguli.harfbuzz needs Debian's packages python3-gi, gir1.2-harfbuzz-0.0 and libharfbuzz-gobject0")
+    assert (ran.returncode, said) == (1, f"ImportError: hordguli.harfbuzz needs {library} (Debian's package libharfbuzz0b) or the package uharfbuzz")

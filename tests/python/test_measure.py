@@ -167,6 +167,18 @@ def test_tables_may_be_closed_before_the_session_measures_again():
         tables.close()
         text.insert(1, "\n\U00010d5a")
         assert measure.calls[-1] == ParagraphText("\U00010d5a", 1, (Run(0, 1, 1),))
+        text.insert(3, "\U00010d5a")
+        assert measure.calls[-1] == ParagraphText("\U00010d5a\U00010d5a", 1, (Run(0, 2, 1),))
+
+
+def test_other_tables_may_have_other_separators(files):
+    latin = re.compile(rb"(?m)^0041\.\.005A.*$")
+    assert len(latin.findall(files[0])) == 1
+    changed = latin.sub(b"0041..0057 ; L\n0058 ; B\n0059..005A ; L", files[0])
+    measure = Recorder()
+    with hordguli.Tables([changed, *files[1:]]) as tables, Session("ab", 80, tables=tables, measure=measure) as text:
+        assert text.insert(1, "X").new_paragraphs == 2
+        assert [one.text for one in measure.calls] == ["ab", "aX", "b"]
 
 
 @pytest.mark.parametrize("version", ["15.0", "17.0"])

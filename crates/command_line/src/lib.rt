@@ -18,4 +18,5 @@ mod version;
 mod words;
 
 pub use options::{LineFault, Settings};
+pub use version::{UNICODE_VERSIONS, VERSION};
 pub use words::{parse, settings, settings_of};

@@ -258,20 +258,24 @@ pub extern "C" fn hordguli_core_runs(
     with_object!(session, alloc, object, find_runs(&object, n, array, count))
 }
 
-// Returns lines in the form in which they are printed.
+// The most bytes that are reserved for output before its size is known.
+const FIRST_ROOM: usize = 1_024;
+
+// Returns lines in the form in which they are printed. They go to an array of `len` bytes.
 fn printed(
     alloc: Global,
     session: &SessionObject,
     first: usize,
     count: usize,
     print: &Print,
+    len: usize,
 ) -> Result<Page, RangeFault>
     ensures within { IfOk result (λ page. first + count ≤ length (lines_in session.now.kept)) }
     ensures ok { IfOk result (λ page. page.bytes.items ≡ lines_page session.now first count print.now) }
     ensures err { IfErr result (RangeNot (length (lines_in session.now.kept)) first count
         (lines_page session.now first count print.now)) }
 {
-    let mut page = Page::new(alloc);
+    let mut page = Page::with_room(alloc, len.min(FIRST_ROOM));
     match session.print_lines(&mut page, first, count, print) {
         Ok(()) => Ok(page),
         Err(fault) => Err(fault),
@@ -289,7 +293,7 @@ fn put_lines(
 ) -> Status
     ensures { PutsLines first count print.now result session.now (array.old, len.old) (array.new, len.new) }
 {
-    match printed(alloc, session, first, count, print) {
+    match printed(alloc, session, first, count, print, array.len()) {
         Ok(page) => put_bytes(&page.bytes, array, len),
         Err(RangeFault::OutOfRange) => Status::OutOfRange,
         Err(RangeFault::Write(_)) => Status::NoMemory,
@@ -322,19 +326,20 @@ pub extern "C" fn hordguli_core_lines_utf8(
     )
 }
 
-// Returns characters as UTF-8.
+// Returns characters as UTF-8. They go to an array of `len` bytes.
 fn encoded(
     alloc: Global,
     session: &SessionObject,
     pos: usize,
     count: usize,
+    len: usize,
 ) -> Result<Page, RangeFault>
     ensures within { IfOk result (λ page. pos + count ≤ length (text_at session.now)) }
     ensures ok { IfOk result (λ page. page.bytes.items ≡ utf8_part session.now.kept pos count) }
     ensures err { IfErr result (RangeNot (length (text_at session.now)) pos count
         (utf8_part session.now.kept pos count)) }
 {
-    let mut page = Page::new(alloc);
+    let mut page = Page::with_room(alloc, len.min(FIRST_ROOM));
     match session.write_text(&mut page, pos, count) {
         Ok(()) => Ok(page),
         Err(fault) => Err(fault),
@@ -351,7 +356,7 @@ fn put_text(
 ) -> Status
     ensures { PutsText pos count result session.now (array.old, len.old) (array.new, len.new) }
 {
-    match encoded(alloc, session, pos, count) {
+    match encoded(alloc, session, pos, count, array.len()) {
         Ok(page) => put_bytes(&page.bytes, array, len),
         Err(RangeFault::OutOfRange) => Status::OutOfRange,
         Err(RangeFault::Write(_)) => Status::NoMemory,

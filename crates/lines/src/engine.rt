@@ -132,6 +132,13 @@ impl Engine {
         self.options = options;
     }
 
+    /// Returns the options for the next paragraphs.
+    pub fn options(&self) -> Options
+        ensures rules { rules_of self.now ≡ unmeasured (rules_of self.now).tables result }
+    {
+        self.options
+    }
+
     /// Frees the buffers that are reused from one paragraph to the next. They are as large as the longest
     /// paragraph so far needed.
     pub fn free_buffers(&mut self)
@@ -544,8 +551,8 @@ impl Engine {
         self.counts.written.add(scratch.end());
     }
 
-    // Finds the base level of a paragraph, and counts its characters as analysed.
-    fn find_base(&mut self, text: &[char]) -> u8
+    /// Returns the base level, 0 or 1, of one paragraph, and counts its characters as analysed.
+    pub fn find_base(&mut self, text: &[char]) -> u8
         ensures base { result ≡ base_of (rules_of self.old) text.now }
         ensures counts { self.new ≡ record self.old {
           analysed = counted (analysed_of self.old) (length text.now);

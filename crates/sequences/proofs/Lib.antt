@@ -1,3 +1,4 @@
+pub mod KnownLemmas
 pub mod LawLemmas
 pub mod LookLemmas
 pub mod OutputLemmas
@@ -6,6 +7,7 @@ pub mod SameLookLemmas
 pub mod PieceLemmas
 pub mod PlainLemmas
 pub mod ScannerLemmas
+pub mod ShownLemmas
 pub mod StepLemmas
 pub mod StyleLemmas
 mod WorkedRows

@@ -3,7 +3,6 @@ use Rattle.std.proofs.Common.{◌≡◌, ℕ, suc, ◌+◌, ◌<◌, ◌≤◌, 
 use Rattle.std.specs.Prelude.{All, OnErr, Result, Ok, Err}
 use Rattle.std.proofs.lemmas.Bool.{cond-true, cond-false, le-leb, lt-leb}
 use Rattle.std.proofs.lemmas.List.{drop-append-le, take-append-le, length-drop, take_all, take_more}
-use Rattle.sequences.specs.Escapes.{unstyled}
 use Rattle.sequences.specs.SameLooks.{same_look}
 use Rattle.sequences.specs.declared.look.TheConstants.{PLAIN}
 use Rattle.sequences.proofs.SameLookLemmas.{same_look-true}
@@ -139,9 +138,3 @@ module _ (links more : List ℕ) where
   with_styles-links runs k (c ∷ characters) linked =
       ap (λ style. (c, style) ∷ with_styles (links ++ more) runs (k + 1) characters) (style_at-links DEFAULT runs k linked)
       ∙ ap (λ rest. (c, style_at links DEFAULT runs k) ∷ rest) (with_styles-links runs (k + 1) characters linked)
-
--- without runs, all characters have the default style
-pub with_styles-none : (links : List ℕ) (runs : List StyleRun) (k : ℕ) (characters : List ℕ)
-    → with_styles links [] k characters ≡ unstyled (with_styles links runs k characters)
-with_styles-none links runs k [] = refl
-with_styles-none links runs k (c ∷ characters) = ap (λ rest. (c, DEFAULT) ∷ rest) (with_styles-none links runs (k + 1) characters)

@@ -1,6 +1,7 @@
 pub mod Characters
 pub mod Classes
 pub mod Sequences
+pub mod Known
 pub mod Looks
 pub mod Parameters
 pub mod Parts
@@ -14,5 +15,3 @@ pub mod Output
 pub mod StyleRefs
 pub mod Led
 pub mod PlainRuns
-pub mod Pictures
-pub mod Escapes

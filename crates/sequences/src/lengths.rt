@@ -9,7 +9,7 @@ use crate::characters::{Class, char_at, is_c1_introducer, prefix_len};
 /// The longest string that can have a meaning, in characters.
 pub const LONGEST_STRING: usize = 4_096;
 
-const ESC: char = '\u{1b}';
+pub(crate) const ESC: char = '\u{1b}';
 
 /// Returns the length of the complete sequence that a text begins with, or `None` if there is none.
 pub fn sequence_len(text: &[char]) -> Option<usize>
@@ -46,13 +46,13 @@ fn len_after_escape(code: u32, rest: &[char]) -> Option<usize>
     }
 }
 
-fn opens_string(code: u32) -> bool
+pub(crate) fn opens_string(code: u32) -> bool
     ensures { result ≡ opens_string code }
 {
     code == 0x50 || code == 0x58 || code == 0x5d || code == 0x5e || code == 0x5f
 }
 
-fn csi_end(text: &[char]) -> usize
+pub(crate) fn csi_end(text: &[char]) -> usize
     ensures end { result ≡ csi_end text.now }
     ensures within { result ≤ length text.now }
 {
@@ -79,7 +79,7 @@ fn csi_len(text: &[char]) -> Option<usize>
     }
 }
 
-fn is_intermediate(code: u32) -> bool
+pub(crate) fn is_intermediate(code: u32) -> bool
     ensures { result ≡ is_intermediate code }
 {
     0x20 <= code && code <= 0x2f

@@ -9,7 +9,6 @@ ghost use Rattle.sequences.specs.Parts.{parameters_after};
 ghost use Rattle.sequences.specs.Sequences.{after_escape};
 
 use crate::characters::{Class, char_at, is_dropped, is_inline, prefix_len};
-use crate::escapes::Escapes;
 use crate::lengths::{LONGEST_STRING, sequence_len, string_end};
 use crate::links::{MAX_LINKS_LEN, osc_link};
 use crate::look::{Look, PLAIN};
@@ -32,8 +31,6 @@ pub struct Scanner {
 
 impl Scanner {
     ghost use Rattle.std.specs.Prelude.{◌*◌, ◌++◌, suc, map, IfOk, OnOk};
-    ghost use Rattle.sequences.specs.Escapes.{pen_by, styled_by, unstyled};
-    ghost use Rattle.sequences.specs.Pictures.{picture};
     ghost use Rattle.sequences.specs.PlainRuns.{plain_pen};
     ghost use Rattle.sequences.specs.Scanners.{pen_of};
     ghost use Rattle.sequences.specs.Styled.{DEFAULT, START, after_character, after_first_part};
@@ -197,41 +194,6 @@ impl Scanner {
                 Ok(len)
             }
             None => unreachable!(),
-        }
-    }
-
-    fn strip(&mut self)
-        ensures text { styled_of self.new.text ≡ unstyled (styled_of self.old.text) }
-        ensures pen { pen_of self.new ≡ pen_of self.old }
-    {
-        self.text.strip();
-    }
-
-    fn push_pictures(&mut self, text: &[char]) -> Result<(), AllocError>
-        ensures text { OnOk result (styled_of self.new.text
-            ≡ styled_of self.old.text ++ map (λ c. (picture c, DEFAULT)) text.now) }
-        ensures pen { pen_of self.new ≡ pen_of self.old }
-    {
-        self.text.push_pictures(text)
-    }
-
-    /// Collects the characters that a paragraph shows in a mode, in place of those of the paragraph before.
-    /// After a failed allocation, some of them may be missing.
-    pub fn scan(&mut self, escapes: Escapes, paragraph: &[char]) -> Result<(), AllocError>
-        ensures text { OnOk result (styled_of self.new.text
-            ≡ styled_by escapes (next_paragraph (pen_of self.old)) paragraph.now) }
-        ensures pen { OnOk result (pen_of self.new
-            ≡ pen_by escapes (next_paragraph (pen_of self.old)) paragraph.now) }
-    {
-        self.start_paragraph();
-        match escapes {
-            Escapes::Keep => self.push_text(paragraph),
-            Escapes::Strip => {
-                self.push_text(paragraph)?;
-                self.strip();
-                Ok(())
-            }
-            Escapes::Text => self.push_pictures(paragraph),
         }
     }
 

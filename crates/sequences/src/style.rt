@@ -2,7 +2,6 @@
 ghost use Rattle.std.specs.Prelude.{◌≡◌, ◌+◌, ◌≤◌, ℕ, true, List, length, take, drop, All};
 ghost use Rattle.sequences.specs.SameLooks.{same_look};
 
-use crate::escapes::picture;
 use crate::look::{Look, PLAIN};
 use crate::same_look::same_look;
 use std::alloc::{AllocError, Global};
@@ -47,8 +46,6 @@ impl StyledText {
     ghost use Rattle.std.specs.Prelude.{◌++◌, ◌∷◌, [], map, slice_index_or, ◌<◌, IfOk, OnOk, OnErr};
     ghost use Rattle.sequences.specs.Styled.{DEFAULT};
     ghost use Rattle.sequences.specs.StyledTexts.{style_at, style_in, style_of, styled_of};
-    ghost use Rattle.sequences.specs.Escapes.{unstyled};
-    ghost use Rattle.sequences.specs.Pictures.{picture};
     ghost use Rattle.sequences.specs.StyleRefs.{style_by};
     ghost use Rattle.sequences.specs.declared.style.StyleRun.{StyleRun};
 
@@ -81,34 +78,6 @@ impl StyledText {
         self.start_run(look, link)?;
         self.characters.extend_from_slice(characters)?;
         Ok(())
-    }
-
-    /// Appends a text in which nothing is a sequence, in the default style, with pictures in place of the
-    /// controls of a kind that is dropped. After a failed allocation, some characters may be missing.
-    pub fn push_pictures(&mut self, text: &[char]) -> Result<(), AllocError>
-        ensures text { OnOk result (styled_of self.new
-            ≡ styled_of self.old ++ map (λ c. (picture c, DEFAULT)) text.now) }
-        ensures links { self.new.links.items ≡ self.old.links.items }
-    {
-        for c in text {
-            self.push_picture(*c)?;
-        }
-        Ok(())
-    }
-
-    fn push_picture(&mut self, c: char) -> Result<(), AllocError>
-        ensures text { OnOk result (styled_of self.new ≡ styled_of self.old ++ (picture c, DEFAULT) ∷ []) }
-        ensures links { self.new.links.items ≡ self.old.links.items }
-    {
-        self.push(picture(c), PLAIN, NO_LINK)
-    }
-
-    /// Sets the default style for all characters.
-    pub fn strip(&mut self)
-        ensures text { styled_of self.new ≡ unstyled (styled_of self.old) }
-        ensures links { self.new.links.items ≡ self.old.links.items }
-    {
-        self.runs.clear();
     }
 
     /// Returns the style of a run.

@@ -1,8 +1,8 @@
 //! A sink that collects bytes in memory.
-ghost use Rattle.std.specs.Prelude.{◌≡◌, []};
+ghost use Rattle.std.specs.Prelude.{◌≡◌, ◌<◌, ◌++◌, [], length, OnErr, OnOk};
 
 use device::Sink;
-use std::alloc::Global;
+use std::alloc::{AllocError, Global};
 use std::io::ErrorKind;
 
 /// Bytes that are collected before they are written, so that the writer receives large chunks or nothing at
@@ -10,6 +10,8 @@ use std::io::ErrorKind;
 #[derive(Debug, Drop)]
 pub struct Page {
     pub bytes: Vec<u8>,
+    // What the first write reserves.
+    room: usize,
     failures: u64,
     failed_at: u64,
 }
@@ -19,8 +21,16 @@ impl Page {
     pub fn new(alloc: Global) -> Page
         ensures { result.bytes.items ≡ [] }
     {
+        Page::with_room(alloc, 0)
+    }
+
+    /// Makes an empty page whose first write reserves at least `room` bytes. Allocates nothing.
+    pub fn with_room(alloc: Global, room: usize) -> Page
+        ensures { result.bytes.items ≡ [] }
+    {
         Page {
             bytes: Vec::new(alloc),
+            room,
             failures: 0,
             failed_at: 0,
         }
@@ -41,13 +51,28 @@ impl Page {
     }
 }
 
+// Appends bytes to a list. If it has no capacity and they need less than `room`, reserves `room` bytes.
+fn append(bytes: &[u8], room: usize, list: &mut Vec<u8>) -> Result<(), AllocError>
+    ensures ok { OnOk result (list.new.items ≡ list.old.items ++ bytes.now) }
+    ensures err { OnErr result (list.new.items ≡ list.old.items) }
+    ensures memory { OnErr result (0 < length bytes.now) }
+{
+    if bytes.is_empty() {
+        return Ok(());
+    }
+    if bytes.len() < room && list.capacity() == 0 {
+        list.reserve_exact(room)?;
+    }
+    list.extend_from_slice(bytes)
+}
+
 impl Sink for Page {
     ghost use Rattle.stream.specs.Pages.{page_state};
 
     ghost state = { page_state };
 
     fn write(&mut self, bytes: &[u8]) -> Result<usize, ErrorKind> {
-        match self.bytes.extend_from_slice(bytes) {
+        match append(bytes, self.room, &mut self.bytes) {
             Ok(()) => Ok(bytes.len()),
             Err(_) => {
                 self.failures = self.failures.saturating_add(1);

@@ -7,7 +7,6 @@ use Rattle.std.proofs.lemmas.List.{append-nil, drop-drop, drop-map, length-appen
 use Rattle.bidi.specs.Cuts.{SplitsAt, paragraphs}
 use Rattle.bidi.specs.Pieces.{ArePieces, IsPiece, ParagraphsArePieces}
 use Rattle.lines.specs.Layouts.{IsParagraph, Rules, cut_by}
-use Rattle.lines.specs.declared.printing.print.Print.{Print}
 use Rattle.sequences.specs.Characters.{is_dropped}
 use Rattle.sequences.specs.Laws.{characters_of}
 use Rattle.sequences.specs.Overstrikes.{struck}
@@ -17,11 +16,13 @@ use Rattle.sequences.specs.declared.style.StyleRun.{StyleRun}
 use Rattle.sequences.specs.declared.style.StyledText.{StyledText}
 use Rattle.terminal.specs.Lines.{in_style}
 use Rattle.terminal.specs.Numbers.{numbered}
-use Rattle.terminal.specs.Paragraphs.{styled_bytes, styled_paragraph, styles_of}
+use Rattle.terminal.specs.Paragraphs.{styles_of}
 use Rattle.terminal.specs.Parts.{styles_in}
+use Rattle.terminal.specs.Prefixes.{printed_bytes, printed_paragraph}
 use Rattle.terminal.specs.Texts.{in_mode, regrouped, styled_paragraphs}
 use Rattle.terminal.specs.declared.form.Escapes.{Escapes}
 use Rattle.terminal.specs.declared.form.Escapes.TheVariants.{Keep, Strip, Text}
+use Rattle.terminal.specs.declared.form.Form.{Form}
 use Rattle.terminal.specs.declared.numbers.Part.{Part}
 use Rattle.terminal.proofs.NumberLemmas.{characters-with}
 use Rattle.terminal.proofs.PlainLemmas.{plain_characters}
@@ -88,14 +89,14 @@ module _ (is_cut : ℕ → ℕ → Bool) where
   pub no_group : (shown : List (ℕ × Style)) → length shown ≡ 0 → styled_paragraphs is_cut shown ≡ []
   no_group shown none = ap (styled_paragraphs is_cut) (nil_from_length shown none)
 
-module _ (rules : Rules) (width : ℕ) (print : Print) where
+module _ (rules : Rules) (form : Form) where
   abbrev pub pages : List (ℕ × Style) → List ℕ
-  pages shown = flat_map (styled_paragraph rules width print) (styled_paragraphs (cut_by rules) shown)
+  pages shown = flat_map (printed_paragraph rules form) (styled_paragraphs (cut_by rules) shown)
 
   -- the lines of a range, as those of a paragraph
   pub range_is : (shown : List (ℕ × Style)) (characters own : List ℕ) (styles own_styles : List Style) (at end : ℕ)
       → characters_of shown ≡ characters → styles_of shown ≡ styles → own ≡ slice_range characters at end → own_styles ≡ slice_range styles at end
-      → styled_bytes rules width print own own_styles ≡ styled_paragraph rules width print (take (end - at) (drop at shown))
+      → printed_bytes rules form own own_styles ≡ printed_paragraph rules form (take (end - at) (drop at shown))
   range_is shown characters own styles own_styles at end c s o t =
       let cs : own ≡ characters_of (take (end - at) (drop at shown)) =
       o ∙ ap (λ xs. take (end - at) (drop at xs)) (sym c) ∙ ap (take (end - at)) (drop-map (λ (x : ℕ × Style). x.0) at shown)
@@ -103,29 +104,29 @@ module _ (rules : Rules) (width : ℕ) (print : Print) where
       let ss : own_styles ≡ styles_of (take (end - at) (drop at shown)) =
       t ∙ ap (λ (xs : List Style). take (end - at) (drop at xs)) (sym s) ∙ ap (take (end - at)) (drop-map (λ (x : ℕ × Style). x.1) at shown)
       ∙ take-map (λ (x : ℕ × Style). x.1) (end - at) (drop at shown) in
-      ap₂ (styled_bytes rules width print) cs ss
+      ap₂ (printed_bytes rules form) cs ss
 
   -- one more paragraph of a block
   pub next_group : (shown : List (ℕ × Style)) (at end : ℕ) (old new all : List ℕ)
       → styled_paragraphs (cut_by rules) (drop at shown) ≡ take (end - at) (drop at shown) ∷ styled_paragraphs (cut_by rules) (drop end shown)
-      → new ≡ old ++ styled_paragraph rules width print (take (end - at) (drop at shown)) → old ++ pages (drop at shown) ≡ all → new ++ pages (drop end shown) ≡ all
+      → new ≡ old ++ printed_paragraph rules form (take (end - at) (drop at shown)) → old ++ pages (drop at shown) ≡ all → new ++ pages (drop end shown) ≡ all
   next_group shown at end old new all split n h =
-      let first : List ℕ = styled_paragraph rules width print (take (end - at) (drop at shown)) in
+      let first : List ℕ = printed_paragraph rules form (take (end - at) (drop at shown)) in
       ap (λ xs. xs ++ pages (drop end shown)) n ∙ append_assoc old first (pages (drop end shown))
-      ∙ ap (λ groups. old ++ flat_map (styled_paragraph rules width print) groups) (sym split) ∙ h
+      ∙ ap (λ groups. old ++ flat_map (printed_paragraph rules form) groups) (sym split) ∙ h
 
   pub last_group : (shown : List (ℕ × Style)) (at : ℕ) (old all : List ℕ) → length shown ≤ at → old ++ pages (drop at shown) ≡ all → old ≡ all
   last_group shown at old all end h =
-      sym (append-nil old) ∙ ap (λ groups. old ++ flat_map (styled_paragraph rules width print) groups) (sym (no_group (cut_by rules) (drop at shown) (omega (arith, end, length-drop at shown)))) ∙ h
+      sym (append-nil old) ∙ ap (λ groups. old ++ flat_map (printed_paragraph rules form) groups) (sym (no_group (cut_by rules) (drop at shown) (omega (arith, end, length-drop at shown)))) ∙ h
 
-pub next_by : (rules now : Rules) (width : ℕ) (print : Print) → now ≡ rules → (shown : List (ℕ × Style)) (at end : ℕ) (old new all : List ℕ)
+pub next_by : (rules now : Rules) (form : Form) → now ≡ rules → (shown : List (ℕ × Style)) (at end : ℕ) (old new all : List ℕ)
     → styled_paragraphs (cut_by now) (drop at shown) ≡ take (end - at) (drop at shown) ∷ styled_paragraphs (cut_by now) (drop end shown)
-    → new ≡ old ++ styled_paragraph now width print (take (end - at) (drop at shown)) → old ++ pages rules width print (drop at shown) ≡ all
-    → new ++ pages rules width print (drop end shown) ≡ all
-next_by rules now width print e shown at end old new all split n h =
+    → new ≡ old ++ printed_paragraph now form (take (end - at) (drop at shown)) → old ++ pages rules form (drop at shown) ≡ all
+    → new ++ pages rules form (drop end shown) ≡ all
+next_by rules now form e shown at end old new all split n h =
     let P : Rules → Type 0 = λ r. styled_paragraphs (cut_by r) (drop at shown) ≡ take (end - at) (drop at shown) ∷ styled_paragraphs (cut_by r) (drop end shown) in
-    next_group rules width print shown at end old new all (subst P e split)
-    (n ∙ ap (λ (r : Rules). old ++ styled_paragraph r width print (take (end - at) (drop at shown))) e) h
+    next_group rules form shown at end old new all (subst P e split)
+    (n ∙ ap (λ (r : Rules). old ++ printed_paragraph r form (take (end - at) (drop at shown))) e) h
 
 module _ (rules : Rules) where
   -- where the next paragraph ends

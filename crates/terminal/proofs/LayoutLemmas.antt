@@ -1,6 +1,6 @@
 -- The lines of a layout with styles, one at a time.
-use Rattle.std.proofs.Common.{◌≡◌, ℕ, ◌+◌, ◌<◌, ◌≤◌, List, [], ◌∷◌, ◌++◌, length, map, drop, get_or, Some, Result, Ok, Err, refl, sym, ap, inl, inr, ◌∙◌, append_assoc, arith}
-use Rattle.std.specs.Prelude.{◌&&◌, option_map, slice_get, OnOk, if◌then◌else◌}
+use Rattle.std.proofs.Common.{◌≡◌, ℕ, ◌+◌, ◌<◌, ◌≤◌, List, [], ◌∷◌, ◌++◌, length, map, drop, get_or, Option, Some, Result, Ok, Err, refl, sym, ap, inl, inr, ◌∙◌, append_assoc, arith}
+use Rattle.std.specs.Prelude.{◌&&◌, option_map, slice_get, IfOk, OnOk, if◌then◌else◌}
 use Rattle.std.specs.List.{enumerate_from, flat_map}
 use Rattle.std.proofs.lemmas.List.{append-nil, drop_all, drop_more, drop-map}
 use Rattle.std.proofs.lemmas.List.FromFn.{get_or-enumerate_from, length-enumerate_from}
@@ -10,7 +10,7 @@ use Rattle.lines.specs.Layouts.{Layout}
 use Rattle.lines.specs.Visual.{Line, Visual, visual_of}
 use Rattle.lines.specs.declared.printing.print.Print.{Print}
 use Rattle.sequences.specs.Styled.{Style}
-use Rattle.terminal.specs.Lines.{styled_line}
+use Rattle.terminal.specs.Lines.{LinePrefix, styled_line}
 use Rattle.terminal.specs.Numbers.{numbered}
 use Rattle.terminal.specs.Paragraphs.{styled_nth}
 use Rattle.terminal.specs.Parts.{styles_in}
@@ -20,6 +20,10 @@ pub on_ok : {T E P Q : Type 0} (r : Result T E) → (P → Q) → OnOk r P → O
 on_ok (Ok x) f p = f p
 on_ok (Err e) f p = tt
 
+pub if_ok : {T E : Type 0} {P Q : T → Type 0} (r : Result T E) → ((x : T) → P x → Q x) → IfOk r P → IfOk r Q
+if_ok (Ok x) f p = f x p
+if_ok (Err e) f p = tt
+
 -- the styles of a range
 pub styles_from : (part shown : Part) (start : ℕ) → shown.numbers.now ≡ drop start part.numbers.now → shown.text.now ≡ part.text.now
     → styles_in shown ≡ drop start (styles_in part)
@@ -27,19 +31,19 @@ styles_from part shown start n t =
     let f = numbered part.text.now.links.items part.text.now.runs.items in
     ap (λ text. map (numbered text.links.items text.runs.items) shown.numbers.now) t ∙ ap (map f) n ∙ sym (drop-map f start part.numbers.now)
 
-pub nth_is : (width : ℕ) (print : Print) (layout : Layout) (styles own : List Style) (n : ℕ) (line : Line) (visual : Visual) (start : ℕ) (old mid new : List ℕ)
-    → slice_get layout.lines n ≡ Some line
+pub nth_is : (prefix : Option LinePrefix) (width : ℕ) (print : Print) (layout : Layout) (styles own : List Style) (n : ℕ) (line : Line) (visual : Visual) (start : ℕ)
+    (old mid new : List ℕ) → slice_get layout.lines n ≡ Some line
     → Some visual ≡ option_map (visual_of layout.base layout.tab_width layout.advances layout.text layout.lines n) (slice_get layout.lines n)
-    → start ≡ line.start → own ≡ drop start styles → mid ≡ old ++ styled_line width print visual own
+    → start ≡ line.start → own ≡ drop start styles → mid ≡ old ++ styled_line prefix width print visual own
     → new ≡ mid ++ (if print.basedir && visual.is_first then direction_line visual.base else [])
-    → new ≡ old ++ styled_nth width print layout styles (n, line)
-nth_is width print layout styles own n line visual start old mid new got is s o m e =
+    → new ≡ old ++ styled_nth prefix width print layout styles (n, line)
+nth_is prefix width print layout styles own n line visual start old mid new got is s o m e =
     let of : Visual = visual_of layout.base layout.tab_width layout.advances layout.text layout.lines n line in
     let same : visual ≡ of = cc (is, got) in
     let direction : Visual → List ℕ = λ v. if print.basedir && v.is_first then direction_line v.base else [] in
-    e ∙ ap (λ xs. xs ++ direction visual) m ∙ append_assoc old (styled_line width print visual own) (direction visual)
-    ∙ ap (λ v. old ++ (styled_line width print v own ++ direction v)) same
-    ∙ ap (λ xs. old ++ (styled_line width print of xs ++ direction of)) (o ∙ ap (λ k. drop k styles) s)
+    e ∙ ap (λ xs. xs ++ direction visual) m ∙ append_assoc old (styled_line prefix width print visual own) (direction visual)
+    ∙ ap (λ v. old ++ (styled_line prefix width print v own ++ direction v)) same
+    ∙ ap (λ xs. old ++ (styled_line prefix width print of xs ++ direction of)) (o ∙ ap (λ k. drop k styles) s)
 
 module _ (f : ℕ × Line → List ℕ) (lines : List Line) (n : ℕ) where
   pub next_line : (old new all : List ℕ) → n < length lines → ((line : Line) → slice_get lines n ≡ Some line → new ≡ old ++ f (n, line))

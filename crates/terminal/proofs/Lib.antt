@@ -1,11 +1,20 @@
 pub mod BlockLemmas
 pub mod CellLemmas
+pub mod DecoderLemmas
+pub mod Devices
 pub mod EndLemmas
+pub mod KnownEndLemmas
 pub mod LayoutLemmas
+pub mod LossyLemmas
 pub mod NumberLemmas
 pub mod ParagraphLemmas
 pub mod PlainLemmas
+pub mod PushLemmas
+pub mod RunLemmas
+pub mod PrefixLemmas
 pub mod SameStyles
+pub mod StepLemmas
 pub mod TextLemmas
+pub mod WholeLemmas
 pub mod WrittenLemmas
 mod WorkedRows

@@ -1,6 +1,6 @@
 -- Lines and paragraphs in which all characters have the default style.
 use Rattle.std.proofs.Common.{◌≡◌, ℕ, zero, suc, ◌+◌, ◌-◌, Bool, true, false, List, [], ◌∷◌, ◌++◌, length, map, drop, get_or, replicate, encode_utf8_all, refl, sym, ap, ap₂, inl, inr, ◌∙◌, arith}
-use Rattle.std.specs.Prelude.{◌&&◌, ◌==◌, nat_lt, not, codes, slice_index, Option, if◌then◌else◌}
+use Rattle.std.specs.Prelude.{◌&&◌, ◌==◌, nat_lt, not, codes, slice_index, Option, None, if◌then◌else◌}
 use Rattle.std.specs.Char.{encode_utf8}
 use Rattle.std.specs.List.{enumerate_from, flat_map}
 use Rattle.std.proofs.lemmas.Bool.{cases_Bool, cond-true, cond-false}
@@ -26,7 +26,10 @@ use Rattle.sequences.specs.Output.{written, written_after}
 use Rattle.sequences.specs.Styled.{DEFAULT, Style}
 use Rattle.terminal.specs.Lines.{in_style, line_cells, style_on, styled_chars, styled_line, styled_lines}
 use Rattle.terminal.specs.Paragraphs.{styled_bytes, styled_layout, styled_nth, styled_paragraph, styles_of}
+use Rattle.terminal.specs.Forms.{print_of, rules_in, width_of, with_options}
 use Rattle.terminal.specs.Plain.{PrintsLinesAlone}
+use Rattle.terminal.specs.Prefixes.{prefix_len, prefixed_bytes, printed_bytes, printed_paragraph}
+use Rattle.terminal.specs.declared.form.Form.{Form}
 use Rattle.terminal.proofs.SameStyles.{between_same}
 use Rattle.terminal.proofs.WrittenLemmas.{written-same}
 
@@ -108,7 +111,7 @@ module _ (visual : Visual) (styles : List Style) (plain : (k : ℕ) → style_on
           ]
         ]
 
-    pub plain_line : (width : ℕ) → encode_utf8_all (styled_line width print visual styles) ≡ visual_line width print visual
+    pub plain_line : (width : ℕ) → encode_utf8_all (styled_line None width print visual styles) ≡ visual_line width print visual
     unfolding written
     plain_line width =
         let pad : List ℕ = padding width print visual in
@@ -121,13 +124,13 @@ module _ (visual : Visual) (styles : List Style) (plain : (k : ℕ) → style_on
         ap (λ xs. encode_utf8_all (xs ++ codes "\n")) whole ∙ encoded-append (pad ++ shown) (codes "\n")
         ∙ ap₂ (λ (xs ys : List ℕ). xs ++ ys) (encoded-append pad shown ∙ ap (λ xs. xs ++ encode_utf8_all shown) padded) newline_encoded
 
-    pub plain_lines : PrintsLinesAlone print → (width : ℕ) → encode_utf8_all (styled_lines width print visual styles) ≡ line_bytes width print visual
+    pub plain_lines : PrintsLinesAlone print → (width : ℕ) → encode_utf8_all (styled_lines None width print visual styles) ≡ line_bytes width print visual
     plain_lines alone width =
         let direction : List ℕ = if print.basedir && visual.is_first then direction_line visual.base else [] in
         let base : encode_utf8_all (direction_line visual.base) ≡ direction_line visual.base =
         choice_encoded (is_odd visual.base) (codes "RTL\n") (codes "LTR\n") rtl_encoded ltr_encoded in
         let all : List ℕ = visual_line width print visual ++ direction in
-        encoded-append (styled_line width print visual styles) direction
+        encoded-append (styled_line None width print visual styles) direction
         ∙ ap₂ (λ (xs ys : List ℕ). xs ++ ys) (plain_line width)
         (choice_encoded (print.basedir && visual.is_first) (direction_line visual.base) [] base refl)
         ∙ sym (append-nil all) ∙ sym (append-nil (all ++ [])) ∙ sym (append-nil ((all ++ []) ++ []))
@@ -173,11 +176,11 @@ plain_characters [] = refl
 plain_characters (c ∷ text) = ap (λ xs. c ∷ xs) (plain_characters text)
 
 plain_layout : (width : ℕ) (print : Print) (layout : Layout) (text : List ℕ) → PrintsLinesAlone print → AreAligned layout.lines
-    → encode_utf8_all (styled_layout width print layout (styles_of (in_style DEFAULT text))) ≡ layout_bytes width print layout
+    → encode_utf8_all (styled_layout None width print layout (styles_of (in_style DEFAULT text))) ≡ layout_bytes width print layout
 plain_layout width print layout text alone aligned =
     let styles : List Style = styles_of (in_style DEFAULT text) in
     let of : ℕ → Line → Visual = visual_of layout.base layout.tab_width layout.advances layout.text layout.lines in
-    flat_same (styled_nth width print layout styles) (λ nth. line_bytes width print (of nth.0 nth.1)) 0 layout.lines aligned
+    flat_same (styled_nth None width print layout styles) (λ nth. line_bytes width print (of nth.0 nth.1)) 0 layout.lines aligned
     (λ n line same.
     plain_lines (of n line) (drop line.start styles) (λ k. get_or-drop line.start styles k DEFAULT ∙ plain_styles text (line.start + k)) print
     (ordered_len print (of n line) same) alone width)
@@ -192,5 +195,20 @@ pub plain_paragraph : (rules : Rules) (width : ℕ) (print : Print) (text : List
     → styled_paragraph rules width print (in_style DEFAULT text) ≡ paragraph_bytes rules width print text
 unfolding styled_bytes
 plain_paragraph rules width print text alone =
-    ap (λ xs. encode_utf8_all (styled_layout width print (layout_of rules width xs) (styles_of (in_style DEFAULT text)))) (plain_characters text)
+    ap (λ xs. encode_utf8_all (styled_layout None width print (layout_of rules width xs) (styles_of (in_style DEFAULT text)))) (plain_characters text)
     ∙ plain_layout width print (layout_of rules width text) text alone (aligned_of rules width text)
+
+tables_in : (rules : Rules) (form : Form) → (rules_in form rules).tables ≡ rules.tables
+tables_in rules form =
+    let other : Rules = with_options rules (record rules.options { nobreak = true }) in
+    elim (cases_Bool (form.width == 0)) [
+      | inl y ↦ ap (λ (r : Rules). r.tables) (cond-true (form.width == 0) other rules y)
+      | inr n ↦ ap (λ (r : Rules). r.tables) (cond-false (form.width == 0) other rules n)
+    ]
+
+pub without_prefix : (rules : Rules) (form : Form) (shown : List (ℕ × Style)) → prefix_len rules.tables form.prefix (characters_of shown) ≡ 0
+    → printed_paragraph rules form shown ≡ styled_paragraph (rules_in form rules) (width_of form) (print_of form) shown
+unfolding printed_bytes
+without_prefix rules form shown none =
+    ap (prefixed_bytes (rules_in form rules) form (characters_of shown) (styles_of shown))
+    (ap (λ tables. prefix_len tables form.prefix (characters_of shown)) (tables_in rules form) ∙ none)

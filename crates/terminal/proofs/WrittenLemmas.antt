@@ -1,12 +1,13 @@
 -- Characters of one style after each other.
-use Rattle.std.proofs.Common.{◌≡◌, ℕ, ◌+◌, ◌<◌, ◌≤◌, min, List, [], ◌∷◌, ◌++◌, length, drop, get_or, refl, sym, ap, ◌∙◌, append_assoc, arith}
-use Rattle.std.proofs.lemmas.List.{drop_more, length-drop}
-use Rattle.lines.specs.Bytes.{ordered_chars, padding}
+use Rattle.std.proofs.Common.{◌≡◌, ℕ, replicate, subst, ◌+◌, ◌<◌, ◌≤◌, min, List, [], ◌∷◌, ◌++◌, length, drop, get_or, refl, sym, ap, ◌∙◌, append_assoc, arith}
+use Rattle.std.proofs.lemmas.List.{append-nil, drop_more, length-drop}
+use Rattle.lines.specs.Bytes.{padding}
 use Rattle.lines.specs.Visual.{Visual}
 use Rattle.lines.specs.declared.printing.print.Print.{Print}
 use Rattle.sequences.specs.Output.{between, written, written_after}
 use Rattle.sequences.specs.Styled.{DEFAULT, Style}
-use Rattle.terminal.specs.Lines.{in_style, line_cells, style_on, styled_chars, styled_line}
+use Rattle.terminal.specs.Appending.{Appends}
+use Rattle.terminal.specs.Lines.{in_style, line_cells, line_chars, shown_line, style_on, styled_chars}
 use Rattle.terminal.proofs.SameStyles.{between_same}
 
 -- after a character of the same style, characters are written as they are
@@ -21,47 +22,67 @@ pub written-one : (before style : Style) (chars : List ℕ) (more : List (ℕ ×
 written-one before style [] more some = absurd (omega (arith, some))
 written-one before style (c ∷ chars) more some = ap (λ xs. between before style ++ c ∷ xs) (written-same style chars more)
 
-module _ (visual : Visual) (styles : List Style) where
+-- characters that are appended one after the other
+pub appends_both : (old mid new : List ℕ) (before style last : Style) (xs ys : List (ℕ × Style)) → Appends old mid before style xs → Appends mid new style last ys
+    → Appends old new before last (xs ++ ys)
+appends_both old mid new before style last xs ys first second = λ more.
+    second more ∙ first (ys ++ more) ∙ ap (λ zs. old ++ written_after before zs) (sym (append_assoc xs ys more))
+
+-- spaces after what sets their style
+pub appends_spaces : (old mid new spaces : List ℕ) (before style : Style) → 0 < length spaces → mid ≡ old ++ between before style → new ≡ mid ++ spaces
+    → Appends old new before style (in_style style spaces)
+appends_spaces old mid new spaces before style some m n = λ more.
+    ap (λ xs. xs ++ written_after style more) (n ∙ ap (λ xs. xs ++ spaces) m ∙ append_assoc old (between before style) spaces)
+    ∙ append_assoc old (between before style ++ spaces) (written_after style more)
+    ∙ ap (λ xs. old ++ xs) (append_assoc (between before style) spaces (written_after style more) ∙ sym (written-one before style spaces more some))
+
+module _ (visual : Visual) (styles : List Style) (more : List (ℕ × Style)) where
   -- one more character of a line
   pub step_line : (chars vtol : List ℕ) (at : ℕ) (before style : Style) (old new all cells : List ℕ) → at < length chars → at < length vtol
       → style ≡ style_on styles (get_or vtol at 0) → cells ≡ line_cells visual (get_or chars at 0) (get_or vtol at 0) → 0 < length cells
       → new ≡ old ++ (between before style ++ cells)
-      → old ++ written_after before (styled_chars visual styles (drop at chars) (drop at vtol)) ≡ all
-      → new ++ written_after style (styled_chars visual styles (drop (at + 1) chars) (drop (at + 1) vtol)) ≡ all
+      → old ++ written_after before (styled_chars visual styles (drop at chars) (drop at vtol) ++ more) ≡ all
+      → new ++ written_after style (styled_chars visual styles (drop (at + 1) chars) (drop (at + 1) vtol) ++ more) ≡ all
   step_line chars vtol at before style old new all cells within also s e some n h =
       let rest : List (ℕ × Style) = styled_chars visual styles (drop (at + 1) chars) (drop (at + 1) vtol) in
+      let left : List (ℕ × Style) = rest ++ more in
       let k : ℕ = get_or vtol at 0 in
       let c : ℕ = get_or chars at 0 in
       let first : styled_chars visual styles (drop at chars) (drop at vtol) ≡ in_style style cells ++ rest =
       ap (λ xs. styled_chars visual styles xs (drop at vtol)) (drop_more chars at 0 within)
       ∙ ap (λ xs. styled_chars visual styles (c ∷ drop (at + 1) chars) xs) (drop_more vtol at 0 also)
       ∙ ap (λ t. in_style t (line_cells visual c k) ++ rest) (sym s) ∙ ap (λ xs. in_style style xs ++ rest) (sym e) in
-      ap (λ xs. xs ++ written_after style rest) n ∙ append_assoc old (between before style ++ cells) (written_after style rest)
-      ∙ ap (λ xs. old ++ xs) (append_assoc (between before style) cells (written_after style rest) ∙ sym (written-one before style cells rest some)
-      ∙ ap (written_after before) (sym first)) ∙ h
+      let split : styled_chars visual styles (drop at chars) (drop at vtol) ++ more ≡ in_style style cells ++ left =
+      ap (λ xs. xs ++ more) first ∙ append_assoc (in_style style cells) rest more in
+      ap (λ xs. xs ++ written_after style left) n ∙ append_assoc old (between before style ++ cells) (written_after style left)
+      ∙ ap (λ xs. old ++ xs) (append_assoc (between before style) cells (written_after style left) ∙ sym (written-one before style cells left some)
+      ∙ ap (written_after before) (sym split)) ∙ h
 
-  -- at the end of the characters, what resets the style is left
+  -- at the end of the characters, what follows them is left
   pub end_line : (chars vtol : List ℕ) (at : ℕ) (style : Style) (old all : List ℕ) → min (length chars) (length vtol) ≤ at
-      → old ++ written_after style (styled_chars visual styles (drop at chars) (drop at vtol)) ≡ all → old ++ between style DEFAULT ≡ all
+      → old ++ written_after style (styled_chars visual styles (drop at chars) (drop at vtol) ++ more) ≡ all → old ++ written_after style more ≡ all
   end_line chars vtol at style old all end h =
       let none : styled_chars visual styles (drop at chars) (drop at vtol) ≡ [] =
       none_left (drop at chars) (drop at vtol) (omega (arith, end, length-drop at chars, length-drop at vtol)) in
-      ap (λ xs. old ++ written_after style xs) (sym none) ∙ h
+      ap (λ xs. old ++ written_after style (xs ++ more)) (sym none) ∙ h
     where
       none_left : (xs ys : List ℕ) → min (length xs) (length ys) ≡ 0 → styled_chars visual styles xs ys ≡ []
       none_left [] ys e = refl
       none_left (x ∷ xs) [] e = refl
       none_left (x ∷ xs) (y ∷ ys) e = absurd (omega (arith, e))
 
--- a whole line, after its padding
-pub line_is : (width : ℕ) (print : Print) (visual : Visual) (styles : List Style) (before padded shown reset all : List ℕ) (style : Style)
-    → padded ≡ before ++ padding width print visual
-    → shown ++ between style DEFAULT ≡ padded ++ written_after DEFAULT (styled_chars visual styles (ordered_chars print visual) visual.vtol)
-    → reset ≡ shown ++ between style DEFAULT → all ≡ reset ++ 10 ∷ [] → all ≡ before ++ styled_line width print visual styles
+-- the padding and the characters of a line
+pub shown_is : (width : ℕ) (print : Print) (visual : Visual) (styles : List Style) (old mid new : List ℕ) (before padded last : Style) (spaces : ℕ)
+    → replicate spaces 32 ≡ padding width print visual → Appends old mid before padded (in_style DEFAULT (replicate spaces 32))
+    → Appends mid new padded last (line_chars print visual styles) → Appends old new before last (shown_line width print visual styles)
+shown_is width print visual styles old mid new before padded last spaces p first second =
+    let chars : List (ℕ × Style) = line_chars print visual styles in
+    subst (λ (xs : List ℕ). Appends old new before last (in_style DEFAULT xs ++ chars)) p
+    (appends_both old mid new before padded last (in_style DEFAULT (replicate spaces 32)) chars first second)
+
+-- a whole line
+pub line_is : (old shown reset all : List ℕ) (last : Style) (line : List (ℕ × Style)) → Appends old shown DEFAULT last line
+    → reset ≡ shown ++ between last DEFAULT → all ≡ reset ++ 10 ∷ [] → all ≡ old ++ (written line ++ 10 ∷ [])
 unfolding written
-line_is width print visual styles before padded shown reset all style p s r a =
-    let chars : List (ℕ × Style) = styled_chars visual styles (ordered_chars print visual) visual.vtol in
-    let text : List ℕ = written_after DEFAULT chars in
-    a ∙ ap (λ xs. xs ++ 10 ∷ []) (r ∙ s ∙ ap (λ xs. xs ++ text) p ∙ append_assoc before (padding width print visual) text
-    ∙ ap (λ xs. before ++ xs) (sym (written-same DEFAULT (padding width print visual) chars)))
-    ∙ append_assoc before (written_after DEFAULT (in_style DEFAULT (padding width print visual) ++ chars)) (10 ∷ [])
+line_is old shown reset all last line s r a =
+    a ∙ ap (λ xs. xs ++ 10 ∷ []) (r ∙ s [] ∙ ap (λ xs. old ++ written_after DEFAULT xs) (append-nil line)) ∙ append_assoc old (written_after DEFAULT line) (10 ∷ [])

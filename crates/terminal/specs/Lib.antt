@@ -1,7 +1,14 @@
+pub mod Decoding
+pub mod Ends
+pub mod Appending
 pub mod Forms
 pub mod Lines
 pub mod Numbers
 pub mod Paragraphs
 pub mod Parts
 pub mod Plain
+pub mod Run
+pub mod RunState
+pub mod Prefixes
 pub mod Texts
+pub mod Whole

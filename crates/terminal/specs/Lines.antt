@@ -1,5 +1,5 @@
 -- The printed characters of a line with styles.
-use Rattle.std.specs.Prelude.{ℕ, ◌&&◌, List, [], ◌∷◌, ◌++◌, codes, map, slice_index_or, if◌then◌else◌}
+use Rattle.std.specs.Prelude.{ℕ, ◌&&◌, Bool, List, [], ◌∷◌, ◌++◌, codes, map, slice_index_or, Option, None, Some, if◌then◌else◌}
 use Rattle.lines.specs.Bytes.{cells, direction_line, ordered_chars, padding}
 use Rattle.lines.specs.Visual.{Visual, is_measured}
 use Rattle.lines.specs.declared.printing.print.Print.{Print}
@@ -23,15 +23,31 @@ abbrev pub styled_chars : Visual → List Style → List ℕ → List ℕ → Li
 styled_chars visual styles (c ∷ chars) (k ∷ vtol) = in_style (style_on styles k) (line_cells visual c k) ++ styled_chars visual styles chars vtol
 styled_chars visual styles chars vtol = []
 
+-- the characters of a line
+abbrev pub line_chars : Print → Visual → List Style → List (ℕ × Style)
+line_chars print visual styles = styled_chars visual styles (ordered_chars print visual) visual.vtol
+
 -- the padding, which has the default style, and the characters of a line
 abbrev pub shown_line : ℕ → Print → Visual → List Style → List (ℕ × Style)
-shown_line width print visual styles =
-    in_style DEFAULT (padding width print visual) ++ styled_chars visual styles (ordered_chars print visual) visual.vtol
+shown_line width print visual styles = in_style DEFAULT (padding width print visual) ++ line_chars print visual styles
 
-abbrev pub styled_line : ℕ → Print → Visual → List Style → List ℕ
-styled_line width print visual styles = written (shown_line width print visual styles) ++ codes "\n"
+-- the prefix of a paragraph's lines: what the first one has, and the others; to the right of a line, or to its left
+pub record LinePrefix : Type 0 where
+  pub first : List (ℕ × Style)
+  pub others : List (ℕ × Style)
+  pub is_right : Bool
 
--- a line, and after the first one the base direction if it is printed
-abbrev pub styled_lines : ℕ → Print → Visual → List Style → List ℕ
-styled_lines width print visual styles =
-    styled_line width print visual styles ++ (if print.basedir && visual.is_first then direction_line visual.base else [])
+-- a line with its prefix, if the paragraph has one
+abbrev pub with_prefix : Option LinePrefix → Visual → List (ℕ × Style) → List (ℕ × Style)
+with_prefix None visual line = line
+with_prefix (Some prefix) visual line =
+    let own = if visual.is_first then prefix.first else prefix.others in
+    if prefix.is_right then line ++ own else own ++ line
+
+module _ (prefix : Option LinePrefix) (width : ℕ) (print : Print) (visual : Visual) (styles : List Style) where
+  abbrev pub styled_line : List ℕ
+  styled_line = written (with_prefix prefix visual (shown_line width print visual styles)) ++ codes "\n"
+
+  -- a line, and after the first one the base direction if it is printed
+  abbrev pub styled_lines : List ℕ
+  styled_lines = styled_line ++ (if print.basedir && visual.is_first then direction_line visual.base else [])

@@ -10,10 +10,10 @@ ghost use Rattle.sequences.specs.Laws.{characters_of};
 ghost use Rattle.sequences.specs.Scanners.{pen_of};
 ghost use Rattle.sequences.specs.Styled.{Style, next_paragraph, pen_at_end, styled};
 ghost use Rattle.sequences.specs.StyledTexts.{styled_of};
-ghost use Rattle.terminal.specs.Forms.{print_of};
 ghost use Rattle.terminal.specs.Numbers.{numbered};
-ghost use Rattle.terminal.specs.Paragraphs.{styled_paragraph, styles_of};
+ghost use Rattle.terminal.specs.Paragraphs.{styles_of};
 ghost use Rattle.terminal.specs.Parts.{styles_in};
+ghost use Rattle.terminal.specs.Prefixes.{printed_paragraph};
 ghost use Rattle.terminal.specs.Texts.{block_page, in_mode, styled_paragraphs};
 
 use crate::form::{Escapes, Form};
@@ -93,17 +93,16 @@ fn push_parts(
     alloc: Global,
     page: &mut Page,
     engine: &mut Engine,
-    form: &Form,
+    form: &Form<'_>,
     part: &Part<'_>,
     out: &mut Vec<char>,
 ) -> Result<(), AllocError>
     requires short { length part.now.characters.now ≤ PARAGRAPH_LIMIT }
-    requires width { 0 < form.now.width }
     requires len { length part.now.numbers.now ≡ length part.now.characters.now }
     ensures ok { (shown : List (ℕ × Style)) → part.now.characters.now ≡ characters_of shown
         → styles_of shown ≡ styles_in part.now
         → OnOk result (page.new.bytes.items ≡ page.old.bytes.items ++ flat_map
-        (styled_paragraph (rules_of engine.old) form.now.width (print_of form.now))
+        (printed_paragraph (rules_of engine.old) form.now)
         (styled_paragraphs (cut_by (rules_of engine.old)) shown)) }
     ensures rules { SameRules engine.old engine.new }
 {
@@ -121,12 +120,11 @@ fn push_shown(
     alloc: Global,
     page: &mut Page,
     engine: &mut Engine,
-    form: &Form,
+    form: &Form<'_>,
     text: &StyledText,
     buffers: &mut Buffers,
 ) -> Result<(), AllocError>
     requires short { length text.now.characters.items ≤ PARAGRAPH_LIMIT }
-    requires width { 0 < form.now.width }
     ensures ok { OnOk result (page.new.bytes.items ≡ page.old.bytes.items
         ++ block_page (rules_of engine.old) form.now (styled_of text.now)) }
     ensures rules { SameRules engine.old engine.new }
@@ -146,14 +144,13 @@ pub(crate) fn push_block(
     alloc: Global,
     page: &mut Page,
     engine: &mut Engine,
-    form: &Form,
+    form: &Form<'_>,
     scanner: &mut Scanner,
     block: &[char],
     buffers: &mut Buffers,
 ) -> Result<(), AllocError>
     requires empty { styled_of scanner.old.text ≡ [] }
     requires short { length block.now ≤ PARAGRAPH_LIMIT }
-    requires width { 0 < form.now.width }
     ensures ok { OnOk result (page.new.bytes.items ≡ page.old.bytes.items
         ++ block_page (rules_of engine.old) form.now (styled (pen_of scanner.old) block.now)) }
     ensures pen { OnOk result (pen_of scanner.new

@@ -1,8 +1,11 @@
 //! Where the blocks of a text end.
-ghost use Rattle.std.specs.Prelude.{◌≡◌, ◌≤◌, ◌<◌, ◌∷◌, None, drop, length, slice_index, take, IfSome};
+ghost use Rattle.std.specs.Prelude.{◌≡◌, ◌≤◌, ◌<◌, ◌∷◌, ◌&&◌, None, true, drop, length, slice_index, take};
+ghost use Rattle.std.specs.Prelude.{IfSome};
 ghost use Rattle.lines.specs.Engine.{rules_of};
 ghost use Rattle.lines.specs.Layouts.{cut_by};
 ghost use Rattle.sequences.specs.Characters.{is_dropped};
+ghost use Rattle.sequences.specs.Known.{knows_sequence};
+ghost use Rattle.terminal.specs.Ends.{knows_next};
 ghost use Rattle.terminal.specs.Texts.{blocks, ends_block, is_apart, next_character};
 
 use lines::Engine;
@@ -16,8 +19,8 @@ pub(crate) fn is_dropped(c: char) -> bool
         && !(('\u{9}' <= c && c <= '\u{d}') || ('\u{1c}' <= c && c <= '\u{1e}') || c == '\u{85}')
 }
 
-// Returns whether no sequence and no overstrike contains a character, and it is not dropped.
-fn is_apart(c: char) -> bool
+/// Returns whether no sequence and no overstrike contains a character, and it is not dropped.
+pub(crate) fn is_apart(c: char) -> bool
     ensures { result ≡ is_apart c }
 {
     ('\u{9}' <= c && c <= '\u{d}')
@@ -27,13 +30,16 @@ fn is_apart(c: char) -> bool
         || c == '\u{2029}'
 }
 
-// Returns the length of the sequence or of the dropped control that a text begins with, or `None` if there is
-// neither.
-fn skipped_len(text: &[char]) -> Option<usize>
+/// Returns the length of the sequence or of the dropped control that a text begins with, or `None` if there
+/// is neither.
+pub(crate) fn skipped_len(text: &[char]) -> Option<usize>
     requires { 0 < length text.now }
     ensures within { IfSome result (λ n. (0 < n) × (n ≤ length text.now)) }
     ensures some { IfSome result (λ n. next_character text.now ≡ next_character (drop n text.now)) }
     ensures none { result ≡ None → next_character text.now ≡ slice_index text.now 0 }
+    ensures known { IfSome result (λ n. knows_next text.now
+        ≡ (knows_sequence text.now && knows_next (drop n text.now))) }
+    ensures alone { result ≡ None → knows_next text.now ≡ true }
 {
     if let Some(len) = sequence_len(text) {
         Some(len)

@@ -1,7 +1,8 @@
 //! How a text is written.
-ghost use Rattle.std.specs.Prelude.{◌≡◌};
+ghost use Rattle.std.specs.Prelude.{◌≡◌, ◌<◌};
 
 use lines::Print;
+use regex::Regex;
 
 /// What becomes of control sequences, overstrikes and other controls.
 #[derive(Clone, Copy, Debug, PartialEq, Eq)]
@@ -15,10 +16,39 @@ pub enum Escapes {
     Text,
 }
 
+/// What is a prefix at the start of a paragraph. What follows it is a paragraph of its own, which is laid out
+/// at the width that is left: its tab stops are counted from its own start.
+#[derive(Clone, Copy, Debug)]
+pub enum Prefix<'a> {
+    /// Nothing.
+    None,
+    /// A quote of a mail: the longest match of `(> ?)+`. It is on each line, in the direction of what follows
+    /// it: to the right of right-to-left lines.
+    Quotes,
+    /// What a pattern matches at the start of a paragraph without its separator. It is left-to-right and to
+    /// the left of all lines. Lines after the first have as many spaces as it has columns. A match that
+    /// starts later is none: begin the pattern with `\A`, so that it is not searched for.
+    Pattern(&'a Regex),
+}
+
+impl<'a> Prefix<'a> {
+    ghost use Rattle.terminal.specs.Prefixes.{repeats};
+
+    /// Returns whether the prefix is on all lines, and not only on the first.
+    pub(crate) fn repeats(&self) -> bool
+        ensures { result ≡ repeats self.now }
+    {
+        match self {
+            Prefix::None | Prefix::Quotes => true,
+            Prefix::Pattern(_) => false,
+        }
+    }
+}
+
 /// How a text is written.
-#[derive(Clone, Copy, Debug, PartialEq, Eq)]
-pub struct Form {
-    /// The width in columns, which must not be 0.
+#[derive(Clone, Copy, Debug)]
+pub struct Form<'a> {
+    /// The width in columns, or 0 for none: then lines end at mandatory breaks only, and have no padding.
     pub width: u16,
     /// Writes no spaces to the left of lines of right-to-left paragraphs.
     pub nopad: bool,
@@ -27,10 +57,24 @@ pub struct Form {
     /// Writes `LTR` or `RTL` after the first line of each paragraph.
     pub basedir: bool,
     pub escapes: Escapes,
+    /// A prefix as wide as the width or wider is none.
+    pub prefix: Prefix<'a>,
 }
 
-impl Form {
-    ghost use Rattle.terminal.specs.Forms.{print_of};
+impl<'a> Form<'a> {
+    ghost use Rattle.terminal.specs.Forms.{print_of, width_of};
+
+    /// Returns the width of lines in columns.
+    pub(crate) fn columns(&self) -> u32
+        ensures width { result ≡ width_of self.now }
+        ensures some { 0 < result }
+    {
+        if self.width == 0 {
+            u32::MAX
+        } else {
+            u32::from(self.width)
+        }
+    }
 
     /// Returns what is printed.
     pub(crate) fn print(&self) -> Print
@@ -42,7 +86,7 @@ impl Form {
             ltov: false,
             vtol: false,
             levels: false,
-            nopad: self.nopad,
+            nopad: self.nopad || self.width == 0,
             nomirror: self.nomirror,
         }
     }

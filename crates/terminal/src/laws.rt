@@ -1,8 +1,13 @@
 //! Theorems about what is printed. Calls of these functions cost nothing at run time.
-ghost use Rattle.terminal.specs.Plain.{PrintsPlainLines};
+ghost use Rattle.terminal.specs.Plain.{PrintsPlainLines, PrintsWithoutPrefix};
 
 /// States, as a theorem, that the lines of a paragraph are those that `lines` prints if all its characters
 /// have the default style, under any rules and at any width.
 pub fn prints_plain_lines()
     ensures { PrintsPlainLines }
+{}
+
+/// States, as a theorem, that a paragraph without a prefix is printed as a whole at the width.
+pub fn prints_without_prefix()
+    ensures { PrintsWithoutPrefix }
 {}

@@ -5,14 +5,26 @@
 #![tactic(auto)]
 
 mod block;
+mod decoder;
+mod decoding;
 mod ends;
+mod faults;
 mod form;
+mod input;
+mod known_ends;
 mod laws;
 mod line;
+mod line_form;
 mod numbers;
+mod output;
 mod paragraph;
+mod prefix;
 mod text;
+mod whole;
 
-pub use form::{Escapes, Form};
-pub use laws::prints_plain_lines;
+pub use faults::Fault;
+pub use form::{Escapes, Form, Prefix};
+pub use input::run;
+pub use laws::{prints_plain_lines, prints_without_prefix};
 pub use text::{picture, push_text};
+pub use whole::shows_whole;

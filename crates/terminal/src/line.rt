@@ -1,14 +1,17 @@
 //! Writes lines with styles.
 ghost use Rattle.std.specs.Prelude.{◌≡◌, ◌≤◌, ◌<◌, ◌++◌, ◌∷◌, [], ℕ, false, length, min, replicate};
-ghost use Rattle.std.specs.Prelude.{slice_index, IfOk, OnOk, ◌==◌, if◌then◌else◌};
+ghost use Rattle.std.specs.Prelude.{slice_index, IfOk, IfSome, OnOk, Some, ◌==◌, if◌then◌else◌};
 ghost use Rattle.lines.specs.Bytes.{ordered_chars, padding};
 ghost use Rattle.lines.specs.Visual.{is_measured};
-ghost use Rattle.sequences.specs.Output.{between, written_after};
+ghost use Rattle.sequences.specs.Output.{between};
 ghost use Rattle.sequences.specs.Styled.{DEFAULT};
-ghost use Rattle.terminal.specs.Lines.{line_cells, style_on, styled_chars, styled_line};
+ghost use Rattle.terminal.specs.Appending.{prefix_in, prefix_of, Appends};
+ghost use Rattle.terminal.specs.Lines.{in_style, line_cells, line_chars, shown_line, style_on};
+ghost use Rattle.terminal.specs.Lines.{styled_line, with_prefix};
 ghost use Rattle.terminal.specs.Numbers.{numbered};
 ghost use Rattle.terminal.specs.Parts.{styles_in};
 
+use crate::line_form::{LineForm, PrefixLine};
 use crate::numbers::{Part, style_numbered};
 use lines::{Print, VisualLine};
 use sequences::{StyledText, push_between};
@@ -158,27 +161,52 @@ fn push_place(
     Ok(number)
 }
 
-// Appends the characters of a line in visual order with their styles, without what resets the last style.
-// Returns the number of the last style.
+// Appends the characters of a line in visual order with their styles, given the number of the style before
+// them. Returns the number of the last style.
 fn push_chars(
     line: &VisualLine<'_>,
     part: &Part<'_>,
     print: &Print,
+    before: usize,
     out: &mut Vec<char>,
 ) -> Result<usize, AllocError>
     requires text { part.now.characters.now ≡ line.now.text }
     requires plain { is_measured line.now ≡ false }
+    requires before { before ≤ length part.now.text.now.runs.items }
     ensures number { IfOk result (λ number. number ≤ length part.now.text.now.runs.items) }
-    ensures text { IfOk result (λ number. out.new.items
-        ++ between (numbered part.now.text.now.links.items part.now.text.now.runs.items number) DEFAULT
-        ≡ out.old.items ++ written_after DEFAULT
-        (styled_chars line.now (styles_in part.now) (ordered_chars print.now line.now) line.now.vtol)) }
+    ensures text { IfOk result (λ number. Appends out.old.items out.new.items
+        (numbered part.now.text.now.links.items part.now.text.now.runs.items before)
+        (numbered part.now.text.now.links.items part.now.text.now.runs.items number)
+        (line_chars print.now line.now (styles_in part.now))) }
 {
-    let mut before = 0;
+    let mut last = before;
     for place in 0..ordered_len(line, print) {
-        before = push_place(line, part, print, place, before, out)?;
+        last = push_place(line, part, print, place, last, out)?;
     }
-    Ok(before)
+    Ok(last)
+}
+
+// Appends spaces in the default style, given the number of the style before them. Returns the number of the
+// last style.
+fn push_blanks(
+    text: &StyledText,
+    count: usize,
+    before: usize,
+    out: &mut Vec<char>,
+) -> Result<usize, AllocError>
+    requires before { before ≤ length text.now.runs.items }
+    ensures number { IfOk result (λ number. number ≤ length text.now.runs.items) }
+    ensures text { IfOk result (λ number. Appends out.old.items out.new.items
+        (numbered text.now.links.items text.now.runs.items before)
+        (numbered text.now.links.items text.now.runs.items number)
+        (in_style DEFAULT (replicate count 32))) }
+{
+    if count == 0 {
+        return Ok(before);
+    }
+    push_change(text, before, 0, out)?;
+    push_spaces(count, out)?;
+    Ok(0)
 }
 
 // Returns the number of spaces before a line.
@@ -193,21 +221,120 @@ fn padding(line: &VisualLine<'_>, width: u32, print: &Print) -> usize
     }
 }
 
+// Appends the padding and the characters of a line, given the number of the style before them. Returns the
+// number of the last style.
+fn push_shown(
+    line: &VisualLine<'_>,
+    part: &Part<'_>,
+    form: &LineForm<'_>,
+    before: usize,
+    out: &mut Vec<char>,
+) -> Result<usize, AllocError>
+    requires text { part.now.characters.now ≡ line.now.text }
+    requires plain { is_measured line.now ≡ false }
+    requires before { before ≤ length part.now.text.now.runs.items }
+    ensures number { IfOk result (λ number. number ≤ length part.now.text.now.runs.items) }
+    ensures text { IfOk result (λ number. Appends out.old.items out.new.items
+        (numbered part.now.text.now.links.items part.now.text.now.runs.items before)
+        (numbered part.now.text.now.links.items part.now.text.now.runs.items number)
+        (shown_line form.now.width form.now.print line.now (styles_in part.now))) }
+{
+    let spaces = padding(line, form.width, &form.print);
+    let padded = push_blanks(part.text, spaces, before, out)?;
+    push_chars(line, part, &form.print, padded, out)
+}
+
+// Appends what a line has of a prefix, given the number of the style before it. Returns the number of the
+// last style.
+fn push_prefix(
+    prefix: &PrefixLine<'_>,
+    is_first: bool,
+    print: &Print,
+    before: usize,
+    out: &mut Vec<char>,
+) -> Result<usize, AllocError>
+    requires { before ≤ length prefix.now.part.text.now.runs.items }
+    ensures number { IfOk result (λ number. number ≤ length prefix.now.part.text.now.runs.items) }
+    ensures text { IfOk result (λ number. Appends out.old.items out.new.items
+        (numbered prefix.now.part.text.now.links.items prefix.now.part.text.now.runs.items before)
+        (numbered prefix.now.part.text.now.links.items prefix.now.part.text.now.runs.items number)
+        (if is_first then (prefix_in print.now prefix.now).first
+        else (prefix_in print.now prefix.now).others)) }
+{
+    if is_first || prefix.repeats {
+        push_chars(prefix.line, &prefix.part, print, before, out)
+    } else {
+        push_blanks(
+            prefix.part.text,
+            prefix.line.columns() as usize,
+            before,
+            out,
+        )
+    }
+}
+
+// Appends a line and its prefix. Returns the number of the last style.
+fn push_prefixed(
+    line: &VisualLine<'_>,
+    part: &Part<'_>,
+    form: &LineForm<'_>,
+    prefix: &PrefixLine<'_>,
+    out: &mut Vec<char>,
+) -> Result<usize, AllocError>
+    requires text { part.now.characters.now ≡ line.now.text }
+    requires plain { is_measured line.now ≡ false }
+    requires same { prefix.now.part.text.now ≡ part.now.text.now }
+    ensures number { IfOk result (λ number. number ≤ length part.now.text.now.runs.items) }
+    ensures text { IfOk result (λ number. Appends out.old.items out.new.items DEFAULT
+        (numbered part.now.text.now.links.items part.now.text.now.runs.items number)
+        (with_prefix (Some (prefix_in form.now.print prefix.now)) line.now
+        (shown_line form.now.width form.now.print line.now (styles_in part.now)))) }
+{
+    if prefix.line.base() % 2 == 1 {
+        let last = push_shown(line, part, form, 0, out)?;
+        push_prefix(prefix, line.is_first(), &form.print, last, out)
+    } else {
+        let last = push_prefix(prefix, line.is_first(), &form.print, 0, out)?;
+        push_shown(line, part, form, last, out)
+    }
+}
+
+// Appends a line, with a prefix if there is one. Returns the number of the last style.
+fn push_all(
+    line: &VisualLine<'_>,
+    part: &Part<'_>,
+    form: &LineForm<'_>,
+    out: &mut Vec<char>,
+) -> Result<usize, AllocError>
+    requires text { part.now.characters.now ≡ line.now.text }
+    requires plain { is_measured line.now ≡ false }
+    requires same { IfSome form.now.prefix (λ prefix. prefix.now.part.text.now ≡ part.now.text.now) }
+    ensures number { IfOk result (λ number. number ≤ length part.now.text.now.runs.items) }
+    ensures text { IfOk result (λ number. Appends out.old.items out.new.items DEFAULT
+        (numbered part.now.text.now.links.items part.now.text.now.runs.items number)
+        (with_prefix (prefix_of form.now) line.now
+        (shown_line form.now.width form.now.print line.now (styles_in part.now)))) }
+{
+    match form.prefix {
+        Some(prefix) => push_prefixed(line, part, form, prefix, out),
+        None => push_shown(line, part, form, 0, out),
+    }
+}
+
 /// Appends a line with the styles of its characters. `part` has the shown characters of the line.
 pub(crate) fn push_line(
     line: &VisualLine<'_>,
     part: &Part<'_>,
-    width: u32,
-    print: &Print,
+    form: &LineForm<'_>,
     out: &mut Vec<char>,
 ) -> Result<(), AllocError>
     requires text { part.now.characters.now ≡ line.now.text }
     requires plain { is_measured line.now ≡ false }
-    ensures { OnOk result (out.new.items
-        ≡ out.old.items ++ styled_line width print.now line.now (styles_in part.now)) }
+    requires same { IfSome form.now.prefix (λ prefix. prefix.now.part.text.now ≡ part.now.text.now) }
+    ensures { OnOk result (out.new.items ≡ out.old.items
+        ++ styled_line (prefix_of form.now) form.now.width form.now.print line.now (styles_in part.now)) }
 {
-    push_spaces(padding(line, width, print), out)?;
-    let last = push_chars(line, part, print, out)?;
+    let last = push_all(line, part, form, out)?;
     push_change(part.text, last, 0, out)?;
     out.push('\n')?;
     Ok(())

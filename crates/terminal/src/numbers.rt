@@ -20,6 +20,9 @@ pub(crate) struct Part<'a> {
 }
 
 impl<'a> Part<'a> {
+    ghost use Rattle.terminal.specs.Parts.{styles_in};
+    ghost use Rattle.terminal.specs.Prefixes.{or_one};
+
     /// Returns the characters in a range.
     pub(crate) fn range(&self, start: usize, end: usize) -> Part<'a>
         requires { (start ≤ end) × (end ≤ length self.now.characters.now) }
@@ -49,7 +52,31 @@ impl<'a> Part<'a> {
             text: self.text,
         }
     }
+
+    /// Returns the characters from an index on, or a newline if there are none.
+    pub(crate) fn after(&self, start: usize) -> Part<'a>
+        requires within { start ≤ length self.now.characters.now }
+        requires len { length self.now.numbers.now ≡ length self.now.characters.now }
+        ensures characters { result.characters.now ≡ or_one 10 (drop start self.now.characters.now) }
+        ensures styles { styles_in result ≡ or_one DEFAULT (drop start (styles_in self.now)) }
+        ensures text { result.text.now ≡ self.now.text.now }
+    {
+        let end = self.characters.len();
+        if start < end {
+            return self.paragraph(start, end);
+        }
+        Part {
+            characters: NEWLINE,
+            numbers: DEFAULT_NUMBER,
+            text: self.text,
+        }
+    }
 }
+
+// What follows a prefix that nothing follows.
+const NEWLINE: &[char] = &['\n'];
+
+const DEFAULT_NUMBER: &[usize] = &[0];
 
 /// Returns the style with a number.
 pub(crate) fn style_numbered(text: &StyledText, number: usize) -> StyleRef<'_>

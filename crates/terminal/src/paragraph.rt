@@ -1,21 +1,26 @@
 //! Writes paragraphs with styles.
-ghost use Rattle.std.specs.Prelude.{◌≡◌, ◌≤◌, ◌<◌, ◌++◌, ◌↔◌, ◌&&◌, [], ℕ, None, Some, encode_utf8_all};
-ghost use Rattle.std.specs.Prelude.{length, slice_get, slice_index, EachIndex, IfOk, IsTrue, OnOk};
-ghost use Rattle.std.specs.Prelude.{if◌then◌else◌};
+ghost use Rattle.std.specs.Prelude.{◌≡◌, ◌≤◌, ◌<◌, ◌-◌, ◌++◌, ◌↔◌, ◌&&◌, [], ℕ, None, Some};
+ghost use Rattle.std.specs.Prelude.{encode_utf8_all, length, slice_get, slice_index, EachIndex, IfOk};
+ghost use Rattle.std.specs.Prelude.{IfSome, IsTrue, OnOk, if◌then◌else◌};
 ghost use Rattle.lines.specs.Bytes.{direction_line};
 ghost use Rattle.lines.specs.Engine.{rules_of, SameRules};
 ghost use Rattle.lines.specs.Layouts.{AreWithin, IsParagraph, layout_of};
 ghost use Rattle.lines.specs.Visual.{Line};
 ghost use Rattle.sequences.specs.Styled.{DEFAULT};
-ghost use Rattle.terminal.specs.Forms.{print_of};
+ghost use Rattle.terminal.specs.Appending.{prefix_in, prefix_of};
+ghost use Rattle.terminal.specs.Forms.{print_of, width_of};
 ghost use Rattle.terminal.specs.Lines.{in_style};
 ghost use Rattle.terminal.specs.Paragraphs.{styled_bytes, styled_layout, styled_nth, styled_paragraph};
 ghost use Rattle.terminal.specs.Parts.{styles_in};
+ghost use Rattle.terminal.specs.Prefixes.{formed_bytes, prefixed_bytes, printed_bytes};
 
 use crate::form::Form;
 use crate::line::push_line;
+use crate::line_form::{LineForm, PrefixLine};
 use crate::numbers::Part;
-use lines::{Engine, Laid, Print, VisualLine, write_chars};
+use crate::prefix::{lay_out_prefix, narrow_line, prefix_base, prefix_len};
+use bidi::paragraphs_are_pieces;
+use lines::{Engine, Laid, Options, Print, VisualLine, write_chars};
 use std::alloc::{AllocError, Global};
 use stream::Page;
 
@@ -43,43 +48,43 @@ fn push_nth(
     laid: &Laid,
     n: usize,
     part: &Part<'_>,
-    width: u32,
-    print: &Print,
+    form: &LineForm<'_>,
     out: &mut Vec<char>,
 ) -> Result<(), AllocError>
     requires n { n < length laid.now.lines }
     requires text { part.now.characters.now ≡ laid.now.text }
     requires plain { laid.now.advances ≡ None }
     requires within { AreWithin (length laid.now.text) laid.now.lines }
+    requires same { IfSome form.now.prefix (λ prefix. prefix.now.part.text.now ≡ part.now.text.now) }
     ensures { (line : Line) → slice_get laid.now.lines n ≡ Some line → OnOk result (out.new.items
-        ≡ out.old.items
-        ++ styled_nth width print.now laid.now (styles_in part.now) (n, line)) }
+        ≡ out.old.items ++ styled_nth (prefix_of form.now) form.now.width form.now.print laid.now
+        (styles_in part.now) (n, line)) }
 {
     let Some(line) = laid.line(n) else {
         unreachable!()
     };
     let start = laid.line_starts()[n] as usize;
     let shown = part.range(start, start + line.levels().len());
-    push_line(&line, &shown, width, print, out)?;
-    push_direction(&line, print, out)
+    push_line(&line, &shown, form, out)?;
+    push_direction(&line, &form.print, out)
 }
 
 // Appends the lines of a layout, given the styles of the paragraph's characters.
 fn push_layout(
     laid: &Laid,
     part: &Part<'_>,
-    width: u32,
-    print: &Print,
+    form: &LineForm<'_>,
     out: &mut Vec<char>,
 ) -> Result<(), AllocError>
     requires text { part.now.characters.now ≡ laid.now.text }
     requires plain { laid.now.advances ≡ None }
     requires within { AreWithin (length laid.now.text) laid.now.lines }
-    ensures { OnOk result (out.new.items
-        ≡ out.old.items ++ styled_layout width print.now laid.now (styles_in part.now)) }
+    requires same { IfSome form.now.prefix (λ prefix. prefix.now.part.text.now ≡ part.now.text.now) }
+    ensures { OnOk result (out.new.items ≡ out.old.items
+        ++ styled_layout (prefix_of form.now) form.now.width form.now.print laid.now (styles_in part.now)) }
 {
     for n in 0..laid.line_count() {
-        push_nth(laid, n, part, width, print, out)?;
+        push_nth(laid, n, part, form, out)?;
     }
     Ok(())
 }
@@ -99,25 +104,24 @@ fn push_plain(
     alloc: Global,
     page: &mut Page,
     engine: &mut Engine,
-    form: &Form,
+    form: &Form<'_>,
     paragraph: &[char],
 ) -> Result<(), AllocError>
     requires paragraph { IsParagraph (rules_of engine.old) paragraph.now }
-    requires width { 0 < form.now.width }
     ensures ok { OnOk result (page.new.bytes.items ≡ page.old.bytes.items
-        ++ styled_paragraph (rules_of engine.old) form.now.width (print_of form.now)
+        ++ styled_paragraph (rules_of engine.old) (width_of form.now) (print_of form.now)
         (in_style DEFAULT paragraph.now)) }
     ensures rules { SameRules engine.old engine.new }
 {
     let print = form.print();
-    match engine.write_paragraph(alloc, paragraph, u32::from(form.width), &print, page) {
+    match engine.write_paragraph(alloc, paragraph, form.columns(), &print, page) {
         Ok(()) => Ok(()),
         Err(_) => Err(AllocError),
     }
 }
 
-// Lays out one paragraph.
-fn lay_out(
+/// Lays out one paragraph.
+pub(crate) fn lay_out(
     alloc: Global,
     engine: &mut Engine,
     width: u32,
@@ -142,22 +146,21 @@ fn push_styled(
     alloc: Global,
     page: &mut Page,
     engine: &mut Engine,
-    form: &Form,
+    form: &LineForm<'_>,
     part: &Part<'_>,
     out: &mut Vec<char>,
 ) -> Result<(), AllocError>
     requires paragraph { IsParagraph (rules_of engine.old) part.now.characters.now }
     requires width { 0 < form.now.width }
+    requires same { IfSome form.now.prefix (λ prefix. prefix.now.part.text.now ≡ part.now.text.now) }
     ensures ok { OnOk result (page.new.bytes.items ≡ page.old.bytes.items
-        ++ styled_bytes (rules_of engine.old) form.now.width (print_of form.now) part.now.characters.now
-        (styles_in part.now)) }
+        ++ styled_bytes (prefix_of form.now) (rules_of engine.old) form.now.width form.now.print
+        part.now.characters.now (styles_in part.now)) }
     ensures rules { SameRules engine.old engine.new }
 {
-    let width = u32::from(form.width);
-    let laid = lay_out(alloc, engine, width, part.characters)?;
-    let print = form.print();
+    let laid = lay_out(alloc, engine, form.width, part.characters)?;
     out.clear();
-    push_layout(&laid, part, width, &print, out)?;
+    push_layout(&laid, part, form, out)?;
     push_characters(out, page)
 }
 
@@ -168,26 +171,143 @@ fn is_plain(numbers: &[usize]) -> bool
     numbers.iter().all(|number| *number == 0)
 }
 
-/// Adds the lines of one paragraph, given the styles of its characters.
-pub(crate) fn push_paragraph(
+// Adds the lines of one paragraph without a prefix.
+fn push_whole(
     alloc: Global,
     page: &mut Page,
     engine: &mut Engine,
-    form: &Form,
+    form: &Form<'_>,
     part: &Part<'_>,
     out: &mut Vec<char>,
 ) -> Result<(), AllocError>
     requires paragraph { IsParagraph (rules_of engine.old) part.now.characters.now }
-    requires width { 0 < form.now.width }
     requires len { length part.now.numbers.now ≡ length part.now.characters.now }
     ensures ok { OnOk result (page.new.bytes.items ≡ page.old.bytes.items
-        ++ styled_bytes (rules_of engine.old) form.now.width (print_of form.now) part.now.characters.now
-        (styles_in part.now)) }
+        ++ styled_bytes None (rules_of engine.old) (width_of form.now) (print_of form.now)
+        part.now.characters.now (styles_in part.now)) }
     ensures rules { SameRules engine.old engine.new }
 {
     // Fast path: without styles, the lines are written without being kept.
     if is_plain(part.numbers) {
         return push_plain(alloc, page, engine, form, part.characters);
     }
-    push_styled(alloc, page, engine, form, part, out)
+    let lines = LineForm {
+        width: form.columns(),
+        print: form.print(),
+        prefix: None,
+    };
+    push_styled(alloc, page, engine, &lines, part, out)
+}
+
+// Adds the lines of what follows a prefix, which is on each of them.
+fn push_after(
+    alloc: Global,
+    page: &mut Page,
+    engine: &mut Engine,
+    form: &Form<'_>,
+    prefix: &PrefixLine<'_>,
+    rest: &Part<'_>,
+    out: &mut Vec<char>,
+) -> Result<(), AllocError>
+    requires paragraph { IsParagraph (rules_of engine.old) rest.now.characters.now }
+    requires narrow { prefix.now.line.now.columns < width_of form.now }
+    requires same { prefix.now.part.text.now ≡ rest.now.text.now }
+    ensures ok { OnOk result (page.new.bytes.items ≡ page.old.bytes.items
+        ++ styled_bytes (Some (prefix_in (print_of form.now) prefix.now)) (rules_of engine.old)
+        (width_of form.now - prefix.now.line.now.columns) (print_of form.now) rest.now.characters.now
+        (styles_in rest.now)) }
+    ensures rules { SameRules engine.old engine.new }
+{
+    let lines = LineForm {
+        width: form.columns() - prefix.line.columns(),
+        print: form.print(),
+        prefix: Some(prefix),
+    };
+    push_styled(alloc, page, engine, &lines, rest, out)
+}
+
+// Adds the lines of one paragraph. Its first `len` characters are its prefix, if they are not too wide.
+fn push_split(
+    alloc: Global,
+    page: &mut Page,
+    engine: &mut Engine,
+    form: &Form<'_>,
+    part: &Part<'_>,
+    len: usize,
+    out: &mut Vec<char>,
+) -> Result<(), AllocError>
+    requires paragraph { IsParagraph (rules_of engine.old) part.now.characters.now }
+    requires len { length part.now.numbers.now ≡ length part.now.characters.now }
+    requires some { 0 < len }
+    requires within { len ≤ length part.now.characters.now }
+    ensures ok { OnOk result (page.new.bytes.items ≡ page.old.bytes.items
+        ++ prefixed_bytes (rules_of engine.old) form.now part.now.characters.now (styles_in part.now) len) }
+    ensures rules { SameRules engine.old engine.new }
+{
+    paragraphs_are_pieces();
+    let own = part.paragraph(0, len);
+    let rest = part.after(len);
+    let base = prefix_base(engine, &form.prefix, rest.characters);
+    let laid = lay_out_prefix(alloc, engine, base, own.characters)?;
+    match narrow_line(&laid, form.columns()) {
+        Some(line) => {
+            let prefix = PrefixLine {
+                line: &line,
+                part: own.range(0, line.levels().len()),
+                repeats: form.prefix.repeats(),
+            };
+            push_after(alloc, page, engine, form, &prefix, &rest, out)
+        }
+        None => push_whole(alloc, page, engine, form, part, out),
+    }
+}
+
+// Adds the lines of one paragraph at the engine's rules.
+fn push_formed(
+    alloc: Global,
+    page: &mut Page,
+    engine: &mut Engine,
+    form: &Form<'_>,
+    part: &Part<'_>,
+    out: &mut Vec<char>,
+) -> Result<(), AllocError>
+    requires paragraph { IsParagraph (rules_of engine.old) part.now.characters.now }
+    requires len { length part.now.numbers.now ≡ length part.now.characters.now }
+    ensures ok { OnOk result (page.new.bytes.items ≡ page.old.bytes.items
+        ++ formed_bytes (rules_of engine.old) form.now part.now.characters.now (styles_in part.now)) }
+    ensures rules { SameRules engine.old engine.new }
+{
+    let len = prefix_len(alloc, engine, &form.prefix, part.characters)?;
+    if len == 0 {
+        return push_whole(alloc, page, engine, form, part, out);
+    }
+    push_split(alloc, page, engine, form, part, len, out)
+}
+
+/// Adds the lines of one paragraph, given the styles of its characters.
+pub(crate) fn push_paragraph(
+    alloc: Global,
+    page: &mut Page,
+    engine: &mut Engine,
+    form: &Form<'_>,
+    part: &Part<'_>,
+    out: &mut Vec<char>,
+) -> Result<(), AllocError>
+    requires paragraph { IsParagraph (rules_of engine.old) part.now.characters.now }
+    requires len { length part.now.numbers.now ≡ length part.now.characters.now }
+    ensures ok { OnOk result (page.new.bytes.items ≡ page.old.bytes.items
+        ++ printed_bytes (rules_of engine.old) form.now part.now.characters.now (styles_in part.now)) }
+    ensures rules { SameRules engine.old engine.new }
+{
+    if form.width > 0 {
+        return push_formed(alloc, page, engine, form, part, out);
+    }
+    let options = engine.options();
+    engine.set_options(Options {
+        nobreak: true,
+        ..options
+    });
+    let result = push_formed(alloc, page, engine, form, part, out);
+    engine.set_options(options);
+    result
 }

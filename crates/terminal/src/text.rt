@@ -36,11 +36,10 @@ pub fn push_text(
     alloc: Global,
     page: &mut Page,
     engine: &mut Engine,
-    form: &Form,
+    form: &Form<'_>,
     text: &[char],
 ) -> Result<(), AllocError>
     requires short { length text.now ≤ PARAGRAPH_LIMIT }
-    requires width { 0 < form.now.width }
     ensures ok { OnOk result (page.new.bytes.items ≡ page.old.bytes.items
         ++ text_page (rules_of engine.old) form.now START text.now) }
     ensures rules { SameRules engine.old engine.new }

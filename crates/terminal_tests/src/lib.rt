@@ -2,4 +2,8 @@
 #![tactic(auto)]
 
 #[cfg(test)]
+mod prefixes;
+#[cfg(test)]
+mod runs;
+#[cfg(test)]
 mod texts;

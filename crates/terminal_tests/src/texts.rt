@@ -3,7 +3,7 @@ use lines::{Engine, Options, PARAGRAPH_LIMIT};
 use std::alloc::Global;
 use std::test::Fail;
 use stream::Page;
-use terminal::{Escapes, Form, picture, push_text};
+use terminal::{Escapes, Form, Prefix, picture, push_text};
 use ucd::{Tables, UcdFiles};
 
 const FILES: UcdFiles<'_> = UcdFiles {
@@ -16,7 +16,7 @@ const FILES: UcdFiles<'_> = UcdFiles {
     emoji_data: test_tables::EMOJI_DATA,
 };
 
-fn engine(alloc: Global, tab_width: u8) -> Result<Engine, Fail> {
+pub(crate) fn engine(alloc: Global, tab_width: u8) -> Result<Engine, Fail> {
     let options = Options {
         tab_width,
         ..Options::default()
@@ -27,13 +27,14 @@ fn engine(alloc: Global, tab_width: u8) -> Result<Engine, Fail> {
     }
 }
 
-fn form(width: u16, escapes: Escapes) -> Form {
+pub(crate) fn form(width: u16, escapes: Escapes) -> Form<'static> {
     Form {
         width,
         nopad: true,
         nomirror: false,
         basedir: false,
         escapes,
+        prefix: Prefix::None,
     }
 }
 
@@ -41,11 +42,11 @@ fn form(width: u16, escapes: Escapes) -> Form {
 fn are_written_as(
     alloc: Global,
     engine: &mut Engine,
-    form: &Form,
+    form: &Form<'_>,
     text: &[char],
     expected: &str,
 ) -> Result<bool, Fail> {
-    if text.len() > PARAGRAPH_LIMIT || form.width == 0 {
+    if text.len() > PARAGRAPH_LIMIT {
         return Err(Fail::new("no text"));
     }
     let mut page = Page::new(alloc);
@@ -54,10 +55,10 @@ fn are_written_as(
 }
 
 // Returns whether a text is written as expected.
-fn is_written_as(
+pub(crate) fn is_written_as(
     alloc: Global,
     engine: &mut Engine,
-    form: &Form,
+    form: &Form<'_>,
     text: &str,
     expected: &str,
 ) -> Result<bool, Fail> {

@@ -1,6 +1,6 @@
 //! Tests what texts for a terminal show and how it is written: each row is a text and what it is written as.
 use sequences::{
-    Escapes, Link, MAX_LINKS_LEN, NO_LINK, PLAIN, Scanner, StyleRef, StyledText, is_plain, picture,
+    Link, MAX_LINKS_LEN, NO_LINK, PLAIN, Scanner, StyleRef, StyledText, is_sequence_known,
     push_between, sequence_len, shows_itself, shows_no_controls, shows_pieces, shows_plain_text,
     shows_the_same, writes_plain_text,
 };
@@ -293,38 +293,6 @@ fn characters_are_appended_with_links(rt: HostRuntime) -> Result<(), Fail> {
     Ok(())
 }
 
-// Returns what a paragraph is written as in a mode.
-fn scanned(alloc: Global, escapes: Escapes, text: &str) -> Result<Vec<char>, AllocError> {
-    let mut characters = Vec::new(alloc);
-    push_characters(text, &mut characters)?;
-    let mut scanner = Scanner::new(alloc);
-    scanner.scan(escapes, &characters)?;
-    let mut out = Vec::new(alloc);
-    push_line(&scanner.text, &mut out)?;
-    Ok(out)
-}
-
-#[test]
-fn modes_keep_styles_drop_them_or_show_controls(rt: HostRuntime) -> Result<(), Fail> {
-    let text = "a\u{1b}[1mb_\u{8}c\u{7f}\u{9c}\n";
-    for (escapes, expected) in [
-        (
-            Escapes::Keep,
-            "a\u{1b}[1mb\u{1b}[m\u{1b}[1;4mc\u{1b}[m\u{1b}[1m\n\u{1b}[m",
-        ),
-        (Escapes::Strip, "abc\n"),
-        (Escapes::Text, "a\u{241b}[1mb_\u{2408}c\u{2421}\u{fffd}\n"),
-    ] {
-        let mut wanted = Vec::new(rt.alloc());
-        push_characters(expected, &mut wanted)?;
-        assert!(rt;
-            scanned(rt.alloc(), escapes, text)?.as_slice() == wanted.as_slice(),
-            "{escapes:?}"
-        );
-    }
-    Ok(())
-}
-
 #[test]
 fn text_without_styles_has_no_runs(rt: HostRuntime) -> Result<(), Fail> {
     let mut text = Vec::new(rt.alloc());
@@ -366,13 +334,27 @@ fn links_past_one_megabyte_are_dropped(rt: HostRuntime) -> Result<(), Fail> {
 }
 
 #[test]
-fn plain_text_has_no_controls_that_are_dropped(rt: HostRuntime) {
-    assert!(rt;
-        is_plain(&['a', '\t', '\u{85}', 'א']) && !is_plain(&['a', '\u{7f}']) && is_plain(&[])
-    );
-    assert!(rt;
-        picture('\u{1b}') == '\u{241b}' && picture('\n') == '\n' && picture('\u{80}') == '\u{fffd}'
-    );
+fn sequences_are_known_once_they_cannot_go_on(rt: HostRuntime) {
+    for (text, known) in [
+        (['\u{1b}', '[', '3', 'm'].as_slice(), true),
+        (['\u{1b}', '[', '3'].as_slice(), false),
+        (['\u{1b}', '[', '\n'].as_slice(), true),
+        (['\u{1b}'].as_slice(), false),
+        (['\u{9b}', 'm'].as_slice(), true),
+        (['\u{1b}', ']', 'a', '\u{7}'].as_slice(), true),
+        (['\u{1b}', ']', 'a', '\u{1b}'].as_slice(), false),
+        (['\u{1b}', ']', 'a', '\u{1b}', '\\'].as_slice(), true),
+        (['\u{1b}', '(', 'B'].as_slice(), true),
+        (['\u{1b}', '('].as_slice(), false),
+        (['a'].as_slice(), true),
+        ([].as_slice(), false),
+    ] {
+        assert!(rt; is_sequence_known(text) == known);
+    }
+}
+
+#[test]
+fn sequences_have_lengths(rt: HostRuntime) {
     assert!(rt;
         sequence_len(&['\u{1b}', '[', 'm', 'a']) == Some(3) && sequence_len(&['a']) == None
     );

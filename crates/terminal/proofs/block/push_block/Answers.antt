@@ -6,11 +6,14 @@ use Rattle.terminal.specs.Texts.{block_page}
 use Rattle.terminal.proofs.BlockLemmas.{block_short}
 use Rattle.terminal.proofs.block.push_block.Goals as goal
 
-pub push_shown-requires-clause-short : goal.push_shown-requires-clause-short
-push_shown-requires-clause-short c =
+pub push_shown-requires : goal.push_shown-requires
+push_shown-requires c =
     let pen = pen_of c.args.scanner.now in
     let block = c.args.block.now in
-    block_short c.push_text.new.self.text pen block (c.in_ok-push_text.ensures.text ∙ ap (λ xs. xs ++ styled pen block) c.requires.empty) c.requires.short
+    record {
+      short = block_short c.push_text.new.self.text pen block (c.in_ok-push_text.ensures.text ∙ ap (λ xs. xs ++ styled pen block) c.requires.empty)
+          c.requires.short;
+    }
 
 pub returns-clause-ok : goal.returns-clause-ok
 returns-clause-ok c =

@@ -3,7 +3,6 @@ use Rattle.std.proofs.lemmas.List.{length-map}
 use Rattle.lines.specs.Engine.{rules_of}
 use Rattle.lines.specs.Layouts.{IsParagraph}
 use Rattle.sequences.specs.Styled.{Style}
-use Rattle.terminal.specs.Forms.{print_of}
 use Rattle.terminal.specs.Parts.{styles_in}
 use Rattle.terminal.proofs.BlockLemmas.{last_group, next_by, range_is, styles_range}
 use Rattle.terminal.proofs.block.push_parts.Goals as goal
@@ -26,10 +25,10 @@ loop-at-preserved c =
       within = c.paragraph_end-end.ensures.within.1;
       rules = c.push_paragraph.ensures.rules ∙ c.loop-at.invariant.rules;
       text = λ shown same styles.
-          next_by rules now form.width (print_of form) c.loop-at.invariant.rules shown c.loop-at.at end old _ _
+          next_by rules now form c.loop-at.invariant.rules shown c.loop-at.at end old _ _
           (c.paragraph_end-end.ensures.split shown same)
           (c.in_ok-push_paragraph.ensures.ok ∙ ap (λ xs. old ++ xs)
-          (range_is now form.width (print_of form) shown part.characters.now own.characters.now (styles_in part) (styles_in own) c.loop-at.at end (sym same) styles
+          (range_is now form shown part.characters.now own.characters.now (styles_in part) (styles_in own) c.loop-at.at end (sym same) styles
           c.paragraph.ensures.characters (styles_range part own c.loop-at.at end c.paragraph.ensures.numbers c.paragraph.ensures.text)))
           (c.loop-at.invariant.text shown same styles);
     }
@@ -38,4 +37,4 @@ pub returns-clause-ok : goal.returns-clause-ok
 returns-clause-ok c = λ shown same styles.
     let form = c.args.form.now in
     let count : length shown ≤ c.loop-at.at = omega (arith, c.loop-at-test.false, ap length same, length-map shown (λ (x : ℕ × Style). x.0)) in
-    last_group (rules_of c.args.engine.now) form.width (print_of form) shown c.loop-at.at c.loop-at.page.bytes.items _ count (c.loop-at.invariant.text shown same styles)
+    last_group (rules_of c.args.engine.now) form shown c.loop-at.at c.loop-at.page.bytes.items _ count (c.loop-at.invariant.text shown same styles)

@@ -2,7 +2,6 @@ use Rattle.std.proofs.Common.{◌≡◌, ◌≤◌, ◌-◌, ◌++◌, ℕ, List
 use Rattle.lines.specs.Engine.{rules_of, SameRules}
 use Rattle.sequences.specs.Laws.{characters_of}
 use Rattle.sequences.specs.Styled.{Style}
-use Rattle.terminal.specs.Forms.{print_of}
 use Rattle.terminal.specs.Paragraphs.{styles_of}
 use Rattle.terminal.specs.Parts.{styles_in}
 use Rattle.terminal.proofs.BlockLemmas.{pages}
@@ -13,8 +12,8 @@ invariant-loop-at l = record {
   within : l.at ≤ length l.part.characters.now;
   rules : SameRules l.fn.engine l.engine;
   text : (shown : List (ℕ × Style)) → l.part.characters.now ≡ characters_of shown → styles_of shown ≡ styles_in l.part
-      → l.page.bytes.items ++ pages (rules_of l.fn.engine) l.form.width (print_of l.form) (drop l.at shown)
-      ≡ l.fn.page.bytes.items ++ pages (rules_of l.fn.engine) l.form.width (print_of l.form) shown;
+      → l.page.bytes.items ++ pages (rules_of l.fn.engine) l.form (drop l.at shown)
+      ≡ l.fn.page.bytes.items ++ pages (rules_of l.fn.engine) l.form shown;
 }
 
 abbrev pub decreases-loop-at : goal.decreases-loop-at

@@ -2,10 +2,26 @@ use Rattle.std.proofs.Common.{◌≡◌, ◌∙◌, false, get_or, None, sym, ru
 use Rattle.sequences.specs.Characters.{is_dropped}
 use Rattle.sequences.specs.Sequences.{sequence_len}
 use Rattle.terminal.proofs.EndLemmas.{control_skipped, none_skipped, sequence_skipped}
+use Rattle.terminal.proofs.KnownEndLemmas.{control_known, none_known, sequence_known}
 use Rattle.terminal.proofs.ends.skipped_len.Goals as goal
 
 pub returns-in-Some-clause-some : goal.returns-in-Some-clause-some
 returns-in-Some-clause-some c = sequence_skipped c.args.text.now c.in-Some.len c.requires c.in-Some.ensures.len c.in-Some.ensures.some
+
+pub returns-in-Some-clause-known : goal.returns-in-Some-clause-known
+returns-in-Some-clause-known c = sequence_known c.args.text.now c.in-Some.len c.requires c.in-Some.ensures.len c.in-Some.ensures.some
+
+pub returns-then-is_dropped-clause-known : goal.returns-then-is_dropped-clause-known
+returns-then-is_dropped-clause-known c =
+    let text = c.args.text.now in
+    let none : None ≡ sequence_len text = sym c.in_default.is ∙ c.sequence_len.ensures.len in
+    control_known text c.requires none (search rules)
+
+pub returns-else-is_dropped-clause-alone : goal.returns-else-is_dropped-clause-alone
+returns-else-is_dropped-clause-alone c =
+    let text = c.args.text.now in
+    let no : is_dropped (get_or text 0 0) ≡ false = search rules in
+    λ _. none_known text c.requires no
 
 pub returns-then-is_dropped-clause-some : goal.returns-then-is_dropped-clause-some
 returns-then-is_dropped-clause-some c =

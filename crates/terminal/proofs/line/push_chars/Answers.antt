@@ -13,16 +13,16 @@ loop-place-preserved c =
     let chars = ordered_chars c.args.print.now line in
     let at = c.loop-place.place in
     record {
-      before = c.in_ok-before.ensures.number;
-      text = step_line line (styles_in part) chars line.vtol at (style c.loop-place.before) (style c.in_ok-before.before) c.loop-place.out.items _ _ _
-          (omega (arith, c.ordered_len-place-end.ensures)) (omega (arith, c.ordered_len-place-end.ensures)) c.in_ok-before.ensures.style refl
-          c.in_ok-before.ensures.some c.in_ok-before.ensures.text c.loop-place.invariant.text;
+      number = c.in_ok-last.ensures.number;
+      text = λ more. step_line line (styles_in part) more chars line.vtol at (style c.loop-place.last) (style c.in_ok-last.last) c.loop-place.out.items _ _ _
+          (omega (arith, c.ordered_len-place-end.ensures)) (omega (arith, c.ordered_len-place-end.ensures)) c.in_ok-last.ensures.style refl
+          c.in_ok-last.ensures.some c.in_ok-last.ensures.text (c.loop-place.invariant.text more);
     }
 
 pub returns-clause-text : goal.returns-clause-text
-returns-clause-text c =
+returns-clause-text c = λ more.
     let line = c.args.line.now in
     let part = c.args.part.now in
     let chars = ordered_chars c.args.print.now line in
-    end_line line (styles_in part) chars line.vtol c.loop-place.place _ c.loop-place.out.items _
-    (omega (arith, c.ordered_len-place-end.ensures)) c.loop-place.invariant.text
+    end_line line (styles_in part) more chars line.vtol c.loop-place.place _ c.loop-place.out.items _
+    (omega (arith, c.ordered_len-place-end.ensures)) (c.loop-place.invariant.text more)

@@ -1,0 +1,445 @@
+-- One step of `run`, as it follows from the results of the calls that it makes.
+use Rattle.std.proofs.Common.{◌≡◌, ℕ, ◌+◌, ◌<◌, ◌≤◌, nat_lt, Bool, true, false, List, [], ◌∷◌, ◌++◌, length, take, min, Option, Some, None, Result, Ok, Err, vec_len, if◌then◌else◌, refl, sym, subst, ap, inl, inr, ◌∙◌, append_assoc, arith}
+use Rattle.std.specs.List.{concat}
+use Rattle.std.specs.Io.KnownBytes.{Consumes, IsAtEnd}
+use Rattle.std.proofs.lemmas.Bool.{lt-ltb}
+use Rattle.std.proofs.lemmas.List.{append-nil, length-append}
+use Rattle.std.proofs.lemmas.List.Folds.{concat-append}
+use Rattle.std.proofs.Math.Seq.{take-append-add}
+use Rattle.device.specs.Device.{Device, Fails, StoppedAt, Took, Wrote, greatest}
+use Rattle.lines.specs.Layouts.{Rules, cut_by}
+use Rattle.sequences.specs.Scanners.{pen_of}
+use Rattle.sequences.specs.Styled.{Pen, START}
+use Rattle.stream.specs.declared.reading.TheConstants.{CHUNK}
+use Rattle.terminal.specs.Decoding.{IsBeginning, pictures, text_after}
+use Rattle.terminal.specs.Run.{BeginsWith, EndsTooLong, HasRead, IsRun, IsTooLong, WritesFirst, are_within, blocks_page}
+use Rattle.terminal.specs.RunState.{AddsLast, Finishes, IsAt, IsFed, IsFront, Stands, Steps, last_characters, pages, pen_after_blocks}
+use Rattle.sequences.specs.StyledTexts.{styled_of}
+use Rattle.stream.proofs.Utf8Lemmas.{nothing_bad, nothing_valid}
+use Rattle.terminal.specs.Ends.{IsOpen}
+use Rattle.terminal.specs.Texts.{blocks, decoded, input_page, input_text, text_page, without_mark}
+use Rattle.terminal.specs.declared.faults.Fault.{Fault}
+use Rattle.terminal.specs.declared.faults.Fault.TheVariants as f
+use Rattle.terminal.specs.declared.form.Escapes.{Escapes}
+use Rattle.terminal.specs.declared.form.Escapes.TheVariants.{Keep, Strip, Text}
+use Rattle.terminal.specs.declared.form.Form.{Form}
+use Rattle.terminal.specs.declared.input.Held.{Held}
+use Rattle.terminal.specs.declared.output.Output.{Output}
+use Rattle.terminal.proofs.LossyLemmas.{lossy_beginning, lossy_none}
+use Rattle.terminal.proofs.PushLemmas.{pages-append, pen-append, within-append}
+use Rattle.terminal.proofs.Devices.{Consumes-append, Consumes-kept, FailedLast-after, Took-append, Took-nothing, Wrote-append}
+
+-- ---- the end of an input
+
+pub input_is : (escapes : Escapes) (bytes : List ℕ) → input_text escapes bytes ≡ text_after escapes false bytes
+input_is Keep bytes = refl
+input_is Strip bytes = refl
+input_is Text bytes = refl
+
+end_none : (escapes : Escapes) (started : Bool) → text_after escapes started [] ≡ []
+end_none escapes started = ap (λ t. pictures escapes (if started then t else without_mark t)) lossy_none ∙ by_mode escapes started
+  where
+    by_mode : (escapes : Escapes) (started : Bool) → pictures escapes (if started then [] else []) ≡ []
+    by_mode Keep true = refl
+    by_mode Keep false = refl
+    by_mode Strip true = refl
+    by_mode Strip false = refl
+    by_mode Text true = refl
+    by_mode Text false = refl
+
+end_some : (escapes : Escapes) (started : Bool) (waiting : List ℕ) → 0 < length waiting → IsBeginning waiting → text_after escapes started waiting ≡ 0xFFFD ∷ []
+end_some escapes started waiting some b =
+    ap (λ t. pictures escapes (if started then t else without_mark t)) (lossy_beginning waiting some b.none b.fault) ∙ by_mode escapes started
+  where
+    by_mode : (escapes : Escapes) (started : Bool) → pictures escapes (if started then 0xFFFD ∷ [] else without_mark (0xFFFD ∷ [])) ≡ 0xFFFD ∷ []
+    by_mode Keep true = refl
+    by_mode Keep false = refl
+    by_mode Strip true = refl
+    by_mode Strip false = refl
+    by_mode Text true = refl
+    by_mode Text false = refl
+
+-- the bytes that wait at the end are one U+FFFD
+pub end_text : (escapes : Escapes) (started : Bool) (waiting : List ℕ) (n : ℕ) → length waiting ≡ n → IsBeginning waiting → text_after escapes started waiting ≡ last_characters n
+end_text escapes started [] n len b = end_none escapes started ∙ ap last_characters len
+end_text escapes started (x ∷ waiting) n len b =
+    end_some escapes started (x ∷ waiting) (omega arith) b
+    ∙ sym (ap (λ (b : Bool). if b then 0xFFFD ∷ [] else []) (lt-ltb 0 n (omega (arith, len))))
+
+end_few : (n : ℕ) → length (last_characters n) ≤ 1
+end_few n = by_test (nat_lt 0 n)
+  where
+    by_test : (b : Bool) → length {A = ℕ} (if b then 0xFFFD ∷ [] else []) ≤ 1
+    by_test true = omega arith
+    by_test false = omega arith
+
+module _ (rules : Rules) (form : Form) (bytes : List ℕ) (sent : List (List ℕ)) (waiting text : List ℕ) (started : Bool)
+    (fed : IsFed rules form bytes sent waiting text started) where
+  -- what is left is the text after the blocks that were sent
+  pub fed_begins : BeginsWith rules form bytes sent text
+  fed_begins = record {
+    text = record {
+      after = λ more. text_after form.escapes started (waiting ++ more);
+      begins = fed.decoded;
+      few = omega (
+        arith,
+        end_few (length waiting),
+        ap length (ap (text_after form.escapes started) (append-nil waiting) ∙ end_text form.escapes started waiting (length waiting) refl fed.beginning),
+      );
+    };
+    blocks = fed.cuts;
+    within = fed.within;
+  }
+
+  -- the blocks of the whole text, if nothing follows
+  pub fed_blocks : (n : ℕ) → length waiting ≡ n → blocks (cut_by rules) (input_text form.escapes bytes) ≡ sent ++ blocks (cut_by rules) (text ++ last_characters n)
+  fed_blocks n len =
+      let all : input_text form.escapes bytes ≡ (concat sent ++ text) ++ last_characters n =
+      ap (input_text form.escapes) (sym (append-nil bytes)) ∙ fed.decoded []
+      ∙ ap (λ t. (concat sent ++ text) ++ t) (ap (text_after form.escapes started) (append-nil waiting) ∙ end_text form.escapes started waiting n len fed.beginning) in
+      ap (blocks (cut_by rules)) all ∙ fed.cuts (last_characters n)
+
+  -- and its lines
+  pub fed_page : (n : ℕ) (pen : Pen) → length waiting ≡ n → pen ≡ pen_after_blocks START sent
+      → input_page rules form bytes ≡ blocks_page rules form sent ++ text_page rules form pen (text ++ last_characters n)
+  fed_page n pen len pen_is =
+      ap (pages rules form START) (fed_blocks n len) ∙ pages-append rules form START sent (blocks (cut_by rules) (text ++ last_characters n))
+      ∙ ap (λ (q : Pen). blocks_page rules form sent ++ text_page rules form q (text ++ last_characters n)) (sym pen_is)
+
+  -- a chunk was read and decoded, and the first blocks of the text were taken
+  pub fed_more : (chunk waiting_new all text_new characters : List ℕ) (started_new : Bool) (parts : List (List ℕ))
+      → ((more : List ℕ) → text_after form.escapes started ((waiting ++ chunk) ++ more) ≡ characters ++ text_after form.escapes started_new (waiting_new ++ more))
+      → IsBeginning waiting_new → all ≡ text ++ characters → IsFront (cut_by rules) parts all text_new
+      → IsFed rules form (bytes ++ chunk) (sent ++ parts) waiting_new text_new started_new
+  fed_more chunk waiting_new all text_new characters started_new parts decoded beginning all_is front =
+      let both : concat (sent ++ parts) ++ text_new ≡ (concat sent ++ text) ++ characters =
+      ap (λ t. t ++ text_new) (concat-append sent parts) ∙ append_assoc (concat sent) (concat parts) text_new
+      ∙ ap (λ t. concat sent ++ t) (sym front.whole ∙ all_is) ∙ sym (append_assoc (concat sent) text characters) in
+      record {
+        decoded = λ more.
+            ap (input_text form.escapes) (append_assoc bytes chunk more) ∙ fed.decoded (chunk ++ more)
+            ∙ ap (λ t. (concat sent ++ text) ++ text_after form.escapes started t) (sym (append_assoc waiting chunk more))
+            ∙ ap (λ t. (concat sent ++ text) ++ t) (decoded more)
+            ∙ sym (append_assoc (concat sent ++ text) characters (text_after form.escapes started_new (waiting_new ++ more)))
+            ∙ ap (λ t. t ++ text_after form.escapes started_new (waiting_new ++ more)) (sym both);
+        beginning = beginning;
+        cuts = λ more.
+            ap (λ t. blocks (cut_by rules) (t ++ more)) both ∙ ap (blocks (cut_by rules)) (append_assoc (concat sent ++ text) characters more)
+            ∙ fed.cuts (characters ++ more) ∙ ap (λ t. sent ++ blocks (cut_by rules) t) (sym (append_assoc text characters more))
+            ∙ ap (λ t. sent ++ blocks (cut_by rules) (t ++ more)) (sym all_is)
+            ∙ ap (λ (ps : List (List ℕ)). sent ++ ps) (front.cuts more) ∙ sym (append_assoc sent parts (blocks (cut_by rules) (text_new ++ more)));
+        within = within-append sent parts fed.within front.within;
+      }
+
+-- the lines of some more blocks
+pub more_page : (rules : Rules) (form : Form) (sent parts : List (List ℕ)) (pen : Pen) → pen ≡ pen_after_blocks START sent
+    → blocks_page rules form (sent ++ parts) ≡ blocks_page rules form sent ++ pages rules form pen parts
+more_page rules form sent parts pen e = pages-append rules form START sent parts ∙ ap (λ (q : Pen). blocks_page rules form sent ++ pages rules form q parts) (sym e)
+
+-- the sink failed within some lines, after others were written
+pub stopped_after : (front lines : List ℕ) (m n : ℕ) (old mid new : Device) → Wrote front old mid → StoppedAt m lines mid new → n ≡ length front + m → StoppedAt n (front ++ lines) old new
+stopped_after front lines m n old mid new wrote stopped n_is =
+    let taken : take n (front ++ lines) ≡ front ++ take m lines = ap (λ k. take k (front ++ lines)) n_is ∙ take-append-add front lines m in (
+      omega (arith, n_is, stopped.0, length-append front lines),
+      subst (Took old new) (sym taken) (Took-append old mid new front (take m lines) wrote.0 stopped.1),
+      FailedLast-after old mid new wrote.1 stopped.2,
+    )
+
+module _ (rules : Rules) (form : Form) (reader_old writer_old reader writer : Device) (held : Held) (s : Stands rules form reader_old writer_old reader writer held) where
+  -- all blocks that had ended before some more bytes were written
+  first_by : (late more : List ℕ) (writer_new : Device) → length late ≤ CHUNK → Took writer_old writer_new (blocks_page rules form s.is_at.sent ++ more)
+      → WritesFirst rules form (s.is_at.bytes ++ late) writer_old writer_new
+  first_by late more writer_new few took = record {
+    early = s.is_at.bytes;
+    late = late;
+    parts = refl;
+    chunk = few;
+    ended = s.is_at.sent;
+    has_ended = record {
+      rest = held.text.items;
+      begins = fed_begins rules form s.is_at.bytes s.is_at.sent (take held.decoder.waiting held.decoder.chunk.items) held.text.items held.decoder.started s.is_at.fed;
+      upto = held.scanned;
+      is_open = s.is_open;
+    };
+    more = more;
+    took = took;
+  }
+
+  took_sent : Took writer_old writer (blocks_page rules form s.is_at.sent ++ [])
+  took_sent = subst (Took writer_old writer) (sym (append-nil (blocks_page rules form s.is_at.sent))) s.is_at.wrote.0
+
+  -- a failed read
+  pub ends_read : (reader_new : Device) → Fails reader reader_new → IsRun rules form reader_old reader_new writer_old writer (Err f.Read)
+  unfolding first_by
+  ends_read reader_new fails = (
+    s.is_at.bytes ++ [],
+    (
+      subst (Consumes reader_old.bytes reader_new.bytes) (sym (append-nil s.is_at.bytes)) (Consumes-kept reader_old.bytes reader.bytes reader_new.bytes s.is_at.bytes s.is_at.read.0 fails.bytes),
+      omega (arith, fails.passed, s.is_at.read.1, length-append s.is_at.bytes []),
+    ),
+    (
+      first_by [] [] writer (omega arith) took_sent,
+      (record { failures = fails.failures ∙ ap (λ n. min (n + 1) greatest) s.is_at.failures; last = fails.failed_at ∙ sym fails.passed }, refl, s.is_at.wrote),
+    ),
+  )
+
+  -- a chunk was read
+  module _ (reader_new : Device) (chunk : List ℕ) (consumed : Consumes reader.bytes reader_new.bytes chunk) (passed : reader_new.passed ≡ reader.passed + length chunk)
+      (few : length chunk ≤ CHUNK) where
+    has_read : HasRead reader_old reader_new (s.is_at.bytes ++ chunk)
+    has_read = (
+      Consumes-append reader_old.bytes reader.bytes reader_new.bytes s.is_at.bytes chunk s.is_at.read.0 consumed,
+      omega (arith, passed, s.is_at.read.1, length-append s.is_at.bytes chunk),
+    )
+
+    -- an allocation failed
+    pub ends_memory : IsRun rules form reader_old reader_new writer_old writer (Err f.Memory)
+    unfolding first_by
+    ends_memory = (s.is_at.bytes ++ chunk, has_read, (first_by chunk [] writer few took_sent, s.is_at.wrote))
+
+    -- the sink failed within some lines
+    took_part : (lines : List ℕ) (m : ℕ) (writer_new : Device) → StoppedAt m lines writer writer_new → Took writer_old writer_new (blocks_page rules form s.is_at.sent ++ take m lines)
+    took_part lines m writer_new stopped = Took-append writer_old writer writer_new (blocks_page rules form s.is_at.sent) (take m lines) s.is_at.wrote.0 stopped.1
+
+    took_all : (lines : List ℕ) (writer_new : Device) → Wrote lines writer writer_new → Took writer_old writer_new (blocks_page rules form s.is_at.sent ++ lines)
+    took_all lines writer_new wrote = Took-append writer_old writer writer_new (blocks_page rules form s.is_at.sent) lines s.is_at.wrote.0 wrote.0
+
+    -- the chunk was decoded
+    module _ (waiting_new all text_new characters : List ℕ) (started_new : Bool) (parts : List (List ℕ))
+        (decoded : (more : List ℕ) → text_after form.escapes held.decoder.started ((take held.decoder.waiting held.decoder.chunk.items ++ chunk) ++ more)
+        ≡ characters ++ text_after form.escapes started_new (waiting_new ++ more))
+        (beginning : IsBeginning waiting_new) (all_is : all ≡ held.text.items ++ characters) (front : IsFront (cut_by rules) parts all text_new) where
+      fed_new : IsFed rules form (s.is_at.bytes ++ chunk) (s.is_at.sent ++ parts) waiting_new text_new started_new
+      fed_new =
+          fed_more rules form s.is_at.bytes s.is_at.sent (take held.decoder.waiting held.decoder.chunk.items) held.text.items held.decoder.started s.is_at.fed
+          chunk waiting_new all text_new characters started_new parts decoded beginning all_is front
+
+      begins_new : BeginsWith rules form (s.is_at.bytes ++ chunk) (s.is_at.sent ++ parts) text_new
+      begins_new = fed_begins rules form (s.is_at.bytes ++ chunk) (s.is_at.sent ++ parts) waiting_new text_new started_new fed_new
+
+      page_new : blocks_page rules form (s.is_at.sent ++ parts) ≡ blocks_page rules form s.is_at.sent ++ pages rules form (pen_of held.output.scanner) parts
+      page_new = more_page rules form s.is_at.sent parts (pen_of held.output.scanner) s.is_at.pen_is
+
+      pub ends_write : (writer_new : Device) (m n : ℕ) → StoppedAt m (pages rules form (pen_of held.output.scanner) parts) writer writer_new → n ≡ held.output.written + m
+          → IsRun rules form reader_old reader_new writer_old writer_new (Err (f.Write n))
+      ends_write writer_new m n stopped n_is =
+          let lines = pages rules form (pen_of held.output.scanner) parts in (
+            s.is_at.bytes ++ chunk,
+            has_read,
+            (
+              first_by chunk (take m lines) writer_new few (took_part lines m writer_new stopped),
+              inl (
+                s.is_at.sent ++ parts,
+                subst (λ (t : List ℕ). StoppedAt n t writer_old writer_new) (sym page_new)
+                    (stopped_after (blocks_page rules form s.is_at.sent) lines m n writer_old writer writer_new s.is_at.wrote stopped (omega (arith, n_is, s.is_at.written_is))),
+                inl (text_new, begins_new),
+              ),
+            ),
+          )
+
+      wrote_new : (writer_new : Device) → Wrote (pages rules form (pen_of held.output.scanner) parts) writer writer_new → Wrote (blocks_page rules form (s.is_at.sent ++ parts)) writer_old writer_new
+      wrote_new writer_new wrote =
+          subst (λ (t : List ℕ). Wrote t writer_old writer_new) (sym page_new)
+          (Wrote-append writer_old writer writer_new (blocks_page rules form s.is_at.sent) (pages rules form (pen_of held.output.scanner) parts) s.is_at.wrote wrote)
+
+      pub ends_long : (writer_new : Device) → Wrote (pages rules form (pen_of held.output.scanner) parts) writer writer_new → IsTooLong (cut_by rules) text_new
+          → IsRun rules form reader_old reader_new writer_old writer_new (Err f.ParagraphTooLong)
+      ends_long writer_new wrote long = (
+        s.is_at.bytes ++ chunk,
+        has_read,
+        (
+          first_by chunk (pages rules form (pen_of held.output.scanner) parts) writer_new few (took_all _ writer_new wrote),
+          (s.is_at.sent ++ parts, wrote_new writer_new wrote, inl (text_new, begins_new, long)),
+        ),
+      )
+
+      pub at_new : (writer_new : Device) (pen_new : Pen) (written_new : ℕ) → reader_new.failures ≡ reader.failures → Wrote (pages rules form (pen_of held.output.scanner) parts) writer writer_new
+          → pen_new ≡ pen_after_blocks (pen_of held.output.scanner) parts → written_new ≡ held.output.written + length (pages rules form (pen_of held.output.scanner) parts)
+          → IsAt rules form reader_old reader_new writer_old writer_new waiting_new text_new started_new pen_new written_new
+      at_new writer_new pen_new written_new failures wrote pen_is written_is = record {
+        bytes = s.is_at.bytes ++ chunk;
+        sent = s.is_at.sent ++ parts;
+        read = has_read;
+        failures = failures ∙ s.is_at.failures;
+        fed = fed_new;
+        wrote = wrote_new writer_new wrote;
+        pen_is = pen_is ∙ ap (λ (q : Pen). pen_after_blocks q parts) s.is_at.pen_is ∙ sym (pen-append START s.is_at.sent parts);
+        written_is =
+            omega (arith, written_is, s.is_at.written_is, ap length page_new, length-append (blocks_page rules form s.is_at.sent) (pages rules form (pen_of held.output.scanner) parts));
+      }
+
+  -- nothing was read, since the source has ended
+  module _ (reader_new : Device) (consumed : Consumes reader.bytes reader_new.bytes []) (passed : reader_new.passed ≡ reader.passed + 0) (end : IsAtEnd reader_new.bytes)
+      (failures : reader_new.failures ≡ reader.failures) where
+    read_all : HasRead reader_old reader_new (s.is_at.bytes ++ [])
+    read_all = has_read reader_new [] consumed passed (omega arith)
+
+    blocks_last : blocks (cut_by rules) (input_text form.escapes (s.is_at.bytes ++ [])) ≡ s.is_at.sent ++ blocks (cut_by rules) (held.text.items ++ last_characters held.decoder.waiting)
+    blocks_last =
+        ap (λ t. blocks (cut_by rules) (input_text form.escapes t)) (append-nil s.is_at.bytes)
+        ∙ fed_blocks rules form s.is_at.bytes s.is_at.sent (take held.decoder.waiting held.decoder.chunk.items) held.text.items held.decoder.started s.is_at.fed held.decoder.waiting s.waits
+
+    page_last : input_page rules form (s.is_at.bytes ++ [])
+        ≡ blocks_page rules form s.is_at.sent ++ text_page rules form (pen_of held.output.scanner) (held.text.items ++ last_characters held.decoder.waiting)
+    page_last =
+        ap (input_page rules form) (append-nil s.is_at.bytes)
+        ∙ fed_page rules form s.is_at.bytes s.is_at.sent (take held.decoder.waiting held.decoder.chunk.items) held.text.items held.decoder.started s.is_at.fed held.decoder.waiting
+        (pen_of held.output.scanner) s.waits s.is_at.pen_is
+
+    pub finish_ok : (writer_new : Device) → Wrote (text_page rules form (pen_of held.output.scanner) (held.text.items ++ last_characters held.decoder.waiting)) writer writer_new
+        → IsRun rules form reader_old reader_new writer_old writer_new (Ok tt)
+    finish_ok writer_new wrote = (
+      s.is_at.bytes ++ [],
+      read_all,
+      end,
+      failures ∙ s.is_at.failures,
+      subst (λ (t : List ℕ). Wrote t writer_old writer_new) (sym page_last) (Wrote-append writer_old writer writer_new (blocks_page rules form s.is_at.sent) _ s.is_at.wrote wrote),
+    )
+
+    pub finish_memory : IsRun rules form reader_old reader_new writer_old writer (Err f.Memory)
+    finish_memory = ends_memory reader_new [] consumed passed (omega arith)
+
+    -- the last blocks up to one that is too long
+    module _ (parts others : List (List ℕ)) (first : List ℕ)
+        (cuts : blocks (cut_by rules) (held.text.items ++ last_characters held.decoder.waiting) ≡ parts ++ first ∷ others) (within : are_within parts ≡ true) (long : 1048577 ≤ length first) where
+      long_last : EndsTooLong rules form (s.is_at.bytes ++ []) (s.is_at.sent ++ parts)
+      long_last = (
+        first,
+        others,
+        blocks_last ∙ ap (λ (ps : List (List ℕ)). s.is_at.sent ++ ps) cuts ∙ sym (append_assoc s.is_at.sent parts (first ∷ others)),
+        within-append s.is_at.sent parts s.is_at.fed.within within,
+        omega (arith, long),
+      )
+
+      lines_last : blocks_page rules form (s.is_at.sent ++ parts) ≡ blocks_page rules form s.is_at.sent ++ pages rules form (pen_of held.output.scanner) parts
+      lines_last = more_page rules form s.is_at.sent parts (pen_of held.output.scanner) s.is_at.pen_is
+
+      pub finish_long : (writer_new : Device) → Wrote (pages rules form (pen_of held.output.scanner) parts) writer writer_new
+          → IsRun rules form reader_old reader_new writer_old writer_new (Err f.ParagraphTooLong)
+      finish_long writer_new wrote = (
+        s.is_at.bytes ++ [],
+        read_all,
+        (
+          first_by [] (pages rules form (pen_of held.output.scanner) parts) writer_new (omega arith) (took_all reader_new [] consumed passed (omega arith) _ writer_new wrote),
+          (
+            s.is_at.sent ++ parts,
+            subst (λ (t : List ℕ). Wrote t writer_old writer_new) (sym lines_last) (Wrote-append writer_old writer writer_new (blocks_page rules form s.is_at.sent) _ s.is_at.wrote wrote),
+            inr (end, long_last),
+          ),
+        ),
+      )
+
+      pub finish_stopped_long : (writer_new : Device) (m n : ℕ) → StoppedAt m (pages rules form (pen_of held.output.scanner) parts) writer writer_new → n ≡ held.output.written + m
+          → IsRun rules form reader_old reader_new writer_old writer_new (Err (f.Write n))
+      finish_stopped_long writer_new m n stopped n_is = (
+        s.is_at.bytes ++ [],
+        read_all,
+        (
+          first_by [] _ writer_new (omega arith) (took_part reader_new [] consumed passed (omega arith) _ m writer_new stopped),
+          inl (
+            s.is_at.sent ++ parts,
+            subst (λ (t : List ℕ). StoppedAt n t writer_old writer_new) (sym lines_last)
+                (stopped_after (blocks_page rules form s.is_at.sent) _ m n writer_old writer writer_new s.is_at.wrote stopped (omega (arith, n_is, s.is_at.written_is))),
+            inr (end, long_last),
+          ),
+        ),
+      )
+
+    pub finish_stopped : (writer_new : Device) (m n : ℕ)
+        → StoppedAt m (text_page rules form (pen_of held.output.scanner) (held.text.items ++ last_characters held.decoder.waiting)) writer writer_new
+        → n ≡ held.output.written + m → IsRun rules form reader_old reader_new writer_old writer_new (Err (f.Write n))
+    finish_stopped writer_new m n stopped n_is = (
+      s.is_at.bytes ++ [],
+      read_all,
+      (
+        first_by [] _ writer_new (omega arith) (took_part reader_new [] consumed passed (omega arith) _ m writer_new stopped),
+        inr (
+          end,
+          subst (λ (t : List ℕ). StoppedAt n t writer_old writer_new) (sym page_last)
+              (stopped_after (blocks_page rules form s.is_at.sent) _ m n writer_old writer writer_new s.is_at.wrote stopped (omega (arith, n_is, s.is_at.written_is))),
+        ),
+      ),
+    )
+
+-- ---- the start of a run
+
+Consumes-refl : (known : Option (List ℕ)) → Consumes known known []
+Consumes-refl None = tt
+Consumes-refl (Some xs) = refl
+
+fed_none : (rules : Rules) (form : Form) → IsFed rules form [] [] [] [] false
+fed_none rules form = record {
+  decoded = λ more. input_is form.escapes more;
+  beginning = record { none = nothing_valid [] refl; fault = nothing_bad [] refl; few = omega arith };
+  cuts = λ more. refl;
+  within = refl;
+}
+
+open_none : (rules : Rules) → IsOpen (cut_by rules) 0 []
+open_none rules = record { within = omega arith; none = λ k below more. absurd (omega (arith, below)); rest = inl refl }
+
+-- an allocation failed before anything was read
+pub ends_at_once : (rules : Rules) (form : Form) (reader writer : Device) → IsRun rules form reader reader writer writer (Err f.Memory)
+ends_at_once rules form reader writer = (
+  [],
+  (Consumes-refl reader.bytes, omega arith),
+  (
+    record {
+      early = [];
+      late = [];
+      parts = refl;
+      chunk = omega arith;
+      ended = [];
+      has_ended = record { rest = []; begins = fed_begins rules form [] [] [] [] false (fed_none rules form); upto = 0; is_open = open_none rules };
+      more = [];
+      took = Took-nothing writer;
+    },
+    (Took-nothing writer, refl),
+  ),
+)
+
+pub stands_at_start : (rules : Rules) (form : Form) (reader writer : Device) (held : Held) → held.decoder.waiting ≡ 0 → held.decoder.started ≡ false → held.text.items ≡ [] → held.scanned ≡ 0
+    → pen_of held.output.scanner ≡ START → styled_of held.output.scanner.text ≡ [] → held.output.page.bytes.items ≡ [] → held.output.written ≡ 0 → vec_len held.decoder.chunk ≡ CHUNK
+    → Stands rules form reader writer reader writer held
+stands_at_start rules form reader writer held w b t c p empty page n room =
+    let nothing : take held.decoder.waiting held.decoder.chunk.items ≡ [] = ap (λ k. take k held.decoder.chunk.items) w in
+    let at : IsAt rules form reader reader writer writer [] [] false START 0 = record {
+      bytes = [];
+      sent = [];
+      read = (Consumes-refl reader.bytes, omega arith);
+      failures = refl;
+      fed = fed_none rules form;
+      wrote = (Took-nothing writer, refl);
+      pen_is = refl;
+      written_is = refl;
+    } in
+    let at_w = subst (λ (x : List ℕ). IsAt rules form reader reader writer writer x [] false START 0) (sym nothing) at in
+    let at_t = subst (λ (x : List ℕ). IsAt rules form reader reader writer writer (take held.decoder.waiting held.decoder.chunk.items) x false START 0) (sym t) at_w in
+    let at_b = subst (λ (x : Bool). IsAt rules form reader reader writer writer (take held.decoder.waiting held.decoder.chunk.items) held.text.items x START 0) (sym b) at_t in
+    let at_p = subst (λ (x : Pen). IsAt rules form reader reader writer writer (take held.decoder.waiting held.decoder.chunk.items) held.text.items held.decoder.started x 0) (sym p) at_b in
+    record {
+      is_at = subst (λ (x : ℕ). IsAt rules form reader reader writer writer (take held.decoder.waiting held.decoder.chunk.items) held.text.items held.decoder.started (pen_of held.output.scanner) x) (sym n) at_p;
+      is_open = subst (λ (x : List ℕ). IsOpen (cut_by rules) held.scanned x) (sym t) (subst (λ (x : ℕ). IsOpen (cut_by rules) x []) (sym c) (open_none rules));
+      empty = empty;
+      lines = page;
+      room = room;
+      waits = ap length nothing ∙ sym w;
+    }
+
+-- a step at the rules that the run began with
+pub stepped_as : (rules now : Rules) (form : Form) (reader_old writer_old reader writer reader_new writer_new : Device) (held held_new : Held) → now ≡ rules
+    → Stands rules form reader_old writer_old reader writer held → (result : Result Bool Fault)
+    → (Stands now form reader_old writer_old reader writer held → Steps now form reader_old writer_old reader_new writer_new held_new result)
+    → (as_is : Result Bool Fault) → result ≡ as_is → Steps rules form reader_old writer_old reader_new writer_new held_new as_is
+stepped_as rules now form reader_old writer_old reader writer reader_new writer_new held held_new e s result step as_is is =
+    let here = step (subst (λ (r : Rules). Stands r form reader_old writer_old reader writer held) (sym e) s) in
+    subst (λ (r : Result Bool Fault). Steps rules form reader_old writer_old reader_new writer_new held_new r) is
+    (subst (λ (r : Rules). Steps r form reader_old writer_old reader_new writer_new held_new result) e here)
+
+-- the sink failed at the end of the input
+pub finish_write : (rules : Rules) (form : Form) (held : Held) (old new : Device) (fault : Fault) (middle : Output) (is_long : Bool)
+    → AddsLast rules form (held.text.items ++ last_characters held.decoder.waiting) held.output middle is_long → middle.written ≡ held.output.written
+    → ((n : ℕ) × (fault ≡ f.Write (middle.written + n)) × StoppedAt n middle.page.bytes.items old new) → Finishes rules form held old new (Err fault)
+finish_write rules form held old new fault middle is_long adds same (n, fault_is, stopped) =
+    subst (λ (w : Fault). Finishes rules form held old new (Err w)) (sym fault_is)
+    (middle, is_long, adds, (n, ap (λ k. k + n) same, stopped))

@@ -1,0 +1,66 @@
+-- The characters of bytes that come in chunks.
+use Rattle.std.specs.Prelude.{◌≡◌, ℕ, ◌<◌, ◌≤◌, Bool, List, ◌++◌, map, ◌+◌, length, take, drop, vec_len, Option, None, if◌then◌else◌}
+use Rattle.std.specs.Str.{chars}
+use Rattle.std.specs.Str.Lossy.{utf8_error_len, utf8_lossy, utf8_valid_len}
+use Rattle.stream.specs.Reading.{IsReadTo}
+use Rattle.device.specs.Device.{Device}
+use Rattle.terminal.specs.Texts.{picture, without_mark}
+use Rattle.terminal.specs.declared.decoder.Decoder.{Decoder}
+use Rattle.terminal.specs.declared.form.Escapes.{Escapes}
+use Rattle.terminal.specs.declared.form.Escapes.TheVariants.{Keep, Strip, Text}
+
+-- the characters of bytes; each maximal subpart of a character that is not valid is U+FFFD
+abbrev pub lossy : List ℕ → List ℕ
+lossy bytes = chars (utf8_lossy bytes)
+
+-- whether bytes are empty or an incomplete character
+pub record IsBeginning (bytes : List ℕ) : Type 0 where
+  pub none : utf8_valid_len bytes ≡ 0
+  pub fault : utf8_error_len bytes ≡ None
+  pub few : length bytes < 4
+
+-- The longest prefix of bytes that is valid UTF-8, and the length of the invalid sequence after it. This is `None` if the prefix is
+-- followed by nothing or by an incomplete character.
+pub record IsValidPrefix (bytes text : List ℕ) (error : Option ℕ) : Type 0 where
+  pub text_is : text ≡ take (utf8_valid_len bytes) bytes
+  pub error_is : error ≡ utf8_error_len (drop (utf8_valid_len bytes) bytes)
+  pub few : error ≡ None → length bytes < utf8_valid_len bytes + 4
+
+-- The first n bytes were decoded, and their characters were added to a list. They are the same whatever follows the bytes.
+pub record IsDecoded (bytes : List ℕ) (n : ℕ) (before after : List ℕ) : Type 0 where
+  pub characters : List ℕ
+  pub added : after ≡ before ++ characters
+  pub within : n ≤ length bytes
+  pub text : (more : List ℕ) → lossy (bytes ++ more) ≡ characters ++ lossy (drop n bytes ++ more)
+
+-- Only an incomplete character is left.
+pub record IsAllDecoded (bytes : List ℕ) (n : ℕ) (before after : List ℕ) : Type 0 where
+  pub decoded : IsDecoded bytes n before after
+  pub rest : IsBeginning (drop n bytes)
+
+-- in the mode `Text`, pictures stand for the controls that are dropped otherwise
+abbrev pub pictures : Escapes → List ℕ → List ℕ
+pictures Keep text = text
+pictures Strip text = text
+pictures Text text = map picture text
+
+-- the characters of the rest of an input, given whether characters of it were decoded before
+abbrev pub text_after : Escapes → Bool → List ℕ → List ℕ
+text_after escapes started bytes = pictures escapes (if started then lossy bytes else without_mark (lossy bytes))
+
+-- n bytes were read, and are after the waiting ones
+pub record IsRead (n : ℕ) (old new : Decoder) (reader_old reader_new : Device) : Type 0 where
+  pub read : IsReadTo old.waiting n old.chunk.items new.chunk.items reader_old reader_new
+  pub small : old.waiting + n ≤ vec_len old.chunk
+  pub room : vec_len new.chunk ≡ vec_len old.chunk
+  pub same : new ≡ record old { chunk = new.chunk }
+
+-- The characters of bytes were added to a list. Only an incomplete character waits for the next read.
+pub record Takes (escapes : Escapes) (bytes : List ℕ) (old new : Decoder) (before after : List ℕ) : Type 0 where
+  pub characters : List ℕ
+  pub added : after ≡ before ++ characters
+  pub text : (more : List ℕ) → text_after escapes old.started (bytes ++ more)
+      ≡ characters ++ text_after escapes new.started (take new.waiting new.chunk.items ++ more)
+  pub beginning : IsBeginning (take new.waiting new.chunk.items)
+  pub waits : length (take new.waiting new.chunk.items) ≡ new.waiting
+  pub room : vec_len new.chunk ≡ vec_len old.chunk

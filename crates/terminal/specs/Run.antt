@@ -1,0 +1,96 @@
+-- What is written for an input that is read in chunks, and how the run ends.
+use Rattle.std.specs.Prelude.{◌≡◌, ◌⊎◌, ℕ, ◌+◌, ◌*◌, ◌<◌, ◌≤◌, nat_le, Bool, true, List, [], ◌∷◌, ◌++◌, length, Result, Ok, Err}
+use Rattle.std.specs.List.{concat, flat_map, list_all}
+use Rattle.std.specs.Io.KnownBytes.{Consumes, IsAtEnd}
+use Rattle.device.specs.Device.{Device, FailedLast, StoppedAt, Took, Wrote}
+use Rattle.lines.specs.Layouts.{Rules, cut_by}
+use Rattle.lines.specs.declared.engine.TheConstants.{PARAGRAPH_LIMIT}
+use Rattle.sequences.specs.Styled.{START}
+use Rattle.stream.specs.declared.reading.TheConstants.{CHUNK}
+use Rattle.terminal.specs.Ends.{IsOpen}
+use Rattle.terminal.specs.Texts.{block_page, blocks, input_page, input_text, shown_blocks}
+use Rattle.terminal.specs.declared.faults.Fault.{Fault}
+use Rattle.terminal.specs.declared.faults.Fault.TheVariants as fault
+use Rattle.terminal.specs.declared.form.Escapes.{Escapes}
+use Rattle.terminal.specs.declared.form.Form.{Form}
+
+-- the printed bytes of the first blocks of an input
+abbrev pub blocks_page : Rules → Form → List (List ℕ) → List ℕ
+blocks_page rules form parts = flat_map (block_page rules form) (shown_blocks START parts)
+
+-- whether a block is within the limit of a paragraph
+abbrev pub is_within : List ℕ → Bool
+is_within block = nat_le (length block) PARAGRAPH_LIMIT
+
+abbrev pub are_within : List (List ℕ) → Bool
+are_within parts = list_all is_within parts
+
+-- The characters of some bytes that are the same whatever follows these bytes. If they end inside a character, one U+FFFD is missing.
+pub record IsText (escapes : Escapes) (bytes text : List ℕ) : Type 0 where
+  pub after : List ℕ → List ℕ
+  pub begins : (more : List ℕ) → input_text escapes (bytes ++ more) ≡ text ++ after more
+  pub few : length (after []) ≤ 1
+
+-- Blocks with which an input begins, whatever follows the bytes, and the characters after them. None of the blocks is too long.
+pub record BeginsWith (rules : Rules) (form : Form) (bytes : List ℕ) (ended : List (List ℕ)) (rest : List ℕ) : Type 0 where
+  pub text : IsText form.escapes bytes (concat ended ++ rest)
+  pub blocks : (more : List ℕ) → blocks (cut_by rules) ((concat ended ++ rest) ++ more) ≡ ended ++ blocks (cut_by rules) (rest ++ more)
+  pub within : are_within ended ≡ true
+
+-- All blocks that have ended.
+pub record HasEnded (rules : Rules) (form : Form) (bytes : List ℕ) (ended : List (List ℕ)) : Type 0 where
+  pub rest : List ℕ
+  pub begins : BeginsWith rules form bytes ended rest
+  pub upto : ℕ
+  pub is_open : IsOpen (cut_by rules) upto rest
+
+-- The first block of a text is too long, whatever follows; or a sequence after its CR is not complete yet, and both are longer
+-- than two paragraphs may be.
+abbrev pub IsTooLong : (ℕ → ℕ → Bool) → List ℕ → Type 0
+IsTooLong is_cut text =
+    ((more : List ℕ) → (first : List ℕ) × (others : List (List ℕ)) × (blocks is_cut (text ++ more) ≡ first ∷ others) × (PARAGRAPH_LIMIT < length first))
+    ⊎ (2 * PARAGRAPH_LIMIT < length text)
+
+-- the bytes that were read from a source between two states
+abbrev pub HasRead : Device → Device → List ℕ → Type 0
+HasRead old new bytes = Consumes old.bytes new.bytes bytes × (new.passed ≡ old.passed + length bytes)
+
+-- At most one chunk was read after these bytes, and all blocks that had ended in them were written before.
+pub record WritesFirst (rules : Rules) (form : Form) (bytes : List ℕ) (writer_old writer_new : Device) : Type 0 where
+  pub early : List ℕ
+  pub late : List ℕ
+  pub parts : bytes ≡ early ++ late
+  pub chunk : length late ≤ CHUNK
+  pub ended : List (List ℕ)
+  pub has_ended : HasEnded rules form early ended
+  pub more : List ℕ
+  pub took : Took writer_old writer_new (blocks_page rules form ended ++ more)
+
+-- the first k blocks of the whole input are within the limit, and the next one is too long
+abbrev pub EndsTooLong : Rules → Form → List ℕ → List (List ℕ) → Type 0
+EndsTooLong rules form bytes ended =
+    (first : List ℕ) × (others : List (List ℕ)) × (blocks (cut_by rules) (input_text form.escapes bytes) ≡ ended ++ first ∷ others)
+    × (are_within ended ≡ true) × (PARAGRAPH_LIMIT < length first)
+
+-- what was written, for each fault
+abbrev pub EndsBy : (rules : Rules) (form : Form) → Device → Device → (writer_old writer_new : Device) → (bytes : List ℕ)
+    → WritesFirst rules form bytes writer_old writer_new → Fault → Type 0
+EndsBy rules form reader_old reader_new writer_old writer_new bytes first fault.Read =
+    FailedLast reader_old reader_new × (first.late ≡ []) × Wrote (blocks_page rules form first.ended) writer_old writer_new
+EndsBy rules form reader_old reader_new writer_old writer_new bytes first fault.Memory = Wrote (blocks_page rules form first.ended) writer_old writer_new
+EndsBy rules form reader_old reader_new writer_old writer_new bytes first fault.ParagraphTooLong =
+    (ended : List (List ℕ)) × Wrote (blocks_page rules form ended) writer_old writer_new
+    × (((rest : List ℕ) × BeginsWith rules form bytes ended rest × IsTooLong (cut_by rules) rest) ⊎ (IsAtEnd reader_new.bytes × EndsTooLong rules form bytes ended))
+EndsBy rules form reader_old reader_new writer_old writer_new bytes first (fault.Write n) =
+    ((ended : List (List ℕ)) × StoppedAt n (blocks_page rules form ended) writer_old writer_new
+    × (((rest : List ℕ) × BeginsWith rules form bytes ended rest) ⊎ (IsAtEnd reader_new.bytes × EndsTooLong rules form bytes ended)))
+    ⊎ (IsAtEnd reader_new.bytes × StoppedAt n (input_page rules form bytes) writer_old writer_new)
+
+-- How a run ended. Without a fault, it has read the whole input, and has written its lines and nothing else.
+abbrev pub IsRun : Rules → Form → Device → Device → Device → Device → Result (Unit {0}) Fault → Type 0
+IsRun rules form reader_old reader_new writer_old writer_new (Ok done) =
+    (bytes : List ℕ) × HasRead reader_old reader_new bytes × IsAtEnd reader_new.bytes × (reader_new.failures ≡ reader_old.failures)
+    × Wrote (input_page rules form bytes) writer_old writer_new
+IsRun rules form reader_old reader_new writer_old writer_new (Err fault) =
+    (bytes : List ℕ) × HasRead reader_old reader_new bytes
+    × ((first : WritesFirst rules form bytes writer_old writer_new) × EndsBy rules form reader_old reader_new writer_old writer_new bytes first fault)

@@ -1,0 +1,124 @@
+-- The state of `run` between two reads. No contract of an exported function uses these definitions.
+use Rattle.std.specs.Prelude.{◌≡◌, ℕ, ◌+◌, ◌*◌, ◌≤◌, nat_le, nat_lt, ◌&&◌, ◌||◌, Bool, true, false, List, [], ◌∷◌, ◌++◌, length, take, drop, vec_len, Result, Ok, Err, if◌then◌else◌}
+use Rattle.std.specs.List.{concat, flat_map}
+use Rattle.device.specs.Device.{Device, StoppedAt, Wrote}
+use Rattle.lines.specs.Layouts.{Rules, cut_by}
+use Rattle.lines.specs.declared.engine.TheConstants.{PARAGRAPH_LIMIT}
+use Rattle.sequences.specs.Scanners.{pen_of}
+use Rattle.sequences.specs.Styled.{Pen, START, next_paragraph, pen_at_end}
+use Rattle.sequences.specs.StyledTexts.{styled_of}
+use Rattle.stream.specs.declared.reading.TheConstants.{CHUNK}
+use Rattle.terminal.specs.Decoding.{IsBeginning, Takes, text_after}
+use Rattle.terminal.specs.Ends.{IsOpen}
+use Rattle.terminal.specs.Run.{are_within, blocks_page, HasRead, IsRun, IsTooLong}
+use Rattle.terminal.specs.Texts.{block_page, blocks, input_text, shown_blocks, text_page}
+use Rattle.terminal.specs.declared.faults.Fault.{Fault}
+use Rattle.terminal.specs.declared.faults.Fault.TheVariants as f
+use Rattle.terminal.specs.declared.form.Form.{Form}
+use Rattle.terminal.specs.declared.output.Output.{Output}
+use Rattle.terminal.specs.declared.input.Held.{Held}
+
+-- the printed bytes of blocks, the first of which begins with a pen
+abbrev pub pages : Rules → Form → Pen → List (List ℕ) → List ℕ
+pages rules form pen parts = flat_map (block_page rules form) (shown_blocks pen parts)
+
+-- the pen after blocks
+abbrev pub pen_after_blocks : Pen → List (List ℕ) → Pen
+pen_after_blocks pen [] = pen
+pen_after_blocks pen (block ∷ parts) = pen_after_blocks (next_paragraph (pen_at_end pen block)) parts
+
+-- The first blocks of a text, whatever follows the text, and the text after them.
+pub record IsFront (is_cut : ℕ → ℕ → Bool) (parts : List (List ℕ)) (text rest : List ℕ) : Type 0 where
+  pub whole : text ≡ concat parts ++ rest
+  pub cuts : (more : List ℕ) → blocks is_cut (text ++ more) ≡ parts ++ blocks is_cut (rest ++ more)
+  pub within : are_within parts ≡ true
+
+-- The lines of blocks were added to the page.
+pub record Adds (rules : Rules) (form : Form) (parts : List (List ℕ)) (old new : Output) : Type 0 where
+  pub lines : new.page.bytes.items ≡ old.page.bytes.items ++ pages rules form (pen_of old.scanner) parts
+  pub pen : pen_of new.scanner ≡ pen_after_blocks (pen_of old.scanner) parts
+  pub empty : styled_of new.scanner.text ≡ []
+  pub written : new.written ≡ old.written
+
+-- whether the first block of a text is too long, given a number of characters that end no block and the length of the text
+abbrev pub is_left_long : ℕ → ℕ → Bool
+is_left_long scanned len = nat_lt PARAGRAPH_LIMIT len && (nat_le PARAGRAPH_LIMIT scanned || nat_lt (2 * PARAGRAPH_LIMIT) len)
+
+-- what is left of a text: if it is not too long, no end of a block is known before `scanned`
+abbrev pub Leaves : Rules → Bool → ℕ → List ℕ → Type 0
+Leaves rules true scanned rest = IsTooLong (cut_by rules) rest
+Leaves rules false scanned rest = IsOpen (cut_by rules) scanned rest
+
+-- The lines of all blocks that have ended were added to the page, or of those before one that is too long.
+pub record AddsEnded (rules : Rules) (form : Form) (text : List ℕ) (old new : Output) (start scanned : ℕ) (is_long : Bool) : Type 0 where
+  pub parts : List (List ℕ)
+  pub front : IsFront (cut_by rules) parts text (drop start text)
+  pub within : start ≤ length text
+  pub adds : Adds rules form parts old new
+  pub leaves : Leaves rules is_long scanned (drop start text)
+
+-- The lines of the blocks of a whole text were added to the page, or of those before one that is too long.
+abbrev pub AddsLast : Rules → Form → List ℕ → Output → Output → Bool → Type 0
+AddsLast rules form text old new false = new.page.bytes.items ≡ old.page.bytes.items ++ text_page rules form (pen_of old.scanner) text
+AddsLast rules form text old new true =
+    (parts : List (List ℕ)) × (first : List ℕ) × (others : List (List ℕ)) × (blocks (cut_by rules) text ≡ parts ++ first ∷ others) × (are_within parts ≡ true)
+    × (PARAGRAPH_LIMIT + 1 ≤ length first) × (new.page.bytes.items ≡ old.page.bytes.items ++ pages rules form (pen_of old.scanner) parts)
+
+-- the characters at the end of an input, given how many bytes are left
+abbrev pub last_characters : ℕ → List ℕ
+last_characters waiting = if nat_lt 0 waiting then 0xFFFD ∷ [] else []
+
+-- A chunk was decoded, and the lines of all blocks that have ended were added to the page, or of those before one that is too long.
+pub record Gathers (rules : Rules) (form : Form) (bytes : List ℕ) (old new : Held) (is_long : Bool) : Type 0 where
+  pub text : List ℕ
+  pub takes : Takes form.escapes bytes old.decoder new.decoder old.text.items text
+  pub parts : List (List ℕ)
+  pub front : IsFront (cut_by rules) parts text new.text.items
+  pub adds : Adds rules form parts old.output new.output
+  pub leaves : Leaves rules is_long new.scanned new.text.items
+
+-- The bytes so far are the blocks `sent`, a text that is left, and bytes that wait for the next read.
+pub record IsFed (rules : Rules) (form : Form) (bytes : List ℕ) (sent : List (List ℕ)) (waiting text : List ℕ) (started : Bool) : Type 0 where
+  pub decoded : (more : List ℕ) → input_text form.escapes (bytes ++ more) ≡ (concat sent ++ text) ++ text_after form.escapes started (waiting ++ more)
+  pub beginning : IsBeginning waiting
+  pub cuts : (more : List ℕ) → blocks (cut_by rules) ((concat sent ++ text) ++ more) ≡ sent ++ blocks (cut_by rules) (text ++ more)
+  pub within : are_within sent ≡ true
+
+-- What a run did between two states of its source and sink. It wrote the lines of the blocks `sent`.
+pub record IsAt (rules : Rules) (form : Form) (reader_old reader writer_old writer : Device) (waiting text : List ℕ) (started : Bool) (pen : Pen) (written : ℕ) : Type 0 where
+  pub bytes : List ℕ
+  pub sent : List (List ℕ)
+  pub read : HasRead reader_old reader bytes
+  pub failures : reader.failures ≡ reader_old.failures
+  pub fed : IsFed rules form bytes sent waiting text started
+  pub wrote : Wrote (blocks_page rules form sent) writer_old writer
+  pub pen_is : pen ≡ pen_after_blocks START sent
+  pub written_is : written ≡ length (blocks_page rules form sent)
+
+-- the state between two reads, when all lines are written
+pub record Stands (rules : Rules) (form : Form) (reader_old writer_old reader writer : Device) (held : Held) : Type 0 where
+  pub is_at : IsAt rules form reader_old reader writer_old writer (take held.decoder.waiting held.decoder.chunk.items) held.text.items held.decoder.started
+      (pen_of held.output.scanner) held.output.written
+  pub is_open : IsOpen (cut_by rules) held.scanned held.text.items
+  pub empty : styled_of held.output.scanner.text ≡ []
+  pub lines : held.output.page.bytes.items ≡ []
+  pub room : vec_len held.decoder.chunk ≡ CHUNK
+  pub waits : length (take held.decoder.waiting held.decoder.chunk.items) ≡ held.decoder.waiting
+
+-- a step continues the run or ends it
+abbrev pub Steps : Rules → Form → Device → Device → Device → Device → Held → Result Bool Fault → Type 0
+Steps rules form reader_old writer_old reader_new writer_new held (Ok true) = Stands rules form reader_old writer_old reader_new writer_new held
+Steps rules form reader_old writer_old reader_new writer_new held (Ok false) = IsRun rules form reader_old reader_new writer_old writer_new (Ok tt)
+Steps rules form reader_old writer_old reader_new writer_new held (Err fault) = IsRun rules form reader_old reader_new writer_old writer_new (Err fault)
+
+-- what is written at the end of an input, for each result
+abbrev pub Finishes : Rules → Form → Held → Device → Device → Result (Unit {0}) Fault → Type 0
+Finishes rules form held old new (Ok done) =
+    Wrote (held.output.page.bytes.items ++ text_page rules form (pen_of held.output.scanner) (held.text.items ++ last_characters held.decoder.waiting)) old new
+Finishes rules form held old new (Err f.Memory) = new ≡ old
+Finishes rules form held old new (Err f.Read) = ⊥
+Finishes rules form held old new (Err f.ParagraphTooLong) =
+    (middle : Output) × AddsLast rules form (held.text.items ++ last_characters held.decoder.waiting) held.output middle true × Wrote middle.page.bytes.items old new
+Finishes rules form held old new (Err (f.Write n)) =
+    (middle : Output) × (is_long : Bool) × AddsLast rules form (held.text.items ++ last_characters held.decoder.waiting) held.output middle is_long
+    × ((m : ℕ) × (n ≡ held.output.written + m) × StoppedAt m middle.page.bytes.items old new)

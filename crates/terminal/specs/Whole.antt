@@ -1,0 +1,23 @@
+-- What the blocks of a text show, one after the other, is what the text shows.
+use Rattle.std.specs.Prelude.{◌≡◌, ℕ, Bool, List}
+use Rattle.std.specs.List.{concat, flat_map}
+use Rattle.bidi.specs.Cuts.{paragraphs}
+use Rattle.lines.specs.Layouts.{Rules, cut_by}
+use Rattle.sequences.specs.Laws.{characters_of}
+use Rattle.sequences.specs.Styled.{Pen, Style, shown_text}
+use Rattle.terminal.specs.Texts.{blocks, shown_blocks, styled_paragraphs}
+
+-- groups of characters, one after the other
+abbrev pub joined : List (List (ℕ × Style)) → List (ℕ × Style)
+joined groups = flat_map (λ group. group) groups
+
+pub record ShowsWhole : Type 0 where
+  -- Cut into blocks, a text loses nothing.
+  pub whole : (is_cut : ℕ → ℕ → Bool) (text : List ℕ) → concat (blocks is_cut text) ≡ text
+  -- Its blocks show the characters that it shows as a whole, in any style that it begins in.
+  pub characters : (is_cut : ℕ → ℕ → Bool) (pen : Pen) (text : List ℕ) → characters_of (joined (shown_blocks pen (blocks is_cut text))) ≡ shown_text text
+  -- Their paragraphs are those of the characters that it shows as a whole.
+  pub cuts : (rules : Rules) (pen : Pen) (text : List ℕ)
+      → flat_map (λ shown. paragraphs (cut_by rules) (characters_of shown)) (shown_blocks pen (blocks (cut_by rules) text)) ≡ paragraphs (cut_by rules) (shown_text text)
+  -- Cut into paragraphs, what a block shows loses nothing.
+  pub groups : (is_cut : ℕ → ℕ → Bool) (shown : List (ℕ × Style)) → joined (styled_paragraphs is_cut shown) ≡ shown

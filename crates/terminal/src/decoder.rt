@@ -1,0 +1,154 @@
+//! Decodes a source whose bytes come in chunks.
+ghost use Rattle.std.specs.Prelude.{◌≡◌, ◌+◌, ◌-◌, ◌++◌, ◌<◌, ◌≤◌, [], ◌∷◌, drop, length, map, take};
+ghost use Rattle.std.specs.Prelude.{◌||◌, OnErr, OnOk, IfOk, false, if◌then◌else◌, nat_lt, vec_len};
+ghost use Rattle.device.specs.Device.{Fails};
+ghost use Rattle.stream.specs.declared.reading.TheConstants.{CHUNK};
+ghost use Rattle.terminal.specs.Decoding.{pictures, IsRead, Takes};
+ghost use Rattle.terminal.specs.Texts.{picture, without_mark};
+
+use crate::decoding::decode;
+use crate::form::Escapes;
+use crate::text::picture;
+use device::Source;
+use std::alloc::{AllocError, Global};
+use std::io::ErrorKind;
+use stream::{CHUNK, read_to, zeroed};
+
+/// Reads and decodes chunks.
+pub(crate) struct Decoder {
+    // The last chunk. Its first `waiting` bytes are the beginning of a character.
+    chunk: Vec<u8>,
+    waiting: usize,
+    // Whether a character has been decoded. The first one is dropped if it is U+FEFF.
+    started: bool,
+}
+
+impl Drop for Decoder {
+    fn drop(self) {
+        let Decoder {
+            chunk: _,
+            waiting: _,
+            started: _,
+        } = self;
+    }
+}
+
+impl Decoder {
+    /// Makes a decoder at the start of an input. Allocates a chunk.
+    pub(crate) fn new(alloc: Global) -> Result<Decoder, AllocError>
+        ensures room { IfOk result (λ decoder. vec_len decoder.chunk ≡ CHUNK) }
+        ensures waiting { IfOk result (λ decoder. decoder.waiting ≡ 0) }
+        ensures started { IfOk result (λ decoder. decoder.started ≡ false) }
+    {
+        Ok(Decoder {
+            chunk: zeroed(alloc, CHUNK)?,
+            waiting: 0,
+            started: false,
+        })
+    }
+
+    /// Reads bytes into the chunk, after the waiting ones, and returns their number.
+    pub(crate) fn read<R: Source>(&mut self, reader: &mut R) -> Result<usize, ErrorKind>
+        requires { self.old.waiting < vec_len self.old.chunk }
+        ensures ok { IfOk result (λ n.
+            IsRead n self.old self.new (R.state reader.old) (R.state reader.new)) }
+        ensures err { OnErr result (Fails (R.state reader.old) (R.state reader.new)) }
+    {
+        read_to(reader, &mut self.chunk, self.waiting)
+    }
+
+    /// Decodes the waiting bytes and `len` more bytes, and adds their characters to a text. After a failed
+    /// allocation, some characters may be missing.
+    pub(crate) fn decode(
+        &mut self,
+        escapes: Escapes,
+        len: usize,
+        text: &mut Vec<char>,
+    ) -> Result<(), AllocError>
+        requires { self.old.waiting + len ≤ vec_len self.old.chunk }
+        ensures { OnOk result (Takes escapes (take (self.old.waiting + len) self.old.chunk.items)
+            self.old self.new text.old.items text.new.items) }
+    {
+        let filled = self.waiting + len;
+        let from = text.len();
+        let n = decode(&self.chunk[..filled], text)?;
+        self.started = start(self.started, text, from);
+        show_pictures(escapes, text, from);
+        self.keep_bytes(n, filled);
+        Ok(())
+    }
+
+    /// Adds U+FFFD to a text if the input has ended inside a character.
+    pub(crate) fn finish(&self, text: &mut Vec<char>) -> Result<(), AllocError>
+        ensures { OnOk result (text.new.items ≡ text.old.items
+            ++ (if nat_lt 0 self.now.waiting then 0xFFFD ∷ [] else [])) }
+    {
+        if self.waiting > 0 {
+            text.push('\u{fffd}')?;
+        }
+        Ok(())
+    }
+
+    // Moves the bytes in `start..end`, which are not a whole character yet, to the front of the chunk.
+    fn keep_bytes(&mut self, start: usize, end: usize)
+        requires { (start ≤ end) × (end ≤ vec_len self.old.chunk) }
+        ensures bytes { take self.new.waiting self.new.chunk.items
+            ≡ drop start (take end self.old.chunk.items) }
+        ensures waiting { self.new.waiting ≡ end - start }
+        ensures room { vec_len self.new.chunk ≡ vec_len self.old.chunk }
+        ensures started { self.new.started ≡ self.old.started }
+    {
+        self.chunk.copy_within(start..end, 0);
+        self.waiting = end - start;
+    }
+}
+
+// Removes the character at an index of a text if it is U+FEFF, unless characters were decoded before. Returns
+// whether any are decoded now.
+fn start(started: bool, text: &mut Vec<char>, at: usize) -> bool
+    requires { at ≤ vec_len text.old }
+    ensures text { text.new.items ≡ take at text.old.items
+        ++ (if started then drop at text.old.items else without_mark (drop at text.old.items)) }
+    ensures started { result ≡ (started || nat_lt at (vec_len text.old)) }
+{
+    if started {
+        return true;
+    }
+    if at == text.len() {
+        return false;
+    }
+    drop_mark(text, at);
+    true
+}
+
+// Removes the character at an index of a text if it is U+FEFF.
+fn drop_mark(text: &mut Vec<char>, at: usize)
+    requires { at < vec_len text.old }
+    ensures { text.new.items ≡ take at text.old.items ++ without_mark (drop at text.old.items) }
+{
+    if text[at] == '\u{feff}' {
+        let _mark = text.remove(at);
+    }
+}
+
+// Replaces the characters from an index on by what stands for them in a mode.
+fn show_pictures(escapes: Escapes, text: &mut [char], from: usize)
+    requires { from ≤ length text.old }
+    ensures { text.new ≡ take from text.old ++ pictures escapes (drop from text.old) }
+{
+    match escapes {
+        Escapes::Keep | Escapes::Strip => (),
+        Escapes::Text => {
+            let (_, rest) = text.split_at_mut(from);
+            put_pictures(rest);
+        }
+    }
+}
+
+fn put_pictures(text: &mut [char])
+    ensures { text.new ≡ map picture text.old }
+{
+    for k in 0..text.len() {
+        text[k] = picture(text[k]);
+    }
+}

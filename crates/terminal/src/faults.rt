@@ -1,0 +1,14 @@
+//! The errors that end a run early.
+
+/// Why a run ended early. The function's contract says which bytes were written before the error.
+#[derive(Clone, Copy, Debug, PartialEq, Eq)]
+pub enum Fault {
+    /// The source failed.
+    Read,
+    /// The sink failed after this call had written this number of bytes.
+    Write(u64),
+    /// A paragraph, with its sequences, has more than 1,048,576 characters.
+    ParagraphTooLong,
+    /// An allocation failed.
+    Memory,
+}

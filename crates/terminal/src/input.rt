@@ -1,0 +1,228 @@
+//! Reads a text in chunks, and writes the lines of what it shows.
+ghost use Rattle.std.specs.Prelude.{◌≡◌, ◌+◌, ◌-◌, ◌^◌, ◌≤◌, ◌<◌, ◌++◌};
+ghost use Rattle.std.specs.Prelude.{[], false, true, drop, length, take, vec_len, IfOk};
+ghost use Rattle.std.specs.Prelude.{Ok};
+ghost use Rattle.device.specs.Device.{Device};
+ghost use Rattle.lines.specs.Engine.{rules_of, SameRules};
+ghost use Rattle.lines.specs.Layouts.{cut_by};
+ghost use Rattle.sequences.specs.Scanners.{pen_of};
+ghost use Rattle.sequences.specs.Styled.{START};
+ghost use Rattle.sequences.specs.StyledTexts.{styled_of};
+ghost use Rattle.stream.specs.declared.reading.TheConstants.{CHUNK};
+ghost use Rattle.terminal.specs.Ends.{AreNoEnds};
+ghost use Rattle.terminal.specs.Run.{IsRun};
+ghost use Rattle.terminal.specs.RunState.{last_characters, AddsLast, Finishes, Gathers, Stands, Steps};
+
+use crate::decoder::Decoder;
+use crate::faults::Fault;
+use crate::form::Form;
+use crate::output::Output;
+use device::{Sink, Source};
+use lines::Engine;
+use std::alloc::{AllocError, Global};
+
+/// What a run keeps between two reads.
+struct Held {
+    decoder: Decoder,
+    // The characters of the block that has not ended. No block ends before the index `scanned`, whatever
+    // follows.
+    text: Vec<char>,
+    scanned: usize,
+    output: Output,
+}
+
+impl Drop for Held {
+    fn drop(self) {
+        let Held {
+            decoder: _,
+            text: _,
+            scanned: _,
+            output: _,
+        } = self;
+    }
+}
+
+impl Held {
+    fn new(alloc: Global) -> Result<Held, AllocError>
+        ensures room { IfOk result (λ held. vec_len held.decoder.chunk ≡ CHUNK) }
+        ensures waiting { IfOk result (λ held. held.decoder.waiting ≡ 0) }
+        ensures started { IfOk result (λ held. held.decoder.started ≡ false) }
+        ensures text { IfOk result (λ held. held.text.items ≡ []) }
+        ensures scanned { IfOk result (λ held. held.scanned ≡ 0) }
+        ensures pen { IfOk result (λ held. pen_of held.output.scanner ≡ START) }
+        ensures empty { IfOk result (λ held. styled_of held.output.scanner.text ≡ []) }
+        ensures page { IfOk result (λ held. held.output.page.bytes.items ≡ []) }
+        ensures written { IfOk result (λ held. held.output.written ≡ 0) }
+    {
+        Ok(Held {
+            decoder: Decoder::new(alloc)?,
+            text: Vec::new(alloc),
+            scanned: 0,
+            output: Output::new(alloc),
+        })
+    }
+
+    // Decodes the waiting bytes and `len` more bytes, and adds the lines of the blocks that have ended to the
+    // page, up to one that is too long. Returns whether one is.
+    fn gather(
+        &mut self,
+        alloc: Global,
+        engine: &mut Engine,
+        form: &Form,
+        len: usize,
+    ) -> Result<bool, AllocError>
+        requires room { self.old.decoder.waiting + len ≤ vec_len self.old.decoder.chunk }
+        requires within { self.old.scanned ≤ length self.old.text.items }
+        requires none { AreNoEnds (cut_by (rules_of engine.old)) self.old.scanned self.old.text.items }
+        requires empty { styled_of self.old.output.scanner.text ≡ [] }
+        ensures gathers { IfOk result (Gathers (rules_of engine.old) form.now
+            (take (self.old.decoder.waiting + len) self.old.decoder.chunk.items) self.old self.new) }
+        ensures rules { SameRules engine.old engine.new }
+    {
+        self.decoder.decode(form.escapes, len, &mut self.text)?;
+        let left = self
+            .output
+            .push_ended(alloc, engine, form, &self.text, self.scanned)?;
+        remove_front(&mut self.text, left.start);
+        self.scanned = left.scanned;
+        Ok(left.is_long)
+    }
+
+    // Adds the lines of the text that is left at the end of the input to the page, up to a block that is too
+    // long. Returns whether one is.
+    fn gather_last(
+        &mut self,
+        alloc: Global,
+        engine: &mut Engine,
+        form: &Form,
+    ) -> Result<bool, AllocError>
+        requires empty { styled_of self.old.output.scanner.text ≡ [] }
+        ensures adds { IfOk result (AddsLast (rules_of engine.old) form.now
+            (self.old.text.items ++ last_characters self.old.decoder.waiting)
+            self.old.output self.new.output) }
+        ensures written { self.new.output.written ≡ self.old.output.written }
+        ensures rules { SameRules engine.old engine.new }
+    {
+        self.decoder.finish(&mut self.text)?;
+        self.output.push_last(alloc, engine, form, &self.text)
+    }
+}
+
+// Removes the first n characters of a text.
+fn remove_front(text: &mut Vec<char>, n: usize)
+    requires { n ≤ vec_len text.old }
+    ensures { text.new.items ≡ drop n text.old.items }
+{
+    if n == 0 {
+        return;
+    }
+    let len = text.len();
+    text.copy_within(n..len, 0);
+    text.truncate(len - n);
+}
+
+// Ends an input that has no more bytes.
+fn finish<W: Sink>(
+    alloc: Global,
+    writer: &mut W,
+    engine: &mut Engine,
+    form: &Form,
+    held: &mut Held,
+) -> Result<(), Fault>
+    requires empty { styled_of held.old.output.scanner.text ≡ [] }
+    requires counted { held.old.output.written ≤ (W.state writer.old).passed }
+    ensures ends { Finishes (rules_of engine.old) form.now held.old
+        (W.state writer.old) (W.state writer.new) result }
+    ensures rules { SameRules engine.old engine.new }
+{
+    let Ok(is_long) = held.gather_last(alloc, engine, form) else {
+        return Err(Fault::Memory);
+    };
+    if let Err(fault) = held.output.write(writer) {
+        return Err(fault);
+    }
+    if is_long {
+        return Err(Fault::ParagraphTooLong);
+    }
+    Ok(())
+}
+
+// Reads a chunk, and writes the lines of the blocks that have then ended. Returns whether the input
+// continues.
+fn step<R: Source, W: Sink>(
+    alloc: Global,
+    reader: &mut R,
+    writer: &mut W,
+    engine: &mut Engine,
+    form: &Form,
+    held: &mut Held,
+) -> Result<bool, Fault>
+    requires stands { (reader_start : Device) × (writer_start : Device)
+        × Stands (rules_of engine.old) form.now reader_start writer_start
+        (R.state reader.old) (W.state writer.old) held.old }
+    ensures steps { (reader_start : Device) (writer_start : Device)
+        → Stands (rules_of engine.old) form.now reader_start writer_start
+        (R.state reader.old) (W.state writer.old) held.old
+        → Steps (rules_of engine.old) form.now reader_start writer_start
+        (R.state reader.new) (W.state writer.new) held.new result }
+    ensures rises { result ≡ Ok true → (R.state reader.old).passed < (R.state reader.new).passed }
+    ensures counted { result ≡ Ok true → (R.state reader.new).passed ≤ 2 ^ 64 - 1 }
+    ensures rules { SameRules engine.old engine.new }
+{
+    let len = match held.decoder.read(reader) {
+        Ok(len) => len,
+        Err(_) => return Err(Fault::Read),
+    };
+    if len == 0 {
+        return match finish(alloc, writer, engine, form, held) {
+            Ok(()) => Ok(false),
+            Err(fault) => Err(fault),
+        };
+    }
+    let Ok(is_long) = held.gather(alloc, engine, form, len) else {
+        return Err(Fault::Memory);
+    };
+    if let Err(fault) = held.output.write(writer) {
+        return Err(fault);
+    }
+    if is_long {
+        return Err(Fault::ParagraphTooLong);
+    }
+    Ok(true)
+}
+
+/// Reads a text to its end, and writes the lines of what it shows, at a width that must not be 0.
+///
+/// Invalid UTF-8 is read as U+FFFD, and a U+FEFF that the text begins with is dropped. The lines of a
+/// paragraph are written as soon as its end is known, before more is read. Only the last paragraph and one
+/// chunk of the input are kept in memory.
+///
+/// Errors:
+///
+/// - `Read`: the source failed. All paragraphs that have ended were written.
+/// - `Write`: the sink failed.
+/// - `ParagraphTooLong`: a paragraph with its sequences is longer than `PARAGRAPH_LIMIT`. All paragraphs
+///   before it were written.
+/// - `Memory`: an allocation failed.
+pub fn run<R: Source, W: Sink>(
+    alloc: Global,
+    reader: &mut R,
+    writer: &mut W,
+    engine: &mut Engine,
+    form: &Form,
+) -> Result<(), Fault>
+    ensures run { IsRun (rules_of engine.old) form.now
+        (R.state reader.old) (R.state reader.new) (W.state writer.old) (W.state writer.new) result }
+    ensures rules { SameRules engine.old engine.new }
+{
+    let Ok(mut held) = Held::new(alloc) else {
+        return Err(Fault::Memory);
+    };
+    loop {
+        match step(alloc, reader, writer, engine, form, &mut held) {
+            Ok(true) => (),
+            Ok(false) => return Ok(()),
+            Err(fault) => return Err(fault),
+        }
+    }
+}

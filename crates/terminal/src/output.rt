@@ -1,0 +1,200 @@
+//! Collects the lines of blocks, and writes them.
+ghost use Rattle.std.specs.Prelude.{◌≡◌, ◌+◌, ◌≤◌, ◌<◌, ◌∷◌, [], ℕ, length, IfErr, IfOk, OnOk};
+ghost use Rattle.device.specs.Device.{StoppedAt, Wrote};
+ghost use Rattle.lines.specs.Engine.{rules_of, SameRules};
+ghost use Rattle.lines.specs.Layouts.{cut_by};
+ghost use Rattle.lines.specs.declared.engine.TheConstants.{PARAGRAPH_LIMIT};
+ghost use Rattle.sequences.specs.Scanners.{pen_of};
+ghost use Rattle.sequences.specs.Styled.{START};
+ghost use Rattle.sequences.specs.StyledTexts.{styled_of};
+ghost use Rattle.terminal.specs.Ends.{AreNoEnds};
+ghost use Rattle.terminal.specs.RunState.{is_left_long, Adds, AddsEnded, AddsLast};
+ghost use Rattle.terminal.specs.declared.faults.Fault.TheVariants.{Write as WriteFault};
+
+use crate::block::{Buffers, push_block};
+use crate::ends::block_len;
+use crate::faults::Fault;
+use crate::form::Form;
+use crate::known_ends::{FirstEnd, first_end};
+use device::{Sink, write_all};
+use lines::{Engine, PARAGRAPH_LIMIT};
+use sequences::Scanner;
+use std::alloc::{AllocError, Global};
+use stream::Page;
+
+/// The lines that are not written yet, and the style in which the next block begins.
+pub(crate) struct Output {
+    pub(crate) scanner: Scanner,
+    buffers: Buffers,
+    pub(crate) page: Page,
+    // The number of bytes written.
+    pub(crate) written: u64,
+}
+
+impl Drop for Output {
+    fn drop(self) {
+        let Output {
+            scanner: _,
+            buffers: _,
+            page: _,
+            written: _,
+        } = self;
+    }
+}
+
+/// What is left of a text after its blocks that have ended.
+#[derive(Clone, Copy)]
+pub(crate) struct Left {
+    /// Where it begins.
+    pub(crate) start: usize,
+    /// The number of its characters after which no block ends, whatever follows the text.
+    pub(crate) scanned: usize,
+    /// Whether its first block is too long. In that case, `scanned` does not matter.
+    pub(crate) is_long: bool,
+}
+
+impl Output {
+    /// Makes an output for an input that begins. Allocates nothing.
+    pub(crate) fn new(alloc: Global) -> Output
+        ensures pen { pen_of result.scanner ≡ START }
+        ensures empty { styled_of result.scanner.text ≡ [] }
+        ensures page { result.page.bytes.items ≡ [] }
+        ensures written { result.written ≡ 0 }
+    {
+        Output {
+            scanner: Scanner::new(alloc),
+            buffers: Buffers::new(alloc),
+            page: Page::new(alloc),
+            written: 0,
+        }
+    }
+
+    // Adds the lines of a block.
+    fn push(
+        &mut self,
+        alloc: Global,
+        engine: &mut Engine,
+        form: &Form,
+        block: &[char],
+    ) -> Result<(), AllocError>
+        requires empty { styled_of self.old.scanner.text ≡ [] }
+        requires short { length block.now ≤ PARAGRAPH_LIMIT }
+        ensures adds { OnOk result (Adds (rules_of engine.old) form.now (block.now ∷ []) self.old self.new) }
+        ensures written { self.new.written ≡ self.old.written }
+        ensures rules { SameRules engine.old engine.new }
+    {
+        push_block(
+            alloc,
+            &mut self.page,
+            engine,
+            form,
+            &mut self.scanner,
+            block,
+            &mut self.buffers,
+        )
+    }
+
+    /// Adds the lines of the blocks of a text that have ended, whatever follows it, up to one that is too
+    /// long. No block ends before the index `scanned`, whatever follows the text.
+    pub(crate) fn push_ended(
+        &mut self,
+        alloc: Global,
+        engine: &mut Engine,
+        form: &Form,
+        text: &[char],
+        scanned: usize,
+    ) -> Result<Left, AllocError>
+        requires within { scanned ≤ length text.now }
+        requires none { AreNoEnds (cut_by (rules_of engine.old)) scanned text.now }
+        requires empty { styled_of self.old.scanner.text ≡ [] }
+        ensures adds { IfOk result (λ left. AddsEnded (rules_of engine.old) form.now text.now
+            self.old self.new left.start left.scanned left.is_long) }
+        ensures rules { SameRules engine.old engine.new }
+    {
+        let mut start = 0;
+        let mut from = scanned;
+        loop {
+            let (_, rest) = text.split_at(start);
+            match first_end(engine, rest, from) {
+                FirstEnd::After(k) => return Ok(left_open(start, k, rest.len())),
+                FirstEnd::At(k) if k > PARAGRAPH_LIMIT => {
+                    return Ok(Left {
+                        start,
+                        scanned: 0,
+                        is_long: true,
+                    });
+                }
+                FirstEnd::At(k) => {
+                    let (block, _) = rest.split_at(k);
+                    self.push(alloc, engine, form, block)?;
+                    start += k;
+                    from = 0;
+                }
+            }
+        }
+    }
+
+    /// Adds the lines of the blocks of a text that nothing follows, up to one that is too long. Returns
+    /// whether one is.
+    pub(crate) fn push_last(
+        &mut self,
+        alloc: Global,
+        engine: &mut Engine,
+        form: &Form,
+        text: &[char],
+    ) -> Result<bool, AllocError>
+        requires empty { styled_of self.old.scanner.text ≡ [] }
+        ensures adds { IfOk result (AddsLast (rules_of engine.old) form.now text.now self.old self.new) }
+        ensures written { self.new.written ≡ self.old.written }
+        ensures rules { SameRules engine.old engine.new }
+    {
+        let mut rest = text;
+        while !rest.is_empty() {
+            let len = block_len(engine, rest);
+            if len > PARAGRAPH_LIMIT {
+                return Ok(true);
+            }
+            let (block, after) = rest.split_at(len);
+            self.push(alloc, engine, form, block)?;
+            rest = after;
+        }
+        Ok(false)
+    }
+
+    /// Writes the lines.
+    pub(crate) fn write<W: Sink>(&mut self, writer: &mut W) -> Result<(), Fault>
+        requires { self.old.written ≤ (W.state writer.old).passed }
+        ensures ok { OnOk result (Wrote self.old.page.bytes.items (W.state writer.old) (W.state writer.new)) }
+        ensures empty { OnOk result (self.new.page.bytes.items ≡ []) }
+        ensures written { OnOk result (self.new.written
+            ≡ self.old.written + length self.old.page.bytes.items) }
+        ensures scanner { self.new.scanner ≡ self.old.scanner }
+        ensures err { IfErr result (λ fault. (n : ℕ) × (fault ≡ WriteFault (self.old.written + n))
+            × StoppedAt n self.old.page.bytes.items (W.state writer.old) (W.state writer.new)) }
+    {
+        match write_all(writer, self.page.bytes()) {
+            Ok(()) => {
+                self.written += self.page.bytes().len() as u64;
+                self.page.clear();
+                Ok(())
+            }
+            Err(written) => Err(Fault::Write(self.written + written as u64)),
+        }
+    }
+}
+
+// Returns what is left of a text, which begins at `start`, has `len` characters, and has no known end. It is
+// too long if its first block is, or if the sequence after its CR is longer than another block may be.
+fn left_open(start: usize, scanned: usize, len: usize) -> Left
+    ensures start { result.start ≡ start }
+    ensures scanned { result.scanned ≡ scanned }
+    ensures short { result.is_long ≡ is_left_long scanned len }
+{
+    let is_long = len > PARAGRAPH_LIMIT
+        && (scanned >= PARAGRAPH_LIMIT || len > 2 * PARAGRAPH_LIMIT);
+    Left {
+        start,
+        scanned,
+        is_long,
+    }
+}

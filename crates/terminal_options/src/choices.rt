@@ -1,0 +1,46 @@
+//! The values of options.
+
+/// The width of lines.
+#[derive(Clone, Copy, Debug, PartialEq, Eq)]
+pub enum Width {
+    /// A number of columns, from 1 to 65,535.
+    Columns(u16),
+    /// The width of the terminal.
+    Auto,
+    /// Lines end at mandatory breaks only.
+    Unlimited,
+}
+
+/// The order of marks and other parts of a grapheme cluster in right-to-left text.
+#[derive(Clone, Copy, Debug, PartialEq, Eq)]
+pub enum Marks {
+    /// The characters of a grapheme cluster keep their order.
+    Clusters,
+    /// Nonspacing marks follow their base.
+    After,
+    /// Each character is at its own place in the visual order.
+    Logical,
+}
+
+/// The base direction of paragraphs.
+#[derive(Clone, Copy, Debug, PartialEq, Eq)]
+pub enum Direction {
+    /// That of the first strong character, or else left-to-right.
+    Auto,
+    /// That of the first strong character, or else right-to-left.
+    RtlAuto,
+    Ltr,
+    Rtl,
+    /// That of the file's first paragraph with a strong character, or else left-to-right.
+    File,
+}
+
+/// The prefix that each line of a paragraph has.
+#[derive(Clone, Copy, Debug)]
+pub enum Prefix<'a> {
+    Absent,
+    /// The quote marks at the paragraph's start.
+    Quotes,
+    /// What a regular expression matches at the paragraph's start.
+    Pattern(&'a str),
+}

@@ -1,0 +1,18 @@
+//! The options of the command `hordguli`, parsed with `clap`: the settings, and why they are refused.
+//!
+//! Options come from the environment variable `HORDGULI_OPTIONS` and from the arguments, which override it.
+//! `settings` takes the words of both. An `OptionFault` has an exit status, and displays as its message.
+#![tactic(auto)]
+
+mod choices;
+mod command;
+mod fault;
+mod given;
+mod options;
+mod reading;
+mod values;
+
+pub use choices::{Direction, Marks, Prefix, Width};
+pub use fault::OptionFault;
+pub use options::Settings;
+pub use reading::settings;

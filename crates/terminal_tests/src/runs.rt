@@ -1,0 +1,240 @@
+//! Each row is an input, what is written for it, and how the run ends.
+use crate::texts::{engine, form};
+use device::{FromRead, ToWrite};
+use lines::Engine;
+use std::alloc::Global;
+use std::io;
+use std::io::{ErrorKind, Read};
+use std::test::Fail;
+use stream::Page;
+use terminal::{Escapes, Fault, Form, run};
+
+// A reader that always fails.
+#[derive(Drop)]
+struct Broken;
+
+impl Read for Broken {
+    fn read(&mut self, _buffer: &mut [u8]) -> io::Result<usize> {
+        Err(ErrorKind::Other.into())
+    }
+}
+
+// Returns whether an input that is read in two chunks is written as expected.
+fn are_written_as(
+    alloc: Global,
+    engine: &mut Engine,
+    form: &Form,
+    first: &[u8],
+    second: &[u8],
+    expected: &str,
+) -> Result<bool, Fail> {
+    if form.width == 0 {
+        return Err(Fail::new("no width"));
+    }
+    let mut reader = FromRead::new(first.chain(second));
+    let mut page = Page::new(alloc);
+    let result = run(alloc, &mut reader, &mut page, engine, form);
+    Ok(result == Ok(()) && page.bytes() == expected.as_bytes())
+}
+
+// Returns whether an input is written as expected, wherever the first chunk ends.
+fn is_written_as(
+    alloc: Global,
+    engine: &mut Engine,
+    form: &Form,
+    bytes: &[u8],
+    expected: &str,
+) -> Result<bool, Fail> {
+    for k in 0..bytes.len() + 1 {
+        let (first, second) = bytes.split_at(k);
+        if !are_written_as(alloc, engine, form, first, second, expected)? {
+            return Ok(false);
+        }
+    }
+    Ok(true)
+}
+
+#[test]
+fn invalid_bytes_are_replaced_wherever_a_chunk_ends(rt: HostRuntime) -> Result<(), Fail> {
+    let mut engine = engine(rt.alloc(), 0)?;
+    let form = form(20, Escapes::Keep);
+    for (bytes, expected) in [
+        (b"a\xffb\n".as_slice(), "a\u{fffd}b\n"),
+        (b"\xe2\x82\xac\n".as_slice(), "\u{20ac}\n"),
+        (b"\xe2\x82a\n".as_slice(), "\u{fffd}a\n"),
+        (b"\xe2a\x82\n".as_slice(), "\u{fffd}a\u{fffd}\n"),
+        (b"\xf0\x9f\x98\n".as_slice(), "\u{fffd}\n"),
+        (b"\xf0\x9f\x98\x80\n".as_slice(), "\u{1f600}\n"),
+        (b"\xc0\xaf\n".as_slice(), "\u{fffd}\u{fffd}\n"),
+        (b"\xed\xa0\x80\n".as_slice(), "\u{fffd}\u{fffd}\u{fffd}\n"),
+        (
+            b"\xf4\x90\x80\x80\n".as_slice(),
+            "\u{fffd}\u{fffd}\u{fffd}\u{fffd}\n",
+        ),
+        (b"a\xe2\x82".as_slice(), "a\u{fffd}\n"),
+        (b"\xf0\x9f\x98".as_slice(), "\u{fffd}\n"),
+        (
+            b"\xd7\x90\xff\xd7\x91\n".as_slice(),
+            "\u{5d1}\u{fffd}\u{5d0}\n",
+        ),
+    ] {
+        assert!(rt; is_written_as(rt.alloc(), &mut engine, &form, bytes, expected)?);
+    }
+    Ok(())
+}
+
+#[test]
+fn only_an_initial_byte_order_mark_is_dropped(rt: HostRuntime) -> Result<(), Fail> {
+    let mut engine = engine(rt.alloc(), 0)?;
+    let form = form(20, Escapes::Keep);
+    for (bytes, expected) in [
+        (b"\xef\xbb\xbfa\n".as_slice(), "a\n"),
+        (b"\xef\xbb\xbf".as_slice(), ""),
+        (b"".as_slice(), ""),
+        (b"\xef\xbb\xbf\xef\xbb\xbfa\n".as_slice(), "\u{feff}a\n"),
+        (b"a\n\xef\xbb\xbfb\n".as_slice(), "a\n\u{feff}b\n"),
+        (b"\xef\xbba\n".as_slice(), "\u{fffd}a\n"),
+    ] {
+        assert!(rt; is_written_as(rt.alloc(), &mut engine, &form, bytes, expected)?);
+    }
+    Ok(())
+}
+
+#[test]
+fn separators_and_sequences_are_read_across_chunks(rt: HostRuntime) -> Result<(), Fail> {
+    let mut engine = engine(rt.alloc(), 0)?;
+    let form = form(20, Escapes::Keep);
+    for (bytes, expected) in [
+        (b"a\r\nb".as_slice(), "a\nb\n"),
+        (b"a\rb".as_slice(), "a\nb\n"),
+        (b"\r\r\n\n".as_slice(), "\n\n\n"),
+        (b"a\r\x1b[31m\nb".as_slice(), "a\n\x1b[31mb\x1b[m\n"),
+        (b"a\r\x1b[31mb".as_slice(), "a\n\x1b[31mb\x1b[m\n"),
+        (b"a\r\x1b]0;t\x1b\\\nb".as_slice(), "a\nb\n"),
+        (b"a\r\x1b]0;t\x07\nb".as_slice(), "a\nb\n"),
+        (b"a\r\x1b[3\nb".as_slice(), "a\n[3\nb\n"),
+        (
+            b"\x1b[1ma\nb\x1b[m\nc".as_slice(),
+            "\x1b[1ma\x1b[m\n\x1b[1mb\x1b[m\nc\n",
+        ),
+        (
+            b"a\x08a_\x08b\n".as_slice(),
+            "\x1b[1ma\x1b[m\x1b[4mb\x1b[m\n",
+        ),
+    ] {
+        assert!(rt; is_written_as(rt.alloc(), &mut engine, &form, bytes, expected)?);
+    }
+    Ok(())
+}
+
+#[test]
+fn modes_strip_styles_or_show_controls(rt: HostRuntime) -> Result<(), Fail> {
+    let mut engine = engine(rt.alloc(), 0)?;
+    let text = b"a\x1b[1mb_\x08c\x7f\xc2\x9c\n".as_slice();
+    for (escapes, expected) in [
+        (Escapes::Keep, "a\u{1b}[1mb\u{1b}[m\u{1b}[1;4mc\u{1b}[m\n"),
+        (Escapes::Strip, "abc\n"),
+        (Escapes::Text, "a\u{241b}[1mb_\u{2408}c\u{2421}\u{fffd}\n"),
+    ] {
+        let form = form(20, escapes);
+        assert!(rt; is_written_as(rt.alloc(), &mut engine, &form, text, expected)?);
+    }
+    Ok(())
+}
+
+// Returns whether the lines before a failed read are written as expected.
+fn is_written_before_failure(
+    alloc: Global,
+    engine: &mut Engine,
+    form: &Form,
+    bytes: &[u8],
+    expected: &str,
+) -> Result<bool, Fail> {
+    if form.width == 0 {
+        return Err(Fail::new("no width"));
+    }
+    let mut reader = FromRead::new(bytes.chain(Broken));
+    let mut page = Page::new(alloc);
+    let result = run(alloc, &mut reader, &mut page, engine, form);
+    Ok(result == Err(Fault::Read) && page.bytes() == expected.as_bytes())
+}
+
+#[test]
+fn paragraphs_that_have_ended_are_written_before_the_next_read(
+    rt: HostRuntime,
+) -> Result<(), Fail> {
+    let mut engine = engine(rt.alloc(), 0)?;
+    let form = form(20, Escapes::Keep);
+    for (bytes, expected) in [
+        (b"".as_slice(), ""),
+        (b"a\nb\nc".as_slice(), "a\nb\n"),
+        (b"a\nb\n".as_slice(), "a\nb\n"),
+        (b"a\r".as_slice(), ""),
+        (b"a\rb".as_slice(), "a\n"),
+        (b"a\r\n".as_slice(), "a\n"),
+        (b"a\r\x1b[31m".as_slice(), ""),
+        (b"a\r\x1b[31mb".as_slice(), "a\n"),
+        (b"a\r\x1b]0;t\x1b\\".as_slice(), ""),
+        (b"a\r\x1b]0;t\x1b\\\n".as_slice(), "a\n"),
+        (b"a\n\xe2\x82".as_slice(), "a\n"),
+    ] {
+        assert!(rt; is_written_before_failure(rt.alloc(), &mut engine, &form, bytes, expected)?);
+    }
+    Ok(())
+}
+
+#[test]
+fn a_full_sink_ends_the_run(rt: HostRuntime) -> Result<(), Fail> {
+    let mut engine = engine(rt.alloc(), 0)?;
+    let form = Form {
+        width: 20,
+        ..form(20, Escapes::Keep)
+    };
+    let mut room = [0; 3];
+    let mut reader = FromRead::new(b"a\nb\nc\n".as_slice());
+    let mut writer = ToWrite::new(room.as_mut_slice());
+    let result = run(rt.alloc(), &mut reader, &mut writer, &mut engine, &form);
+    assert!(rt; result == Err(Fault::Write(3)));
+    assert!(rt; room.as_slice() == b"a\nb".as_slice());
+    Ok(())
+}
+
+// Adds a byte some times.
+fn push_times(byte: u8, count: usize, bytes: &mut Vec<u8>) -> Result<(), Fail> {
+    for _ in 0..count {
+        bytes.push(byte)?;
+    }
+    Ok(())
+}
+
+#[test]
+fn a_paragraph_over_the_limit_ends_the_run(rt: HostRuntime) -> Result<(), Fail> {
+    let mut engine = engine(rt.alloc(), 0)?;
+    let form = Form {
+        width: 20,
+        ..form(20, Escapes::Keep)
+    };
+    let mut bytes = Vec::from_slice(rt.alloc(), b"a\n")?;
+    push_times(b'b', 1_048_577, &mut bytes)?;
+    let mut reader = FromRead::new(bytes.as_slice());
+    let mut page = Page::new(rt.alloc());
+    let result = run(rt.alloc(), &mut reader, &mut page, &mut engine, &form);
+    assert!(rt; result == Err(Fault::ParagraphTooLong) && page.bytes() == b"a\n".as_slice());
+    Ok(())
+}
+
+#[test]
+fn input_that_is_all_invalid_is_read_to_its_end(rt: HostRuntime) -> Result<(), Fail> {
+    let mut engine = engine(rt.alloc(), 0)?;
+    let form = Form {
+        width: 20,
+        ..form(20, Escapes::Keep)
+    };
+    let mut bytes = Vec::new(rt.alloc());
+    push_times(0xff, 200_000, &mut bytes)?;
+    let mut reader = FromRead::new(bytes.as_slice());
+    let mut page = Page::new(rt.alloc());
+    let result = run(rt.alloc(), &mut reader, &mut page, &mut engine, &form);
+    assert!(rt; result == Ok(()) && page.bytes().len() == 200_000 * 3 + 10_000);
+    Ok(())
+}
