@@ -10,7 +10,7 @@ use std::io::ErrorKind;
 #[derive(Debug, Drop)]
 pub struct Page {
     pub bytes: Vec<u8>,
-    // What the first write reserves.
+    // What the first write reserves, or 0 after it.
     room: usize,
     failures: u64,
     failed_at: u64,
@@ -51,19 +51,32 @@ impl Page {
     }
 }
 
-// Appends bytes to a list. If it has no capacity and they need less than `room`, reserves `room` bytes.
-fn append(bytes: &[u8], room: usize, list: &mut Vec<u8>) -> Result<(), AllocError>
+// Appends bytes to a list, after reserving `room` bytes once.
+fn append(bytes: &[u8], room: &mut usize, list: &mut Vec<u8>) -> Result<(), AllocError>
     ensures ok { OnOk result (list.new.items ≡ list.old.items ++ bytes.now) }
     ensures err { OnErr result (list.new.items ≡ list.old.items) }
     ensures memory { OnErr result (0 < length bytes.now) }
 {
-    if bytes.is_empty() {
-        return Ok(());
-    }
-    if bytes.len() < room && list.capacity() == 0 {
-        list.reserve_exact(room)?;
+    if *room > 0 {
+        reserve_first(bytes.len(), room, list)?;
     }
     list.extend_from_slice(bytes)
+}
+
+// Before the first `len` bytes of a list, reserves `room` bytes if these need less. Then sets `room` to 0.
+#[inline(never)] // so that later bytes are appended by short code
+fn reserve_first(len: usize, room: &mut usize, list: &mut Vec<u8>) -> Result<(), AllocError>
+    ensures items { list.new.items ≡ list.old.items }
+    ensures memory { OnErr result (0 < len) }
+{
+    if len == 0 {
+        return Ok(());
+    }
+    if len < *room {
+        list.reserve_exact(*room)?;
+    }
+    *room = 0;
+    Ok(())
 }
 
 impl Sink for Page {
@@ -72,7 +85,7 @@ impl Sink for Page {
     ghost state = { page_state };
 
     fn write(&mut self, bytes: &[u8]) -> Result<usize, ErrorKind> {
-        match append(bytes, self.room, &mut self.bytes) {
+        match append(bytes, &mut self.room, &mut self.bytes) {
             Ok(()) => Ok(bytes.len()),
             Err(_) => {
                 self.failures = self.failures.saturating_add(1);
