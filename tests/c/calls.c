@@ -2,7 +2,10 @@
  * of Unicode 15.0 and their image, and FOLDER_17 those of Unicode 17.0. */
 #include "test.h"
 
+#include <errno.h>
 #include <limits.h>
+#include <sys/stat.h>
+#include <unistd.h>
 
 static hordguli_tables tables = HORDGULI_TABLES_INIT;
 static hordguli_session session = HORDGULI_SESSION_INIT;
@@ -110,6 +113,36 @@ static void opened_by_folder(const char *folder) {
     OK(hordguli_tables_open_folder(&tables, folder, &fault));
     IS(hordguli_tables_open_folder(&tables, folder, &fault), ALREADY_OPEN);
     HOLDS(tables.at != NULL);
+}
+
+/* Opens a folder, a file of which cannot be read. */
+static void unread(const char *folder, uint32_t file, int why) {
+    hordguli_tables opened = HORDGULI_TABLES_INIT;
+    hordguli_table_fault fault = {77, 77, 77};
+    errno = 0;
+    IS(hordguli_tables_open_folder(&opened, folder, &fault), UNREAD_FILE);
+    HOLDS(errno == why && fault.file == file && fault.line == 0 && fault.cause == 0);
+    errno = 0;
+    IS(hordguli_tables_open_folder_version(&opened, HORDGULI_UNICODE_17_0, folder, NULL), UNREAD_FILE);
+    HOLDS(errno == why && opened.at == NULL);
+}
+
+static void unread_file_sets_errno(const char *folder) {
+    char path[200], made[] = "/tmp/calls-XXXXXX", name[] = "/tmp/calls-XXXXXX/DerivedBidiClass.txt";
+    FILE *file;
+    unread("no such folder", 0, ENOENT);
+    unread("", 0, ENOENT); /* the files are in the root folder */
+    snprintf(path, sizeof path, "%s/LineBreak.txt", folder);
+    unread(path, 0, ENOTDIR);
+    HOLDS(mkdtemp(made) != NULL);
+    memcpy(name, made, strlen(made));
+    file = fopen(name, "wb");
+    HOLDS(file != NULL && fclose(file) == 0);
+    unread(made, 1, ENOENT);
+    snprintf(path, sizeof path, "%s/BidiBrackets.txt", made);
+    HOLDS(mkdir(path, 0700) == 0);
+    unread(made, 1, EISDIR); /* it can be opened, but not read */
+    HOLDS(rmdir(path) == 0 && remove(name) == 0 && rmdir(made) == 0);
 }
 
 /* Whether two tables give all characters the same properties. */
@@ -1614,6 +1647,19 @@ static void properties(void) {
     OK(hordguli_properties(&tables, 0, NULL, NULL));
 }
 
+/* A wide emoji and a nonspacing mark, both of Unicode 18.0: tables of 17.0 do not have them. */
+static void widths_are_of_their_version(void) {
+    static const uint32_t characters[] = {0x1FACC, 0x5C8};
+    hordguli_tables newest = HORDGULI_TABLES_INIT;
+    hordguli_character records[2];
+    HOLDS(strcmp(hordguli_width_unicode_version(), "18.0") == 0);
+    OK(hordguli_tables_open_builtin_version(&newest, HORDGULI_UNICODE_17_0));
+    OK(hordguli_properties(&newest, 2, characters, records));
+    HOLDS(records[0].columns == 2 && records[0].flags == 0);
+    HOLDS(records[1].columns == 0 && records[1].flags == 0);
+    hordguli_tables_close(&newest);
+}
+
 /* The levels of a row before L1, its characters, and what `hordguli_row` stores. Levels and positions are digits. */
 typedef struct row {
     const char *name;
@@ -1767,6 +1813,7 @@ int main(int count, char **words) {
     opened_by_bytes();
     table_faults();
     opened_by_folder(words[1]);
+    unread_file_sets_errno(words[1]);
     opened_by_images(words[1]);
     opened_by_version(words[1], words[2]);
     opened();
@@ -1792,6 +1839,7 @@ int main(int count, char **words) {
     directions_are_one_or_refused();
     without_session();
     properties();
+    widths_are_of_their_version();
     rows();
     end_of_text();
     too_long();
