@@ -76,8 +76,8 @@
  *     capacity. `hordguli_line` and `hordguli_paragraph` set `*info` in both cases, which has the size.
  *   - `hordguli_levels` and `hordguli_marks` need `count` elements. NULL is not skipped.
  *
- * This loop calls a function of the first kind until its buffer is large enough. The buffer, at first NULL, and its
- * capacity, at first 0, are kept for the next call.
+ * Call a function of the first kind in a loop, until the buffer is large enough. Keep the buffer, which is NULL at first,
+ * and its capacity for the next call.
  *
  *     while ((status = hordguli_text(&session, pos, count, capacity, buffer, &length)) == HORDGULI_NO_ROOM) {
  *         char *larger = realloc(buffer, length);
