@@ -62,6 +62,7 @@
  * PTRDIFF_MAX bytes counts as overlapping. The library cannot check the following:
  *   - A non-NULL pointer must point to as many elements as the length or capacity passed with it.
  *   - A handle must be initialized with `HORDGULI_TABLES_INIT` or `HORDGULI_SESSION_INIT`, and must not be copied.
+ *     Between calls it may be moved, as `realloc` moves an array of handles.
  *
  * BUFFERS
  *
