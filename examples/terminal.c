@@ -15,7 +15,7 @@ int main(void) {
     size_t count = sizeof text / sizeof *text - 1, start = 0, end = 0;
     uint32_t base = 0, visual[CAPACITY];
     uint8_t levels[CAPACITY];
-    hordguli_character properties[CAPACITY];
+    hordguli_character properties[CAPACITY] = {{0}};
     hordguli_tables tables = HORDGULI_TABLES_INIT;
     hordguli_status status = hordguli_tables_open_builtin(&tables);
     setlocale(LC_CTYPE, "C.UTF-8");

@@ -1812,29 +1812,29 @@ static void caret_stays_after_a_final_line_separator(void) {
     static const char *const texts[] = {"ab\u2028", "ab\v", "ab\f", "\u05d0\u05d1\u2028"};
     for (size_t k = 0; k < sizeof texts / sizeof *texts; k++) {
         size_t end = k < 3 ? 2 : 0; /* the column of the end of the line */
-        hordguli_session shown = HORDGULI_SESSION_INIT;
+        hordguli_session ended = HORDGULI_SESSION_INIT;
         hordguli_counts found;
         hordguli_place place;
         hordguli_caret caret;
         hordguli_edge edge, first, last;
-        OK(hordguli_session_open(&shown, &tables, 0, 80, texts[k], strlen(texts[k])));
-        OK(hordguli_session_counts(&shown, &found));
+        OK(hordguli_session_open(&ended, &tables, 0, 80, texts[k], strlen(texts[k])));
+        OK(hordguli_session_counts(&ended, &found));
         HOLDS(found.characters == 3 && found.lines == 1 && found.paragraphs == 1);
-        OK(hordguli_place_of(&shown, 3, &place));
+        OK(hordguli_place_of(&ended, 3, &place));
         HOLDS(place.paragraph == 0 && place.line == 0 && place.offset == 3);
-        OK(hordguli_caret_at(&shown, 3, &caret));
+        OK(hordguli_caret_at(&ended, 3, &caret));
         HOLDS(caret.line == 0 && caret.column == end);
         for (uint32_t side = HORDGULI_BEFORE; side <= HORDGULI_AFTER; side++) {
-            OK(hordguli_edge_caret(&shown, (hordguli_edge){3, side, 0}, &caret));
+            OK(hordguli_edge_caret(&ended, (hordguli_edge){3, side, 0}, &caret));
             HOLDS(caret.line == 0 && caret.column == end);
         }
-        OK(hordguli_line_edges(&shown, 0, &first, &last));
+        OK(hordguli_line_edges(&ended, 0, &first, &last));
         HOLDS(last.pos == 2 && last.side == HORDGULI_BEFORE);
-        IS(hordguli_edge_at(&shown, 1, 0, &edge), OUT_OF_RANGE);
-        OK(hordguli_insert(&shown, 3, "c", 1, NULL));
-        OK(hordguli_edge_caret(&shown, (hordguli_edge){3, HORDGULI_BEFORE, 0}, &caret));
+        IS(hordguli_edge_at(&ended, 1, 0, &edge), OUT_OF_RANGE);
+        OK(hordguli_insert(&ended, 3, "c", 1, NULL));
+        OK(hordguli_edge_caret(&ended, (hordguli_edge){3, HORDGULI_BEFORE, 0}, &caret));
         HOLDS(caret.line == 1 && caret.column == 0);
-        hordguli_session_close(&shown);
+        hordguli_session_close(&ended);
     }
 }
 

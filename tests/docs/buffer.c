@@ -15,7 +15,7 @@ static void *counted(void *block, size_t size) {
 }
 
 static hordguli_status read_text(size_t pos, size_t count) {
-    hordguli_status status;
+    hordguli_status status = HORDGULI_OK;
 #define realloc counted
 #include "loop.h"
 #undef realloc
