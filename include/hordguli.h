@@ -709,7 +709,7 @@ typedef struct hordguli_place {
  * does not exist yet. Then `paragraph` and `line` are the numbers of paragraphs and lines in the text.
  *
  * U+2028, U+000B and U+000C end a line, but not its paragraph. At the end of a text that ends with one, the place and
- * the caret stay on that line: each line of a paragraph has a character, and here none follows.
+ * the caret stay on that line. Each line of a paragraph has a character, and here none follows.
  * Errors: NULL, OVERLAP, CLOSED, OUT_OF_RANGE.
  * Cost: O(log n + log m) in a paragraph of m lines. */
 hordguli_status hordguli_place_of(hordguli_session *session, size_t pos, hordguli_place *place);
