@@ -77,8 +77,9 @@ class Tables:
             status = self._handle.open(library.hordguli_tables_read_version, version, contents, address(fault))
         if status in (TABLE_FAULT, UNREAD_FILE):
             file, line, cause = FORMATS[TableFault].unpack(fault)
-            name = (*TABLE_FILES, "image")[file]
-            raise TableError(name, line, Cause(cause), folder) from _reason(folder, name) if status == UNREAD_FILE else None
+            number = ctypes.get_errno()
+            reason = OSError(number, os.strerror(number)) if status == UNREAD_FILE else None
+            raise TableError((*TABLE_FILES, "image")[file], line, Cause(cause), folder) from reason
         check(status)
         if unicode is not None and self.unicode_version != unicode:
             self.close()
@@ -110,12 +111,6 @@ class Tables:
         self, kind: Optional[type[BaseException]], error: Optional[BaseException], traceback: Optional[TracebackType]
     ) -> None:
         self.close()
-
-
-def _reason(folder: Optional[str], file: str) -> OSError:
-    """Returns why the last call could not read a file."""
-    number = ctypes.get_errno()
-    return OSError(number, os.strerror(number), os.path.join(folder or "", file))
 
 
 def _number(unicode: str) -> int:
