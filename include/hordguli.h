@@ -72,9 +72,9 @@
  *     `hordguli_row_runs`, `hordguli_spans` and `hordguli_line_clusters` have one array, and store its size in their
  *     last parameter. If the array is too small, they return NO_ROOM, leave it unchanged, and store the required size.
  *     So NULL with capacity 0 is not skipped: it asks for the size.
- *   - `hordguli_line`, `hordguli_paragraph` and `hordguli_row` have several arrays, and skip those that are NULL. An
- *     array that is not NULL and too small is NO_ROOM. If all are NULL, nothing needs room, and the status is OK at any
- *     capacity. `hordguli_line` and `hordguli_paragraph` set `*info` in both cases, which has the size.
+ *   - `hordguli_line`, `hordguli_paragraph` and `hordguli_row` have several arrays. They skip those that are NULL. If
+ *     another one is too small, they return NO_ROOM. If all are NULL, nothing needs room, and the call succeeds with any
+ *     capacity. In both cases, `hordguli_line` and `hordguli_paragraph` store the size in `*info`.
  *   - `hordguli_levels` and `hordguli_marks` need `count` elements. NULL is not skipped.
  *
  * Call a function of the first kind in a loop, until the buffer is large enough. Keep the buffer, which is NULL at first,
@@ -721,7 +721,7 @@ typedef struct hordguli_caret {
     uint32_t zero;   /* always 0 */
 } hordguli_caret;
 
-/* Stores in `*caret` where to draw the caret for `pos`:
+/* Stores in `*caret` where to draw the caret for `pos`. New programs call `hordguli_edge_caret`.
  *   - Before a shown character: at its left edge if its level is even, else at its right edge. At an odd level, with
  *     HORDGULI_REORDER_CLUSTERS or HORDGULI_REORDER_NSM, that can be inside its cluster; `hordguli_edge_caret` stores the
  *     end of the cluster.
@@ -740,7 +740,8 @@ typedef struct hordguli_hit {
     uint32_t zero;      /* always 0 */
 } hordguli_hit;
 
-/* Stores in `*hit` the character at a column of a line. Column 0 is the left edge of the shown part, right of padding.
+/* Stores in `*hit` the character at a column of a line. New programs call `hordguli_edge_at` or `hordguli_nearest_edge`.
+ * Column 0 is the left edge of the shown part, right of padding.
  *   - In the shown part: the character that covers the column, with `trailing` 0.
  *   - Right of the shown part: the rightmost character of nonzero width, with `trailing` 1 if its level is even, else
  *     0.

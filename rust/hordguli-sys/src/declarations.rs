@@ -914,7 +914,7 @@ extern "C" {
         pos: usize,
         place: *mut hordguli_place,
     ) -> hordguli_status;
-    /// Stores in `*caret` where to draw the caret for `pos`:
+    /// Stores in `*caret` where to draw the caret for `pos`. New programs call `hordguli_edge_caret`.
     ///   - Before a shown character: at its left edge if its level is even, else at its right edge. At an odd level, with
     ///     HORDGULI_REORDER_CLUSTERS or HORDGULI_REORDER_NSM, that can be inside its cluster; `hordguli_edge_caret` stores the
     ///     end of the cluster.
@@ -931,7 +931,8 @@ extern "C" {
         pos: usize,
         caret: *mut hordguli_caret,
     ) -> hordguli_status;
-    /// Stores in `*hit` the character at a column of a line. Column 0 is the left edge of the shown part, right of padding.
+    /// Stores in `*hit` the character at a column of a line. New programs call `hordguli_edge_at` or `hordguli_nearest_edge`.
+    /// Column 0 is the left edge of the shown part, right of padding.
     ///   - In the shown part: the character that covers the column, with `trailing` 0.
     ///   - Right of the shown part: the rightmost character of nonzero width, with `trailing` 1 if its level is even, else
     ///     0.
