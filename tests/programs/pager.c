@@ -109,7 +109,7 @@ static void draw(size_t lines) {
     for (size_t row = 0; row < height; row++) {
         printf("\33[%zu;1H\33[K", row + 1);
         if (top + row < lines) draw_line(top + row);
-        else putchar('~');
+        else printf("\33[1m~\33[m");
     }
     printf("\33[%zu;1H\33[K:", height + 1);
     fflush(stdout);
