@@ -40,6 +40,8 @@
 #   make test-widget  Tests examples/widget.py with GTK 4 under Xvfb, after make c (installs Debian packages): a minute.
 #   make test-guide Tests the programs of docs/guide.md, and the pictures there, after make c (installs Debian packages): 20 seconds.
 #   make test-pango Compares measured sessions with Pango, in C and in Python, after make c (installs Debian packages): two minutes.
+#   make test-programs  Tests three C programs that are written from the manual, beside a plain model, less and ICU, after make c (installs
+#                   Debian packages): two minutes.
 #   make test-python  Tests the Python package, compares it with python-bidi and pyfribidi, and runs its mutants, after make c.
 #   make test-rust  Tests the Rust crates, also with Rust 1.63 (Debian 12), and runs their mutants, after make c.
 #   make test-hosts Runs examples/many on three hosts on the loopback address, and kills one during a run.
@@ -52,7 +54,7 @@ TABLES = DerivedBidiClass BidiBrackets BidiMirroring LineBreak DerivedGeneralCat
 OPTIONS = --width 44 --basedir
 
 .PHONY: all program cross-compiler quick ucd ucd-17 ucd-tests image demo check tmux parallel linters test attack bench-program conformance-program conformance bench c fribidi fribidi-compare \
-	callers install uninstall python deb dist test-packages test-reproducible test-arm64 test-threads test-draw test-widget test-guide test-pango test-python test-rust test-hosts release
+	callers install uninstall python deb dist test-packages test-reproducible test-arm64 test-threads test-draw test-widget test-guide test-pango test-programs test-python test-rust test-hosts release
 
 DIST = dist
 ARCH = amd64
@@ -218,6 +220,9 @@ test-guide:
 test-pango:
 	tests/c/pango
 	tests/python/pango
+
+test-programs:
+	@tests/programs/run
 
 test-python: ucd
 	tests/python/run --all

@@ -42,7 +42,8 @@ static hordguli_status read_all(int file, content *into) {
     }
 }
 
-static hordguli_status read_file(const char *folder, const char *name, content *into) {
+/* Sets `*why` to the error number on UNREAD_FILE. `free` and `close` may change `errno`. */
+static hordguli_status read_file(const char *folder, const char *name, content *into, int *why) {
     size_t length = strlen(folder);
     char *path = malloc(length + strlen(name) + 2);
     hordguli_status status;
@@ -54,9 +55,11 @@ static hordguli_status read_file(const char *folder, const char *name, content *
     do
         file = open(path, O_RDONLY | O_CLOEXEC);
     while (file < 0 && errno == EINTR);
+    *why = errno;
     free(path);
-    if (file < 0) return errno == ENOMEM ? HORDGULI_NO_MEMORY : HORDGULI_UNREAD_FILE;
+    if (file < 0) return *why == ENOMEM ? HORDGULI_NO_MEMORY : HORDGULI_UNREAD_FILE;
     status = read_all(file, into);
+    *why = errno;
     close(file);
     return status;
 }
@@ -72,6 +75,7 @@ PUBLIC hordguli_status hordguli_tables_open_folder_version(hordguli_tables *tabl
     hordguli_bytes files[HORDGULI_TABLE_FILES];
     hordguli_status status = HORDGULI_OK;
     size_t size;
+    int why = 0;
     if (tables == NULL || folder == NULL) return HORDGULI_NULL;
     size = strlen(folder) + 1;
     if (overlaps(tables, sizeof *tables, folder, size)) return HORDGULI_OVERLAP;
@@ -80,7 +84,7 @@ PUBLIC hordguli_status hordguli_tables_open_folder_version(hordguli_tables *tabl
     if (version != HORDGULI_UNICODE_15_0 && version != HORDGULI_UNICODE_17_0) return HORDGULI_UNKNOWN_OPTION;
     if (tables->at != NULL) return HORDGULI_ALREADY_OPEN;
     for (uint32_t k = 0; k < HORDGULI_TABLE_FILES && status == HORDGULI_OK; k++) {
-        status = read_file(folder, names[k], &contents[k]);
+        status = read_file(folder, names[k], &contents[k], &why);
         files[k].bytes = contents[k].bytes;
         files[k].length = contents[k].length;
         if (status == HORDGULI_UNREAD_FILE && fault != NULL) {
@@ -91,6 +95,7 @@ PUBLIC hordguli_status hordguli_tables_open_folder_version(hordguli_tables *tabl
     }
     if (status == HORDGULI_OK) status = hordguli_tables_read_version(tables, version, files, fault);
     for (size_t k = 0; k < HORDGULI_TABLE_FILES; k++) free(contents[k].bytes);
+    if (status == HORDGULI_UNREAD_FILE) errno = why;
     return status;
 }
 

@@ -72,6 +72,8 @@ PUBLIC const char *hordguli_version(void) { return HORDGULI_VERSION; }
 
 PUBLIC const char *hordguli_unicode_version(void) { return HORDGULI_UNICODE_VERSION; }
 
+PUBLIC const char *hordguli_width_unicode_version(void) { return HORDGULI_WIDTH_UNICODE_VERSION; }
+
 /* ---- Tables ---- */
 
 PUBLIC hordguli_status hordguli_tables_read_version(hordguli_tables *tables, uint32_t version,

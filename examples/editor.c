@@ -1,7 +1,6 @@
-/* A screen editor with libhordguli and termios: editor [--log FILE] [--ucd FOLDER] TEXT, built by
+/* A screen editor with libhordguli and termios: editor [--log FILE] TEXT, built by
  *
- *     cc -o editor examples/editor.c $(pkg-config --cflags --libs hordguli) \
- *         -DUCDDIR=\"$(pkg-config --variable=ucddir hordguli)\"
+ *     cc -o editor examples/editor.c $(pkg-config --cflags --libs hordguli)
  *
  * It knows nothing about directions, line breaks or columns. A session as wide as the window holds the text. Keys edit
  * the session, and the damage says which lines to redraw. The session also moves the caret, and finds words, grapheme
@@ -344,19 +343,14 @@ int main(int count, char **words) {
     hordguli_tables tables = HORDGULI_TABLES_INIT;
     struct sigaction action = {.sa_handler = on_resize};
     struct termios raw;
-    const char *folder = UCDDIR;
     uint32_t options = HORDGULI_TAB_WIDTH(4) | HORDGULI_SHOW_SPACES;
     size_t length;
     char *text, name[8];
-    for (; count > 3 && words[1][0] == '-'; count -= 2, words += 2) {
-        if (strcmp(words[1], "--ucd") == 0) folder = words[2];
-        else if (strcmp(words[1], "--log") == 0) log_file = fopen(words[2], "w");
-        else leave("editor [--log FILE] [--ucd FOLDER] TEXT");
-    }
-    if (count != 2) leave("editor [--log FILE] [--ucd FOLDER] TEXT");
-    path = words[1];
+    if (count == 4 && strcmp(words[1], "--log") == 0) log_file = fopen(words[2], "w");
+    else if (count != 2) leave("editor [--log FILE] TEXT");
+    path = words[count - 1];
     text = read_text(&length);
-    check(hordguli_tables_open_folder(&tables, folder, NULL));
+    check(hordguli_tables_open_builtin(&tables));
     if (tcgetattr(STDIN_FILENO, &before) != 0) leave("no terminal");
     raw = before;
     cfmakeraw(&raw);

@@ -1,7 +1,6 @@
 /* Prints a text in the rows of a terminal: rows COLUMNS < TEXT, built by
  *
- *     cc -o rows examples/rows.c $(pkg-config --cflags --libs hordguli) \
- *         -DUCDDIR=\"$(pkg-config --variable=ucddir hordguli)\"
+ *     cc -o rows examples/rows.c $(pkg-config --cflags --libs hordguli)
  *
  * A terminal ends a row where it is full, not between words. So levels are found for the whole paragraph, and then each
  * row is put into visual order separately. fribidi_rows.c does the same by FriBidi's functions. */
@@ -79,7 +78,7 @@ int main(int count, char **words) {
         fprintf(stderr, "rows COLUMNS < TEXT\n");
         return 2;
     }
-    check(hordguli_tables_open_folder(&tables, UCDDIR, NULL));
+    check(hordguli_tables_open_builtin(&tables));
     while ((c = getwchar()) != WEOF)
         if (c == L'\n') print_paragraph(columns);
         else add((uint32_t)c);

@@ -2,7 +2,7 @@
  *
  * Lays out bidirectional text in lines of a given width (UAX #9, UAX #14). A session holds a text and its layout, and
  * keeps the layout up to date when the text is edited or the width changes. Each edit reports which lines it replaced.
- * The exact rules and limits are in docs/reference.md, in the sources.
+ * The exact rules and limits are in share/doc/hordguli/reference.md, below the installation prefix.
  *
  * UNITS
  *
@@ -25,8 +25,9 @@
  * COLUMNS
  *
  * A column is a terminal cell. The width of a line, in columns, is the sum of the widths of its shown characters.
- * Widths are those of the Unicode version that `fribidi --version` prints last. Control characters have width 0 and are
- * written unchanged, also tabs without HORDGULI_TAB_WIDTH. A program that writes to a terminal must remove or replace them.
+ * Widths are those of the Unicode version that `hordguli_width_unicode_version` returns. Control characters have width
+ * 0 and are written unchanged, also tabs without HORDGULI_TAB_WIDTH. A program that writes to a terminal must remove or
+ * replace them.
  *
  * MEASURED TEXT
  *
@@ -61,22 +62,30 @@
  * PTRDIFF_MAX bytes counts as overlapping. The library cannot check the following:
  *   - A non-NULL pointer must point to as many elements as the length or capacity passed with it.
  *   - A handle must be initialized with `HORDGULI_TABLES_INIT` or `HORDGULI_SESSION_INIT`, and must not be copied.
+ *     Between calls it may be moved, as `realloc` moves an array of handles.
  *
  * BUFFERS
  *
- * `hordguli_lines_utf8`, `hordguli_text` and `hordguli_layout` write to a buffer of `capacity` bytes and store the byte
- * count in `*length` or `*written`. If the buffer is too small, they return NO_ROOM, leave it unchanged, and store the
- * required size. So call once with capacity 0, then again with a buffer of the required size.
+ * A function with a parameter `capacity` writes to arrays of the caller. What it does with NULL depends on the
+ * function:
+ *   - `hordguli_layout`, `hordguli_lines_utf8`, `hordguli_text`, `hordguli_text_utf32`, `hordguli_runs`,
+ *     `hordguli_row_runs`, `hordguli_spans` and `hordguli_line_clusters` have one array, and store its size in their
+ *     last parameter. If the array is too small, they return NO_ROOM, leave it unchanged, and store the required size.
+ *     So NULL with capacity 0 is not skipped: it asks for the size.
+ *   - `hordguli_line`, `hordguli_paragraph` and `hordguli_row` have several arrays. They skip those that are NULL. If
+ *     another one is too small, they return NO_ROOM. If all are NULL, nothing needs room, and the call succeeds with any
+ *     capacity. In both cases, `hordguli_line` and `hordguli_paragraph` store the size in `*info`.
+ *   - `hordguli_levels` and `hordguli_marks` need `count` elements. NULL is not skipped.
  *
- *     size_t length = 0;
- *     char *buffer = NULL;
- *     hordguli_status status = hordguli_text(&session, pos, count, 0, NULL, &length);
- *     if (status == HORDGULI_NO_ROOM && (buffer = malloc(length)) != NULL)
- *         status = hordguli_text(&session, pos, count, length, buffer, &length);
+ * Call a function of the first kind in a loop, until the buffer is large enough. Keep the buffer, which is NULL at first,
+ * and its capacity for the next call.
  *
- * `hordguli_spans`, `hordguli_runs`, `hordguli_row_runs`, `hordguli_line_clusters` and `hordguli_text_utf32` do the same
- * with arrays, and count elements. `hordguli_line` and `hordguli_paragraph` store the required number of elements in
- * `*info`.
+ *     while ((status = hordguli_text(&session, pos, count, capacity, buffer, &length)) == HORDGULI_NO_ROOM) {
+ *         char *larger = realloc(buffer, length);
+ *         if (larger == NULL) break;
+ *         buffer = larger;
+ *         capacity = length;
+ *     }
  *
  * THREADS, SIGNALS AND FORK
  *
@@ -95,7 +104,11 @@
  *
  * Memory is managed with malloc, realloc and free. The library keeps no pointers from the caller after a call, writes
  * to no stream, calls no callbacks, and has no state outside its handles. The strings it returns are static; do not
- * free them. */
+ * free them.
+ *
+ * A session keeps 5 KB for itself, 0.5 KB for each paragraph, 12 bytes for each further line of a paragraph, and 19 bytes
+ * for each character. Its buffers keep up to 26 bytes more for each character of its longest paragraph. Tables keep 107
+ * KB, which their sessions share. These are measured by `bench/memory` in the sources, with glibc's malloc. */
 #ifndef HORDGULI_H
 #define HORDGULI_H
 
@@ -125,7 +138,7 @@ typedef int32_t hordguli_status;
 #define HORDGULI_NO_MEMORY 5
 /* A table file or an image is malformed. `hordguli_table_fault` says where and why. */
 #define HORDGULI_TABLE_FAULT 6
-/* The text is not valid UTF-8. */
+/* The text is not valid UTF-8. `hordguli_valid_utf8` says where. */
 #define HORDGULI_NOT_UTF8 7
 /* A number is not a Unicode scalar value. */
 #define HORDGULI_NOT_A_CHARACTER 8
@@ -136,15 +149,15 @@ typedef int32_t hordguli_status;
 /* The options or print flags have a bit that is unknown, or that the function does not accept, or the Unicode version is
  * unknown. */
 #define HORDGULI_UNKNOWN_OPTION 11
-/* The capacity is too small. */
+/* The capacity is too small (see BUFFERS). */
 #define HORDGULI_NO_ROOM 12
 /* A required pointer is NULL. */
 #define HORDGULI_NULL 13
 /* Arrays, output parameters or handles overlap. */
 #define HORDGULI_OVERLAP 14
-/* A table file cannot be read. `hordguli_table_fault` says which. */
+/* A table file cannot be read. `hordguli_table_fault` says which, and `errno` why. */
 #define HORDGULI_UNREAD_FILE 15
-/* The session is not measured. */
+/* The session is not measured. Since 0.6. */
 #define HORDGULI_NOT_MEASURED 16
 
 /* Returns a short English description of a status, or "unknown status". */
@@ -152,7 +165,10 @@ const char *hordguli_status_text(hordguli_status status);
 
 /* ---- Version ---- */
 
-/* The version of this header. */
+/* The version of this header. A release that adds functions, options or statuses raises the minor version. `Since` in a
+ * comment is the first version that has the function. So a program can test for those of 0.6:
+ *
+ *     #if HORDGULI_VERSION_MAJOR > 0 || HORDGULI_VERSION_MINOR >= 6 */
 #define HORDGULI_VERSION_MAJOR 0
 #define HORDGULI_VERSION_MINOR 5
 #define HORDGULI_VERSION_PATCH 0
@@ -163,6 +179,11 @@ const char *hordguli_version(void);
 /* Returns "15.0", the Unicode version of tables that `hordguli_tables_open_builtin`, `hordguli_tables_open_folder` and
  * `hordguli_tables_read` open. */
 const char *hordguli_unicode_version(void);
+
+/* Returns the Unicode version of column widths and grapheme clusters, such as "18.0". It is that of the library, and
+ * does not depend on the tables.
+ * Since: 0.6. */
+const char *hordguli_width_unicode_version(void);
 
 /* ---- Session options ----
  *
@@ -193,17 +214,17 @@ const char *hordguli_unicode_version(void);
 /* Keeps the characters of a grapheme cluster that follow each other at one odd level in logical order. By default they
  * are reversed, as is all RTL text. Use it if the terminal draws clusters as units, such as emoji families, skin tones,
  * flags, and letters with marks. HORDGULI_REORDER_NSM then has no effect. For example, RLO `man ZWJ woman` is written
- * as RLO `woman ZWJ man` by default, which no terminal draws as one emoji. */
+ * as RLO `woman ZWJ man` by default, which no terminal draws as one emoji. Since 0.6. */
 #define HORDGULI_REORDER_CLUSTERS UINT32_C(32)
 /* Shows the spaces with which the tail of a line begins, as many as fit in the width. So they have carets, hits and
  * spans. Lines end where they end without this option. A line that is wider than the width shows none of these spaces,
- * also with HORDGULI_NOBREAK. In RTL paragraphs, they are to the left of the text. */
+ * also with HORDGULI_NOBREAK. In RTL paragraphs, they are to the left of the text. Since 0.6. */
 #define HORDGULI_SHOW_SPACES UINT32_C(64)
 /* Sets a tab stop every `n` columns, from 1 to 255. Columns are counted along each line in logical order. A tab (U+0009 of
  * bidi class S) moves to the next stop, so it has 1 to `n` columns, and is written as spaces. In an RTL paragraph, stops are
  * counted from the right edge. A tab is not in the tail, and one that does not fit is wider than its line. A greater `n` is
  * refused with UNKNOWN_OPTION. `n` is evaluated twice. In a measured session, tabs have their own stops (see MEASURED
- * TEXT). */
+ * TEXT). Since 0.6. */
 #define HORDGULI_TAB_WIDTH(n) ((uint32_t)(n) > 255 ? UINT32_C(1) << 16 : (uint32_t)(n) << 8)
 
 /* ---- Print flags ----
@@ -310,19 +331,22 @@ typedef struct hordguli_table_fault {
 
 /* Opens the tables of Unicode 15.0 that the library contains. Reads no file.
  * Errors: NULL, ALREADY_OPEN, NO_MEMORY.
- * Cost: as `hordguli_tables_open_image`. */
+ * Cost: as `hordguli_tables_open_image`.
+ * Since: 0.6. */
 hordguli_status hordguli_tables_open_builtin(hordguli_tables *tables);
 
 /* Opens the tables of `version` that the library contains, such as those of HORDGULI_UNICODE_17_0. Reads no file.
  * Errors: NULL, UNKNOWN_OPTION (another version), ALREADY_OPEN, NO_MEMORY.
- * Cost: as `hordguli_tables_open_image`. */
+ * Cost: as `hordguli_tables_open_image`.
+ * Since: 0.6. */
 hordguli_status hordguli_tables_open_builtin_version(hordguli_tables *tables, uint32_t version);
 
 /* Opens tables from a compiled image, such as the file `tables.image` that is installed with the table files. They have
  * the version of the image. `fault` may be NULL, and is set only on TABLE_FAULT. The causes up to HORDGULI_CAUSE_ENTRY
  * are ruled out before any memory is allocated. If memory runs out before a later cause is found, NO_MEMORY is returned.
  * Errors: NULL, OVERLAP, ALREADY_OPEN, TABLE_FAULT, NO_MEMORY.
- * Cost: O(`length`), plus a pass over the code points of the pages that have separators, brackets or mirrors. */
+ * Cost: O(`length`), plus a pass over the code points of the pages that have separators, brackets or mirrors.
+ * Since: 0.6. */
 hordguli_status hordguli_tables_open_image(hordguli_tables *tables, const void *image, size_t length,
                                            hordguli_table_fault *fault);
 
@@ -336,26 +360,30 @@ hordguli_status hordguli_tables_read(hordguli_tables *tables, const hordguli_byt
 
 /* As `hordguli_tables_read`, with the files of `version`.
  * Errors: NULL, OVERLAP, UNKNOWN_OPTION (another version), ALREADY_OPEN, TABLE_FAULT, NO_MEMORY.
- * Cost: as `hordguli_tables_read`. */
+ * Cost: as `hordguli_tables_read`.
+ * Since: 0.6. */
 hordguli_status hordguli_tables_read_version(hordguli_tables *tables, uint32_t version,
                                              const hordguli_bytes files[HORDGULI_TABLE_FILES],
                                              hordguli_table_fault *fault);
 
-/* Opens tables of Unicode 15.0 from the files in a folder. `folder` is a NUL-terminated path. `fault` may be NULL, and is
- * set only on UNREAD_FILE or TABLE_FAULT. If memory runs out before either is found, NO_MEMORY is returned.
+/* Opens tables of Unicode 15.0 from the files in a folder. `folder` is a NUL-terminated path. `fault` may be NULL, and
+ * is set only on UNREAD_FILE or TABLE_FAULT. On UNREAD_FILE, `errno` is that of the failed `open` or `read`, such as
+ * ENOENT. If memory runs out before either fault is found, NO_MEMORY is returned.
  * Errors: NULL, OVERLAP, ALREADY_OPEN, UNREAD_FILE, TABLE_FAULT, NO_MEMORY.
  * Cost: as `hordguli_tables_read`. */
 hordguli_status hordguli_tables_open_folder(hordguli_tables *tables, const char *folder, hordguli_table_fault *fault);
 
-/* As `hordguli_tables_open_folder`, with the files of `version`.
+/* As `hordguli_tables_open_folder`, with the files of `version`, also in setting `errno`.
  * Errors: NULL, OVERLAP, UNKNOWN_OPTION (another version), ALREADY_OPEN, UNREAD_FILE, TABLE_FAULT, NO_MEMORY.
- * Cost: as `hordguli_tables_read`. */
+ * Cost: as `hordguli_tables_read`.
+ * Since: 0.6. */
 hordguli_status hordguli_tables_open_folder_version(hordguli_tables *tables, uint32_t version, const char *folder,
                                                     hordguli_table_fault *fault);
 
 /* Stores the version of the tables, such as HORDGULI_UNICODE_15_0.
  * Errors: NULL, OVERLAP, CLOSED.
- * Cost: O(1). */
+ * Cost: O(1).
+ * Since: 0.6. */
 hordguli_status hordguli_tables_version(hordguli_tables *tables, uint32_t *version);
 
 /* Closes the handle. Safe on a closed handle or NULL. The tables are freed once no open session uses them. */
@@ -363,9 +391,10 @@ void hordguli_tables_close(hordguli_tables *tables);
 
 /* ---- Whole texts ---- */
 
-/* Lays out a text, and writes its lines to a buffer (see BUFFERS), as UTF-8. `*written` is the byte count. The bytes are
- * those that `hordguli_lines_utf8` writes for all lines of a session with these `options`, this `width` and this text.
- * `print` is as in that function. For example, the line of a log:
+/* Lays out a text, and writes its lines to a buffer, as UTF-8. `*written` is the byte count. NULL with capacity 0 is
+ * NO_ROOM if there is anything to write (see BUFFERS). The bytes are those that `hordguli_lines_utf8` writes for all
+ * lines of a session with these `options`, this `width` and this text. `print` is as in that function. For example, the
+ * line of a log:
  *
  *     status = hordguli_layout(&tables, HORDGULI_WEAK_LTR, 80, HORDGULI_PRINT_DEFAULT, line, strlen(line),
  *                              sizeof buffer, buffer, &written);
@@ -374,22 +403,27 @@ void hordguli_tables_close(hordguli_tables *tables);
  * keeps at most 5 MB: memory for a text or for lines of more than 65,536 bytes is freed. `hordguli_tables_close` frees
  * it. Calls at the same time in several threads need a handle of tables each.
  *
- * NO_MEMORY comes before NO_ROOM, because the lines are gathered before their size is known.
+ * On NOT_UTF8, `hordguli_valid_utf8` says where. NO_MEMORY comes before NO_ROOM, because the lines are gathered before
+ * their size is known.
  * Errors: NULL, OVERLAP, WIDTH_OUT_OF_RANGE (above 65,535), UNKNOWN_OPTION, NOT_UTF8, CLOSED, WIDTH_OUT_OF_RANGE (0),
  * TEXT_TOO_LONG, PARAGRAPH_TOO_LONG, NO_MEMORY, NO_ROOM.
- * Cost: time and memory proportional to `length` and to the lines, even with capacity 0. */
+ * Cost: time and memory proportional to `length` and to the lines, even with capacity 0.
+ * Since: 0.6. */
 hordguli_status hordguli_layout(hordguli_tables *tables, uint32_t options, uint32_t width, uint32_t print,
                                 const char *text, size_t length, size_t capacity, char *buffer, size_t *written);
 
-/* Stores in `*count` the number of characters in UTF-8 text of `length` bytes.
+/* Stores in `*count` the number of characters in UTF-8 text of `length` bytes. On NOT_UTF8, `hordguli_valid_utf8` says
+ * where.
  * Errors: NULL, OVERLAP, NOT_UTF8.
  * Cost: O(length). */
 hordguli_status hordguli_count_utf8(const char *bytes, size_t length, size_t *count);
 
 /* Stores in `*valid` the length of the longest prefix of `bytes` that is valid UTF-8: `length` if all of it is, else
- * the index of the first byte that belongs to no character. An incomplete character at the end is not valid.
+ * the index of the first byte that belongs to no character. An incomplete character at the end is not valid. After
+ * NOT_UTF8, this is where the text is wrong, and the text before it is valid.
  * Errors: NULL, OVERLAP.
- * Cost: O(length). */
+ * Cost: O(length).
+ * Since: 0.6. */
 hordguli_status hordguli_valid_utf8(const char *bytes, size_t length, size_t *valid);
 
 /* ---- Sessions and edits ---- */
@@ -408,7 +442,8 @@ typedef struct hordguli_damage {
 } hordguli_damage;
 
 /* Opens a session on a text. `width` is in columns. The session shares the tables, so their handle may be closed
- * before the session. NO_MEMORY comes directly after CLOSED if 2^63 sessions share the tables.
+ * before the session. On NOT_UTF8, `hordguli_valid_utf8` says where. NO_MEMORY comes directly after CLOSED if 2^63
+ * sessions share the tables.
  * Errors: NULL, OVERLAP, WIDTH_OUT_OF_RANGE (above 65,535), UNKNOWN_OPTION, NOT_UTF8, ALREADY_OPEN (the session),
  * CLOSED (the tables), WIDTH_OUT_OF_RANGE (0), TEXT_TOO_LONG, PARAGRAPH_TOO_LONG, NO_MEMORY.
  * Cost: time and memory proportional to `length`. */
@@ -416,11 +451,12 @@ hordguli_status hordguli_session_open(hordguli_session *session, hordguli_tables
                                       uint32_t width, const char *text, size_t length);
 
 /* Opens a measured session on a text (see MEASURED TEXT). `width` is in the caller's unit, from 1 to 2,147,483,647. All
- * advances are 0 until `hordguli_set_advances` sets them, so lines end at mandatory breaks only. The rest is as in
- * `hordguli_session_open`.
+ * advances are 0 until `hordguli_set_advances` sets them, so lines end at mandatory breaks only. On NOT_UTF8,
+ * `hordguli_valid_utf8` says where. The rest is as in `hordguli_session_open`.
  * Errors: NULL, OVERLAP, UNKNOWN_OPTION, NOT_UTF8, ALREADY_OPEN (the session), CLOSED (the tables), WIDTH_OUT_OF_RANGE,
  * TEXT_TOO_LONG, PARAGRAPH_TOO_LONG, NO_MEMORY.
- * Cost: as `hordguli_session_open`. */
+ * Cost: as `hordguli_session_open`.
+ * Since: 0.6. */
 hordguli_status hordguli_session_open_measured(hordguli_session *session, hordguli_tables *tables, uint32_t options,
                                                uint32_t width, const char *text, size_t length);
 
@@ -428,6 +464,7 @@ hordguli_status hordguli_session_open_measured(hordguli_session *session, hordgu
 void hordguli_session_close(hordguli_session *session);
 
 /* Inserts text before the character at `pos`, or at the end of the text. Stores in `*damage` which lines were replaced.
+ * On NOT_UTF8, `hordguli_valid_utf8` says where.
  * Errors: NULL, OVERLAP, NOT_UTF8, CLOSED, OUT_OF_RANGE, TEXT_TOO_LONG, PARAGRAPH_TOO_LONG, NO_MEMORY.
  * Cost: O(log n), plus O(1) per replaced paragraph, plus the layout of the new paragraphs. */
 hordguli_status hordguli_insert(hordguli_session *session, size_t pos, const char *text, size_t length,
@@ -438,7 +475,8 @@ hordguli_status hordguli_insert(hordguli_session *session, size_t pos, const cha
  * Cost: as `hordguli_insert`. */
 hordguli_status hordguli_delete(hordguli_session *session, size_t pos, size_t count, hordguli_damage *damage);
 
-/* Replaces the `count` characters that start at `pos` with text, in one edit.
+/* Replaces the `count` characters that start at `pos` with text, in one edit. On NOT_UTF8, `hordguli_valid_utf8` says
+ * where.
  * Errors: NULL, OVERLAP, NOT_UTF8, CLOSED, OUT_OF_RANGE, TEXT_TOO_LONG, PARAGRAPH_TOO_LONG, NO_MEMORY.
  * Cost: as `hordguli_insert`. */
 hordguli_status hordguli_replace(hordguli_session *session, size_t pos, size_t count, const char *text, size_t length,
@@ -453,7 +491,8 @@ hordguli_status hordguli_set_width(hordguli_session *session, uint32_t width, ho
 
 /* Sets the width of a measured session, from 1 to 2,147,483,647. The rest is as in `hordguli_set_width`.
  * Errors: NULL, OVERLAP, CLOSED, NOT_MEASURED, WIDTH_OUT_OF_RANGE, NO_MEMORY.
- * Cost: as `hordguli_set_width`. */
+ * Cost: as `hordguli_set_width`.
+ * Since: 0.6. */
 hordguli_status hordguli_set_measured_width(hordguli_session *session, uint32_t width, hordguli_damage *damage);
 
 /* Sets the advances of the `count` characters that start at `pos`, in a measured session, and rewraps the paragraphs that
@@ -469,7 +508,8 @@ hordguli_status hordguli_set_measured_width(hordguli_session *session, uint32_t 
  * From line `edited.first_line` on, `edited.old_lines` lines have then become `measured.new_lines` lines.
  *
  * Errors: NULL, OVERLAP, CLOSED, NOT_MEASURED, OUT_OF_RANGE, PARAGRAPH_TOO_LONG, NO_MEMORY.
- * Cost: O(log n), plus O(`count`), plus wrapping these paragraphs. Levels and break marks are not computed again. */
+ * Cost: O(log n), plus O(`count`), plus wrapping these paragraphs. Levels and break marks are not computed again.
+ * Since: 0.6. */
 hordguli_status hordguli_set_advances(hordguli_session *session, size_t pos, size_t count, const uint32_t *advances,
                                       hordguli_damage *damage);
 
@@ -516,7 +556,8 @@ typedef struct hordguli_line_info {
 } hordguli_line_info;
 
 /* Stores information about a line in `*info`, and `info->shown` elements in each array. Each array has `capacity`
- * elements. NULL arrays are skipped. Positions count from the start of the line.
+ * elements. NULL arrays are skipped, so with all arrays NULL nothing needs room (see BUFFERS). Positions count from the
+ * start of the line.
  *   characters  characters in visual order, mirrored
  *   levels      level of each character after L1, in logical order
  *   ltov        visual position of each logical position
@@ -542,20 +583,22 @@ typedef struct hordguli_run {
 /* Stores the directional runs of a line's shown part, from left to right, for shaping text: the longest ranges of
  * characters at one level after L1. They do not depend on HORDGULI_REORDER_NSM and HORDGULI_REORDER_CLUSTERS, which
  * move characters only inside runs. The number of runs is stored in `*count`, and the runs in an array of `capacity`
- * elements (see BUFFERS). Fails with OUT_OF_RANGE if the line does not exist. For the characters of a run, in logical
- * order:
+ * elements. NULL with capacity 0 is NO_ROOM if there are runs (see BUFFERS). Fails with OUT_OF_RANGE if the line does
+ * not exist. For the characters of a run, in logical order:
  *
  *     status = hordguli_line_start(&session, line, &start);
  *     if (!status) status = hordguli_text_utf32(&session, start + run.start, run.length, 80, characters, &length);
  *
  * Errors: NULL, OVERLAP, CLOSED, OUT_OF_RANGE, NO_ROOM.
- * Cost: O(log n), plus O(length of the line) times its highest level. */
+ * Cost: O(log n), plus O(length of the line) times its highest level.
+ * Since: 0.6. */
 hordguli_status hordguli_runs(hordguli_session *session, size_t line, size_t capacity, hordguli_run *runs,
                               size_t *count);
 
-/* Writes `count` lines, starting with line `first`, to a buffer (see BUFFERS), as UTF-8. `print` selects what is
- * written for each line, in the order VISUAL, BASEDIR, LTOV, VTOL, LEVELS. Each of these ends in U+000A. Numbers are
- * decimal, separated by spaces. For example, the lines that an edit changed:
+/* Writes `count` lines, starting with line `first`, to a buffer, as UTF-8. NULL with capacity 0 is NO_ROOM if there is
+ * anything to write (see BUFFERS). `print` selects what is written for each line, in the order VISUAL, BASEDIR, LTOV,
+ * VTOL, LEVELS. Each of these ends in U+000A. Numbers are decimal, separated by spaces. For example, the lines that an
+ * edit changed:
  *
  *     status = hordguli_lines_utf8(&session, damage.first_line, damage.new_lines,
  *                                  HORDGULI_PRINT_DEFAULT, capacity, buffer, &length);
@@ -566,17 +609,18 @@ hordguli_status hordguli_runs(hordguli_session *session, size_t line, size_t cap
 hordguli_status hordguli_lines_utf8(hordguli_session *session, size_t first, size_t count, uint32_t print,
                                     size_t capacity, char *buffer, size_t *length);
 
-/* Writes `count` characters, starting at `pos`, to a buffer (see BUFFERS), as UTF-8. NO_MEMORY comes before NO_ROOM, as
- * in `hordguli_lines_utf8`.
+/* Writes `count` characters, starting at `pos`, to a buffer, as UTF-8. NULL with capacity 0 is NO_ROOM, unless `count`
+ * is 0 (see BUFFERS). NO_MEMORY comes before NO_ROOM, as in `hordguli_lines_utf8`.
  * Errors: NULL, OVERLAP, CLOSED, OUT_OF_RANGE, NO_MEMORY, NO_ROOM.
  * Cost: as `hordguli_lines_utf8`. */
 hordguli_status hordguli_text(hordguli_session *session, size_t pos, size_t count, size_t capacity, char *buffer,
                               size_t *length);
 
-/* Stores `count` characters, starting at `pos`, in an array of `capacity` elements (see BUFFERS), in logical order and
- * not mirrored, as a shaper needs them. `*length` is `count`.
+/* Stores `count` characters, starting at `pos`, in an array of `capacity` elements, in logical order and not mirrored,
+ * as a shaper needs them. `*length` is `count`. NULL with capacity 0 is NO_ROOM, unless `count` is 0 (see BUFFERS).
  * Errors: NULL, OVERLAP, CLOSED, OUT_OF_RANGE, NO_ROOM.
- * Cost: O(log n) per paragraph, plus O(count). */
+ * Cost: O(log n) per paragraph, plus O(count).
+ * Since: 0.6. */
 hordguli_status hordguli_text_utf32(hordguli_session *session, size_t pos, size_t count, size_t capacity,
                                     uint32_t *characters, size_t *length);
 
@@ -588,13 +632,15 @@ hordguli_status hordguli_utf8_length(hordguli_session *session, size_t pos, size
 /* Stores in `*byte` how many bytes of UTF-8 the text before `pos` needs. Fails with OUT_OF_RANGE if `pos` is past the
  * end.
  * Errors: NULL, OVERLAP, CLOSED, OUT_OF_RANGE.
- * Cost: O(log n), plus O(length of the paragraph) unless the paragraph is ASCII. */
+ * Cost: O(log n), plus O(length of the paragraph) unless the paragraph is ASCII.
+ * Since: 0.6. */
 hordguli_status hordguli_byte_of(hordguli_session *session, size_t pos, size_t *byte);
 
 /* Stores in `*unit` how many UTF-16 code units the text before `pos` needs, which is how the Language Server Protocol
  * counts. Fails with OUT_OF_RANGE if `pos` is past the end.
  * Errors: NULL, OVERLAP, CLOSED, OUT_OF_RANGE.
- * Cost: O(log n), plus O(length of the paragraph) if the paragraph has a character above U+FFFF. */
+ * Cost: O(log n), plus O(length of the paragraph) if the paragraph has a character above U+FFFF.
+ * Since: 0.6. */
 hordguli_status hordguli_utf16_of(hordguli_session *session, size_t pos, size_t *unit);
 
 /* The character at `pos`, and how many of its bytes or code units come before an offset: 0 at its start. */
@@ -606,13 +652,15 @@ typedef struct hordguli_position {
 /* Stores the position of a UTF-8 byte, counted from 0, in `*position`. At the end of the text, `pos` is the number of
  * characters and `rest` is 0. Fails with OUT_OF_RANGE if `byte` is past the end.
  * Errors: NULL, OVERLAP, CLOSED, OUT_OF_RANGE.
- * Cost: as `hordguli_byte_of`. */
+ * Cost: as `hordguli_byte_of`.
+ * Since: 0.6. */
 hordguli_status hordguli_position_of_byte(hordguli_session *session, size_t byte, hordguli_position *position);
 
 /* Stores the position of a UTF-16 code unit, counted from 0, in `*position`. At the end of the text, `pos` is the number
  * of characters and `rest` is 0. Fails with OUT_OF_RANGE if `unit` is past the end.
  * Errors: NULL, OVERLAP, CLOSED, OUT_OF_RANGE.
- * Cost: as `hordguli_utf16_of`. */
+ * Cost: as `hordguli_utf16_of`.
+ * Since: 0.6. */
 hordguli_status hordguli_position_of_utf16(hordguli_session *session, size_t unit, hordguli_position *position);
 
 typedef struct hordguli_paragraph_info {
@@ -625,7 +673,7 @@ typedef struct hordguli_paragraph_info {
 } hordguli_paragraph_info;
 
 /* Stores information about a paragraph in `*info`, and `info->length` elements in each array, in logical order. Each
- * array has `capacity` elements. NULL arrays are skipped.
+ * array has `capacity` elements. NULL arrays are skipped, so with both NULL nothing needs room (see BUFFERS).
  *   levels      level of each character before L1
  *   marks       break mark after each character
  *
@@ -643,7 +691,16 @@ hordguli_status hordguli_paragraph(hordguli_session *session, size_t paragraph, 
  * column 7, right of the first letter, and after 4 at column 4, right of the space.
  *
  * A caret moves over one grapheme cluster at a time, or over the part of it that is in one level run if the cluster
- * has several: over one caret unit. A boundary is a column where a caret unit begins or ends. */
+ * has several: over one caret unit. A boundary is a column where a caret unit begins or ends.
+ *
+ * New programs keep an edge, and call these:
+ *   - `hordguli_edge_caret` to draw the caret
+ *   - `hordguli_step` and `hordguli_line_edges` for Left, Right, Home and End
+ *   - `hordguli_edge_at` or `hordguli_nearest_edge` for clicks, Up and Down
+ *   - `hordguli_word_at` for words, and `hordguli_spans` for the selection
+ *
+ * `hordguli_caret_at` and `hordguli_hit_at` are for programs that keep a position. They know only its leading edge, and
+ * leave clusters to the caller. */
 
 typedef struct hordguli_place {
     size_t paragraph;
@@ -654,6 +711,9 @@ typedef struct hordguli_place {
 /* Stores the place of the character at `pos` in `*place`. If `pos` is the end of the text, the place is after the last
  * character. But if the text is empty or ends with a separator, the place is the start of the next paragraph, which
  * does not exist yet. Then `paragraph` and `line` are the numbers of paragraphs and lines in the text.
+ *
+ * U+2028, U+000B and U+000C end a line, but not its paragraph. At the end of a text that ends with one, the place and
+ * the caret stay on that line. Each line of a paragraph has a character, and here none follows.
  * Errors: NULL, OVERLAP, CLOSED, OUT_OF_RANGE.
  * Cost: O(log n + log m) in a paragraph of m lines. */
 hordguli_status hordguli_place_of(hordguli_session *session, size_t pos, hordguli_place *place);
@@ -665,7 +725,7 @@ typedef struct hordguli_caret {
     uint32_t zero;   /* always 0 */
 } hordguli_caret;
 
-/* Stores in `*caret` where to draw the caret for `pos`:
+/* Stores in `*caret` where to draw the caret for `pos`. New programs call `hordguli_edge_caret`.
  *   - Before a shown character: at its left edge if its level is even, else at its right edge. At an odd level, with
  *     HORDGULI_REORDER_CLUSTERS or HORDGULI_REORDER_NSM, that can be inside its cluster; `hordguli_edge_caret` stores the
  *     end of the cluster.
@@ -684,7 +744,8 @@ typedef struct hordguli_hit {
     uint32_t zero;      /* always 0 */
 } hordguli_hit;
 
-/* Stores in `*hit` the character at a column of a line. Column 0 is the left edge of the shown part, right of padding.
+/* Stores in `*hit` the character at a column of a line. New programs call `hordguli_edge_at` or `hordguli_nearest_edge`.
+ * Column 0 is the left edge of the shown part, right of padding.
  *   - In the shown part: the character that covers the column, with `trailing` 0.
  *   - Right of the shown part: the rightmost character of nonzero width, with `trailing` 1 if its level is even, else
  *     0.
@@ -732,7 +793,8 @@ typedef struct hordguli_word {
  * The next word starts at `word.end`, and the previous one holds the character at `word.start - 1`.
  *
  * Errors: NULL, OVERLAP, CLOSED, OUT_OF_RANGE, NO_MEMORY.
- * Cost: O(log n), plus time and memory proportional to the whole paragraph. */
+ * Cost: O(log n), plus time and memory proportional to the whole paragraph.
+ * Since: 0.6. */
 hordguli_status hordguli_word_at(hordguli_session *session, size_t pos, hordguli_word *word);
 
 /* The columns from `left` up to but not including `right`, counted from the left edge of a line's shown part. */
@@ -744,8 +806,8 @@ typedef struct hordguli_span {
 /* Stores the columns that the characters from `from` up to but not including `to` cover in a line, for drawing a
  * selection: as few spans as possible, from left to right. Where the direction changes, a selection can have several.
  * `from` and `to` are positions in the text; those outside the line are ignored. The number of spans is stored in
- * `*count`, and the spans in an array of `capacity` elements (see BUFFERS). Fails with OUT_OF_RANGE if the line does not
- * exist.
+ * `*count`, and the spans in an array of `capacity` elements. NULL with capacity 0 is NO_ROOM if there are spans (see
+ * BUFFERS). Fails with OUT_OF_RANGE if the line does not exist.
  *
  *     for (size_t line = first_line; line <= last_line; line++) {
  *         status = hordguli_spans(&session, line, from, to, 16, spans, &count);
@@ -753,7 +815,8 @@ typedef struct hordguli_span {
  *     }
  *
  * Errors: NULL, OVERLAP, CLOSED, OUT_OF_RANGE, NO_ROOM.
- * Cost: O(log n), plus O(length of the line). */
+ * Cost: O(log n), plus O(length of the line).
+ * Since: 0.6. */
 hordguli_status hordguli_spans(hordguli_session *session, size_t line, size_t from, size_t to, size_t capacity,
                                hordguli_span *spans, size_t *count);
 
@@ -782,7 +845,8 @@ typedef struct hordguli_edge {
  * text, and for the edge after position 0.
  *
  * Errors: NULL, OVERLAP, UNKNOWN_OPTION, CLOSED, OUT_OF_RANGE, NO_MEMORY.
- * Cost: as `hordguli_cluster_at`, plus O(length of the line). */
+ * Cost: as `hordguli_cluster_at`, plus O(length of the line).
+ * Since: 0.6. */
 hordguli_status hordguli_edge_caret(hordguli_session *session, hordguli_edge edge, hordguli_caret *caret);
 
 /* Moves a caret to the nearest boundary to the left or right on its line. Stores the edge there in `*next`, and 1 in
@@ -797,7 +861,8 @@ hordguli_status hordguli_edge_caret(hordguli_session *session, hordguli_edge edg
  * Unicode 15.0, only U+2D7F and U+1171E have columns.
  *
  * Errors: NULL, OVERLAP, UNKNOWN_OPTION, CLOSED, OUT_OF_RANGE, NO_MEMORY.
- * Cost: as `hordguli_edge_caret`. */
+ * Cost: as `hordguli_edge_caret`.
+ * Since: 0.6. */
 hordguli_status hordguli_step(hordguli_session *session, hordguli_edge edge, uint32_t direction, hordguli_edge *next,
                               uint32_t *moved);
 
@@ -810,7 +875,8 @@ hordguli_status hordguli_step(hordguli_session *session, hordguli_edge edge, uin
  *
  * Fails with OUT_OF_RANGE for later lines.
  * Errors: NULL, OVERLAP, CLOSED, OUT_OF_RANGE, NO_MEMORY.
- * Cost: as `hordguli_edge_caret`. */
+ * Cost: as `hordguli_edge_caret`.
+ * Since: 0.6. */
 hordguli_status hordguli_edge_at(hordguli_session *session, size_t line, size_t column, hordguli_edge *edge);
 
 /* Stores in `*edge` the nearest edge to a column of a line, for mouse clicks that may hit either half of a character. In
@@ -819,7 +885,8 @@ hordguli_status hordguli_edge_at(hordguli_session *session, size_t line, size_t 
  *
  * Fails with OUT_OF_RANGE for the same lines as `hordguli_edge_at`.
  * Errors: NULL, OVERLAP, CLOSED, OUT_OF_RANGE, NO_MEMORY.
- * Cost: as `hordguli_edge_caret`. */
+ * Cost: as `hordguli_edge_caret`.
+ * Since: 0.6. */
 hordguli_status hordguli_nearest_edge(hordguli_session *session, size_t line, size_t column, hordguli_edge *edge);
 
 /* Stores the first and the last edge of a line in logical order, for the keys Home and End. The first edge is before the
@@ -833,16 +900,18 @@ hordguli_status hordguli_nearest_edge(hordguli_session *session, size_t line, si
  * In the line where a new paragraph would start, both are before the end of the text. Fails with OUT_OF_RANGE for later
  * lines.
  * Errors: NULL, OVERLAP, CLOSED, OUT_OF_RANGE.
- * Cost: O(log n). */
+ * Cost: O(log n).
+ * Since: 0.6. */
 hordguli_status hordguli_line_edges(hordguli_session *session, size_t line, hordguli_edge *first, hordguli_edge *last);
 
 /* Stores where the grapheme clusters of a line end, counted from the start of the line, in an array of `capacity`
- * elements, and their number in `*count` (see BUFFERS). The last one is the length of the line, also where a cluster
- * goes on in the next line. Fails with OUT_OF_RANGE if the line does not exist.
+ * elements, and their number in `*count`. NULL with capacity 0 is NO_ROOM (see BUFFERS). The last one is the length of
+ * the line, also where a cluster goes on in the next line. Fails with OUT_OF_RANGE if the line does not exist.
  *
  * NO_MEMORY comes before NO_ROOM.
  * Errors: NULL, OVERLAP, CLOSED, OUT_OF_RANGE, NO_MEMORY, NO_ROOM.
- * Cost: as `hordguli_cluster_at`, plus O(length of the line). */
+ * Cost: as `hordguli_cluster_at`, plus O(length of the line).
+ * Since: 0.6. */
 hordguli_status hordguli_line_clusters(hordguli_session *session, size_t line, size_t capacity, size_t *ends,
                                        size_t *count);
 
@@ -850,9 +919,10 @@ hordguli_status hordguli_line_clusters(hordguli_session *session, size_t line, s
 
 /* Puts a row of `count` characters into visual order. The caller chose where the row starts and ends. `base` is the
  * base level of its paragraph (`hordguli_base`), and `levels` are the levels of the row's characters in the whole
- * paragraph (`hordguli_levels`). `options` can have HORDGULI_REORDER_NSM and HORDGULI_REORDER_CLUSTERS. The clusters are
- * those of these characters alone. Stores `count` elements in each array. Each array has `capacity` elements. NULL
- * arrays are skipped. Positions count from the start of the row.
+ * paragraph (`hordguli_levels`). `options` can have HORDGULI_REORDER_NSM and HORDGULI_REORDER_CLUSTERS. The clusters
+ * are those of these characters alone. Stores `count` elements in each array. Each array has `capacity` elements. NULL
+ * arrays are skipped, so with all arrays NULL nothing needs room (see BUFFERS). Positions count from the start of the
+ * row.
  *   visual      characters in visual order, mirrored (UAX #9, L4)
  *   row_levels  level of each character after L1, in logical order
  *   ltov        visual position of each logical position
@@ -871,17 +941,19 @@ hordguli_status hordguli_line_clusters(hordguli_session *session, size_t line, s
  *
  * OUT_OF_RANGE means that `base` is above 1, a level is above 126, or `count` is above UINT32_MAX.
  * Errors: NULL, OVERLAP, UNKNOWN_OPTION, CLOSED, NO_ROOM, NOT_A_CHARACTER, OUT_OF_RANGE, NO_MEMORY.
- * Cost: memory proportional to `count`, and time proportional to `count` times the highest level of the row. */
+ * Cost: memory proportional to `count`, and time proportional to `count` times the highest level of the row.
+ * Since: 0.6. */
 hordguli_status hordguli_row(hordguli_tables *tables, uint32_t options, uint32_t base, size_t count,
                              const uint32_t *characters, const uint8_t *levels, size_t capacity, uint32_t *visual,
                              uint8_t *row_levels, uint32_t *ltov, uint32_t *vtol);
 
 /* Stores the directional runs of a row, from left to right, for shaping text (see `hordguli_runs`). Positions count
  * from the start of the row. `base`, `characters` and `levels` are as in `hordguli_row`. The number of runs is stored
- * in `*run_count`, and the runs in an array of `capacity` elements (see BUFFERS). NO_MEMORY comes before NO_ROOM,
- * because the levels after L1 are gathered first.
+ * in `*run_count`, and the runs in an array of `capacity` elements. NULL with capacity 0 is NO_ROOM, unless `count` is
+ * 0 (see BUFFERS). NO_MEMORY comes before NO_ROOM, because the levels after L1 are gathered first.
  * Errors: NULL, OVERLAP, CLOSED, NOT_A_CHARACTER, OUT_OF_RANGE, NO_MEMORY, NO_ROOM.
- * Cost: as `hordguli_row`. */
+ * Cost: as `hordguli_row`.
+ * Since: 0.6. */
 hordguli_status hordguli_row_runs(hordguli_tables *tables, uint32_t base, size_t count, const uint32_t *characters,
                                   const uint8_t *levels, size_t capacity, hordguli_run *runs, size_t *run_count);
 
@@ -889,7 +961,7 @@ hordguli_status hordguli_row_runs(hordguli_tables *tables, uint32_t base, size_t
  *
  * `hordguli_base`, `hordguli_levels` and `hordguli_marks` take one paragraph of `count` characters, and do not split it
  * at separators. `direction` is a base direction without other options, or 0. NO_ROOM means that `capacity` is less
- * than `count`.
+ * than `count`, also if the array is NULL.
  *
  * To lay out text with these functions, a caller has to:
  *   - split the text into paragraphs (UAX #9, P1);
@@ -1014,7 +1086,8 @@ typedef struct hordguli_character {
  * tables, except the columns (see COLUMNS). A character that no table names has line breaking class XX, and no mirror,
  * bracket or flags. Its bidi class is L, or with tables of Unicode 17.0 the default in DerivedBidiClass.txt.
  * Errors: NULL, OVERLAP, CLOSED, NOT_A_CHARACTER.
- * Cost: O(count). */
+ * Cost: O(count).
+ * Since: 0.6. */
 hordguli_status hordguli_properties(hordguli_tables *tables, size_t count, const uint32_t *characters,
                                     hordguli_character *records);
 

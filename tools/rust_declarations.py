@@ -78,7 +78,7 @@ def documentation(header, name, indent=""):
         elif is_code and text and not is_indented:
             is_code = False
             lines[-1:] = ["```", ""]  # (an empty line is before it)
-        if re.match("(Errors|Cost):", text) and lines[-1:] != [""]:
+        if re.match("(Errors|Cost|Since):", text) and lines[-1:] != [""]:
             lines.append("")
         lines.append(text[4:] if is_code else re.sub(r"^  (\w+)  +", r"- `\1`: ", text))
     lines += ["```"] * is_code

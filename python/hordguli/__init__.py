@@ -24,12 +24,13 @@ Threads may share sessions and tables: a lock keeps each of them in one call at 
 `default_tables()`, so programs that lay out long texts in several threads should open `Tables` for each. After a fork, the child
 has its own copies. What another thread was using during the fork is closed in the child.
 
-`__version__` is the version of the C library, and `UNICODE_VERSION` the default Unicode version of tables.
+`__version__` is the version of the C library, `UNICODE_VERSION` the default Unicode version of tables, and
+`WIDTH_UNICODE_VERSION` that of columns and grapheme clusters, which does not depend on the tables.
 """
 
 from ._errors import Cause, ClosedError, NotMeasuredError, TableError
 from ._explain import explain
-from ._library import UNICODE_VERSION
+from ._library import UNICODE_VERSION, WIDTH_UNICODE_VERSION
 from ._library import VERSION as __version__
 from ._records import (
     Break,
@@ -63,6 +64,7 @@ from .text import base_level, breaks, count_utf8, display, levels, properties, r
 __all__ = [
     "TABLE_FILES",
     "UNICODE_VERSION",
+    "WIDTH_UNICODE_VERSION",
     "Break",
     "Caret",
     "Cause",

@@ -79,6 +79,7 @@ FUNCTIONS: dict[str, tuple[Any, dict[str, Any]]] = {
     "hordguli_status_text": (TEXT, {"status": STATUS}),
     "hordguli_version": (TEXT, {}),
     "hordguli_unicode_version": (TEXT, {}),
+    "hordguli_width_unicode_version": (TEXT, {}),
     "hordguli_tables_open_builtin": (STATUS, {"tables": POINTER}),
     "hordguli_tables_open_builtin_version": (STATUS, {"tables": POINTER, "version": NUMBER}),
     "hordguli_tables_open_image": (STATUS, {"tables": POINTER, "image": POINTER, "length": SIZE, "fault": POINTER}),

@@ -1,5 +1,6 @@
 """Tables of character properties."""
 
+import ctypes
 import os
 from collections.abc import Sequence
 from ctypes import byref, c_uint32
@@ -14,6 +15,10 @@ from ._library import UNICODE_VERSION, library
 from ._records import FORMATS, TableFault
 
 _USUAL_CAPACITY = 1000
+# (keeps `errno`, which says why a file cannot be read; other calls do not need it)
+_open_folder = ctypes.CDLL(library._name, use_errno=True).hordguli_tables_open_folder_version
+_open_folder.restype = library.hordguli_tables_open_folder_version.restype
+_open_folder.argtypes = library.hordguli_tables_open_folder_version.argtypes
 
 
 class Buffers:
@@ -38,7 +43,7 @@ class Tables:
     not given, it is 15.0, or that of the image.
 
     Raises `TableError` if a file cannot be read, if a file or the image is malformed, or if the image has another version. Raises
-    `ValueError` for an unknown version.
+    `ValueError` for an unknown version. The `__cause__` of a `TableError` for an unread file is an `OSError`.
 
     Tables may be used in several threads, one call at a time. A session shares the tables that it was opened with, so they may
     be closed before it.
@@ -64,7 +69,7 @@ class Tables:
             folder = os.fsdecode(files)
             if "\0" in folder:
                 raise ValueError(f"a path has a null character: {folder!r}")
-            status = self._handle.open(library.hordguli_tables_open_folder_version, version, os.fsencode(folder), address(fault))
+            status = self._handle.open(_open_folder, version, os.fsencode(folder), address(fault))
         else:
             if len(files) != len(TABLE_FILES):
                 raise ValueError(f"{len(files)} files are given, and {len(TABLE_FILES)} are needed")
@@ -72,7 +77,9 @@ class Tables:
             status = self._handle.open(library.hordguli_tables_read_version, version, contents, address(fault))
         if status in (TABLE_FAULT, UNREAD_FILE):
             file, line, cause = FORMATS[TableFault].unpack(fault)
-            raise TableError((*TABLE_FILES, "image")[file], line, Cause(cause), folder)
+            number = ctypes.get_errno()
+            reason = OSError(number, os.strerror(number)) if status == UNREAD_FILE else None
+            raise TableError((*TABLE_FILES, "image")[file], line, Cause(cause), folder) from reason
         check(status)
         if unicode is not None and self.unicode_version != unicode:
             self.close()

@@ -2,7 +2,10 @@
  * of Unicode 15.0 and their image, and FOLDER_17 those of Unicode 17.0. */
 #include "test.h"
 
+#include <errno.h>
 #include <limits.h>
+#include <sys/stat.h>
+#include <unistd.h>
 
 static hordguli_tables tables = HORDGULI_TABLES_INIT;
 static hordguli_session session = HORDGULI_SESSION_INIT;
@@ -110,6 +113,36 @@ static void opened_by_folder(const char *folder) {
     OK(hordguli_tables_open_folder(&tables, folder, &fault));
     IS(hordguli_tables_open_folder(&tables, folder, &fault), ALREADY_OPEN);
     HOLDS(tables.at != NULL);
+}
+
+/* Opens a folder, a file of which cannot be read. */
+static void unread(const char *folder, uint32_t file, int why) {
+    hordguli_tables opened = HORDGULI_TABLES_INIT;
+    hordguli_table_fault fault = {77, 77, 77};
+    errno = 0;
+    IS(hordguli_tables_open_folder(&opened, folder, &fault), UNREAD_FILE);
+    HOLDS(errno == why && fault.file == file && fault.line == 0 && fault.cause == 0);
+    errno = 0;
+    IS(hordguli_tables_open_folder_version(&opened, HORDGULI_UNICODE_17_0, folder, NULL), UNREAD_FILE);
+    HOLDS(errno == why && opened.at == NULL);
+}
+
+static void unread_file_sets_errno(const char *folder) {
+    char path[200], made[] = "/tmp/calls-XXXXXX", name[] = "/tmp/calls-XXXXXX/DerivedBidiClass.txt";
+    FILE *file;
+    unread("no such folder", 0, ENOENT);
+    unread("", 0, ENOENT); /* the files are in the root folder */
+    snprintf(path, sizeof path, "%s/LineBreak.txt", folder);
+    unread(path, 0, ENOTDIR);
+    HOLDS(mkdtemp(made) != NULL);
+    memcpy(name, made, strlen(made));
+    file = fopen(name, "wb");
+    HOLDS(file != NULL && fclose(file) == 0);
+    unread(made, 1, ENOENT);
+    snprintf(path, sizeof path, "%s/BidiBrackets.txt", made);
+    HOLDS(mkdir(path, 0700) == 0);
+    unread(made, 1, EISDIR); /* it can be opened, but not read */
+    HOLDS(rmdir(path) == 0 && remove(name) == 0 && rmdir(made) == 0);
 }
 
 /* Whether two tables give all characters the same properties. */
@@ -1614,6 +1647,19 @@ static void properties(void) {
     OK(hordguli_properties(&tables, 0, NULL, NULL));
 }
 
+/* A wide emoji and a nonspacing mark, both of Unicode 18.0: tables of 17.0 do not have them. */
+static void widths_are_of_their_version(void) {
+    static const uint32_t characters[] = {0x1FACC, 0x5C8};
+    hordguli_tables newest = HORDGULI_TABLES_INIT;
+    hordguli_character records[2];
+    HOLDS(strcmp(hordguli_width_unicode_version(), "18.0") == 0);
+    OK(hordguli_tables_open_builtin_version(&newest, HORDGULI_UNICODE_17_0));
+    OK(hordguli_properties(&newest, 2, characters, records));
+    HOLDS(records[0].columns == 2 && records[0].flags == 0);
+    HOLDS(records[1].columns == 0 && records[1].flags == 0);
+    hordguli_tables_close(&newest);
+}
+
 /* The levels of a row before L1, its characters, and what `hordguli_row` stores. Levels and positions are digits. */
 typedef struct row {
     const char *name;
@@ -1761,12 +1807,95 @@ static void end_of_text(void) {
     damaged(&damage, 0, 0, 3, 0, 0, 3);
 }
 
+/* U+2028, U+000B and U+000C end a line, but not its paragraph. The next line exists once it has a character. */
+static void caret_stays_after_a_final_line_separator(void) {
+    static const char *const texts[] = {"ab\u2028", "ab\v", "ab\f", "\u05d0\u05d1\u2028"};
+    for (size_t k = 0; k < sizeof texts / sizeof *texts; k++) {
+        size_t end = k < 3 ? 2 : 0; /* the column of the end of the line */
+        hordguli_session ended = HORDGULI_SESSION_INIT;
+        hordguli_counts found;
+        hordguli_place place;
+        hordguli_caret caret;
+        hordguli_edge edge, first, last;
+        OK(hordguli_session_open(&ended, &tables, 0, 80, texts[k], strlen(texts[k])));
+        OK(hordguli_session_counts(&ended, &found));
+        HOLDS(found.characters == 3 && found.lines == 1 && found.paragraphs == 1);
+        OK(hordguli_place_of(&ended, 3, &place));
+        HOLDS(place.paragraph == 0 && place.line == 0 && place.offset == 3);
+        OK(hordguli_caret_at(&ended, 3, &caret));
+        HOLDS(caret.line == 0 && caret.column == end);
+        for (uint32_t side = HORDGULI_BEFORE; side <= HORDGULI_AFTER; side++) {
+            OK(hordguli_edge_caret(&ended, (hordguli_edge){3, side, 0}, &caret));
+            HOLDS(caret.line == 0 && caret.column == end);
+        }
+        OK(hordguli_line_edges(&ended, 0, &first, &last));
+        HOLDS(last.pos == 2 && last.side == HORDGULI_BEFORE);
+        IS(hordguli_edge_at(&ended, 1, 0, &edge), OUT_OF_RANGE);
+        OK(hordguli_insert(&ended, 3, "c", 1, NULL));
+        OK(hordguli_edge_caret(&ended, (hordguli_edge){3, HORDGULI_BEFORE, 0}, &caret));
+        HOLDS(caret.line == 1 && caret.column == 0);
+        hordguli_session_close(&ended);
+    }
+}
+
+/* A function with one array does not skip NULL: it stores the size. */
+static void null_array_is_too_small(void) {
+    static const uint32_t characters[] = {'a', 0x5D0};
+    static const uint8_t levels[] = {0, 1};
+    size_t size = 77;
+#define SIZE_IS(call, wanted) IS(call, NO_ROOM), HOLDS(size == (wanted)), size = 77
+    SIZE_IS(hordguli_layout(&tables, 0, 80, HORDGULI_PRINT_VISUAL, "ab", 2, 0, NULL, &size), 3);
+    SIZE_IS(hordguli_lines_utf8(&session, 0, 1, HORDGULI_PRINT_VISUAL, 0, NULL, &size), 11);
+    SIZE_IS(hordguli_text(&session, 0, 5, 0, NULL, &size), 6);
+    SIZE_IS(hordguli_text_utf32(&session, 0, 5, 0, NULL, &size), 5);
+    SIZE_IS(hordguli_runs(&session, 0, 0, NULL, &size), 2);
+    SIZE_IS(hordguli_spans(&session, 0, 3, 5, 0, NULL, &size), 2);
+    SIZE_IS(hordguli_line_clusters(&session, 0, 0, NULL, &size), 8);
+    SIZE_IS(hordguli_row_runs(&tables, 0, 2, characters, levels, 0, NULL, &size), 2);
+#undef SIZE_IS
+#define NOTHING(call) OK(call), HOLDS(size == 0), size = 77
+    NOTHING(hordguli_layout(&tables, 0, 80, HORDGULI_PRINT_VISUAL, NULL, 0, 0, NULL, &size));
+    NOTHING(hordguli_lines_utf8(&session, 0, 0, HORDGULI_PRINT_VISUAL, 0, NULL, &size));
+    NOTHING(hordguli_text(&session, 3, 0, 0, NULL, &size));
+    NOTHING(hordguli_text_utf32(&session, 3, 0, 0, NULL, &size));
+    NOTHING(hordguli_spans(&session, 0, 3, 3, 0, NULL, &size));
+    NOTHING(hordguli_row_runs(&tables, 0, 0, NULL, NULL, 0, NULL, &size));
+#undef NOTHING
+    IS(hordguli_levels(&tables, 0, characters, 2, 0, NULL), NO_ROOM);
+    IS(hordguli_marks(&tables, 0, characters, 2, 0, NULL), NO_ROOM);
+    OK(hordguli_levels(&tables, 0, NULL, 0, 0, NULL));
+    OK(hordguli_marks(&tables, 0, NULL, 0, 0, NULL));
+}
+
+/* A function with several arrays skips those that are NULL: with none, nothing needs room. */
+static void null_arrays_are_skipped(void) {
+    static const uint32_t characters[] = {'a', 0x5D0};
+    static const uint8_t levels[] = {0, 1};
+    uint32_t small[1] = {77};
+    uint8_t small_levels[1] = {77};
+    for (size_t capacity = 0; capacity < 9; capacity += 4) {
+        hordguli_line_info info = {0};
+        hordguli_paragraph_info paragraph = {0};
+        OK(hordguli_line(&session, 0, &info, capacity, NULL, NULL, NULL, NULL, NULL));
+        HOLDS(info.shown == 7 && info.length == 8);
+        OK(hordguli_paragraph(&session, 0, &paragraph, capacity, NULL, NULL));
+        HOLDS(paragraph.length == 8);
+        OK(hordguli_row(&tables, 0, 0, 2, characters, levels, capacity, NULL, NULL, NULL, NULL));
+    }
+    for (int k = 0; k < 4; k++)
+        IS(hordguli_row(&tables, 0, 0, 2, characters, levels, 1, k == 0 ? small : NULL, k == 1 ? small_levels : NULL,
+                        k == 2 ? small : NULL, k == 3 ? small : NULL),
+           NO_ROOM);
+    HOLDS(small[0] == 77 && small_levels[0] == 77);
+}
+
 int main(int count, char **words) {
     if (count != 3) return 2;
     constants();
     opened_by_bytes();
     table_faults();
     opened_by_folder(words[1]);
+    unread_file_sets_errno(words[1]);
     opened_by_images(words[1]);
     opened_by_version(words[1], words[2]);
     opened();
@@ -1792,8 +1921,12 @@ int main(int count, char **words) {
     directions_are_one_or_refused();
     without_session();
     properties();
+    widths_are_of_their_version();
     rows();
+    null_array_is_too_small();
+    null_arrays_are_skipped();
     end_of_text();
+    caret_stays_after_a_final_line_separator();
     too_long();
     /* a session outlives the tables that it was opened on */
     hordguli_tables_close(&tables);

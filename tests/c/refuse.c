@@ -1,7 +1,12 @@
 /* Makes each allocation fail in turn. A call whose allocation fails must return NO_MEMORY and change nothing. The same
- * call must then succeed when its allocations do. At the end, all memory must be freed. Usage: refuse FOLDER, where
- * FOLDER has small table files. Link it with --wrap=malloc, --wrap=realloc and --wrap=free. */
+ * call must then succeed when its allocations do. At the end, all memory must be freed. An unread file sets errno, though
+ * `free` and `close` change it. Usage: refuse FOLDER, where FOLDER has small table files. Link it with --wrap=malloc,
+ * --wrap=realloc, --wrap=free and --wrap=close. */
 #include "test.h"
+
+#include <errno.h>
+#include <sys/stat.h>
+#include <unistd.h>
 
 void *__real_malloc(size_t size);
 void *__real_realloc(void *block, size_t size);
@@ -9,6 +14,8 @@ void __real_free(void *block);
 void *__wrap_malloc(size_t size);
 void *__wrap_realloc(void *block, size_t size);
 void __wrap_free(void *block);
+int __real_close(int file);
+int __wrap_close(int file);
 
 static long asked, refused_at, live;
 
@@ -31,6 +38,13 @@ void *__wrap_realloc(void *block, size_t size) {
 void __wrap_free(void *block) {
     live -= block != NULL;
     __real_free(block);
+    errno = 7777;
+}
+
+int __wrap_close(int file) {
+    int result = __real_close(file);
+    errno = 7777;
+    return result;
 }
 
 enum { BYTES = 1 << 14, MOST_LINES = 100 };
@@ -158,12 +172,27 @@ static int keeps_buffers(int k) { return k == LAYOUT || k == WIDTH || k == ADVAN
 /* Whether a call may free the lists of a paragraph that an earlier edit has replaced, though it fails */
 static int frees_lists(int k) { return k == INSERT || k == REPLACE || k == DELETE || k == JOIN; }
 
+/* A folder in place of a file can be opened, but not read, so it is closed. */
+static void unread_file_sets_errno(void) {
+    char made[] = "/tmp/refuse-XXXXXX", file[] = "/tmp/refuse-XXXXXX/DerivedBidiClass.txt";
+    HOLDS(mkdtemp(made) != NULL);
+    memcpy(file, made, strlen(made));
+    HOLDS(mkdir(file, 0700) == 0);
+    errno = 0;
+    HOLDS(hordguli_tables_open_folder(&tables, made, NULL) == HORDGULI_UNREAD_FILE && errno == EISDIR);
+    HOLDS(rmdir(file) == 0);
+    errno = 0;
+    HOLDS(hordguli_tables_open_folder(&tables, made, NULL) == HORDGULI_UNREAD_FILE && errno == ENOENT);
+    HOLDS(rmdir(made) == 0);
+}
+
 int main(int count, char **words) {
     long runs = 0, most = 0;
     static shape last, last_measured;
     uint8_t levels[9], marks[9];
     if (count != 2) return 2;
     folder = words[1];
+    unread_file_sets_errno();
     for (long at = 0; at <= most + 1; at++, runs++) { /* no allocation fails in the first run, which counts them, nor in the last */
         int refusals = 0;
         long before = live;

@@ -328,6 +328,7 @@ def test_a_missing_table_file_is_named(tmp_path):
     assert (caught.value.file, caught.value.line, caught.value.cause) == ("DerivedBidiClass.txt", 0, Cause.UNREAD_FILE)
     assert caught.value.folder == os.fspath(tmp_path)
     assert str(caught.value) == f"cannot read {tmp_path}/DerivedBidiClass.txt"
+    assert isinstance(caught.value.__cause__, FileNotFoundError)
     assert str(pickle.loads(pickle.dumps(caught.value))) == str(caught.value)
 
 

@@ -130,6 +130,12 @@ def test_properties_of_characters():
     assert (clef.bidi_class, hordguli.properties("]")[0].bracket) == ("L", "close")
 
 
+def test_widths_are_of_their_version():
+    assert hordguli.WIDTH_UNICODE_VERSION == "18.0"
+    emoji, mark = hordguli.properties("\U0001facc\u05c8", tables=hordguli.default_tables("17.0"))  # of Unicode 18.0
+    assert (emoji.columns, emoji.is_wide, mark.columns, mark.is_mark) == (2, False, 0, False)
+
+
 def test_utf8_is_counted_and_checked():
     assert hordguli.count_utf8(f"a{CLEF}".encode()) == 2
     assert hordguli.valid_utf8(f"a{CLEF}".encode()[:-1]) == 1

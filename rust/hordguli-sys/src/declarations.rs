@@ -403,17 +403,26 @@ extern "C" {
     /// Returns "15.0", the Unicode version of tables that `hordguli_tables_open_builtin`, `hordguli_tables_open_folder` and
     /// `hordguli_tables_read` open.
     pub fn hordguli_unicode_version() -> *const c_char;
+    /// Returns the Unicode version of column widths and grapheme clusters, such as "18.0". It is that of the library, and
+    /// does not depend on the tables.
+    ///
+    /// Since: 0.6.
+    pub fn hordguli_width_unicode_version() -> *const c_char;
     /// Opens the tables of Unicode 15.0 that the library contains. Reads no file.
     ///
     /// Errors: NULL, ALREADY_OPEN, NO_MEMORY.
     ///
     /// Cost: as `hordguli_tables_open_image`.
+    ///
+    /// Since: 0.6.
     pub fn hordguli_tables_open_builtin(tables: *mut hordguli_tables) -> hordguli_status;
     /// Opens the tables of `version` that the library contains, such as those of HORDGULI_UNICODE_17_0. Reads no file.
     ///
     /// Errors: NULL, UNKNOWN_OPTION (another version), ALREADY_OPEN, NO_MEMORY.
     ///
     /// Cost: as `hordguli_tables_open_image`.
+    ///
+    /// Since: 0.6.
     pub fn hordguli_tables_open_builtin_version(
         tables: *mut hordguli_tables,
         version: u32,
@@ -425,6 +434,8 @@ extern "C" {
     /// Errors: NULL, OVERLAP, ALREADY_OPEN, TABLE_FAULT, NO_MEMORY.
     ///
     /// Cost: O(`length`), plus a pass over the code points of the pages that have separators, brackets or mirrors.
+    ///
+    /// Since: 0.6.
     pub fn hordguli_tables_open_image(
         tables: *mut hordguli_tables,
         image: *const c_void,
@@ -448,14 +459,17 @@ extern "C" {
     /// Errors: NULL, OVERLAP, UNKNOWN_OPTION (another version), ALREADY_OPEN, TABLE_FAULT, NO_MEMORY.
     ///
     /// Cost: as `hordguli_tables_read`.
+    ///
+    /// Since: 0.6.
     pub fn hordguli_tables_read_version(
         tables: *mut hordguli_tables,
         version: u32,
         files: *const hordguli_bytes,
         fault: *mut hordguli_table_fault,
     ) -> hordguli_status;
-    /// Opens tables of Unicode 15.0 from the files in a folder. `folder` is a NUL-terminated path. `fault` may be NULL, and is
-    /// set only on UNREAD_FILE or TABLE_FAULT. If memory runs out before either is found, NO_MEMORY is returned.
+    /// Opens tables of Unicode 15.0 from the files in a folder. `folder` is a NUL-terminated path. `fault` may be NULL, and
+    /// is set only on UNREAD_FILE or TABLE_FAULT. On UNREAD_FILE, `errno` is that of the failed `open` or `read`, such as
+    /// ENOENT. If memory runs out before either fault is found, NO_MEMORY is returned.
     ///
     /// Errors: NULL, OVERLAP, ALREADY_OPEN, UNREAD_FILE, TABLE_FAULT, NO_MEMORY.
     ///
@@ -465,11 +479,13 @@ extern "C" {
         folder: *const c_char,
         fault: *mut hordguli_table_fault,
     ) -> hordguli_status;
-    /// As `hordguli_tables_open_folder`, with the files of `version`.
+    /// As `hordguli_tables_open_folder`, with the files of `version`, also in setting `errno`.
     ///
     /// Errors: NULL, OVERLAP, UNKNOWN_OPTION (another version), ALREADY_OPEN, UNREAD_FILE, TABLE_FAULT, NO_MEMORY.
     ///
     /// Cost: as `hordguli_tables_read`.
+    ///
+    /// Since: 0.6.
     pub fn hordguli_tables_open_folder_version(
         tables: *mut hordguli_tables,
         version: u32,
@@ -481,15 +497,18 @@ extern "C" {
     /// Errors: NULL, OVERLAP, CLOSED.
     ///
     /// Cost: O(1).
+    ///
+    /// Since: 0.6.
     pub fn hordguli_tables_version(
         tables: *mut hordguli_tables,
         version: *mut u32,
     ) -> hordguli_status;
     /// Closes the handle. Safe on a closed handle or NULL. The tables are freed once no open session uses them.
     pub fn hordguli_tables_close(tables: *mut hordguli_tables);
-    /// Lays out a text, and writes its lines to a buffer (see BUFFERS), as UTF-8. `*written` is the byte count. The bytes are
-    /// those that `hordguli_lines_utf8` writes for all lines of a session with these `options`, this `width` and this text.
-    /// `print` is as in that function. For example, the line of a log:
+    /// Lays out a text, and writes its lines to a buffer, as UTF-8. `*written` is the byte count. NULL with capacity 0 is
+    /// NO_ROOM if there is anything to write (see BUFFERS). The bytes are those that `hordguli_lines_utf8` writes for all
+    /// lines of a session with these `options`, this `width` and this text. `print` is as in that function. For example, the
+    /// line of a log:
     ///
     /// ```c
     /// status = hordguli_layout(&tables, HORDGULI_WEAK_LTR, 80, HORDGULI_PRINT_DEFAULT, line, strlen(line),
@@ -500,12 +519,15 @@ extern "C" {
     /// keeps at most 5 MB: memory for a text or for lines of more than 65,536 bytes is freed. `hordguli_tables_close` frees
     /// it. Calls at the same time in several threads need a handle of tables each.
     ///
-    /// NO_MEMORY comes before NO_ROOM, because the lines are gathered before their size is known.
+    /// On NOT_UTF8, `hordguli_valid_utf8` says where. NO_MEMORY comes before NO_ROOM, because the lines are gathered before
+    /// their size is known.
     ///
     /// Errors: NULL, OVERLAP, WIDTH_OUT_OF_RANGE (above 65,535), UNKNOWN_OPTION, NOT_UTF8, CLOSED, WIDTH_OUT_OF_RANGE (0),
     /// TEXT_TOO_LONG, PARAGRAPH_TOO_LONG, NO_MEMORY, NO_ROOM.
     ///
     /// Cost: time and memory proportional to `length` and to the lines, even with capacity 0.
+    ///
+    /// Since: 0.6.
     pub fn hordguli_layout(
         tables: *mut hordguli_tables,
         options: u32,
@@ -517,7 +539,8 @@ extern "C" {
         buffer: *mut c_char,
         written: *mut usize,
     ) -> hordguli_status;
-    /// Stores in `*count` the number of characters in UTF-8 text of `length` bytes.
+    /// Stores in `*count` the number of characters in UTF-8 text of `length` bytes. On NOT_UTF8, `hordguli_valid_utf8` says
+    /// where.
     ///
     /// Errors: NULL, OVERLAP, NOT_UTF8.
     ///
@@ -528,18 +551,22 @@ extern "C" {
         count: *mut usize,
     ) -> hordguli_status;
     /// Stores in `*valid` the length of the longest prefix of `bytes` that is valid UTF-8: `length` if all of it is, else
-    /// the index of the first byte that belongs to no character. An incomplete character at the end is not valid.
+    /// the index of the first byte that belongs to no character. An incomplete character at the end is not valid. After
+    /// NOT_UTF8, this is where the text is wrong, and the text before it is valid.
     ///
     /// Errors: NULL, OVERLAP.
     ///
     /// Cost: O(length).
+    ///
+    /// Since: 0.6.
     pub fn hordguli_valid_utf8(
         bytes: *const c_char,
         length: usize,
         valid: *mut usize,
     ) -> hordguli_status;
     /// Opens a session on a text. `width` is in columns. The session shares the tables, so their handle may be closed
-    /// before the session. NO_MEMORY comes directly after CLOSED if 2^63 sessions share the tables.
+    /// before the session. On NOT_UTF8, `hordguli_valid_utf8` says where. NO_MEMORY comes directly after CLOSED if 2^63
+    /// sessions share the tables.
     ///
     /// Errors: NULL, OVERLAP, WIDTH_OUT_OF_RANGE (above 65,535), UNKNOWN_OPTION, NOT_UTF8, ALREADY_OPEN (the session),
     /// CLOSED (the tables), WIDTH_OUT_OF_RANGE (0), TEXT_TOO_LONG, PARAGRAPH_TOO_LONG, NO_MEMORY.
@@ -554,13 +581,15 @@ extern "C" {
         length: usize,
     ) -> hordguli_status;
     /// Opens a measured session on a text (see MEASURED TEXT). `width` is in the caller's unit, from 1 to 2,147,483,647. All
-    /// advances are 0 until `hordguli_set_advances` sets them, so lines end at mandatory breaks only. The rest is as in
-    /// `hordguli_session_open`.
+    /// advances are 0 until `hordguli_set_advances` sets them, so lines end at mandatory breaks only. On NOT_UTF8,
+    /// `hordguli_valid_utf8` says where. The rest is as in `hordguli_session_open`.
     ///
     /// Errors: NULL, OVERLAP, UNKNOWN_OPTION, NOT_UTF8, ALREADY_OPEN (the session), CLOSED (the tables), WIDTH_OUT_OF_RANGE,
     /// TEXT_TOO_LONG, PARAGRAPH_TOO_LONG, NO_MEMORY.
     ///
     /// Cost: as `hordguli_session_open`.
+    ///
+    /// Since: 0.6.
     pub fn hordguli_session_open_measured(
         session: *mut hordguli_session,
         tables: *mut hordguli_tables,
@@ -572,6 +601,7 @@ extern "C" {
     /// Frees the session and closes the handle. Safe on a closed handle or NULL.
     pub fn hordguli_session_close(session: *mut hordguli_session);
     /// Inserts text before the character at `pos`, or at the end of the text. Stores in `*damage` which lines were replaced.
+    /// On NOT_UTF8, `hordguli_valid_utf8` says where.
     ///
     /// Errors: NULL, OVERLAP, NOT_UTF8, CLOSED, OUT_OF_RANGE, TEXT_TOO_LONG, PARAGRAPH_TOO_LONG, NO_MEMORY.
     ///
@@ -594,7 +624,8 @@ extern "C" {
         count: usize,
         damage: *mut hordguli_damage,
     ) -> hordguli_status;
-    /// Replaces the `count` characters that start at `pos` with text, in one edit.
+    /// Replaces the `count` characters that start at `pos` with text, in one edit. On NOT_UTF8, `hordguli_valid_utf8` says
+    /// where.
     ///
     /// Errors: NULL, OVERLAP, NOT_UTF8, CLOSED, OUT_OF_RANGE, TEXT_TOO_LONG, PARAGRAPH_TOO_LONG, NO_MEMORY.
     ///
@@ -624,6 +655,8 @@ extern "C" {
     /// Errors: NULL, OVERLAP, CLOSED, NOT_MEASURED, WIDTH_OUT_OF_RANGE, NO_MEMORY.
     ///
     /// Cost: as `hordguli_set_width`.
+    ///
+    /// Since: 0.6.
     pub fn hordguli_set_measured_width(
         session: *mut hordguli_session,
         width: u32,
@@ -646,6 +679,8 @@ extern "C" {
     /// Errors: NULL, OVERLAP, CLOSED, NOT_MEASURED, OUT_OF_RANGE, PARAGRAPH_TOO_LONG, NO_MEMORY.
     ///
     /// Cost: O(log n), plus O(`count`), plus wrapping these paragraphs. Levels and break marks are not computed again.
+    ///
+    /// Since: 0.6.
     pub fn hordguli_set_advances(
         session: *mut hordguli_session,
         pos: usize,
@@ -682,7 +717,8 @@ extern "C" {
         start: *mut usize,
     ) -> hordguli_status;
     /// Stores information about a line in `*info`, and `info->shown` elements in each array. Each array has `capacity`
-    /// elements. NULL arrays are skipped. Positions count from the start of the line.
+    /// elements. NULL arrays are skipped, so with all arrays NULL nothing needs room (see BUFFERS). Positions count from the
+    /// start of the line.
     /// - `characters`: characters in visual order, mirrored
     /// - `levels`: level of each character after L1, in logical order
     /// - `ltov`: visual position of each logical position
@@ -708,8 +744,8 @@ extern "C" {
     /// Stores the directional runs of a line's shown part, from left to right, for shaping text: the longest ranges of
     /// characters at one level after L1. They do not depend on HORDGULI_REORDER_NSM and HORDGULI_REORDER_CLUSTERS, which
     /// move characters only inside runs. The number of runs is stored in `*count`, and the runs in an array of `capacity`
-    /// elements (see BUFFERS). Fails with OUT_OF_RANGE if the line does not exist. For the characters of a run, in logical
-    /// order:
+    /// elements. NULL with capacity 0 is NO_ROOM if there are runs (see BUFFERS). Fails with OUT_OF_RANGE if the line does
+    /// not exist. For the characters of a run, in logical order:
     ///
     /// ```c
     /// status = hordguli_line_start(&session, line, &start);
@@ -719,6 +755,8 @@ extern "C" {
     /// Errors: NULL, OVERLAP, CLOSED, OUT_OF_RANGE, NO_ROOM.
     ///
     /// Cost: O(log n), plus O(length of the line) times its highest level.
+    ///
+    /// Since: 0.6.
     pub fn hordguli_runs(
         session: *mut hordguli_session,
         line: usize,
@@ -726,9 +764,10 @@ extern "C" {
         runs: *mut hordguli_run,
         count: *mut usize,
     ) -> hordguli_status;
-    /// Writes `count` lines, starting with line `first`, to a buffer (see BUFFERS), as UTF-8. `print` selects what is
-    /// written for each line, in the order VISUAL, BASEDIR, LTOV, VTOL, LEVELS. Each of these ends in U+000A. Numbers are
-    /// decimal, separated by spaces. For example, the lines that an edit changed:
+    /// Writes `count` lines, starting with line `first`, to a buffer, as UTF-8. NULL with capacity 0 is NO_ROOM if there is
+    /// anything to write (see BUFFERS). `print` selects what is written for each line, in the order VISUAL, BASEDIR, LTOV,
+    /// VTOL, LEVELS. Each of these ends in U+000A. Numbers are decimal, separated by spaces. For example, the lines that an
+    /// edit changed:
     ///
     /// ```c
     /// status = hordguli_lines_utf8(&session, damage.first_line, damage.new_lines,
@@ -749,8 +788,8 @@ extern "C" {
         buffer: *mut c_char,
         length: *mut usize,
     ) -> hordguli_status;
-    /// Writes `count` characters, starting at `pos`, to a buffer (see BUFFERS), as UTF-8. NO_MEMORY comes before NO_ROOM, as
-    /// in `hordguli_lines_utf8`.
+    /// Writes `count` characters, starting at `pos`, to a buffer, as UTF-8. NULL with capacity 0 is NO_ROOM, unless `count`
+    /// is 0 (see BUFFERS). NO_MEMORY comes before NO_ROOM, as in `hordguli_lines_utf8`.
     ///
     /// Errors: NULL, OVERLAP, CLOSED, OUT_OF_RANGE, NO_MEMORY, NO_ROOM.
     ///
@@ -763,12 +802,14 @@ extern "C" {
         buffer: *mut c_char,
         length: *mut usize,
     ) -> hordguli_status;
-    /// Stores `count` characters, starting at `pos`, in an array of `capacity` elements (see BUFFERS), in logical order and
-    /// not mirrored, as a shaper needs them. `*length` is `count`.
+    /// Stores `count` characters, starting at `pos`, in an array of `capacity` elements, in logical order and not mirrored,
+    /// as a shaper needs them. `*length` is `count`. NULL with capacity 0 is NO_ROOM, unless `count` is 0 (see BUFFERS).
     ///
     /// Errors: NULL, OVERLAP, CLOSED, OUT_OF_RANGE, NO_ROOM.
     ///
     /// Cost: O(log n) per paragraph, plus O(count).
+    ///
+    /// Since: 0.6.
     pub fn hordguli_text_utf32(
         session: *mut hordguli_session,
         pos: usize,
@@ -794,6 +835,8 @@ extern "C" {
     /// Errors: NULL, OVERLAP, CLOSED, OUT_OF_RANGE.
     ///
     /// Cost: O(log n), plus O(length of the paragraph) unless the paragraph is ASCII.
+    ///
+    /// Since: 0.6.
     pub fn hordguli_byte_of(
         session: *mut hordguli_session,
         pos: usize,
@@ -805,6 +848,8 @@ extern "C" {
     /// Errors: NULL, OVERLAP, CLOSED, OUT_OF_RANGE.
     ///
     /// Cost: O(log n), plus O(length of the paragraph) if the paragraph has a character above U+FFFF.
+    ///
+    /// Since: 0.6.
     pub fn hordguli_utf16_of(
         session: *mut hordguli_session,
         pos: usize,
@@ -816,6 +861,8 @@ extern "C" {
     /// Errors: NULL, OVERLAP, CLOSED, OUT_OF_RANGE.
     ///
     /// Cost: as `hordguli_byte_of`.
+    ///
+    /// Since: 0.6.
     pub fn hordguli_position_of_byte(
         session: *mut hordguli_session,
         byte: usize,
@@ -827,13 +874,15 @@ extern "C" {
     /// Errors: NULL, OVERLAP, CLOSED, OUT_OF_RANGE.
     ///
     /// Cost: as `hordguli_utf16_of`.
+    ///
+    /// Since: 0.6.
     pub fn hordguli_position_of_utf16(
         session: *mut hordguli_session,
         unit: usize,
         position: *mut hordguli_position,
     ) -> hordguli_status;
     /// Stores information about a paragraph in `*info`, and `info->length` elements in each array, in logical order. Each
-    /// array has `capacity` elements. NULL arrays are skipped.
+    /// array has `capacity` elements. NULL arrays are skipped, so with both NULL nothing needs room (see BUFFERS).
     /// - `levels`: level of each character before L1
     /// - `marks`: break mark after each character
     ///
@@ -854,6 +903,9 @@ extern "C" {
     /// character. But if the text is empty or ends with a separator, the place is the start of the next paragraph, which
     /// does not exist yet. Then `paragraph` and `line` are the numbers of paragraphs and lines in the text.
     ///
+    /// U+2028, U+000B and U+000C end a line, but not its paragraph. At the end of a text that ends with one, the place and
+    /// the caret stay on that line. Each line of a paragraph has a character, and here none follows.
+    ///
     /// Errors: NULL, OVERLAP, CLOSED, OUT_OF_RANGE.
     ///
     /// Cost: O(log n + log m) in a paragraph of m lines.
@@ -862,7 +914,7 @@ extern "C" {
         pos: usize,
         place: *mut hordguli_place,
     ) -> hordguli_status;
-    /// Stores in `*caret` where to draw the caret for `pos`:
+    /// Stores in `*caret` where to draw the caret for `pos`. New programs call `hordguli_edge_caret`.
     ///   - Before a shown character: at its left edge if its level is even, else at its right edge. At an odd level, with
     ///     HORDGULI_REORDER_CLUSTERS or HORDGULI_REORDER_NSM, that can be inside its cluster; `hordguli_edge_caret` stores the
     ///     end of the cluster.
@@ -879,7 +931,8 @@ extern "C" {
         pos: usize,
         caret: *mut hordguli_caret,
     ) -> hordguli_status;
-    /// Stores in `*hit` the character at a column of a line. Column 0 is the left edge of the shown part, right of padding.
+    /// Stores in `*hit` the character at a column of a line. New programs call `hordguli_edge_at` or `hordguli_nearest_edge`.
+    /// Column 0 is the left edge of the shown part, right of padding.
     ///   - In the shown part: the character that covers the column, with `trailing` 0.
     ///   - Right of the shown part: the rightmost character of nonzero width, with `trailing` 1 if its level is even, else
     ///     0.
@@ -925,6 +978,8 @@ extern "C" {
     /// Errors: NULL, OVERLAP, CLOSED, OUT_OF_RANGE, NO_MEMORY.
     ///
     /// Cost: O(log n), plus time and memory proportional to the whole paragraph.
+    ///
+    /// Since: 0.6.
     pub fn hordguli_word_at(
         session: *mut hordguli_session,
         pos: usize,
@@ -933,8 +988,8 @@ extern "C" {
     /// Stores the columns that the characters from `from` up to but not including `to` cover in a line, for drawing a
     /// selection: as few spans as possible, from left to right. Where the direction changes, a selection can have several.
     /// `from` and `to` are positions in the text; those outside the line are ignored. The number of spans is stored in
-    /// `*count`, and the spans in an array of `capacity` elements (see BUFFERS). Fails with OUT_OF_RANGE if the line does not
-    /// exist.
+    /// `*count`, and the spans in an array of `capacity` elements. NULL with capacity 0 is NO_ROOM if there are spans (see
+    /// BUFFERS). Fails with OUT_OF_RANGE if the line does not exist.
     ///
     /// ```c
     /// for (size_t line = first_line; line <= last_line; line++) {
@@ -946,6 +1001,8 @@ extern "C" {
     /// Errors: NULL, OVERLAP, CLOSED, OUT_OF_RANGE, NO_ROOM.
     ///
     /// Cost: O(log n), plus O(length of the line).
+    ///
+    /// Since: 0.6.
     pub fn hordguli_spans(
         session: *mut hordguli_session,
         line: usize,
@@ -967,6 +1024,8 @@ extern "C" {
     /// Errors: NULL, OVERLAP, UNKNOWN_OPTION, CLOSED, OUT_OF_RANGE, NO_MEMORY.
     ///
     /// Cost: as `hordguli_cluster_at`, plus O(length of the line).
+    ///
+    /// Since: 0.6.
     pub fn hordguli_edge_caret(
         session: *mut hordguli_session,
         edge: hordguli_edge,
@@ -988,6 +1047,8 @@ extern "C" {
     /// Errors: NULL, OVERLAP, UNKNOWN_OPTION, CLOSED, OUT_OF_RANGE, NO_MEMORY.
     ///
     /// Cost: as `hordguli_edge_caret`.
+    ///
+    /// Since: 0.6.
     pub fn hordguli_step(
         session: *mut hordguli_session,
         edge: hordguli_edge,
@@ -1007,6 +1068,8 @@ extern "C" {
     /// Errors: NULL, OVERLAP, CLOSED, OUT_OF_RANGE, NO_MEMORY.
     ///
     /// Cost: as `hordguli_edge_caret`.
+    ///
+    /// Since: 0.6.
     pub fn hordguli_edge_at(
         session: *mut hordguli_session,
         line: usize,
@@ -1022,6 +1085,8 @@ extern "C" {
     /// Errors: NULL, OVERLAP, CLOSED, OUT_OF_RANGE, NO_MEMORY.
     ///
     /// Cost: as `hordguli_edge_caret`.
+    ///
+    /// Since: 0.6.
     pub fn hordguli_nearest_edge(
         session: *mut hordguli_session,
         line: usize,
@@ -1042,6 +1107,8 @@ extern "C" {
     /// Errors: NULL, OVERLAP, CLOSED, OUT_OF_RANGE.
     ///
     /// Cost: O(log n).
+    ///
+    /// Since: 0.6.
     pub fn hordguli_line_edges(
         session: *mut hordguli_session,
         line: usize,
@@ -1049,14 +1116,16 @@ extern "C" {
         last: *mut hordguli_edge,
     ) -> hordguli_status;
     /// Stores where the grapheme clusters of a line end, counted from the start of the line, in an array of `capacity`
-    /// elements, and their number in `*count` (see BUFFERS). The last one is the length of the line, also where a cluster
-    /// goes on in the next line. Fails with OUT_OF_RANGE if the line does not exist.
+    /// elements, and their number in `*count`. NULL with capacity 0 is NO_ROOM (see BUFFERS). The last one is the length of
+    /// the line, also where a cluster goes on in the next line. Fails with OUT_OF_RANGE if the line does not exist.
     ///
     /// NO_MEMORY comes before NO_ROOM.
     ///
     /// Errors: NULL, OVERLAP, CLOSED, OUT_OF_RANGE, NO_MEMORY, NO_ROOM.
     ///
     /// Cost: as `hordguli_cluster_at`, plus O(length of the line).
+    ///
+    /// Since: 0.6.
     pub fn hordguli_line_clusters(
         session: *mut hordguli_session,
         line: usize,
@@ -1066,9 +1135,10 @@ extern "C" {
     ) -> hordguli_status;
     /// Puts a row of `count` characters into visual order. The caller chose where the row starts and ends. `base` is the
     /// base level of its paragraph (`hordguli_base`), and `levels` are the levels of the row's characters in the whole
-    /// paragraph (`hordguli_levels`). `options` can have HORDGULI_REORDER_NSM and HORDGULI_REORDER_CLUSTERS. The clusters are
-    /// those of these characters alone. Stores `count` elements in each array. Each array has `capacity` elements. NULL
-    /// arrays are skipped. Positions count from the start of the row.
+    /// paragraph (`hordguli_levels`). `options` can have HORDGULI_REORDER_NSM and HORDGULI_REORDER_CLUSTERS. The clusters
+    /// are those of these characters alone. Stores `count` elements in each array. Each array has `capacity` elements. NULL
+    /// arrays are skipped, so with all arrays NULL nothing needs room (see BUFFERS). Positions count from the start of the
+    /// row.
     /// - `visual`: characters in visual order, mirrored (UAX #9, L4)
     /// - `row_levels`: level of each character after L1, in logical order
     /// - `ltov`: visual position of each logical position
@@ -1092,6 +1162,8 @@ extern "C" {
     /// Errors: NULL, OVERLAP, UNKNOWN_OPTION, CLOSED, NO_ROOM, NOT_A_CHARACTER, OUT_OF_RANGE, NO_MEMORY.
     ///
     /// Cost: memory proportional to `count`, and time proportional to `count` times the highest level of the row.
+    ///
+    /// Since: 0.6.
     pub fn hordguli_row(
         tables: *mut hordguli_tables,
         options: u32,
@@ -1107,12 +1179,14 @@ extern "C" {
     ) -> hordguli_status;
     /// Stores the directional runs of a row, from left to right, for shaping text (see `hordguli_runs`). Positions count
     /// from the start of the row. `base`, `characters` and `levels` are as in `hordguli_row`. The number of runs is stored
-    /// in `*run_count`, and the runs in an array of `capacity` elements (see BUFFERS). NO_MEMORY comes before NO_ROOM,
-    /// because the levels after L1 are gathered first.
+    /// in `*run_count`, and the runs in an array of `capacity` elements. NULL with capacity 0 is NO_ROOM, unless `count` is
+    /// 0 (see BUFFERS). NO_MEMORY comes before NO_ROOM, because the levels after L1 are gathered first.
     ///
     /// Errors: NULL, OVERLAP, CLOSED, NOT_A_CHARACTER, OUT_OF_RANGE, NO_MEMORY, NO_ROOM.
     ///
     /// Cost: as `hordguli_row`.
+    ///
+    /// Since: 0.6.
     pub fn hordguli_row_runs(
         tables: *mut hordguli_tables,
         base: u32,
@@ -1168,6 +1242,8 @@ extern "C" {
     /// Errors: NULL, OVERLAP, CLOSED, NOT_A_CHARACTER.
     ///
     /// Cost: O(count).
+    ///
+    /// Since: 0.6.
     pub fn hordguli_properties(
         tables: *mut hordguli_tables,
         count: usize,

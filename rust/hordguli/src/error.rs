@@ -29,7 +29,8 @@ pub enum Error {
     UnknownVersion,
     /// A table file or an image is malformed.
     TableFault(TableFault),
-    /// The table file with this name cannot be read, or the path of its folder has a NUL.
+    /// The table file with this name cannot be read, or the path of its folder has a NUL. If it cannot be read,
+    /// [`std::io::Error::last_os_error`] says why, directly after the call.
     UnreadFile(&'static str),
     /// A status that no call of this crate should return.
     Unexpected(i32),

@@ -119,6 +119,11 @@ pub fn unicode_version() -> &'static str {
     unsafe { static_text(hordguli_unicode_version()) }
 }
 
+pub fn width_unicode_version() -> &'static str {
+    // SAFETY: as in `status_text`.
+    unsafe { static_text(hordguli_width_unicode_version()) }
+}
+
 pub fn count_utf8(bytes: &[u8]) -> Result<usize, Error> {
     // SAFETY: `bytes` is an input, and the count an output.
     stored(|count| unsafe { hordguli_count_utf8(bytes.as_ptr().cast(), bytes.len(), count) })

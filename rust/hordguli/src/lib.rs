@@ -214,3 +214,9 @@ pub fn version() -> &'static str {
 pub fn unicode_version() -> &'static str {
     ffi::unicode_version()
 }
+
+/// Returns the Unicode version of column widths and grapheme clusters, such as `18.0`. It does not depend on the tables.
+#[must_use]
+pub fn width_unicode_version() -> &'static str {
+    ffi::width_unicode_version()
+}

@@ -50,7 +50,9 @@ fn fault_of_an_image_is_reported() {
 #[test]
 fn missing_file_is_reported() {
     let found = Tables::from_folder("/no/such/folder").unwrap_err();
+    let reason = std::io::Error::last_os_error();
     assert_eq!(found, Error::UnreadFile(TABLE_FILES[0]));
+    assert_eq!(reason.kind(), std::io::ErrorKind::NotFound);
     assert_eq!(found.to_string(), "cannot read DerivedBidiClass.txt");
     let version = UnicodeVersion::V17_0;
     assert!(Tables::from_folder_with_version(version, "/no/such/folder").is_err());

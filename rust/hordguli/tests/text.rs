@@ -313,3 +313,14 @@ fn versions_are_told() {
     assert_eq!(hordguli::version(), env!("CARGO_PKG_VERSION"));
     assert_eq!(hordguli::unicode_version(), tables().version().to_string());
 }
+
+#[test]
+fn widths_are_of_their_version() {
+    assert_eq!(hordguli::width_unicode_version(), "18.0");
+    // a wide emoji and a nonspacing mark of Unicode 18.0
+    let found = properties(&tables(), &['\u{1facc}', '\u{5c8}']).unwrap();
+    assert_eq!(
+        found.iter().map(|one| one.columns).collect::<Vec<_>>(),
+        [2, 0]
+    );
+}
