@@ -71,7 +71,7 @@ def explain(
             places[line.start + offset] = number, level, visual
     known = dict(zip(set(text), _described("".join(set(text)), tables)))
     characters = tuple(
-        ExplainedCharacter(position, character, *known[character], levels[position], marks[position], *places[position])
+        ExplainedCharacter._make((position, character, *known[character], levels[position], marks[position], *places[position]))
         for position, character in enumerate(text)
     )
     explained = [
