@@ -5,11 +5,31 @@
     ['The quick', 'brown fox']
 
 - `display` returns one visual string, as `get_display` of python-bidi does. `wrap` returns visual lines.
-- `levels`, `base_level`, `breaks`, `row`, `row_runs` and `properties` are for programs that lay out lines themselves.
 - `Session` keeps a text and its lines under edits, and has what an editor needs: carets, hits, selections. Its columns are
   those of a terminal, or with a function `measure` those of any font. `hordguli.harfbuzz.Measure` measures by font files.
+- `levels`, `base_level`, `breaks`, `row`, `row_runs` and `properties` are for programs that lay out lines themselves.
+- `explain` returns what decides a layout. `python3 -m hordguli explain TEXT` prints it, or writes a page.
 
-Positions are indexes into a `str`. Positions, lines and columns are counted from 0. Exceptions:
+What to know before the first line:
+
+- A visual string is for programs that draw one character after another. Programs that order text themselves, such as browsers,
+  terminals with bidirectional text and Pillow with Raqm, would reverse it again. They need `Line.logical_text`, or the pieces of
+  `Line.left_to_right()`.
+- `display` does not join Arabic letters: `display(arabic_reshaper.reshape(text))` does.
+- Columns, as in carets, hits and spans, start at the left edge of a line's shown part. Add `Line.padding` to draw a right-to-left
+  line at the right. The lines of `wrap` and `Session.lines` are padded with spaces.
+- Positions are indexes into a `str`. Positions, lines and columns are counted from 0.
+
+Classes (`help(hordguli.Session)` and so on):
+
+- `Session`; `Tables`, character properties
+- `Options` and `Print`, flags; `Break`, `Side`, `Direction`, `Cause`, enumerations
+- of a text and its lines: `Line`, `Piece`, `Paragraph`, `ParagraphText`, `Row`, `Run`, `Character`, `Counts`, `Damage`, `Work`
+- of an editor: `Caret`, `Edge`, `Hit`, `Place`, `Position`, `Span`, `Cluster`, `Word`
+- of `explain`: `Explanation`, `ExplainedCharacter`, `ExplainedParagraph`
+- exceptions: `ClosedError`, `NotMeasuredError`, `TableError`
+
+Exceptions:
 
 - `IndexError` for a position, line or paragraph that is past the end
 - `ValueError` for a width, for options, for a Unicode version, and for a lone surrogate (`UnicodeEncodeError`)
@@ -28,72 +48,49 @@ has its own copies. What another thread was using during the fork is closed in t
 `WIDTH_UNICODE_VERSION` that of columns and grapheme clusters, which does not depend on the tables.
 """
 
-from ._errors import Cause, ClosedError, NotMeasuredError, TableError
+from ._errors import Cause as Cause
+from ._errors import ClosedError as ClosedError
+from ._errors import NotMeasuredError as NotMeasuredError
+from ._errors import TableError as TableError
 from ._explain import explain
 from ._library import UNICODE_VERSION, WIDTH_UNICODE_VERSION
 from ._library import VERSION as __version__
-from ._records import (
-    Break,
-    Caret,
-    Character,
-    Cluster,
-    Counts,
-    Damage,
-    Direction,
-    Edge,
-    Hit,
-    Line,
-    Options,
-    Paragraph,
-    ParagraphText,
-    Piece,
-    Place,
-    Position,
-    Print,
-    Row,
-    Run,
-    Side,
-    Span,
-    Word,
-    Work,
-)
-from .session import Session
-from .tables import TABLE_FILES, Tables, default_tables
+from ._records import Break as Break
+from ._records import Caret as Caret
+from ._records import Character as Character
+from ._records import Cluster as Cluster
+from ._records import Counts as Counts
+from ._records import Damage as Damage
+from ._records import Direction as Direction
+from ._records import Edge as Edge
+from ._records import ExplainedCharacter as ExplainedCharacter
+from ._records import ExplainedParagraph as ExplainedParagraph
+from ._records import Explanation as Explanation
+from ._records import Hit as Hit
+from ._records import Line as Line
+from ._records import Options as Options
+from ._records import Paragraph as Paragraph
+from ._records import ParagraphText as ParagraphText
+from ._records import Piece as Piece
+from ._records import Place as Place
+from ._records import Position as Position
+from ._records import Print as Print
+from ._records import Row as Row
+from ._records import Run as Run
+from ._records import Side as Side
+from ._records import Span as Span
+from ._records import Word as Word
+from ._records import Work as Work
+from .session import Session as Session
+from .tables import TABLE_FILES, default_tables
+from .tables import Tables as Tables
 from .text import base_level, breaks, count_utf8, display, levels, properties, row, row_runs, valid_utf8, wrap
 
+# The functions and constants, and not the classes: so help(hordguli) shows the functions, and names the classes.
 __all__ = [
     "TABLE_FILES",
     "UNICODE_VERSION",
     "WIDTH_UNICODE_VERSION",
-    "Break",
-    "Caret",
-    "Cause",
-    "Character",
-    "ClosedError",
-    "Cluster",
-    "Counts",
-    "Damage",
-    "Direction",
-    "Edge",
-    "Hit",
-    "Line",
-    "NotMeasuredError",
-    "Options",
-    "Paragraph",
-    "ParagraphText",
-    "Piece",
-    "Place",
-    "Position",
-    "Print",
-    "Row",
-    "Run",
-    "Session",
-    "Side",
-    "Span",
-    "TableError",
-    "Tables",
-    "Word",
-    "Work",
     "__version__",
     "base_level",
     "breaks",

@@ -1,14 +1,16 @@
-"""The command `python3 -m hordguli`."""
+"""The commands `python3 -m hordguli` and `hordguli-explain`."""
 
 import argparse
+import io
 import json
 import sys
 
 import hordguli
 
 from ._declarations import UNICODE_VERSIONS
-from ._explain import explain, page, table
+from ._explain import explain, page, plain, table
 
+WHAT = "Shows why a text looks as it does."
 OPTIONS = {
     "--nobreak": (hordguli.Options.NOBREAK, "break lines at mandatory breaks only"),
     "--whole-numbers": (hordguli.Options.WHOLE_NUMBERS, "do not break numbers such as $1,234.56"),
@@ -24,13 +26,14 @@ DIRECTIONS = {
 }
 
 
-def parser() -> argparse.ArgumentParser:
-    top = argparse.ArgumentParser(prog="python3 -m hordguli")
-    top.add_argument("--version", action="version", version=f"hordguli {hordguli.__version__}, Unicode {hordguli.UNICODE_VERSION}")
-    command = top.add_subparsers(required=True, metavar="explain").add_parser(
-        "explain", help="show why a text looks as it does", description="Shows why a text looks as it does."
-    )
-    command.add_argument("text", metavar="TEXT", nargs="?", help="the text [default: standard input]")
+def _add_version(command: argparse.ArgumentParser) -> None:
+    version = f"hordguli {hordguli.__version__}, Unicode {hordguli.UNICODE_VERSION}"
+    command.add_argument("--version", action="version", version=version)
+
+
+def _add_arguments(command: argparse.ArgumentParser) -> None:
+    command.add_argument("text", metavar="TEXT", nargs="?", help="the text, or - for standard input [default: -]")
+    command.add_argument("--file", metavar="FILE", help="the text is in FILE, in UTF-8")
     command.add_argument("--width", metavar="N", type=int, default=80, help="wrap lines at N columns [default: 80]")
     command.add_argument("--tabs", metavar="N", type=int, help="set a tab stop every N columns, from 1 to 255")
     versions = ", ".join(UNICODE_VERSIONS)
@@ -42,16 +45,33 @@ def parser() -> argparse.ArgumentParser:
             group.add_argument(name, dest="options", action="append_const", const=option, default=[], help=what)
     command.add_argument("--json", action="store_true", help="print JSON")
     command.add_argument("--html", metavar="FILE", help="write a page that shows the text for widths up to 120")
-    return top
 
 
-def main() -> None:
-    given = parser().parse_args()
-    text = sys.stdin.read() if given.text is None else given.text
+def _text_of(given: argparse.Namespace) -> str:
+    """Returns the text that the arguments name. Raises `ValueError` if it is not UTF-8."""
+    if given.file is not None:
+        with open(given.file, "rb") as file:
+            return _decoded(file.read(), given.file)
+    if given.text in (None, "-"):
+        return _decoded(sys.stdin.buffer.read(), "standard input")
+    return _decoded(given.text.encode(errors="surrogateescape"), "TEXT")
+
+
+def _decoded(data: bytes, name: str) -> str:
+    valid = hordguli.valid_utf8(data)
+    if valid < len(data):
+        raise ValueError(f"{name}: not UTF-8 at byte {valid}")
+    return data.decode()
+
+
+def _run(given: argparse.Namespace) -> None:
     options = hordguli.Options(0)
     for option in given.options:
         options |= option
+    if isinstance(sys.stdout, io.TextIOWrapper):
+        sys.stdout.reconfigure(errors="backslashreplace")
     try:
+        text = _text_of(given)
         if given.tabs is not None:
             options |= hordguli.Options.tab_width(given.tabs)
         tables = hordguli.default_tables(given.unicode)
@@ -60,9 +80,33 @@ def main() -> None:
                 file.write(page(text, given.width, options, tables=tables))
         else:
             explained = explain(text, given.width, options, tables=tables)
-            print(json.dumps(explained) if given.json else table(explained))
+            print(json.dumps(plain(explained)) if given.json else table(explained))
     except (OSError, ValueError) as error:
         sys.exit(f"hordguli: {error}")
+
+
+def _parsed(top: argparse.ArgumentParser) -> argparse.Namespace:
+    given = top.parse_args()
+    if given.text is not None and given.file is not None:
+        top.error("TEXT and --file are both given")
+    return given
+
+
+def main() -> None:
+    """Runs `python3 -m hordguli`."""
+    top = argparse.ArgumentParser(prog="python3 -m hordguli")
+    _add_version(top)
+    commands = top.add_subparsers(required=True, metavar="explain")
+    _add_arguments(commands.add_parser("explain", help="show why a text looks as it does", description=WHAT))
+    _run(_parsed(top))
+
+
+def explain_main() -> None:
+    """Runs `hordguli-explain`, which takes the arguments of `python3 -m hordguli explain`."""
+    top = argparse.ArgumentParser(prog="hordguli-explain", description=WHAT)
+    _add_version(top)
+    _add_arguments(top)
+    _run(_parsed(top))
 
 
 if __name__ == "__main__":

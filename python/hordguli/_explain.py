@@ -1,98 +1,95 @@
-"""Why a text looks as it does, for `python3 -m hordguli explain`."""
+"""Why a text looks as it does: `explain`, and what `python3 -m hordguli explain` writes."""
 
+import base64
 import json
 import os
 import unicodedata
-from typing import Any, Optional
+import zlib
+from collections.abc import Sequence
+from enum import Enum
+from typing import Any, NamedTuple, Optional
 
-from ._records import Break, Line, Options, Paragraph
+from ._records import ExplainedCharacter, ExplainedParagraph, Explanation, Options, Paragraph, Run
 from .session import Session
 from .tables import Tables, default_tables
 from .text import base_level, properties
 
 WIDTHS = range(1, 121)  # of the layouts in a page
 _PAGE = os.path.join(os.path.dirname(os.path.abspath(__file__)), "_explain.html")
+_REORDERS = Options.REORDER_NSM | Options.REORDER_CLUSTERS  # (with these, a run may have another order than that of its level)
 # The columns of the table, and the fields of a character that they show.
 _COLUMNS = {
     "pos": "position",
+    "char": "shown",
     "code": "code_point",
     "class": "bidi_class",
     "bracket": "bracket",
     "mirror": "mirror",
+    "partner": "partner",
     "level": "level",
     "L1": "line_level",
-    "break": "break",
+    "break": "break_mark",
     "line": "line",
     "visual": "visual",
     "name": "name",
+    "why": "why",
 }
+_CHARACTER_COLUMNS = 4  # of a terminal, for the column "char"
+
+
+class Reason(NamedTuple):
+    """Why a character has its level. The table and the page show it, if it is known.
+
+    `partner`: the position of the character that it is paired with, or `None`. `unpaired`: why a bracket has no partner, or `""`.
+    `sentences`: what a rule decided, in order, such as `"N0: pairs with position 17"`.
+    """
+
+    partner: Optional[int] = None
+    unpaired: str = ""
+    sentences: tuple[str, ...] = ()
 
 
 def explain(
     text: str, width: int = 80, options: Options = Options.WEAK_LTR, *, tables: Optional[Tables] = None
-) -> dict[str, Any]:
-    """Returns what decides the layout of a text, as dicts and lists of strings and numbers, for JSON.
-
-    - `unicode`: the Unicode version of the tables.
-    - `characters`: the properties of each character, its level before L1, and the break mark after it. For a character that is
-      shown, also its line, its level after L1 (`line_level`), and its visual position in the line. Else these are `None`.
-    - `lines`: the fields of each `Line`.
-    - `paragraphs`: base levels, and the position of the character that decided each, or `None`.
+) -> Explanation:
+    """Returns what decides the layout of a text: properties, levels, break marks and places of its characters, lines, base levels.
 
     Parameters and errors are those of `Session`.
 
-    >>> hordguli.explain("a\\u05d0")["characters"][1]["name"]
+    >>> hordguli.explain("a\\u05d0").characters[1].name
     'HEBREW LETTER ALEF'
     """
     tables = tables or default_tables()
     with Session(text, width, options, tables=tables) as session:
         paragraphs = [session.paragraph(index) for index in range(session.counts.paragraphs)]
-        lines = [_plain(line) for line in session]
+        lines = tuple(session)
     levels = [level for paragraph in paragraphs for level in paragraph.levels]
     marks = [mark for paragraph in paragraphs for mark in paragraph.breaks]
-    characters = [
-        {
-            "position": position,
-            "character": text[position],
-            "code_point": _code_point(text[position]),
-            "name": unicodedata.name(text[position], ""),
-            **its._asdict(),
-            "mirror": its.mirror and _code_point(its.mirror),
-            "pair": its.pair and _code_point(its.pair),
-            "level": levels[position],
-            "break": Break(marks[position]).name.lower(),
-            "line": None,
-            "line_level": None,
-            "visual": None,
-        }
-        for position, its in enumerate(properties(text, tables=tables))
-    ]
+    places: list[tuple[Optional[int], Optional[int], Optional[int]]] = [(None, None, None)] * len(text)
     for number, line in enumerate(lines):
-        for offset, (level, visual) in enumerate(zip(line["levels"], line["logical_to_visual"])):
-            characters[line["start"] + offset].update(line=number, line_level=level, visual=visual)
-    return {
-        "unicode": tables.unicode_version,
-        "width": width,
-        "characters": characters,
-        "lines": lines,
-        "paragraphs": [
-            {
-                "start": paragraph.start,
-                "length": paragraph.length,
-                "base_level": paragraph.base_level,
-                "decided_by": _decider(text, paragraph, options, tables),
-            }
-            for paragraph in paragraphs
-        ],
-    }
+        for offset, (level, visual) in enumerate(zip(line.levels, line.logical_to_visual)):
+            places[line.start + offset] = number, level, visual
+    known = dict(zip(set(text), _described("".join(set(text)), tables)))
+    characters = tuple(
+        ExplainedCharacter._make((position, character, *known[character], levels[position], marks[position], *places[position]))
+        for position, character in enumerate(text)
+    )
+    explained = [
+        ExplainedParagraph(one.start, one.length, one.base_level, _decider(text, one, options, tables)) for one in paragraphs
+    ]
+    return Explanation(tables.unicode_version, width, characters, lines, tuple(explained))
+
+
+def _described(characters: str, tables: Tables) -> list[tuple[Any, ...]]:
+    """Returns the code point, the name and the properties of each character, in the order of `ExplainedCharacter`."""
+    return [
+        (_code_point(one), unicodedata.name(one, ""), *its._replace(mirror=_code_point(its.mirror), pair=_code_point(its.pair)))
+        for one, its in zip(characters, properties(characters, tables=tables))
+    ]
 
 
 def _code_point(character: str) -> str:
-    return f"U+{ord(character):04X}"
-
-
-def _plain(line: Line) -> dict[str, Any]:
-    return {**line._asdict(), "runs": [run._asdict() for run in line.runs]}
+    return f"U+{ord(character):04X}" if character else ""
 
 
 def _decider(text: str, paragraph: Paragraph, options: Options, tables: Tables) -> Optional[int]:
@@ -117,30 +114,162 @@ def _decider(text: str, paragraph: Paragraph, options: Options, tables: Tables) 
     return paragraph.start + length - 1
 
 
-def table(explained: dict[str, Any]) -> str:
-    """Returns what `explain` has returned as a table for a terminal: a row per character, the lines and paragraphs, the version."""
-    cells = [[one[field] for field in _COLUMNS.values()] for one in explained["characters"]]
-    rows = [list(_COLUMNS), *(["" if cell is None else str(cell) for cell in row] for row in cells)]
-    widths = [max(map(len, column)) for column in zip(*rows)]
-    shown = ["  ".join(map(str.ljust, row, widths)).rstrip() for row in rows]
-    for number, line in enumerate(explained["lines"]):
-        runs = "; ".join(f"{run['length']} from {line['start'] + run['start']} at level {run['level']}" for run in line["runs"])
-        shown.append(f"line {number}: {line['length']} from {line['start']}, {line['width']} columns; runs: {runs or 'none'}")
-    for number, one in enumerate(explained["paragraphs"]):
-        why = "no character" if one["decided_by"] is None else f"the character at {one['decided_by']}"
-        shown.append(f"paragraph {number}: {one['length']} from {one['start']}, base level {one['base_level']}, decided by {why}")
-    shown.append(f"Unicode {explained['unicode']}")
-    return "\n".join(shown)
+def plain(value: Any) -> Any:
+    """Returns a record as dicts, lists, strings and numbers, for JSON. An enumeration is its name in lower case."""
+    if isinstance(value, Enum):
+        return value.name.lower()
+    if isinstance(value, tuple):
+        fields = getattr(value, "_fields", None)
+        return [plain(one) for one in value] if fields is None else {name: plain(one) for name, one in zip(fields, value)}
+    return value
 
 
-def page(text: str, width: int = 80, options: Options = Options.WEAK_LTR, *, tables: Optional[Tables] = None) -> str:
-    """Returns an HTML page that shows what `explain` returns, for each width from 1 to 120. It needs no other file."""
+# ---- The table ----
+
+
+def table(explained: Explanation, reasons: Sequence[Reason] = ()) -> str:
+    """Returns an explanation as a table for a terminal: a row per character, the lines and paragraphs, the version.
+
+    `reasons` has an item for each character, or none.
+    """
+    columns = {name: field for name, field in _COLUMNS.items() if reasons or field != "partner"}
+    whys = _whys(explained, reasons)
+    cells = [
+        {**plain(one), "shown": _shown(one), "partner": reasons[at].partner if reasons else None, "why": "; ".join(whys[at])}
+        for at, one in enumerate(explained.characters)
+    ]
+    rows = [["" if cell[field] is None else str(cell[field]) for field in columns.values()] for cell in cells]
+    widths = [max(map(len, column)) for column in zip(columns, *rows)]
+    widths[1] = _CHARACTER_COLUMNS
+    missing = [len(_shown(one)) - _columns_of(one) for one in explained.characters]  # (of a wide character, -1; of a mark, 1)
+    lines = [_joined(columns, widths, 0), *(_joined(row, widths, more) for row, more in zip(rows, missing))]
+    for number, line in enumerate(explained.lines):
+        runs = "; ".join(f"{run.length} from {line.start + run.start} at level {run.level}" for run in line.runs)
+        lines.append(f"line {number}: {line.length} from {line.start}, {line.width} columns; runs: {runs or 'none'}")
+    for number, paragraph in enumerate(explained.paragraphs):
+        why = "no character" if paragraph.decided_by is None else f"the character at {paragraph.decided_by}"
+        numbers = f"{paragraph.length} from {paragraph.start}, base level {paragraph.base_level}"
+        lines.append(f"paragraph {number}: {numbers}, decided by {why}")
+    lines.append(f"Unicode {explained.unicode}")
+    return "\n".join(lines)
+
+
+def _joined(row: Any, widths: list[int], more: int) -> str:
+    """Returns a row of the table. Its character needs `more` places of the string than it has columns."""
+    padded = [cell.ljust(width + more * (at == 1)) for at, (cell, width) in enumerate(zip(row, widths))]
+    return "  ".join(padded).rstrip()
+
+
+def _shown(one: ExplainedCharacter) -> str:
+    """Returns a character as it can be printed, a mark on a circle, or `""` if it is a space or has no glyph."""
+    if one.is_mark:
+        return "\u25cc" + one.character
+    return one.character if one.character.isprintable() and one.character != " " else ""
+
+
+def _columns_of(one: ExplainedCharacter) -> int:
+    return 1 if one.is_mark else one.columns if _shown(one) else 0
+
+
+def _whys(explained: Explanation, reasons: Sequence[Reason]) -> list[list[str]]:
+    """Returns what rules changed at each character, as sentences."""
+    found: list[list[str]] = [[] for _ in explained.characters]
+    for number, paragraph in enumerate(explained.paragraphs):
+        if paragraph.decided_by is not None:
+            found[paragraph.decided_by].append(f"P2: decides the base level of paragraph {number}")
+    for at, reason in enumerate(reasons):
+        found[at] += [*reason.sentences, *([f"unpaired: {reason.unpaired}"] if reason.unpaired else [])]
+    for one in explained.characters:
+        if one.line is not None and one.visual is not None:
+            if one.level != one.line_level:
+                found[one.position].append(f"L1: level {one.level} becomes {one.line_level}")
+            drawn = explained.lines[one.line].text[one.visual]
+            if drawn != one.character:
+                found[one.position].append(f"L4: drawn as {drawn}")
+    return found
+
+
+# ---- The page ----
+
+
+def page(
+    text: str,
+    width: int = 80,
+    options: Options = Options.WEAK_LTR,
+    *,
+    tables: Optional[Tables] = None,
+    reasons: Sequence[Reason] = (),
+) -> str:
+    """Returns an HTML page that shows what `explain` returns, for each width from 1 to 120. It needs no other file.
+
+    `reasons` has an item for each character, or none.
+    """
     explained = explain(text, width, options, tables=tables)
-    with Session(text, width, options, tables=tables) as session:
-        layouts = {}
-        for one in WIDTHS:
-            session.width = one
-            layouts[one] = [_plain(line) for line in session]
-    data = json.dumps({**explained, "layouts": layouts, "columns": _COLUMNS}).replace("<", "\\u003c")
+    layouts = _layouts(text, options, tables)
+    data = {
+        "unicode": explained.unicode,
+        "width": width,
+        "text": text,
+        "properties": {one.character: {**plain(one), "shown": _shown(one)} for one in explained.characters},
+        "levels": [one.level for one in explained.characters],
+        "breaks": "".join(str(int(one.break_mark)) for one in explained.characters),
+        "paragraphs": explained.paragraphs,
+        **layouts,
+        "columns": {name: field for name, field in _COLUMNS.items() if reasons or field != "partner"},
+        "reasons": reasons,
+    }
+    packed = zlib.compress(json.dumps(data, separators=(",", ":")).encode())
     with open(_PAGE, encoding="utf-8") as template:
-        return template.read().replace("{DATA}", data)
+        return template.read().replace("{DATA}", base64.b64encode(packed).decode())
+
+
+def _layouts(text: str, options: Options, tables: Optional[Tables]) -> dict[str, list[Any]]:
+    """Returns the layouts of all WIDTHS for a page.
+
+    - `layouts`: a width, and the numbers of the lines there and at all widths up to that of the next layout.
+    - `lines`: the different lines: start, length, columns, base level, the number of its runs, and its visual order if that is not
+      the one of the runs.
+    - `runs`: the different lists of runs, as start, length and level of each.
+    """
+    layouts: list[Any] = []
+    lines, runs = _Numbered(), _Numbered()
+    with Session(text, WIDTHS[0], options, tables=tables) as session:
+        for width in WIDTHS:
+            session.width = width
+            layout = []
+            for number in range(len(session)):
+                info = session._line_info(number)
+                key = info.start, info.length, info.shown, info.columns  # (the padding depends on the width)
+                if key not in lines.numbers:
+                    found = session.runs(number)
+                    order = session[number].visual_to_logical if options & _REORDERS else None
+                    its_order = [] if order is None or order == _order_of(found) else [order]
+                    its_runs = runs.number_of(tuple(one for run in found for one in run))
+                    lines.add(key, [info.start, info.length, info.columns, info.base, its_runs, *its_order])
+                layout.append(lines.numbers[key])
+            if not layouts or layouts[-1][1] != layout:
+                layouts.append([width, layout])
+    return {"layouts": layouts, "lines": lines.items, "runs": runs.items}
+
+
+class _Numbered:
+    """Different items, in the order in which they were added. `numbers` has the number of each, by its key."""
+
+    def __init__(self) -> None:
+        self.items: list[Any] = []
+        self.numbers: dict[tuple[int, ...], int] = {}
+
+    def add(self, key: tuple[int, ...], item: Any) -> None:
+        self.numbers[key] = len(self.items)
+        self.items.append(item)
+
+    def number_of(self, item: tuple[int, ...]) -> int:
+        if item not in self.numbers:
+            self.add(item, item)
+        return self.numbers[item]
+
+
+def _order_of(runs: list[Run]) -> tuple[int, ...]:
+    """Returns the logical places of the characters of runs, from left to right, if each run is in the order of its level."""
+    parts = [range(run.start, run.start + run.length) for run in runs]
+    return tuple(place for run, part in zip(runs, parts) for place in (reversed(part) if run.level % 2 else part))

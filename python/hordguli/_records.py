@@ -6,7 +6,7 @@ tools/generate_declarations writes the lines below each comment `from hordguli.h
 import enum
 import re
 from struct import Struct
-from typing import Any, NamedTuple
+from typing import Any, NamedTuple, Optional
 
 
 _TAB_WIDTH = 0xFF00  # (bits of `Options`)
@@ -287,7 +287,7 @@ class Paragraph(NamedTuple):
     """A paragraph, with its separator.
 
     `start`: position of its first character. `length`: characters. `first_line`, `lines`: its lines. `base_level`: 0 or 1.
-    `levels`: the level of each character before L1. `breaks`: the break mark after each character (see `Break`).
+    `levels`: the level of each character before L1. `breaks`: the break mark after each character.
     """
 
     start: int
@@ -296,7 +296,7 @@ class Paragraph(NamedTuple):
     lines: int
     base_level: int
     levels: tuple[int, ...]
-    breaks: tuple[int, ...]
+    breaks: tuple[Break, ...]
 
 
 class Row(NamedTuple):
@@ -326,6 +326,58 @@ class Character(NamedTuple):
     bracket: str
 
 
+class ExplainedCharacter(NamedTuple):
+    """A character of an `Explanation`.
+
+    `position`: its index in the text. `character`, `code_point`, `name`: which it is, such as `"("`, `"U+0028"`, `"LEFT PARENTHESIS"`.
+    `mirror` to `bracket`: its properties, as in `Character`. `level`: its level before L1. `break_mark`: the break mark after it.
+    `line`: its line. `line_level`: its level after L1. `visual`: its visual position in the line. These three are `None` if the
+    character is not shown.
+    """
+
+    position: int
+    character: str
+    code_point: str
+    name: str
+    mirror: str
+    pair: str
+    is_mark: bool
+    is_wide: bool
+    bidi_class: str
+    line_class: str
+    columns: int
+    bracket: str
+    level: int
+    break_mark: Break
+    line: Optional[int]
+    line_level: Optional[int]
+    visual: Optional[int]
+
+
+class ExplainedParagraph(NamedTuple):
+    """A paragraph of an `Explanation`.
+
+    `start`: position of its first character. `length`: characters. `base_level`: 0 or 1. `decided_by`: position of the character
+    that decided the base level, or `None`.
+    """
+
+    start: int
+    length: int
+    base_level: int
+    decided_by: Optional[int]
+
+
+class Explanation(NamedTuple):
+    """What `explain` returns. `unicode`: the Unicode version of the tables. `width`: in columns."""
+
+    unicode: str
+    width: int
+    characters: tuple[ExplainedCharacter, ...]
+    lines: tuple[Line, ...]
+    paragraphs: tuple[ExplainedParagraph, ...]
+
+
+BREAKS = [Break.NEVER, Break.MAY, Break.MUST]  # the number of each is its index
 BRACKETS = ["", "open", "close"]
 
 

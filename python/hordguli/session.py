@@ -30,10 +30,11 @@ from ._calls import (
     uint32s,
     utf32,
 )
-from ._declarations import CLOSED, RawEdge, RawSession
+from ._declarations import CLOSED, NO_ROOM, RawEdge, RawSession
 from ._errors import check
 from ._library import library, quick_base, quick_levels
 from ._records import (
+    BREAKS,
     FORMATS,
     Caret,
     Cluster,
@@ -498,6 +499,14 @@ class Session:
                     raise IndexError(f"line {line} is out of range")
             return self._line(number)
 
+    def _line_info(self, number: int) -> LineInfo:
+        """Returns the numbers of a line, in a third of the time of `_line`."""
+        buffer = bytearray(FORMATS[LineInfo].size)
+        status = self._call(library.hordguli_line, number, address(buffer), 0, None, None, None, None, None)
+        if status != NO_ROOM:  # (which stores them too)
+            check(status, library.hordguli_line, number)
+        return LineInfo(*FORMATS[LineInfo].unpack(buffer))
+
     def _line(self, number: int) -> Line:
         """Returns a line. The caller holds the lock."""
         info, arrays = get_info(LineInfo, "shown", "IBIIN", self._call, library.hordguli_line, size(number))
@@ -532,14 +541,13 @@ class Session:
 
         >>> with hordguli.Session("a b\\nc") as text:
         ...     text.paragraph(0).breaks, text.paragraph(1).start
-        ((0, 1, 0, 2), 4)
+        ((<Break.NEVER: 0>, <Break.MAY: 1>, <Break.NEVER: 0>, <Break.MUST: 2>), 4)
         """
-        info, (levels, breaks) = get_info(
+        info, (levels, marks) = get_info(
             ParagraphInfo, "length", "BB", self._call, library.hordguli_paragraph, size(index)
         )
-        return Paragraph(
-            info.start, info.length, info.first_line, info.lines, info.base, tuple(levels), tuple(breaks)
-        )
+        breaks = tuple(map(BREAKS.__getitem__, marks))
+        return Paragraph(info.start, info.length, info.first_line, info.lines, info.base, tuple(levels), breaks)
 
     # ---- Carets and hit testing ----
 

@@ -4,16 +4,17 @@ import re
 from codecs import utf_32_le_decode, utf_32_le_encode
 from collections.abc import Iterable
 from ctypes import byref, c_size_t, c_uint32
-from typing import Optional, SupportsIndex, Union, overload
+from typing import Literal, Optional, SupportsIndex, Union, overload
 
 from ._calls import Call, Measure, address, flags, get_array, get_records, get_size, make_call, numbers, text_of, uint32, utf32
 from ._declarations import BIDI_CLASSES, LINE_CLASSES, MARK, WIDE
 from ._errors import check
 from ._library import library, quick_base, quick_levels, quick_row
-from ._records import BRACKETS, FORMATS, Character, Options, Print, RawCharacter, Row, Run
+from ._records import BRACKETS, BREAKS, FORMATS, Break, Character, Options, Print, RawCharacter, Row, Run
 from .session import Session
 from .tables import Buffers, Tables, default_tables
 
+BaseDirection = Literal["L", "R", "AL"]
 _BASE_DIRECTIONS = {None: 0, "L": 2, "R": 3, "AL": 3}  # (plain numbers, for speed)
 _FIXED = (2, 3)  # the direction LTR or RTL for each base level
 _SEPARATORS = re.compile("(\r\n|[\n\r\x1c-\x1e\x85\u2029])")  # (UAX #9, P1)
@@ -27,7 +28,7 @@ def display(
     text: str,
     encoding: str = "utf-8",
     *,
-    base_dir: Optional[str] = None,
+    base_dir: Optional[BaseDirection] = None,
     direction: Optional[Options] = None,
     tables: Optional[Tables] = None,
 ) -> str: ...
@@ -38,7 +39,7 @@ def display(
     text: bytes,
     encoding: str = "utf-8",
     *,
-    base_dir: Optional[str] = None,
+    base_dir: Optional[BaseDirection] = None,
     direction: Optional[Options] = None,
     tables: Optional[Tables] = None,
 ) -> bytes: ...
@@ -48,7 +49,7 @@ def display(
     text: Union[str, bytes],
     encoding: str = "utf-8",
     *,
-    base_dir: Optional[str] = None,
+    base_dir: Optional[BaseDirection] = None,
     direction: Optional[Options] = None,
     tables: Optional[Tables] = None,
 ) -> Union[str, bytes]:
@@ -175,16 +176,17 @@ def levels(
     return list(_per_character(library.hordguli_levels, tables or default_tables(), chosen, utf32(text)))
 
 
-def breaks(text: str, options: Options = Options(0), *, tables: Optional[Tables] = None) -> list[int]:
-    """Returns the break mark after each character of a paragraph (UAX #14), a number of `Break`. The text is not split.
+def breaks(text: str, options: Options = Options(0), *, tables: Optional[Tables] = None) -> list[Break]:
+    """Returns the break mark after each character of a paragraph (UAX #14). The text is not split.
 
     `options` is `Options(0)` or `Options.WHOLE_NUMBERS`.
 
     >>> hordguli.breaks("a b\\n")
-    [0, 1, 0, 2]
+    [<Break.NEVER: 0>, <Break.MAY: 1>, <Break.NEVER: 0>, <Break.MUST: 2>]
     """
     chosen = flags(Options, options, "options")
-    return list(_per_character(library.hordguli_marks, tables or default_tables(), chosen, utf32(text)))
+    marks = _per_character(library.hordguli_marks, tables or default_tables(), chosen, utf32(text))
+    return list(map(BREAKS.__getitem__, marks))
 
 
 def row(

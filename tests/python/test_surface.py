@@ -25,7 +25,9 @@ from c_header import Header
 HEADER = Header("include/hordguli.h")
 # functions of the C library that the package deliberately leaves out: it passes a version
 NOT_OFFERED = {f"hordguli_tables_{name}" for name in ("open_builtin", "open_folder", "read")}
-PUBLIC = [getattr(hordguli, name) for name in hordguli.__all__]
+NAMES = {*hordguli.__all__} | {name for name, one in vars(hordguli).items() if name[0] != "_" and not inspect.ismodule(one)}
+PUBLIC = [getattr(hordguli, name) for name in sorted(NAMES)]
+MOST_LINES = 400  # of help(hordguli)
 
 
 def read(path):
@@ -124,11 +126,25 @@ def test_each_public_name_has_a_docstring():
 
 
 def test_all_names_are_in_the_manual():
-    shown = subprocess.run([sys.executable, "-m", "pydoc", "hordguli"], stdout=subprocess.PIPE, check=True).stdout.decode()
-    assert [name for name in hordguli.__all__ if name not in shown] == []
+    shown = manual("hordguli")
+    assert [name for name in sorted(NAMES) if not re.search(rf"\b{name}\b", shown)] == []
+    for name in ("Session", "Tables", "Line", "Break", "Explanation"):
+        assert manual(f"hordguli.{name}").startswith(f"Help on class {name} in hordguli")
 
 
-@pytest.mark.parametrize("name", ["hordguli", "hordguli.text", "hordguli.session", "hordguli.tables", "hordguli._records"])
+def manual(name):
+    return subprocess.run([sys.executable, "-m", "pydoc", name], stdout=subprocess.PIPE, check=True).stdout.decode()
+
+
+def test_the_manual_is_short_and_has_the_functions_first():
+    shown = manual("hordguli")
+    assert shown.count("\n") <= MOST_LINES and "\nCLASSES" not in shown
+    functions = {name for name in hordguli.__all__ if inspect.isfunction(getattr(hordguli, name))}
+    assert functions == set(re.findall(r"(?m)^    (\w+)\(", shown.partition("\nFUNCTIONS")[2]))
+    assert {name for name in NAMES if inspect.isclass(getattr(hordguli, name))} == {*NAMES} - {*hordguli.__all__}
+
+
+@pytest.mark.parametrize("name", ["hordguli", "hordguli.text", "hordguli.session", "hordguli.tables", "hordguli._records", "hordguli._explain"])
 def test_examples_of_docstrings(name):
     failed, count = doctest.testmod(sys.modules[name], extraglobs={"hordguli": hordguli})
     assert failed == 0 and count > 0
@@ -136,6 +152,11 @@ def test_examples_of_docstrings(name):
 
 def test_examples_of_the_readme():
     failed, count = doctest.testfile(f"{TOP}/README.md", module_relative=False, encoding="utf-8")
+    assert failed == 0 and count > 0
+
+
+def test_examples_of_the_guide():
+    failed, count = doctest.testfile(f"{TOP}/docs/guide.md", module_relative=False, encoding="utf-8")
     assert failed == 0 and count > 0
 
 

@@ -100,6 +100,11 @@ def test_base_level_is_that_of_the_first_strong_character():
     assert [hordguli.base_level("1.", direction) for direction in (Options.WEAK_RTL, Options.LTR, Options.RTL)] == [1, 0, 1]
 
 
+def test_break_marks_are_members_of_break():
+    with hordguli.Session("a b\n") as text:
+        assert [type(mark) for mark in (*hordguli.breaks("a b\n"), *text.paragraph(0).breaks)] == [Break] * 8
+
+
 def test_breaks_keep_numbers_whole_if_asked():
     assert hordguli.breaks("1/%")[1] == Break.MAY
     assert hordguli.breaks("1/%", Options.WHOLE_NUMBERS)[1] == Break.NEVER

@@ -1,5 +1,7 @@
 """Calls that mypy checks. It refuses those with `type: ignore`, or else reports that the comment is unused."""
 
+from typing import Optional
+
 import hordguli
 from hordguli import Options, Print
 from hordguli.harfbuzz import Measure, Part
@@ -17,6 +19,14 @@ shown: str = hordguli.display("a", direction=DIRECTION)
 encoded: bytes = hordguli.display(b"a", base_dir="R")
 later: hordguli.Tables = hordguli.default_tables("17.0")
 version: str = hordguli.Tables(unicode="17.0").unicode_version
+
+marks: list[hordguli.Break] = hordguli.breaks("a")
+mark: hordguli.Break = text.paragraph(0).breaks[0]
+explanation: hordguli.Explanation = hordguli.explain("a")
+character: hordguli.ExplainedCharacter = explanation.characters[0]
+after: hordguli.Break = character.break_mark
+decider: Optional[int] = explanation.paragraphs[0].decided_by
+joined: str = explanation.lines[0].logical_text
 
 measured: hordguli.Session = hordguli.Session.open_measured("a", 640, BOTH)
 damage: hordguli.Damage = measured.set_advances(0, [640])
@@ -47,6 +57,8 @@ hordguli.base_level("a", SHOWN)  # type: ignore[arg-type]
 hordguli.breaks("a", SHOWN)  # type: ignore[arg-type]
 hordguli.row("a", [0], 0, SHOWN)  # type: ignore[arg-type]
 hordguli.display("a", direction=SHOWN)  # type: ignore[call-overload]
+hordguli.display("a", base_dir="rtl")  # type: ignore[call-overload]
+explanation["characters"]  # type: ignore[call-overload]
 hordguli.explain("a", 80, SHOWN)  # type: ignore[arg-type]
 hordguli.Tables(unicode=17.0)  # type: ignore[arg-type]
 hordguli.Tables(None, "17.0")  # type: ignore[misc]
