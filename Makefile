@@ -2,8 +2,8 @@
 #
 #   make demo       Prints the texts of examples/texts with the command, compiled but not proved. Takes two minutes.
 #                   make demo TEXT=FILE OPTIONS="--width 60 --basedir" prints your own text.
-#   make quick      Compiles the command without proving it, bin/fribidi-unproved, in about a minute.
-#   make program    Proves and builds the command, bin/fribidi.
+#   make quick      Compiles a command without proving it, bin/fribidi-unproved, in about a minute (PROGRAM=fribidi).
+#   make program    Proves and builds the commands, bin/hordguli and bin/fribidi.
 #   make c          Proves and builds the C library, bin/libhordguli.a and bin/libhordguli.so.1 (CC, CXX, CFLAGS, LDFLAGS).
 #   make fribidi    Proves and builds FriBidi's interface, bin/libhordguli_fribidi.so, for LD_PRELOAD.
 #   make python     Builds the Python wheel, hordguli-VERSION-py3-none-manylinux2014_x86_64.whl, from what make c has built (DIST=dist).
@@ -13,7 +13,7 @@
 #   make image      Compiles the table files of both versions to ucd/tables.image and ucd-17.0/tables.image, with a program that it
 #                   proves and builds. make c runs it too.
 #   make install    Installs what make, make c, make fribidi, make ucd and make ucd-17 have built (PREFIX=/usr/local, LIBDIR, DESTDIR,
-#                   COMMAND=fribidi, ZSHDIR).
+#                   COMMAND=fribidi, the name of bin/fribidi there, ZSHDIR).
 #   make uninstall  Removes what make install has installed, with the same PREFIX, LIBDIR, DESTDIR and ZSHDIR.
 #
 #   make ARCH=arm64 program c fribidi
@@ -22,7 +22,7 @@
 #
 # For contributors
 #
-#   make            Proves and builds the command and the programs that make check runs.
+#   make            Proves and builds the commands and the programs that make check runs.
 #   make check      Runs the tests that need no new proof, in about a minute. Run it before each commit.
 #   make test       Runs CI: every proof, the must-fail edits and all tests. tests/README.md lists them.
 #   make attack     Runs the mutation tests, after make, make c and make fribidi. CRATES="lines session" runs only those of these crates.
@@ -39,6 +39,7 @@
 #   make test-draw  Tests examples/draw.c with HarfBuzz, cairo and Noto fonts (installs Debian packages): 20 seconds.
 #   make test-widget  Tests examples/widget.py with GTK 4 under Xvfb, after make c (installs Debian packages): a minute.
 #   make test-guide Tests the programs of docs/guide.md, and the pictures there, after make c (installs Debian packages): 20 seconds.
+#   make test-recipes  Tests the recipes of docs/guide.md with Debian's programs under tmux, after make program (installs packages): 30 seconds.
 #   make test-pango Compares measured sessions with Pango, in C and in Python, after make c (installs Debian packages): two minutes.
 #   make test-programs  Tests three C programs that are written from the manual, beside a plain model, less and ICU, after make c (installs
 #                   Debian packages): two minutes.
@@ -49,21 +50,22 @@
 #   make bench      Runs all benchmarks of bench/, which compare with Debian's fribidi, with ICU and with Rust crates.
 
 UNICODE =
+PROGRAM = fribidi
 JOBS := $(shell nproc)
 TABLES = DerivedBidiClass BidiBrackets BidiMirroring LineBreak DerivedGeneralCategory EastAsianWidth emoji-data
 OPTIONS = --width 44 --basedir
 
 .PHONY: all program cross-compiler quick ucd ucd-17 ucd-tests image demo check tmux parallel linters test attack bench-program conformance-program conformance bench c fribidi fribidi-compare \
-	callers install uninstall python deb dist test-packages test-reproducible test-arm64 test-threads test-draw test-widget test-guide test-pango test-programs test-python test-rust test-hosts release
+	callers install uninstall python deb dist test-packages test-reproducible test-arm64 test-threads test-draw test-widget test-guide test-recipes test-pango test-programs test-python test-rust test-hosts release
 
 DIST = dist
 ARCH = amd64
 for_arm64 = $(if $(filter arm64,$(ARCH)),$(1))
 $(if $(filter amd64 arm64,$(ARCH)),,$(error ARCH=$(ARCH) is neither amd64 nor arm64))
 
-all: programs = fribidi conformance oom_driver no_allocation table_tools
-program: programs = fribidi
-bench-program: programs = fribidi bench
+all: programs = fribidi hordguli conformance oom_driver no_allocation table_tools
+program: programs = fribidi hordguli
+bench-program: programs = fribidi hordguli bench
 conformance-program: programs = conformance
 
 # Fails before anything is proved if the compiler for ARM64 is missing.
@@ -75,16 +77,18 @@ cross-compiler:
 all program bench-program conformance-program:
 	$(MAKE) --no-print-directory --jobs=$(JOBS) $(programs:%=run-%)
 	mkdir -p bin
-	for name in $(filter fribidi bench conformance,$(programs)); do cp crates/$$name/out/$$name bin/$$name; done
-	$(if $(filter fribidi,$(programs)),$(call for_arm64,tools/compile_arm64 fribidi && tools/build_command))
+	for name in $(filter fribidi hordguli bench conformance,$(programs)); do cp crates/$$name/out/$$name bin/$$name; done
+	$(if $(filter hordguli,$(programs)),$(call for_arm64,tools/compile_arm64 fribidi && tools/compile_arm64 hordguli && tools/build_command))
 
 lib-bidi lib-breaks lib-reorder: lib-ucd
 lib-lines: lib-device lib-bidi lib-breaks lib-reorder lib-stream
 lib-session: lib-lines lib-store
 lib-stream: lib-device
-# Waits for ucd, so that reorder, which lines needs, does not wait for it.
-lib-script_commands: lib-ucd
+# These wait for ucd, so that reorder, which lines needs, does not wait for them.
+lib-script_commands lib-sequences: lib-ucd
 lib-command_line lib-text_run: lib-lines
+lib-terminal: lib-lines lib-sequences
+lib-terminal_options: lib-command_line lib-terminal
 lib-program_input: lib-command_line lib-text_run
 lib-tool: lib-session lib-command_line lib-script_commands lib-text_run
 lib-oom_calls lib-hordguli_c: lib-session
@@ -94,6 +98,7 @@ lib-hordguli_fribidi: lib-bidi lib-reorder
 run-table_tools: lib-ucd lib-tables
 run-fribidi run-oom_driver: lib-tool
 run-fribidi: lib-tables lib-program_input
+run-hordguli: lib-terminal_options lib-tables lib-program_input
 run-oom_driver run-no_allocation: lib-oom_calls
 lib-tables: lib-ucd
 run-bench: lib-session lib-tables
@@ -101,7 +106,7 @@ run-conformance: lib-lines lib-tables
 # Waits for session: until then all processors are busy, but while tool is proved some are idle.
 run-conformance: $(if $(filter run-fribidi,$(MAKECMDGOALS)),lib-session)
 
-run-fribidi: words = -- --help
+run-fribidi run-hordguli: words = -- --help
 run-bench: words = -- edits tree 1 1
 run-table_tools: words = -- image data /dev/null
 run-no_allocation: words = -- 1
@@ -127,7 +132,7 @@ ucd-tests:
 try = cd crates/fribidi && rt try $(foreach table,$(TABLES),--data ucd/$(table).txt=$(CURDIR)/ucd/$(table).txt)
 
 quick: ucd
-	tools/build_unproved
+	tools/build_unproved $(PROGRAM)
 
 demo: ucd
 	@echo "Compiled, not proved: make program proves and builds bin/fribidi, make test proves and tests everything."
@@ -216,6 +221,9 @@ test-widget:
 
 test-guide:
 	@tests/examples/guide
+
+test-recipes: ucd tmux
+	@tests/recipes/run
 
 test-pango:
 	tests/c/pango

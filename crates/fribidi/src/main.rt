@@ -61,7 +61,7 @@ fn run_words(rt: &HostRuntime, words: &[&str]) -> Result<(), ProgramFault> {
 
 // Executes arguments without `--ucd`, with the installed folder of tables if there is one.
 fn run_installed(rt: &HostRuntime, words: &[&str], fault: LineFault) -> Result<(), ProgramFault> {
-    match installed_folder(rt, Version::V15_0) {
+    match installed_folder(rt, "../share/hordguli/ucd", Version::V15_0) {
         Ok(Some(folder)) => run_over(rt, folder.as_str(), words, fault),
         Ok(None) => Err(ProgramFault::Line(fault)),
         Err(AllocError) => Err(ProgramFault::Run(RunFault::Memory)),
@@ -87,7 +87,7 @@ fn run_over(
 
 // Reads the installed tables of Unicode 17.0. If there are none, the arguments lack a folder.
 fn installed_17(rt: &HostRuntime, fault: LineFault) -> Result<Tables, ProgramFault> {
-    match installed_folder(rt, Version::V17_0) {
+    match installed_folder(rt, "../share/hordguli/ucd-17.0", Version::V17_0) {
         Ok(Some(folder)) => {
             installed_as(rt, Version::V17_0, folder.as_str()).map_err(table_fault)
         }

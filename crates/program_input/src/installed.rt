@@ -1,19 +1,10 @@
-//! The installed table files: `../share/hordguli/ucd`, relative to the program's folder, and `ucd-17.0`
-//! beside it.
+//! The folder of the installed table files.
 use std::alloc::AllocError;
 use std::env::VarError;
 use std::io::ErrorKind;
 use std::path::{Path, PathBuf};
 use std::{env, io};
 use ucd::Version;
-
-// The folder of each version.
-fn folder_of(version: Version) -> &'static str {
-    match version {
-        Version::V15_0 => "../share/hordguli/ucd",
-        Version::V17_0 => "../share/hordguli/ucd-17.0",
-    }
-}
 
 // The folders of usual prefixes, for a program that cannot tell where it is.
 fn usual_folders(version: Version) -> [&'static str; 2] {
@@ -26,26 +17,30 @@ fn usual_folders(version: Version) -> [&'static str; 2] {
     }
 }
 
-/// Returns the folder of the installed table files of a version, if there is one. If `/proc` is not mounted,
-/// looks for the program by the name that it was started with, then for the folder in `/usr/local` and
-/// `/usr`.
-pub fn installed_folder(rt: &HostRuntime, version: Version) -> Result<Option<PathBuf>, AllocError> {
+/// Returns the folder of the installed table files of a version, if there is one: `path`, relative to the
+/// program's folder. If `/proc` is not mounted, looks for the program by the name that it was started with,
+/// then for the folder in `/usr/local` and `/usr`.
+pub fn installed_folder(
+    rt: &HostRuntime,
+    path: &str,
+    version: Version,
+) -> Result<Option<PathBuf>, AllocError> {
     match env::current_exe(rt) {
-        Ok(program) => folder_beside(rt, version, program.as_path()),
+        Ok(program) => folder_beside(rt, path, program.as_path()),
         Err(error) if error.kind() == ErrorKind::OutOfMemory => Err(AllocError),
-        Err(_) => folder_without_proc(rt, version),
+        Err(_) => folder_without_proc(rt, path, version),
     }
 }
 
 fn folder_beside(
     rt: &HostRuntime,
-    version: Version,
+    path: &str,
     program: Path<'_>,
 ) -> Result<Option<PathBuf>, AllocError> {
     let Some(beside) = program.parent() else {
         return Ok(None);
     };
-    let folder = beside.join(rt.alloc(), folder_of(version))?;
+    let folder = beside.join(rt.alloc(), path)?;
     if folder.is_dir(rt) {
         Ok(Some(folder))
     } else {
@@ -53,21 +48,25 @@ fn folder_beside(
     }
 }
 
-fn folder_without_proc(rt: &HostRuntime, version: Version) -> Result<Option<PathBuf>, AllocError> {
-    match folder_by_arguments(rt, version)? {
+fn folder_without_proc(
+    rt: &HostRuntime,
+    path: &str,
+    version: Version,
+) -> Result<Option<PathBuf>, AllocError> {
+    match folder_by_arguments(rt, path)? {
         Some(folder) => Ok(Some(folder)),
         None => usual_folder(rt, version),
     }
 }
 
-fn folder_by_arguments(rt: &HostRuntime, version: Version) -> Result<Option<PathBuf>, AllocError> {
+fn folder_by_arguments(rt: &HostRuntime, path: &str) -> Result<Option<PathBuf>, AllocError> {
     let mut words = match env::args(rt) {
         Ok(words) => words,
         Err(error) => return none_or_memory(&error),
     };
     match words.next() {
-        Some(name) if name.contains('/') => folder_beside_link(rt, version, Path::new(&name)),
-        Some(name) => folder_by_search(rt, version, &name),
+        Some(name) if name.contains('/') => folder_beside_link(rt, path, Path::new(&name)),
+        Some(name) => folder_by_search(rt, path, &name),
         None => Ok(None),
     }
 }
@@ -76,7 +75,7 @@ fn folder_by_arguments(rt: &HostRuntime, version: Version) -> Result<Option<Path
 // is the current folder, as POSIX says.
 fn folder_by_search(
     rt: &HostRuntime,
-    version: Version,
+    path: &str,
     name: &str,
 ) -> Result<Option<PathBuf>, AllocError> {
     let folders = match env::var(rt, "PATH") {
@@ -86,7 +85,7 @@ fn folder_by_search(
     };
     for folder in env::split_paths(&folders) {
         let program = folder.join(rt.alloc(), name)?;
-        if let Some(found) = folder_beside_link(rt, version, program.as_path())? {
+        if let Some(found) = folder_beside_link(rt, path, program.as_path())? {
             return Ok(Some(found));
         }
     }
@@ -96,11 +95,11 @@ fn folder_by_search(
 // Returns the folder of the tables for a path of the program, which may be a symbolic link.
 fn folder_beside_link(
     rt: &HostRuntime,
-    version: Version,
+    path: &str,
     program: Path<'_>,
 ) -> Result<Option<PathBuf>, AllocError> {
     match program.canonicalize(rt) {
-        Ok(program) => folder_beside(rt, version, program.as_path()),
+        Ok(program) => folder_beside(rt, path, program.as_path()),
         Err(error) => none_or_memory(&error),
     }
 }
