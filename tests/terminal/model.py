@@ -23,7 +23,7 @@ import hordguli
 
 MOST_IN_PARAGRAPH = 1_048_576
 MOST_IN_STRING = 4096
-MOST_OF_LINKS = 262_144  # characters, of 4 bytes
+MOST_OF_LINKS = 1_048_576
 WIDEST = 65_535
 LOOKED_AT_FOR_DIRECTION = 65_536
 
@@ -172,8 +172,9 @@ def with_parameters(style, parameters):
         n, *parts = fields.pop(0)
         if n in COLOURED and parts:
             kind, *numbers = parts
-            if kind in (2, 5):
-                style = coloured(style, COLOURED[n], kind, numbers[1:] if kind == 2 and len(numbers) == 4 else numbers)
+            if kind not in (2, 5):
+                return style
+            style = coloured(style, COLOURED[n], kind, numbers[1:] if kind == 2 and len(numbers) == 4 else numbers)
         elif n in COLOURED:
             kind = fields.pop(0) if fields else []
             if kind not in ([2], [5]):
@@ -209,8 +210,8 @@ STRING = r"(?:\x1b[PX^_]|[\x90\x98\x9e\x9f])"
 
 
 def long_string(introducer, end):
-    """A string that is too long, up to its end or what no string has."""
-    return rf"{introducer}{INLINE}{{{MOST_IN_STRING + 1}}}{INLINE}*{end}?"
+    """A string that is too long, up to its end or the next separator."""
+    return rf"{introducer}{INLINE}{{{MOST_IN_STRING + 1}}}(?:(?!{end})[^{KEPT_CONTROL}\u2028\u2029])*{end}?"
 
 
 PIECE = re.compile(
@@ -260,7 +261,7 @@ def styled(text, escapes):
             pen = linked if links + more <= MOST_OF_LINKS else pen._replace(link=None)
             links += more if links + more <= MOST_OF_LINKS else 0
         elif piece["overstrike"]:
-            before = styles[-1] if shown and re.match(INLINE, shown[-1]) else DEFAULT
+            before = styles[-1] if shown else DEFAULT
             c, bold, underlined = overstruck(piece["overstrike"][::2], before)
             shown.append(c)
             styles.append(pen._replace(bold=pen.bold or bold, underline=1 if underlined else pen.underline))

@@ -10,8 +10,8 @@ use Rattle.bidi.proofs.FrontLemmas.{first_paragraph}
 use Rattle.lines.specs.Layouts.{Rules, cut_by}
 use Rattle.ucd.specs.Classes.{is_separator}
 use Rattle.ucd.specs.Tables.{class_of}
-use Rattle.sequences.specs.Characters.{is_dropped, is_inline}
-use Rattle.sequences.specs.Laws.{characters_of, ends_piece}
+use Rattle.sequences.specs.Characters.{ends_piece, is_dropped, is_inline}
+use Rattle.sequences.specs.Laws.{characters_of}
 use Rattle.sequences.specs.Overstrikes.{after_backspaces, strike, strikes, struck}
 use Rattle.sequences.specs.Sequences.{sequence_len}
 use Rattle.sequences.specs.Styled.{Pen, START, Style, after_first_part, first_shown, more_len, next_paragraph, pen_at_end, shown_text, struck_style, styled, styled_after}
