@@ -370,11 +370,11 @@ class Layout:
 
 
 def direction_of(text, its):
-    """Returns the direction for `-d file`, or the one that is set."""
+    """Returns the direction for `-d file`, or the one that is set. The text has its sequences."""
     if its.direction != "file":
         return DIRECTIONS[its.direction]
     tables = hordguli.default_tables(its.unicode)
-    for paragraph, _ in paragraphs(text[:LOOKED_AT_FOR_DIRECTION], []):
+    for paragraph, _ in paragraphs(styled(text[:LOOKED_AT_FOR_DIRECTION], its.escapes)[0], []):
         weak = [hordguli.base_level(paragraph, DIRECTIONS[name], tables=tables) for name in ("auto", "rtl-auto")]
         if weak[0] == weak[1]:  # (it has a strong character)
             return DIRECTIONS["rtl" if weak[0] else "ltr"]
@@ -437,19 +437,18 @@ def written(cells):
     return "".join(text)
 
 
-def lines_of(text, styles, its):
-    """Yields the lines of a text, and whether each is the first of its paragraph."""
-    whole = direction_of(text, its)
+def lines_of(text, styles, its, whole):
+    """Yields the lines of a text in a direction, and whether each is the first of its paragraph."""
     for paragraph in paragraphs(text, styles):
         for characters, looks, direction in parts(*paragraph, whole):
             for at, line in enumerate(Layout(its, direction).paragraph(characters, looks)):
                 yield line, at == 0
 
 
-def page(text, styles, its):
-    """Returns the output for one text, with its last newline."""
+def page(text, styles, its, whole):
+    """Returns the output for one text in a direction, with its last newline."""
     output = []
-    for line, is_first in lines_of(text, styles, its):
+    for line, is_first in lines_of(text, styles, its, whole):
         output.append(written(line.cells) + "\n")
         if its.basedir and is_first:
             output.append("RTL\n" if line.base else "LTR\n")
@@ -461,7 +460,7 @@ def printed(texts, its):
     output, text = "", ""
     for data in texts:
         text, styles = styled(decoded(data), its.escapes)
-        output += page(text, styles, its)
+        output += page(text, styles, its, direction_of(decoded(data), its))
     if text:
         last = hordguli.properties(text[-1])[0]
         if last.bidi_class != "B" and last.line_class not in MANDATORY:

@@ -2,6 +2,7 @@ pub mod BlockLemmas
 pub mod CellLemmas
 pub mod DecoderLemmas
 pub mod Devices
+pub mod DirectionLemmas
 pub mod EndLemmas
 pub mod KnownEndLemmas
 pub mod LayoutLemmas

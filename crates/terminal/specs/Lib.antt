@@ -1,4 +1,5 @@
 pub mod Decoding
+pub mod Directions
 pub mod Ends
 pub mod Appending
 pub mod Forms

@@ -7,6 +7,7 @@
 mod block;
 mod decoder;
 mod decoding;
+mod direction;
 mod ends;
 mod faults;
 mod form;
@@ -22,6 +23,7 @@ mod prefix;
 mod text;
 mod whole;
 
+pub use direction::{FIRST_CHARACTERS, known_direction, whole_direction};
 pub use faults::Fault;
 pub use form::{Escapes, Form, Prefix};
 pub use input::run;
