@@ -64,7 +64,7 @@ fn show<R: Read + Drop>(
     let result = {
         let mut reader = FromRead::new(&mut input);
         let mut writer = ToWrite::new(&mut *stdout);
-        run(rt.alloc(), &mut reader, &mut writer, engine, form)
+        run(rt.alloc(), &mut reader, &mut writer, engine, form, last)
     };
     match result {
         Ok(()) => Ok(true),
