@@ -103,7 +103,7 @@ fn run_input<R: Read + Drop>(
 ) -> Result<(), Fault> {
     let mut reader = FromRead::new(input);
     let mut writer = ToWrite::new(&mut *stdout);
-    run(rt.alloc(), &mut reader, &mut writer, engine, form)
+    run(rt.alloc(), &mut reader, &mut writer, engine, form, last)
 }
 
 // The same in the direction of the whole text, of which the start is read first.

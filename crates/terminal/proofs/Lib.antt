@@ -7,7 +7,9 @@ pub mod EndLemmas
 pub mod KnownEndLemmas
 pub mod LayoutLemmas
 pub mod LossyLemmas
+pub mod NewlineLemmas
 pub mod NumberLemmas
+pub mod OutputLemmas
 pub mod ParagraphLemmas
 pub mod PlainLemmas
 pub mod PushLemmas

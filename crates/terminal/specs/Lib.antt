@@ -4,6 +4,7 @@ pub mod Ends
 pub mod Appending
 pub mod Forms
 pub mod Lines
+pub mod Newlines
 pub mod Numbers
 pub mod Paragraphs
 pub mod Parts
