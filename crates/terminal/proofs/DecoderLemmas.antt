@@ -10,7 +10,7 @@ use Rattle.terminal.specs.declared.decoder.Decoder.{Decoder}
 use Rattle.terminal.specs.declared.form.Escapes.{Escapes}
 use Rattle.terminal.specs.declared.form.Escapes.TheVariants.{Keep, Strip, Text}
 
-pub pictures-append : (escapes : Escapes) (xs ys : List ℕ) → pictures escapes (xs ++ ys) ≡ pictures escapes xs ++ pictures escapes ys
+pictures-append : (escapes : Escapes) (xs ys : List ℕ) → pictures escapes (xs ++ ys) ≡ pictures escapes xs ++ pictures escapes ys
 pictures-append Keep xs ys = refl
 pictures-append Strip xs ys = refl
 pictures-append Text xs ys = map-append picture xs ys
@@ -18,7 +18,7 @@ pictures-append Text xs ys = map-append picture xs ys
 abbrev pub marked : Bool → List ℕ → List ℕ
 marked started text = if started then text else without_mark text
 
-pub marked-append : (started : Bool) (xs ys : List ℕ) → marked started (xs ++ ys) ≡ marked started xs ++ marked (started || nat_lt 0 (length xs)) ys
+marked-append : (started : Bool) (xs ys : List ℕ) → marked started (xs ++ ys) ≡ marked started xs ++ marked (started || nat_lt 0 (length xs)) ys
 marked-append true xs ys = refl
 marked-append false [] ys = refl
 marked-append false (c ∷ xs) ys = split ∙ ap (λ (b : Bool). marked false (c ∷ xs) ++ marked b ys) (sym (lt-ltb 0 (length (c ∷ xs)) (omega arith)))

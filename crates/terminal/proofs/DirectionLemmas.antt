@@ -1,33 +1,30 @@
 -- The direction of a text.
-use Rattle.std.proofs.Common.{◌≡◌, ℕ, ◌+◌, ◌-◌, ◌<◌, ◌≤◌, nat_lt, Bool, false, List, [], ◌∷◌, ◌++◌, length, map, take, drop, Some, None, refl, sym, ap, ap₂, ◌∙◌, arith}
-use Rattle.std.specs.Prelude.{Option, unwrap_or}
+use Rattle.std.proofs.Common.{◌≡◌, ℕ, ◌+◌, ◌-◌, ◌<◌, ◌≤◌, List, [], ◌∷◌, ◌++◌, length, map, take, drop, Some, None, refl, sym, subst, ap, ap₂, ◌∙◌, arith}
+use Rattle.std.specs.Prelude.{Option}
 use Rattle.std.specs.List.{flat_map}
 use Rattle.std.proofs.Math.Seq.{take-append-add}
 use Rattle.std.proofs.lemmas.List.{append-nil, length-drop, take-append-le}
 use Rattle.ucd.specs.Tables.{class_of}
-use Rattle.ucd.specs.declared.bidi_class.BidiClass.{BidiClass}
 use Rattle.ucd.specs.declared.tables.Tables.{Tables}
-use Rattle.bidi.specs.Base.{base_level_of, first_strong_level}
-use Rattle.bidi.specs.Cuts.{SplitsAt, paragraphs}
+use Rattle.bidi.specs.Base.{first_strong_level}
+use Rattle.bidi.specs.Cuts.{paragraphs}
 use Rattle.bidi.specs.Pieces.{ParagraphsArePieces}
 use Rattle.bidi.specs.declared.base.Base.{Base}
-use Rattle.bidi.specs.declared.base.Base.TheVariants.{WeakLtr, WeakRtl}
 use Rattle.lines.specs.Layouts.{Rules, cut_by}
 use Rattle.sequences.specs.Laws.{characters_of}
-use Rattle.sequences.specs.Styled.{Pen, START, Style, next_paragraph, pen_at_end, shown_text, styled}
+use Rattle.sequences.specs.Styled.{Pen, START, Style, next_paragraph, pen_at_end, styled}
 use Rattle.sequences.specs.StyledTexts.{styled_of}
 use Rattle.sequences.specs.declared.style.StyledText.{StyledText}
 use Rattle.sequences.proofs.LawLemmas.{shows_the_same}
-use Rattle.terminal.specs.Decoding.{IsAllDecoded, lossy, pictures, text_after}
+use Rattle.terminal.specs.Decoding.{text_after}
 use Rattle.terminal.specs.Directions.{StartsWith, base_by, direction_of, first_level, or_else, shown_level}
 use Rattle.terminal.specs.Ends.{IsFirst}
 use Rattle.terminal.specs.RunState.{last_characters}
-use Rattle.terminal.specs.Texts.{blocks, input_text, shown_blocks, without_mark}
+use Rattle.terminal.specs.Texts.{blocks, input_text, shown_blocks}
 use Rattle.terminal.specs.declared.direction.TheConstants.{FIRST_CHARACTERS}
 use Rattle.terminal.specs.declared.form.Escapes.{Escapes}
 use Rattle.terminal.proofs.BlockLemmas.{text_characters}
-use Rattle.terminal.proofs.DecoderLemmas.{marked, marked-append, pictures-append}
-use Rattle.terminal.proofs.RunLemmas.{end_text, input_is}
+use Rattle.terminal.proofs.RunLemmas.{end_text}
 use Rattle.terminal.proofs.WholeLemmas.{shows_whole}
 
 -- ---- paragraphs
@@ -65,33 +62,16 @@ module _ (law : ParagraphsArePieces) (rules : Rules) where
       ∙ level-append rules.tables first others
       ∙ ap₂ or_else (ap (λ t. first_level rules.tables (paragraphs (cut_by rules) t)) (shows_the_same START block)) (ap (first_level rules.tables) (whole.cuts rules next rest))
 
-  -- the level of a text does not depend on what follows its first block, if it has a strong character
-  pub level_after : (text rest block after more : List ℕ) (n : ℕ) (found : Option ℕ)
-      → shown_level rules (text ++ more) ≡ shown_level rules (rest ++ more) → IsFirst (cut_by rules) n rest → block ≡ take n rest → after ≡ drop n rest
-      → found ≡ shown_level rules block → shown_level rules (text ++ more) ≡ or_else found (shown_level rules (after ++ more))
-  level_after text rest block after more n found passed first b a f =
-      passed ∙ level_split (rest ++ more) (take n rest) (drop n rest ++ more) (first.block more)
-      ∙ ap₂ or_else (ap (shown_level rules) (sym b) ∙ sym f) (ap (λ t. shown_level rules (t ++ more)) (sym a))
+-- the level of a text does not depend on what follows its first block, if this has a strong character
+pub level_after : ParagraphsArePieces → (rules now : Rules) → now ≡ rules → (text rest block after more : List ℕ) (n : ℕ) (found : Option ℕ)
+    → shown_level rules (text ++ more) ≡ shown_level rules (rest ++ more) → IsFirst (cut_by now) n rest → block ≡ take n rest → after ≡ drop n rest
+    → found ≡ shown_level now block → shown_level rules (text ++ more) ≡ or_else found (shown_level rules (after ++ more))
+level_after law rules now e text rest block after more n found passed first b a f =
+    let first_2 : IsFirst (cut_by rules) n rest = subst (λ (r : Rules). IsFirst (cut_by r) n rest) e first in
+    passed ∙ level_split law rules (rest ++ more) (take n rest) (drop n rest ++ more) (first_2.block more)
+    ∙ ap₂ or_else (ap (shown_level rules) (sym b) ∙ sym (f ∙ ap (λ (r : Rules). shown_level r block) e)) (ap (λ t. shown_level rules (t ++ more)) (sym a))
 
 -- ---- the start of an input
-
-pub starts : (escapes : Escapes) (bytes before mid marked_text after : List ℕ) (n : ℕ) → before ≡ [] → IsAllDecoded bytes n before mid
-    → marked_text ≡ without_mark mid → after ≡ pictures escapes marked_text → StartsWith escapes bytes n after
-starts escapes bytes before mid marked_text after n e d m a =
-    let xs = d.decoded.characters in
-    let mid_is : mid ≡ xs = d.decoded.added ∙ ap (λ t. t ++ xs) e in
-    let all : after ≡ pictures escapes (marked false xs) = a ∙ ap (pictures escapes) (m ∙ ap without_mark mid_is) in
-    let started = nat_lt 0 (length xs) in
-    record {
-      started = started;
-      within = d.decoded.within;
-      begins = λ more.
-          let rest = lossy (drop n bytes ++ more) in
-          input_is escapes (bytes ++ more) ∙ ap (λ t. pictures escapes (without_mark t)) (d.decoded.text more)
-          ∙ ap (pictures escapes) (marked-append false xs rest) ∙ pictures-append escapes (marked false xs) (marked started rest)
-          ∙ ap (λ t. t ++ text_after escapes started (drop n bytes ++ more)) (sym all);
-      rest = d.rest;
-    }
 
 pub whole_text : (escapes : Escapes) (bytes text : List ℕ) (n waiting : ℕ) → StartsWith escapes bytes n text → waiting ≡ length bytes - n
     → input_text escapes bytes ≡ text ++ last_characters waiting

@@ -160,10 +160,10 @@ pub fn known_direction(
     let mut text = Vec::new(alloc);
     let _decoded = decode_start(escapes, bytes, &mut text)?;
     if text.len() < FIRST_CHARACTERS {
-        return match known_level(alloc, engine, &text)? {
-            Some(level) => Ok(Some(base_by(Some(level)))),
-            None => Ok(None),
+        let Some(level) = known_level(alloc, engine, &text)? else {
+            return Ok(None);
         };
+        return Ok(Some(base_by(Some(level))));
     }
     text.truncate(FIRST_CHARACTERS);
     Ok(Some(base_by(shown_level(alloc, engine, &text)?)))
