@@ -270,3 +270,4 @@ bench: bench-program c fribidi ucd parallel
 	bench/callers
 	bench/hostile
 	bench/versions
+	bench/terminal

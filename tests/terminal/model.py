@@ -23,7 +23,7 @@ import hordguli
 
 MOST_IN_PARAGRAPH = 1_048_576
 MOST_IN_STRING = 4096
-MOST_OF_LINKS = 262_144  # characters, of 4 bytes
+MOST_OF_LINKS = 1_048_576
 WIDEST = 65_535
 LOOKED_AT_FOR_DIRECTION = 65_536
 
@@ -172,8 +172,9 @@ def with_parameters(style, parameters):
         n, *parts = fields.pop(0)
         if n in COLOURED and parts:
             kind, *numbers = parts
-            if kind in (2, 5):
-                style = coloured(style, COLOURED[n], kind, numbers[1:] if kind == 2 and len(numbers) == 4 else numbers)
+            if kind not in (2, 5):
+                return style
+            style = coloured(style, COLOURED[n], kind, numbers[1:] if kind == 2 and len(numbers) == 4 else numbers)
         elif n in COLOURED:
             kind = fields.pop(0) if fields else []
             if kind not in ([2], [5]):
@@ -209,8 +210,8 @@ STRING = r"(?:\x1b[PX^_]|[\x90\x98\x9e\x9f])"
 
 
 def long_string(introducer, end):
-    """A string that is too long, up to its end or what no string has."""
-    return rf"{introducer}{INLINE}{{{MOST_IN_STRING + 1}}}{INLINE}*{end}?"
+    """A string that is too long, up to its end or the next separator."""
+    return rf"{introducer}{INLINE}{{{MOST_IN_STRING + 1}}}(?:(?!{end})[^{KEPT_CONTROL}\u2028\u2029])*{end}?"
 
 
 PIECE = re.compile(
@@ -260,7 +261,7 @@ def styled(text, escapes):
             pen = linked if links + more <= MOST_OF_LINKS else pen._replace(link=None)
             links += more if links + more <= MOST_OF_LINKS else 0
         elif piece["overstrike"]:
-            before = styles[-1] if shown and re.match(INLINE, shown[-1]) else DEFAULT
+            before = styles[-1] if shown else DEFAULT
             c, bold, underlined = overstruck(piece["overstrike"][::2], before)
             shown.append(c)
             styles.append(pen._replace(bold=pen.bold or bold, underline=1 if underlined else pen.underline))
@@ -369,11 +370,11 @@ class Layout:
 
 
 def direction_of(text, its):
-    """Returns the direction for `-d file`, or the one that is set."""
+    """Returns the direction for `-d file`, or the one that is set. The text has its sequences."""
     if its.direction != "file":
         return DIRECTIONS[its.direction]
     tables = hordguli.default_tables(its.unicode)
-    for paragraph, _ in paragraphs(text[:LOOKED_AT_FOR_DIRECTION], []):
+    for paragraph, _ in paragraphs(styled(text[:LOOKED_AT_FOR_DIRECTION], its.escapes)[0], []):
         weak = [hordguli.base_level(paragraph, DIRECTIONS[name], tables=tables) for name in ("auto", "rtl-auto")]
         if weak[0] == weak[1]:  # (it has a strong character)
             return DIRECTIONS["rtl" if weak[0] else "ltr"]
@@ -436,19 +437,18 @@ def written(cells):
     return "".join(text)
 
 
-def lines_of(text, styles, its):
-    """Yields the lines of a text, and whether each is the first of its paragraph."""
-    whole = direction_of(text, its)
+def lines_of(text, styles, its, whole):
+    """Yields the lines of a text in a direction, and whether each is the first of its paragraph."""
     for paragraph in paragraphs(text, styles):
         for characters, looks, direction in parts(*paragraph, whole):
             for at, line in enumerate(Layout(its, direction).paragraph(characters, looks)):
                 yield line, at == 0
 
 
-def page(text, styles, its):
-    """Returns the output for one text, with its last newline."""
+def page(text, styles, its, whole):
+    """Returns the output for one text in a direction, with its last newline."""
     output = []
-    for line, is_first in lines_of(text, styles, its):
+    for line, is_first in lines_of(text, styles, its, whole):
         output.append(written(line.cells) + "\n")
         if its.basedir and is_first:
             output.append("RTL\n" if line.base else "LTR\n")
@@ -460,7 +460,7 @@ def printed(texts, its):
     output, text = "", ""
     for data in texts:
         text, styles = styled(decoded(data), its.escapes)
-        output += page(text, styles, its)
+        output += page(text, styles, its, direction_of(decoded(data), its))
     if text:
         last = hordguli.properties(text[-1])[0]
         if last.bidi_class != "B" and last.line_class not in MANDATORY:

@@ -14,7 +14,7 @@ def cells_by_model(data, its):
     """Returns the cells of each line: a character with its marks, five attributes and two colours."""
     text, styles = model.styled(model.decoded(data), its.escapes)
     lines = []
-    for line, _ in model.lines_of(text, styles, its):
+    for line, _ in model.lines_of(text, styles, its, model.direction_of(model.decoded(data), its)):
         row = []
         for c, style in line.cells:
             width = model.hordguli.properties(c)[0].columns

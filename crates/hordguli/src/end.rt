@@ -1,6 +1,5 @@
 //! Why the command ends early.
 
-use std::io;
 use terminal_options::OptionFault;
 use thiserror::Error;
 use ucd::{ImageFault, TableFault};
@@ -30,9 +29,9 @@ pub(crate) enum End {
     /// Standard output is a pipe that nobody reads any more, which is no error.
     #[error("")]
     Closed,
-    /// Standard output cannot be written to.
-    #[error("hordguli: standard output: {0}")]
-    Output(io::Error),
+    /// An error that was reported.
+    #[error("")]
+    Reported,
     #[error("hordguli: out of memory")]
     Memory,
 }

@@ -1,5 +1,7 @@
 //! Shows the files, one after the other.
+use crate::direction::read_start;
 use crate::end::End;
+use crate::reports::{report, report_error};
 use crate::watched::Watched;
 use device::{FromRead, ToWrite};
 use lines::{Engine, PARAGRAPH_LIMIT};
@@ -8,22 +10,30 @@ use std::io;
 use std::io::{ErrorKind, Read, Stdout};
 use terminal::{Fault, Form, run};
 
+/// How the files are shown.
+#[derive(Clone, Copy)]
+pub(crate) struct Showing<'a> {
+    pub form: Form<'a>,
+    /// Whether each file has one direction.
+    pub by_file: bool,
+}
+
 /// Writes the lines of each file, in order, `-` being standard input, and reports each file that cannot be
 /// read. Without files, reads standard input. Returns whether all could be read and laid out.
 pub(crate) fn show_files(
     rt: &HostRuntime,
     engine: &mut Engine,
-    form: &Form<'_>,
+    showing: &Showing<'_>,
     files: &[&str],
 ) -> Result<bool, End> {
     let mut stdout = Watched::new(rt.stdout());
     let mut all = true;
     if files.is_empty() {
-        all = show_file(rt, engine, form, "-", true, &mut stdout)?;
+        all = show_file(rt, engine, showing, "-", true, &mut stdout)?;
     }
     for (n, file) in files.iter().enumerate() {
         let last = n + 1 == files.len();
-        let shown = show_file(rt, engine, form, file, last, &mut stdout)?;
+        let shown = show_file(rt, engine, showing, file, last, &mut stdout)?;
         all = all && shown;
     }
     Ok(all)
@@ -33,18 +43,18 @@ pub(crate) fn show_files(
 fn show_file(
     rt: &HostRuntime,
     engine: &mut Engine,
-    form: &Form<'_>,
+    showing: &Showing<'_>,
     name: &str,
     last: bool,
     stdout: &mut Watched<Stdout>,
 ) -> Result<bool, End> {
     if name == "-" {
-        return show(rt, engine, form, "standard input", last, rt.stdin(), stdout);
+        return show(rt, engine, showing, "standard input", last, rt.stdin(), stdout);
     }
     match File::open(rt, name) {
-        Ok(file) => show(rt, engine, form, name, last, file, stdout),
+        Ok(file) => show(rt, engine, showing, name, last, file, stdout),
         Err(error) => {
-            let _ = eprintln!(rt; "hordguli: {name}: {error}");
+            report_error(rt, name, &error);
             Ok(false)
         }
     }
@@ -54,24 +64,24 @@ fn show_file(
 fn show<R: Read + Drop>(
     rt: &HostRuntime,
     engine: &mut Engine,
-    form: &Form<'_>,
+    showing: &Showing<'_>,
     name: &str,
     last: bool,
     input: R,
     stdout: &mut Watched<Stdout>,
 ) -> Result<bool, End> {
     let mut input = Watched::new(input);
-    let result = {
-        let mut reader = FromRead::new(&mut input);
-        let mut writer = ToWrite::new(&mut *stdout);
-        run(rt.alloc(), &mut reader, &mut writer, engine, form)
+    let result = if showing.by_file {
+        run_by_file(rt, engine, &showing.form, last, &mut input, stdout)?
+    } else {
+        run_input(rt, engine, &showing.form, last, &mut input, stdout)
     };
     match result {
         Ok(()) => Ok(true),
         Err(Fault::Memory) => Err(End::Memory),
-        Err(Fault::Write(_)) => Err(output_end(stdout.error)),
+        Err(Fault::Write(_)) => Err(output_end(rt, &stdout.error)),
         Err(Fault::Read) => {
-            report_read(rt, name, input.error);
+            report_read(rt, name, &input.error);
             Ok(false)
         }
         Err(Fault::ParagraphTooLong) => {
@@ -83,23 +93,50 @@ fn show<R: Read + Drop>(
     }
 }
 
+fn run_input<R: Read + Drop>(
+    rt: &HostRuntime,
+    engine: &mut Engine,
+    form: &Form<'_>,
+    last: bool,
+    input: R,
+    stdout: &mut Watched<Stdout>,
+) -> Result<(), Fault> {
+    let mut reader = FromRead::new(input);
+    let mut writer = ToWrite::new(&mut *stdout);
+    run(rt.alloc(), &mut reader, &mut writer, engine, form, last)
+}
+
+// The same in the direction of the whole text, of which the start is read first.
+fn run_by_file<R: Read + Drop>(
+    rt: &HostRuntime,
+    engine: &mut Engine,
+    form: &Form<'_>,
+    last: bool,
+    input: &mut Watched<R>,
+    stdout: &mut Watched<Stdout>,
+) -> Result<Result<(), Fault>, End> {
+    let start = read_start(rt, engine, form.escapes, &mut *input)?;
+    let bytes = start.bytes.as_slice();
+    if start.is_whole {
+        return Ok(run_input(rt, engine, form, last, bytes, stdout));
+    }
+    Ok(run_input(rt, engine, form, last, bytes.chain(input), stdout))
+}
+
 // Reports why a text cannot be read.
-fn report_read(rt: &HostRuntime, name: &str, error: Option<io::Error>) {
+fn report_read(rt: &HostRuntime, name: &str, error: &Option<io::Error>) {
     match error {
-        Some(error) => {
-            let _ = eprintln!(rt; "hordguli: {name}: {error}");
-        }
-        None => {
-            let _ = eprintln!(rt; "hordguli: {name}: cannot be read");
-        }
+        Some(error) => report_error(rt, name, error),
+        None => report(rt, name, "cannot be read"),
     }
 }
 
-// Returns why standard output cannot be written to.
-fn output_end(error: Option<io::Error>) -> End {
+// Reports why standard output cannot be written to, unless nobody reads it any more.
+fn output_end(rt: &HostRuntime, error: &Option<io::Error>) -> End {
     match error {
-        Some(error) if error.kind() == ErrorKind::BrokenPipe => End::Closed,
-        Some(error) => End::Output(error),
-        None => End::Output(io::Error::from(ErrorKind::WriteZero)),
+        Some(error) if error.kind() == ErrorKind::BrokenPipe => return End::Closed,
+        Some(error) => report_error(rt, "standard output", error),
+        None => report(rt, "standard output", "cannot be written to"),
     }
+    End::Reported
 }

@@ -1,13 +1,15 @@
 //! The command `hordguli`: shows texts for a terminal in visual order.
 #![tactic(auto)]
 
+mod direction;
 mod end;
 mod files;
+mod reports;
 mod setup;
 mod watched;
 
 use crate::end::End;
-use crate::files::show_files;
+use crate::files::{Showing, show_files};
 use crate::setup::{form_of, options_of, pattern_of, tables_of};
 use lines::Engine;
 use program_input::{arguments, as_texts};
@@ -16,7 +18,7 @@ use std::env::VarError;
 use std::io::ErrorKind;
 use std::process::ExitCode;
 use std::{env, io};
-use terminal_options::{OptionFault, Prefix, Settings, settings};
+use terminal_options::{Direction, OptionFault, Prefix, Settings, settings};
 
 fn main(rt: HostRuntime) -> ExitCode {
     match run(&rt) {
@@ -31,6 +33,7 @@ fn main(rt: HostRuntime) -> ExitCode {
 fn report(rt: &HostRuntime, fault: &End) -> ExitCode {
     match fault {
         End::Closed => ExitCode::SUCCESS,
+        End::Reported => ExitCode::FAILURE,
         End::Options(refused) => report_refusal(rt, refused),
         _ => {
             let _ = eprintln!(rt; "{fault}");
@@ -124,8 +127,11 @@ fn run_form(
     settings: &Settings<'_>,
     prefix: terminal::Prefix<'_>,
 ) -> Result<bool, End> {
-    let form = form_of(rt, settings, prefix)?;
+    let showing = Showing {
+        form: form_of(rt, settings, prefix)?,
+        by_file: settings.direction == Direction::File,
+    };
     let tables = tables_of(rt, settings)?;
     let mut engine = Engine::new(tables, options_of(settings));
-    show_files(rt, &mut engine, &form, &settings.files)
+    show_files(rt, &mut engine, &showing, &settings.files)
 }

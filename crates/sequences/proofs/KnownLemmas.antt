@@ -1,12 +1,12 @@
 -- What follows a text does not change a sequence that is known.
-use Rattle.std.proofs.Common.{◌≡◌, ℕ, zero, suc, ◌+◌, ◌-◌, ◌<◌, ◌≤◌, ◌==◌, Bool, true, false, List, [], ◌∷◌, ◌++◌, length, drop, slice_index, nat_lt, nat_le, Option, Some, None, if◌then◌else◌, refl, sym, ap, inl, inr, ◌∙◌, arith}
-use Rattle.std.specs.Prelude.{◌&&◌, ◌||◌, option_map}
+use Rattle.std.proofs.Common.{◌≡◌, ℕ, zero, suc, ◌+◌, ◌-◌, ◌<◌, ◌==◌, Bool, true, false, List, [], ◌∷◌, ◌++◌, length, drop, slice_index, nat_lt, Option, Some, None, if◌then◌else◌, refl, sym, ap, inl, inr, ◌∙◌, arith}
+use Rattle.std.specs.Prelude.{◌&&◌, ◌||◌, not, option_map}
 use Rattle.std.specs.List.{prefix_len}
-use Rattle.std.proofs.lemmas.Bool.{cases_Bool, cond-true, cond-false, cond_both, eqb-true, ltb-true, false≢true}
+use Rattle.std.proofs.lemmas.Bool.{and_right, cases_Bool, cond-true, cond-false, ltb-true, false≢true}
 use Rattle.std.proofs.lemmas.List.{drop-append-le, length-drop}
-use Rattle.sequences.specs.Characters.{is_c1_introducer, is_inline}
-use Rattle.sequences.specs.Known.{knows_after_escape, knows_sequence, knows_string}
-use Rattle.sequences.specs.Sequences.{csi_end, csi_len, escape_len, is_csi_final, is_escape_final, is_intermediate, is_parameter, len_after_escape, opens_string, sequence_len, string_end, string_len, terminator_len}
+use Rattle.sequences.specs.Characters.{ends_piece, is_c1_introducer, is_inline}
+use Rattle.sequences.specs.Known.{knows_after_escape, knows_long, knows_sequence, knows_string}
+use Rattle.sequences.specs.Sequences.{csi_end, csi_len, escape_len, is_csi_final, is_escape_final, is_intermediate, is_parameter, len_after_escape, long_len, opens_string, sequence_len, string_end, string_len, terminator_len}
 use Rattle.sequences.specs.declared.lengths.TheConstants.{LONGEST_STRING}
 
 module _ (more : List ℕ) where
@@ -55,27 +55,100 @@ module _ (more : List ℕ) where
       ap (λ (b : Bool). if x == 0x9C || (is_osc && x == 0x07) then 1 else (if b && slice_index more 0 == 0x5C then 2 else 0)) no
       ∙ sym (ap (λ (b : Bool). if x == 0x9C || (is_osc && x == 0x07) then 1 else (if b && 0 == 0x5C then 2 else 0)) no)
 
-  abbrev string_ended : ℕ → ℕ → Option ℕ
-  string_ended n terminator = if terminator == 0 && nat_le n LONGEST_STRING then None else Some (n + terminator)
+  -- the end of a string does not change
+  terminator_kept : (is_osc : Bool) (text : List ℕ) → (terminator_len is_osc text == 0) ≡ false → terminator_len is_osc (text ++ more) ≡ terminator_len is_osc text
+  terminator_kept is_osc [] some = absurd (none (and_right is_osc false refl))
+    where
+      none : (is_osc && false) ≡ false → ⊥
+      none e =
+          let zero : terminator_len is_osc [] ≡ 0 = cond-false (is_osc && false) 1 0 e in
+          false≢true (sym some ∙ ap (λ (n : ℕ). n == 0) zero)
+  terminator_kept is_osc (x ∷ y ∷ text) some = refl
+  terminator_kept is_osc (x ∷ []) some =
+      elim (cases_Bool (x == 0x9C || (is_osc && x == 0x07))) [
+        | inl y ↦ cond-true (x == 0x9C || (is_osc && x == 0x07)) 1 _ y ∙ sym (cond-true (x == 0x9C || (is_osc && x == 0x07)) 1 _ y)
+        | inr n ↦ absurd (false≢true (sym some ∙ ap (λ (k : ℕ). k == 0) (zero n)))
+      ]
+    where
+      zero : (x == 0x9C || (is_osc && x == 0x07)) ≡ false → terminator_len is_osc (x ∷ []) ≡ 0
+      zero n = cond-false (x == 0x9C || (is_osc && x == 0x07)) 1 _ n ∙ cond-false (x == 0x1B && 0 == 0x5C) 2 0 (and_right (x == 0x1B) (0 == 0x5C) refl)
 
-  string_known : (is_osc : Bool) (text : List ℕ) → knows_string text ≡ true → string_len is_osc (text ++ more) ≡ string_len is_osc text
+  long_some : (is_osc : Bool) (text : List ℕ) → knows_long is_osc text ≡ true → 0 < length text
+  long_some is_osc [] known = absurd (false≢true known)
+  long_some is_osc (c ∷ text) known = omega arith
+
+  abbrev long_by : ℕ → ℕ → ℕ
+  long_by terminator rest = if terminator == 0 then suc rest else terminator
+
+  long_known : (is_osc : Bool) (text : List ℕ) → knows_long is_osc text ≡ true → long_len is_osc (text ++ more) ≡ long_len is_osc text
+  long_known is_osc [] known = absurd (false≢true known)
+  long_known is_osc (c ∷ text) known =
+      elim (cases_Bool (ends_piece c)) [
+        | inl y ↦ cond-true (ends_piece c) 0 _ y ∙ sym (cond-true (ends_piece c) 0 _ y)
+        | inr n ↦
+            cond-false (ends_piece c) 0 _ n
+            ∙ goes_on text (long_known is_osc text) (sym (ap (λ (b : Bool). b || (not (terminator_len is_osc (c ∷ text) == 0) || knows_long is_osc text)) n) ∙ known)
+            ∙ sym (cond-false (ends_piece c) 0 _ n)
+      ]
+    where
+      over : (text : List ℕ) → (knows_long is_osc text ≡ true → long_len is_osc (text ++ more) ≡ long_len is_osc text) → knows_long is_osc text ≡ true
+          → long_by (terminator_len is_osc (c ∷ (text ++ more))) (long_len is_osc (text ++ more)) ≡ long_by (terminator_len is_osc (c ∷ text)) (long_len is_osc text)
+      over [] rest known = absurd (false≢true known)
+      over (d ∷ text) rest known = ap (long_by (terminator_len is_osc (c ∷ d ∷ text))) (rest known)
+
+      goes_on : (text : List ℕ) → (knows_long is_osc text ≡ true → long_len is_osc (text ++ more) ≡ long_len is_osc text)
+          → (not (terminator_len is_osc (c ∷ text) == 0) || knows_long is_osc text) ≡ true
+          → long_by (terminator_len is_osc (c ∷ (text ++ more))) (long_len is_osc (text ++ more)) ≡ long_by (terminator_len is_osc (c ∷ text)) (long_len is_osc text)
+      goes_on text rest known =
+          let terminator = terminator_len is_osc (c ∷ text) in
+          elim (cases_Bool (terminator == 0)) [
+            | inl y ↦ over text rest (sym (ap (λ (b : Bool). not b || knows_long is_osc text) y) ∙ known)
+            | inr n ↦
+                ap (λ (t : ℕ). long_by t (long_len is_osc (text ++ more))) (terminator_kept is_osc (c ∷ text) n)
+                ∙ cond-false (terminator == 0) (suc (long_len is_osc (text ++ more))) terminator n
+                ∙ sym (cond-false (terminator == 0) (suc (long_len is_osc text)) terminator n)
+          ]
+
+  abbrev short_ended : ℕ → ℕ → Option ℕ
+  short_ended n terminator = if terminator == 0 then None else Some (n + terminator)
+
+  abbrev string_by : Bool → ℕ → List ℕ → Option ℕ
+  string_by is_osc n rest = if nat_lt LONGEST_STRING n then Some (n + long_len is_osc rest) else short_ended n (terminator_len is_osc rest)
+
+  string_same : (is_osc : Bool) (text : List ℕ) → string_end text < length text → string_len is_osc (text ++ more) ≡ string_by is_osc (string_end text) (drop (string_end text) text ++ more)
+  string_same is_osc text less =
+      ap (λ k. string_by is_osc k (drop k (text ++ more))) (prefix_known is_inline text less)
+      ∙ ap (string_by is_osc (string_end text)) (drop-append-le (string_end text) text more (omega (arith, less)))
+
+  string_known : (is_osc : Bool) (text : List ℕ) → knows_string is_osc text ≡ true → string_len is_osc (text ++ more) ≡ string_len is_osc text
   string_known is_osc text known =
       let n = string_end text in
-      let one : ℕ = if slice_index text n == 0x1B then 1 else 0 in
-      let less : n + one < length text = ltb-true (n + one) (length text) known in
-      let same : string_end (text ++ more) ≡ n = prefix_known is_inline text (omega (arith, less)) in
-      let rest : drop n (text ++ more) ≡ drop n text ++ more = drop-append-le n text more (omega (arith, less)) in
-      let at : slice_index (drop n text) 0 ≡ slice_index text n = index_drop n text in
-      let few : (if slice_index (drop n text) 0 == 0x1B then 1 else 0) < length (drop n text) =
-      omega (arith, ap {B = ℕ} (λ c. if c == 0x1B then 1 else 0) at, less, length-drop n text) in
-      ap (λ k. string_ended k (terminator_len is_osc (drop k (text ++ more)))) same
-      ∙ ap (λ t. string_ended n (terminator_len is_osc t)) rest
-      ∙ ap (string_ended n) (terminator_known is_osc (drop n text) few)
+      let is_long = nat_lt LONGEST_STRING n in
+      elim (cases_Bool is_long) [
+        | inl y ↦ long y (sym (cond-true is_long _ _ y) ∙ known)
+        | inr n_is ↦ short n_is (ltb-true _ (length text) (sym (cond-false is_long _ _ n_is) ∙ known))
+      ]
     where
       index_drop : (n : ℕ) (text : List ℕ) → slice_index (drop n text) 0 ≡ slice_index text n
       index_drop zero text = refl
       index_drop (suc n) [] = refl
       index_drop (suc n) (c ∷ text) = index_drop n text
+
+      long : nat_lt LONGEST_STRING (string_end text) ≡ true → knows_long is_osc (drop (string_end text) text) ≡ true → string_len is_osc (text ++ more) ≡ string_len is_osc text
+      long y known =
+          let n = string_end text in
+          let less : n < length text = omega (arith, long_some is_osc (drop n text) known, length-drop n text) in
+          string_same is_osc text less ∙ cond-true (nat_lt LONGEST_STRING n) _ _ y ∙ ap (λ k. Some (n + k)) (long_known is_osc (drop n text) known)
+          ∙ sym (cond-true (nat_lt LONGEST_STRING n) _ _ y)
+
+      short : nat_lt LONGEST_STRING (string_end text) ≡ false → string_end text + (if slice_index text (string_end text) == 0x1B then 1 else 0) < length text
+          → string_len is_osc (text ++ more) ≡ string_len is_osc text
+      short few_is less =
+          let n = string_end text in
+          let few : (if slice_index (drop n text) 0 == 0x1B then 1 else 0) < length (drop n text) =
+          omega (arith, ap {B = ℕ} (λ c. if c == 0x1B then 1 else 0) (index_drop n text), less, length-drop n text) in
+          string_same is_osc text (omega (arith, less)) ∙ cond-false (nat_lt LONGEST_STRING n) _ _ few_is
+          ∙ ap (short_ended n) (terminator_known is_osc (drop n text) few) ∙ sym (cond-false (nat_lt LONGEST_STRING n) _ _ few_is)
 
   abbrev other_escape : ℕ → List ℕ → Option ℕ
   other_escape c t = if opens_string c then option_map suc (string_len (c == 0x5D) t) else escape_len (c ∷ t)
@@ -89,7 +162,7 @@ module _ (more : List ℕ) where
         | inr n ↦ cond-false (c == 0x5B) _ _ n ∙ other (sym (cond-false (c == 0x5B) _ _ n) ∙ known) ∙ sym (cond-false (c == 0x5B) _ _ n)
       ]
     where
-      other : (if opens_string c then knows_string text else nat_lt (prefix_len is_intermediate (c ∷ text)) (length (c ∷ text))) ≡ true → other_escape c (text ++ more) ≡ other_escape c text
+      other : (if opens_string c then knows_string (c == 0x5D) text else nat_lt (prefix_len is_intermediate (c ∷ text)) (length (c ∷ text))) ≡ true → other_escape c (text ++ more) ≡ other_escape c text
       other known =
           elim (cases_Bool (opens_string c)) [
             | inl y ↦

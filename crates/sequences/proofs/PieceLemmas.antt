@@ -1,14 +1,14 @@
 -- No part of a text spans a character that neither is dropped nor can be in a string, so that what is after it plays no role.
-use Rattle.std.proofs.Common.{◌≡◌, ℕ, zero, suc, ◌+◌, ◌-◌, ◌*◌, ◌<◌, ◌≤◌, ◌==◌, Bool, true, false, ◌&&◌, ◌||◌, List, [], ◌∷◌, ◌++◌, length, take, drop, slice_index, nat_le, Some, None, if◌then◌else◌, refl, sym, ap, subst, ◌∙◌, append_assoc, inl, inr, arith}
-use Rattle.std.specs.Prelude.{fold, MatchOption, Option, option_map, unwrap_or, ⊤}
+use Rattle.std.proofs.Common.{◌≡◌, ℕ, zero, suc, ◌+◌, ◌-◌, ◌*◌, ◌<◌, ◌≤◌, ◌==◌, Bool, true, false, ◌&&◌, ◌||◌, List, [], ◌∷◌, ◌++◌, length, take, drop, slice_index, nat_le, nat_lt, Some, None, if◌then◌else◌, refl, sym, ap, subst, ◌∙◌, append_assoc, inl, inr, arith}
+use Rattle.std.specs.Prelude.{fold, not, MatchOption, Option, option_map, unwrap_or, ⊤}
 use Rattle.std.specs.List.{prefix_len}
-use Rattle.std.proofs.lemmas.Bool.{eqb-true, cases_eq, cond-false, cond_both, and_left, and_right, or_from, or_parts, not-true, false≢true}
+use Rattle.std.proofs.lemmas.Bool.{eqb-true, cases_eq, cond-false, cond-true, cond_both, and_left, and_right, or_from, or_parts, not-true, false≢true}
 use Rattle.std.proofs.lemmas.Bool.Decides.{nat_tests}
 use Rattle.std.proofs.lemmas.List.{append-nil, drop-append-le, length-drop, take-append-le}
-use Rattle.sequences.specs.Characters.{is_c1_introducer, is_dropped, is_inline}
+use Rattle.sequences.specs.Characters.{ends_piece, is_c1_introducer, is_dropped, is_inline}
 use Rattle.sequences.specs.Parameters.{is_sgr, osc_link, parameters, sgr}
-use Rattle.sequences.specs.Sequences.{after_escape, csi_end, csi_len, escape_len, is_csi_final, is_escape_final, is_intermediate, is_parameter, len_after_escape, opens_string, sequence_len, string_end, string_len, terminator_len}
-use Rattle.sequences.specs.Laws.{characters_of, ends_piece, ShowsPieces}
+use Rattle.sequences.specs.Sequences.{after_escape, csi_end, csi_len, escape_len, is_csi_final, is_escape_final, is_intermediate, is_parameter, len_after_escape, long_len, opens_string, sequence_len, string_end, string_len, terminator_len}
+use Rattle.sequences.specs.Laws.{characters_of, ShowsPieces}
 use Rattle.sequences.proofs.LawLemmas.{same_characters}
 use Rattle.sequences.specs.Overstrikes.{after_backspaces, is_underlined_only, strike, strikes, struck_look}
 use Rattle.sequences.specs.Styled.{after_first_part, after_part, after_sequence, first_shown, more_len, Pen, pen_after, pen_at_end, shown_text, START, Style, styled, styled_after, with_link, with_osc, with_sgr}
@@ -152,27 +152,59 @@ module _ (c : ℕ) (kept : is_dropped c ≡ false) (outer : is_inline c ≡ fals
       cond_both (x == 0x9C || (is_osc && x == 0x07)) 1 _ (λ n. n ≤ length (x ∷ y ∷ text)) (λ _. omega arith)
       (λ _. cond_both _ 2 0 (λ n. n ≤ length (x ∷ y ∷ text)) (λ _. omega arith) (λ _. omega arith))
 
-  abbrev string_ended : ℕ → ℕ → Option ℕ
-  string_ended n terminator = if terminator == 0 && nat_le n LONGEST_STRING then None else Some (n + terminator)
+  cut_here : ends_piece c ≡ true
+  cut_here = ap (λ b. not (b || is_inline c)) kept ∙ ap not outer
+
+  long_none : (is_osc : Bool) (one : List ℕ) → long_len is_osc (c ∷ one) ≡ 0
+  long_none is_osc one = cond-true (ends_piece c) 0 _ cut_here
+
+  long_same : (is_osc : Bool) (one two text : List ℕ) → long_len is_osc (text ++ c ∷ one) ≡ long_len is_osc (text ++ c ∷ two)
+  long_same is_osc one two [] = long_none is_osc one ∙ sym (long_none is_osc two)
+  long_same is_osc one two (x ∷ text) =
+      ap (λ (t : ℕ). long_by x t (long_len is_osc (text ++ c ∷ one))) (terminator_same is_osc one two (x ∷ text))
+      ∙ ap (long_by x (terminator_len is_osc (x ∷ (text ++ c ∷ two)))) (long_same is_osc one two text)
+    where
+      long_by : ℕ → ℕ → ℕ → ℕ
+      long_by x terminator rest = if ends_piece x then 0 else (if terminator == 0 then suc rest else terminator)
+
+  long_within : (is_osc : Bool) (one text : List ℕ) → long_len is_osc (text ++ c ∷ one) ≤ length text
+  long_within is_osc one [] = subst (λ (n : ℕ). n ≤ 0) (sym (long_none is_osc one)) (omega arith)
+  long_within is_osc one (x ∷ text) =
+      let terminator = terminator_len is_osc (x ∷ (text ++ c ∷ one)) in
+      cond_both (ends_piece x) 0 _ (λ n. n ≤ length (x ∷ text)) (λ _. omega arith)
+      (λ _. cond_both (terminator == 0) (suc (long_len is_osc (text ++ c ∷ one))) terminator (λ n. n ≤ length (x ∷ text))
+      (λ _. let rest = long_within is_osc one text in omega arith) (λ _. terminator_within is_osc one (x ∷ text)))
+
+  abbrev string_ended : ℕ → ℕ → ℕ → Option ℕ
+  string_ended n long terminator =
+      if nat_lt LONGEST_STRING n then Some (n + long) else (if terminator == 0 then None else Some (n + terminator))
+
+  abbrev string_by : Bool → ℕ → List ℕ → Option ℕ
+  string_by is_osc n rest = string_ended n (long_len is_osc rest) (terminator_len is_osc rest)
 
   string_len_same : (is_osc : Bool) (one two text : List ℕ) → string_len is_osc (text ++ c ∷ one) ≡ string_len is_osc (text ++ c ∷ two)
   string_len_same is_osc one two text =
       let n = string_end (text ++ c ∷ one) in
       let le : n ≤ length text = prefix_within one is_inline outer text in
       let same : n ≡ string_end (text ++ c ∷ two) = prefix_same one two is_inline outer text in
-      ap (λ (t : List ℕ). string_ended n (terminator_len is_osc t)) (drop_whole one text n le)
-      ∙ ap (string_ended n) (terminator_same is_osc one two (drop n text))
-      ∙ ap (λ (t : List ℕ). string_ended n (terminator_len is_osc t)) (sym (drop_whole two text n le))
-      ∙ ap (λ (k : ℕ). string_ended k (terminator_len is_osc (drop k (text ++ c ∷ two)))) same
+      ap (string_by is_osc n) (drop_whole one text n le)
+      ∙ ap (λ (l : ℕ). string_ended n l (terminator_len is_osc (drop n text ++ c ∷ one))) (long_same is_osc one two (drop n text))
+      ∙ ap (string_ended n (long_len is_osc (drop n text ++ c ∷ two))) (terminator_same is_osc one two (drop n text))
+      ∙ ap (string_by is_osc n) (sym (drop_whole two text n le))
+      ∙ ap (λ (k : ℕ). string_by is_osc k (drop k (text ++ c ∷ two))) same
 
   string_len_within : (is_osc : Bool) (one text : List ℕ) → IsWithin (length text) (string_len is_osc (text ++ c ∷ one))
   string_len_within is_osc one text =
       let n = string_end (text ++ c ∷ one) in
       let le : n ≤ length text = prefix_within one is_inline outer text in
       let terminator = terminator_len is_osc (drop n (text ++ c ∷ one)) in
-      let rest : terminator ≤ length (drop n text) =
+      let long = long_len is_osc (drop n (text ++ c ∷ one)) in
+      let ended : terminator ≤ length (drop n text) =
       subst (λ (t : List ℕ). terminator_len is_osc t ≤ length (drop n text)) (sym (drop_whole one text n le)) (terminator_within is_osc one (drop n text)) in
-      cond_both (terminator == 0 && nat_le n LONGEST_STRING) None (Some (n + terminator)) (IsWithin (length text)) (λ _. tt) (λ _. omega (arith, length-drop n text))
+      let passed : long ≤ length (drop n text) =
+      subst (λ (t : List ℕ). long_len is_osc t ≤ length (drop n text)) (sym (drop_whole one text n le)) (long_within is_osc one (drop n text)) in
+      cond_both (nat_lt LONGEST_STRING n) (Some (n + long)) _ (IsWithin (length text)) (λ _. omega (arith, passed, length-drop n text))
+      (λ _. cond_both (terminator == 0) None (Some (n + terminator)) (IsWithin (length text)) (λ _. tt) (λ _. omega (arith, ended, length-drop n text)))
 
   -- all sequences, after ESC
   suc_within : (n : ℕ) (found : Option ℕ) → IsWithin n found → IsWithin (suc n) (option_map suc found)
@@ -313,7 +345,7 @@ module _ (c : ℕ) (kept : is_dropped c ≡ false) (outer : is_inline c ≡ fals
   after_part_same pen one two x text None = ap (λ (xs : List ℕ). if is_dropped x then pen else after xs) (strikes_same one two x text)
     where
       after : List ℕ → Pen
-      after xs = record pen { after_underline = is_inline x && is_underlined_only (struck_look pen.style.look (place_of pen x xs)) }
+      after xs = record pen { after_underline = is_underlined_only (struck_look pen.style.look (place_of pen x xs)) }
 
   after_first_part_same : (pen : Pen) (one two : List ℕ) (x : ℕ) (text : List ℕ) → after_first_part pen x (text ++ c ∷ one) ≡ after_first_part pen x (text ++ c ∷ two)
   after_first_part_same pen one two x text =
@@ -341,7 +373,7 @@ module _ (c : ℕ) (kept : is_dropped c ≡ false) (outer : is_inline c ≡ fals
       ∙ ap (after_part pen c []) (sym (no_sequence c [] kept))
     where
       after : List ℕ → Pen
-      after xs = record pen { after_underline = is_inline c && is_underlined_only (struck_look pen.style.look (place_of pen c xs)) }
+      after xs = record pen { after_underline = is_underlined_only (struck_look pen.style.look (place_of pen c xs)) }
 
   -- a text is shown piece by piece
   pieces_text : (skip : ℕ) (pen : Pen) (text rest : List ℕ) → skip ≤ length text

@@ -66,14 +66,14 @@ pub end_pen : (pen last : Pen) (text : List ℕ) (at : ℕ) → length text ≤ 
 end_pen pen last text at end e = sym (pen_at_end-none pen) ∙ ap (pen_at_end pen) (sym (drop_of_length-le text end)) ∙ e
 
 -- a character that nothing is struck over
-after_first_part-plain : (pen : Pen) (c : ℕ) (text : List ℕ) → is_dropped c ≡ false → after_backspaces text ≡ [] → after_first_part pen c text ≡ plain_step pen c
+after_first_part-plain : (pen : Pen) (c : ℕ) (text : List ℕ) → is_dropped c ≡ false → after_backspaces text ≡ [] → after_first_part pen c text ≡ plain_step pen
 after_first_part-plain pen c text e none =
     ap (after_part pen c text) (no_sequence c text e) ∙ cond-false (is_dropped c) pen (after_character pen c text) e
     ∙ ap (λ (xs : List ℕ). with_look (struck_look pen.style.look (fold (strike pen.after_underline) (record { shown = c; bold = false; underlined = false }) xs))) (no_strikes c text none)
     ∙ ap with_look (plain_look pen.style.look c)
   where
     with_look : Look → Pen
-    with_look look = record pen { after_underline = is_inline c && is_underlined_only look }
+    with_look look = record pen { after_underline = is_underlined_only look }
 
 quiet : (run rest : List ℕ) → list_all (λ c. not (is_dropped c)) run ≡ true → after_backspaces rest ≡ [] → after_backspaces (run ++ rest) ≡ []
 quiet [] rest e none = none
@@ -90,7 +90,7 @@ plain_run-text pen (c ∷ run) rest e none =
     ap (λ shown. shown ++ styled_after (more_len c text) (after_first_part pen c text) text) part.0
     ∙ ap (λ (n : ℕ). (c, pen.style) ∷ styled_after n (after_first_part pen c text) text) part.1
     ∙ ap (λ (p : Pen). (c, pen.style) ∷ styled_after 0 p text) (after_first_part-plain pen c text kept (quiet run rest parts.1 none))
-    ∙ ap (λ shown. (c, pen.style) ∷ shown) (plain_run-text (plain_step pen c) run rest parts.1 none)
+    ∙ ap (λ shown. (c, pen.style) ∷ shown) (plain_run-text (plain_step pen) run rest parts.1 none)
 
 plain_run-pen : (pen : Pen) (run rest : List ℕ) → list_all (λ c. not (is_dropped c)) run ≡ true → after_backspaces rest ≡ []
     → pen_after 0 pen (run ++ rest) ≡ pen_after 0 (plain_pen pen run) rest
@@ -102,12 +102,16 @@ plain_run-pen pen (c ∷ run) rest e none =
     let part = plain_part pen c text kept (quiet run rest parts.1 none) in
     ap (λ (n : ℕ). pen_after n (after_first_part pen c text) text) part.1
     ∙ ap (λ (p : Pen). pen_after 0 p text) (after_first_part-plain pen c text kept (quiet run rest parts.1 none))
-    ∙ plain_run-pen (plain_step pen c) run rest parts.1 none
+    ∙ plain_run-pen (plain_step pen) run rest parts.1 none
 
--- only the last of these characters counts
-pub plain_pen-last : (pen : Pen) (run : List ℕ) (last : ℕ) → plain_pen pen (run ++ last ∷ []) ≡ plain_step pen last
-plain_pen-last pen [] last = refl
-plain_pen-last pen (c ∷ run) last = plain_pen-last (plain_step pen c) run last
+-- it does not matter how many there are
+plain_pen-some : (pen : Pen) (c : ℕ) (run : List ℕ) → plain_pen pen (c ∷ run) ≡ plain_step pen
+plain_pen-some pen c [] = refl
+plain_pen-some pen c (d ∷ run) = plain_pen-some (plain_step pen) d run
+
+pub plain_pen-run : (pen : Pen) (run : List ℕ) → 0 < length run → plain_pen pen run ≡ plain_step pen
+plain_pen-run pen [] some = absurd (omega arith)
+plain_pen-run pen (c ∷ run) some = plain_pen-some pen c run
 
 -- a step over such characters, from what was shown before
 pub plain_step_text : (pen next : Pen) (before after : List (ℕ × Style)) (text : List ℕ) (n : ℕ) → list_all (λ c. not (is_dropped c)) (take n text) ≡ true

@@ -1,5 +1,5 @@
 -- Examples of the definitions. In these texts ^ is ESC, < is BS and ~ is BEL.
-use Rattle.std.proofs.Common.{◌≡◌, ℕ, true, List, [], ◌∷◌, ◌++◌, map, Some, None, refl}
+use Rattle.std.proofs.Common.{◌≡◌, ℕ, true, false, List, [], ◌∷◌, ◌++◌, map, Some, None, refl}
 use Rattle.std.specs.Prelude.{codes, replicate, ◌==◌, if◌then◌else◌}
 use Rattle.sequences.specs.Looks.{applied}
 use Rattle.sequences.specs.Parameters.{osc_link, parameters, sgr}
@@ -65,6 +65,12 @@ string_of_4096 = refl
 longer_string : sequence_len (27 ∷ 0x5D ∷ (replicate 4097 0x61 ++ (10 ∷ []))) ≡ Some 4099
 longer_string = refl
 
+longer_string_with_controls : sequence_len (27 ∷ 0x50 ∷ (replicate 4097 0x61 ++ (0 ∷ 7 ∷ 27 ∷ 0x62 ∷ 27 ∷ 0x5C ∷ 0x63 ∷ []))) ≡ Some 4105
+longer_string_with_controls = refl
+
+longer_string_before_a_tab : sequence_len (27 ∷ 0x50 ∷ (replicate 4097 0x61 ++ (0 ∷ 9 ∷ 27 ∷ 0x5C ∷ []))) ≡ Some 4100
+longer_string_before_a_tab = refl
+
 -- the attributes after SGR with parameters
 abbrev after : List ℕ → Look
 after text = applied PLAIN (parameters text)
@@ -119,6 +125,9 @@ color_incomplete_by_colons = refl
 
 unknown_kind_ends : after (codes "1;38;3;4;9") ≡ record PLAIN { bold = true }
 unknown_kind_ends = refl
+
+unknown_kind_by_colons_ends : after (codes "1;38:3;4;9") ≡ record PLAIN { bold = true }
+unknown_kind_by_colons_ends = refl
 
 unknown_changes_nothing : after (codes "1;26;77;1:2;99999999999999999999") ≡ record PLAIN { bold = true }
 unknown_changes_nothing = refl
@@ -202,6 +211,10 @@ low_line_alone = refl
 low_line_after_underline : styles (codes "_<x_<_") ≡ plain (record PLAIN { underline = Some Single }) ∷ plain (record PLAIN { underline = Some Single }) ∷ []
 unfolding styled
 low_line_after_underline = refl
+
+low_line_after_underlined_tab : map (λ (s : Style). s.look.bold) (styles (codes "^[4m\t^[m_<_")) ≡ false ∷ false ∷ []
+unfolding styled
+low_line_after_underlined_tab = refl
 
 low_line_after_both : styles (codes "_<x<x_<_")
     ≡ plain (record PLAIN { bold = true; underline = Some Single }) ∷ plain (record PLAIN { bold = true }) ∷ []

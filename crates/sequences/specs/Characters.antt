@@ -17,6 +17,11 @@ is_dropped c = is_control c && not (is_kept_control c)
 abbrev pub is_inline : ℕ → Bool
 is_inline c = not (is_control c || (c == 0x2028 || c == 0x2029))
 
+-- The characters at which a text can be cut, which neither are dropped nor can be in a string: the controls that remain, U+2028
+-- and U+2029.
+abbrev pub ends_piece : ℕ → Bool
+ends_piece c = not (is_dropped c || is_inline c)
+
 -- a C1 control that introduces what ESC and the character 0x40 below it do
 abbrev pub is_c1_introducer : ℕ → Bool
 is_c1_introducer c = nat_le 0x80 c && (nat_lt c 0xA0 && not (c == 0x85))

@@ -1,20 +1,29 @@
 -- Whether the sequence that a text begins with is the same whatever follows the text.
-use Rattle.std.specs.Prelude.{ℕ, ◌+◌, ◌-◌, nat_lt, ◌==◌, Bool, true, false, List, [], ◌∷◌, length, slice_index, if◌then◌else◌}
+use Rattle.std.specs.Prelude.{ℕ, ◌+◌, ◌-◌, nat_lt, ◌==◌, Bool, true, false, ◌||◌, not, List, [], ◌∷◌, length, drop, slice_index, if◌then◌else◌}
 use Rattle.std.specs.List.{prefix_len}
-use Rattle.sequences.specs.Characters.{is_c1_introducer}
-use Rattle.sequences.specs.Sequences.{csi_end, is_intermediate, opens_string, string_end}
+use Rattle.sequences.specs.Characters.{ends_piece, is_c1_introducer}
+use Rattle.sequences.specs.Sequences.{csi_end, is_intermediate, opens_string, string_end, terminator_len}
+use Rattle.sequences.specs.declared.lengths.TheConstants.{LONGEST_STRING}
 
 -- The definitions below are of the text after an introducer.
 
--- A string is known once a character follows it that it does not contain. After ESC, one more character is needed.
-abbrev pub knows_string : List ℕ → Bool
-knows_string text = nat_lt (string_end text + (if slice_index text (string_end text) == 0x1B then 1 else 0)) (length text)
+-- A string that is too long is known once it ends.
+abbrev pub knows_long : Bool → List ℕ → Bool
+knows_long is_osc [] = false
+knows_long is_osc (c ∷ text) = ends_piece c || (not (terminator_len is_osc (c ∷ text) == 0) || knows_long is_osc text)
+
+-- Another string is known once a character follows it that it does not contain. After ESC, one more character is needed.
+abbrev pub knows_string : Bool → List ℕ → Bool
+knows_string is_osc text =
+    let n = string_end text in
+    if nat_lt LONGEST_STRING n then knows_long is_osc (drop n text)
+    else nat_lt (n + (if slice_index text n == 0x1B then 1 else 0)) (length text)
 
 abbrev pub knows_after_escape : List ℕ → Bool
 knows_after_escape [] = false
 knows_after_escape (c ∷ text) =
     if c == 0x5B then nat_lt (csi_end text) (length text)
-    else if opens_string c then knows_string text
+    else if opens_string c then knows_string (c == 0x5D) text
     else nat_lt (prefix_len is_intermediate (c ∷ text)) (length (c ∷ text))
 
 -- whether it is known where the sequence ends that a text begins with, or that there is none

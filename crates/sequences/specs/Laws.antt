@@ -1,7 +1,7 @@
 -- What holds of all texts.
-use Rattle.std.specs.Prelude.{◌≡◌, ℕ, Bool, true, not, ◌||◌, List, [], ◌∷◌, ◌++◌, map}
+use Rattle.std.specs.Prelude.{◌≡◌, ℕ, Bool, true, not, List, [], ◌∷◌, ◌++◌, map}
 use Rattle.std.specs.List.{list_all}
-use Rattle.sequences.specs.Characters.{is_dropped, is_inline}
+use Rattle.sequences.specs.Characters.{ends_piece, is_dropped}
 use Rattle.sequences.specs.Output.{written}
 use Rattle.sequences.specs.Styled.{DEFAULT, Pen, pen_at_end, shown_text, styled, Style}
 
@@ -27,11 +27,6 @@ ShowsTheSame = (pen : Pen) (text : List ℕ) → characters_of (styled pen text)
 -- What a text shows is shown unchanged.
 abbrev pub ShowsItself : Type 0
 ShowsItself = (text : List ℕ) → shown_text (shown_text text) ≡ shown_text text
-
--- The characters at which a text can be cut, which neither are dropped nor can be in a string: the controls that remain, U+2028
--- and U+2029.
-abbrev pub ends_piece : ℕ → Bool
-ends_piece c = not (is_dropped c || is_inline c)
 
 -- What a text shows is what its pieces show, one after the other.
 pub record ShowsPieces : Type 0 where

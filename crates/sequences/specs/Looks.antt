@@ -1,5 +1,5 @@
 -- What the parameters of SGR do (ECMA-48, 8.3.117, with the additions that terminals have in common).
-use Rattle.std.specs.Prelude.{ℕ, zero, suc, ◌-◌, nat_le, nat_lt, ◌==◌, Bool, true, false, ◌&&◌, ◌||◌, List, [], ◌∷◌, length, map, drop, slice_index_or, Option, Some, None, if◌then◌else◌}
+use Rattle.std.specs.Prelude.{ℕ, zero, suc, ◌-◌, nat_le, nat_lt, ◌==◌, Bool, true, false, ◌&&◌, ◌||◌, not, List, [], ◌∷◌, length, map, drop, slice_index_or, Option, Some, None, if◌then◌else◌}
 use Rattle.sequences.specs.declared.look.Look.{Look}
 use Rattle.sequences.specs.declared.look.Color.{Color}
 use Rattle.sequences.specs.declared.look.Color.TheVariants.{Basic, Indexed, Rgb}
@@ -90,6 +90,10 @@ rgb r g b = if nat_lt r 256 && (nat_lt g 256 && nat_lt b 256) then Some (Rgb r g
 abbrev pub value : List ℕ → ℕ → ℕ
 value values k = slice_index_or values k 256
 
+-- the kinds of colours: indexed, and red, green and blue
+abbrev pub is_kind : ℕ → Bool
+is_kind kind = kind == 5 || kind == 2
+
 -- the colour that values begin: the kind 5 and an index, or the kind 2 and red, green and blue
 abbrev pub color_of : List ℕ → Option Color
 color_of values =
@@ -131,8 +135,13 @@ color_len following =
     else if value (map single following) 0 == 2 then 4
     else length following
 
+-- the same, given the parameter with its fields, whose own kind is in the second one if it has several
 abbrev pub taken : List ℕ → List (List ℕ) → ℕ
-taken parameter following = if is_color (single parameter) then color_len following else 0
+taken parameter following =
+    if not (is_color (value parameter 0)) then 0
+    else if length parameter == 1 then color_len following
+    else if is_kind (value parameter 1) then 0
+    else length following
 
 -- The attributes after SGR with these parameters, each a list of fields. The first `skip` parameters belong to the
 -- one before them.

@@ -1,13 +1,12 @@
 -- Characters that nothing is struck over, several at a time. Only the code uses this definition.
-use Rattle.std.specs.Prelude.{ℕ, ◌&&◌, List, [], ◌∷◌}
-use Rattle.sequences.specs.Characters.{is_inline}
+use Rattle.std.specs.Prelude.{ℕ, List, [], ◌∷◌}
 use Rattle.sequences.specs.Overstrikes.{is_underlined_only}
 use Rattle.sequences.specs.Styled.{Pen}
 
 -- the pen after one such character, and after several
-abbrev pub plain_step : Pen → ℕ → Pen
-plain_step pen c = record pen { after_underline = is_inline c && is_underlined_only pen.style.look }
+abbrev pub plain_step : Pen → Pen
+plain_step pen = record pen { after_underline = is_underlined_only pen.style.look }
 
 abbrev pub plain_pen : Pen → List ℕ → Pen
 plain_pen pen [] = pen
-plain_pen pen (c ∷ run) = plain_pen (plain_step pen c) run
+plain_pen pen (c ∷ run) = plain_pen (plain_step pen) run

@@ -1,7 +1,7 @@
 -- Where a control sequence, an escape sequence or a control string ends (ECMA-48, 5.3 to 5.6).
-use Rattle.std.specs.Prelude.{ℕ, suc, ◌+◌, ◌-◌, nat_le, ◌==◌, Bool, ◌&&◌, ◌||◌, List, [], ◌∷◌, drop, slice_index, Option, Some, None, option_map, if◌then◌else◌}
+use Rattle.std.specs.Prelude.{ℕ, suc, ◌+◌, ◌-◌, nat_le, nat_lt, ◌==◌, Bool, ◌&&◌, ◌||◌, List, [], ◌∷◌, drop, slice_index, Option, Some, None, option_map, if◌then◌else◌}
 use Rattle.std.specs.List.{prefix_len}
-use Rattle.sequences.specs.Characters.{is_c1_introducer, is_inline}
+use Rattle.sequences.specs.Characters.{ends_piece, is_c1_introducer, is_inline}
 use Rattle.sequences.specs.declared.lengths.TheConstants.{LONGEST_STRING}
 
 abbrev pub is_parameter : ℕ → Bool
@@ -41,13 +41,23 @@ terminator_len is_osc text =
     if slice_index text 0 == 0x9C || (is_osc && slice_index text 0 == 0x07) then 1
     else if slice_index text 0 == 0x1B && slice_index text 1 == 0x5C then 2 else 0
 
--- A string that is not ended is incomplete. One that is too long to have a meaning ends with its terminator, or else before
--- the character that no string contains.
+-- A string that is too long ends with its terminator, or else before the next character that ends a piece. This is its length after
+-- its first characters.
+abbrev pub long_len : Bool → List ℕ → ℕ
+long_len is_osc [] = 0
+long_len is_osc (c ∷ text) =
+    if ends_piece c then 0
+    else if terminator_len is_osc (c ∷ text) == 0 then suc (long_len is_osc text)
+    else terminator_len is_osc (c ∷ text)
+
+-- A string that is not ended is incomplete, unless it is too long to have a meaning.
 abbrev pub string_len : Bool → List ℕ → Option ℕ
 string_len is_osc text =
     let n = string_end text in
     let terminator = terminator_len is_osc (drop n text) in
-    if terminator == 0 && nat_le n LONGEST_STRING then None else Some (n + terminator)
+    if nat_lt LONGEST_STRING n then Some (n + long_len is_osc (drop n text))
+    else if terminator == 0 then None
+    else Some (n + terminator)
 
 -- what opens a string after ESC: P for DCS, X for SOS, ] for OSC, ^ for PM and _ for APC
 abbrev pub opens_string : ℕ → Bool

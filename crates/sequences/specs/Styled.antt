@@ -1,6 +1,6 @@
 -- What a text shows: the characters that remain, each with its style.
-use Rattle.std.specs.Prelude.{ℕ, zero, suc, ◌+◌, ◌-◌, ◌*◌, nat_le, ◌==◌, Bool, false, ◌&&◌, List, [], ◌∷◌, ◌++◌, length, map, take, Option, Some, None, unwrap_or, if◌then◌else◌}
-use Rattle.sequences.specs.Characters.{is_dropped, is_inline}
+use Rattle.std.specs.Prelude.{ℕ, zero, suc, ◌+◌, ◌-◌, ◌*◌, nat_le, ◌==◌, Bool, false, List, [], ◌∷◌, ◌++◌, length, map, take, Option, Some, None, unwrap_or, if◌then◌else◌}
+use Rattle.sequences.specs.Characters.{is_dropped}
 use Rattle.sequences.specs.Sequences.{after_escape, sequence_len, string_end}
 use Rattle.sequences.specs.declared.lengths.TheConstants.{LONGEST_STRING}
 use Rattle.sequences.specs.declared.links.TheConstants.{MAX_LINKS_LEN}
@@ -73,7 +73,7 @@ first_shown pen c text = if is_dropped c then [] else ((struck pen.after_underli
 -- the pen after a character with all that is struck over it
 abbrev pub after_character : Pen → ℕ → List ℕ → Pen
 after_character pen c text =
-    record pen { after_underline = is_inline c && is_underlined_only (struck_look pen.style.look (struck pen.after_underline c text)) }
+    record pen { after_underline = is_underlined_only (struck_look pen.style.look (struck pen.after_underline c text)) }
 
 -- the pen after the first part, given its length if it is a sequence
 abbrev pub after_part : Pen → ℕ → List ℕ → Option ℕ → Pen

@@ -1,7 +1,7 @@
 //! Characters that have a meaning to a terminal.
 ghost use Rattle.std.specs.Prelude.{◌≡◌, ◌≤◌, ℕ, length, slice_index};
 ghost use Rattle.std.specs.List.{prefix_len};
-ghost use Rattle.sequences.specs.Characters.{is_c1_introducer, is_control, is_dropped, is_inline};
+ghost use Rattle.sequences.specs.Characters.{ends_piece, is_c1_introducer, is_control, is_dropped, is_inline};
 ghost use Rattle.sequences.specs.Characters.{is_kept_control};
 ghost use Rattle.sequences.specs.Classes.{is_in};
 
@@ -39,6 +39,13 @@ pub(crate) fn is_inline(c: char) -> bool
     ensures { result ≡ is_inline c }
 {
     !(is_control(c) || c == '\u{2028}' || c == '\u{2029}')
+}
+
+// Returns whether a text can be cut at a character: neither is it dropped, nor can it be in a string.
+pub(crate) fn ends_piece(c: char) -> bool
+    ensures { result ≡ ends_piece c }
+{
+    !(is_dropped(c) || is_inline(c))
 }
 
 pub(crate) fn is_c1_introducer(c: char) -> bool

@@ -1,9 +1,11 @@
 //! Whether more text can change where a sequence ends.
 ghost use Rattle.std.specs.Prelude.{◌≡◌, ◌∷◌};
-ghost use Rattle.sequences.specs.Known.{knows_after_escape, knows_sequence, knows_string};
+ghost use Rattle.sequences.specs.Known.{knows_after_escape, knows_long, knows_sequence, knows_string};
 
-use crate::characters::{Class, char_at, is_c1_introducer, prefix_len};
-use crate::lengths::{ESC, csi_end, is_intermediate, opens_string, string_end};
+use crate::characters::{Class, char_at, ends_piece, is_c1_introducer, prefix_len};
+use crate::lengths::{
+    ESC, LONGEST_STRING, csi_end, is_intermediate, opens_string, string_end, terminator_len,
+};
 
 /// Returns whether `sequence_len` returns the same for a text whatever follows it.
 pub fn is_sequence_known(text: &[char]) -> bool
@@ -31,7 +33,7 @@ fn is_known_after(code: u32, rest: &[char]) -> bool
     if code == 0x5b {
         csi_end(rest) < rest.len()
     } else if opens_string(code) {
-        is_string_known(rest)
+        is_string_known(code == 0x5d, rest)
     } else if is_intermediate(code) {
         prefix_len(Class::Intermediate, rest) < rest.len()
     } else {
@@ -39,13 +41,31 @@ fn is_known_after(code: u32, rest: &[char]) -> bool
     }
 }
 
-fn is_string_known(text: &[char]) -> bool
-    ensures { result ≡ knows_string text.now }
+fn is_string_known(is_osc: bool, text: &[char]) -> bool
+    ensures { result ≡ knows_string is_osc text.now }
 {
     let end = string_end(text);
+    if end > LONGEST_STRING {
+        return is_long_known(is_osc, text.split_at(end).1);
+    }
     if char_at(text, end) == ESC {
         end + 1 < text.len()
     } else {
         end < text.len()
     }
+}
+
+// Returns whether a string that is too long has ended, given the text after its first characters.
+fn is_long_known(is_osc: bool, text: &[char]) -> bool
+    ensures { result ≡ knows_long is_osc text.now }
+{
+    let mut at = 0;
+    while at < text.len() {
+        let (_, rest) = text.split_at(at);
+        if ends_piece(text[at]) || terminator_len(is_osc, rest) > 0 {
+            return true;
+        }
+        at += 1;
+    }
+    false
 }

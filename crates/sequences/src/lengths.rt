@@ -1,10 +1,11 @@
 //! Where sequences end.
 ghost use Rattle.std.specs.Prelude.{◌≡◌, ◌∷◌, ◌≤◌, ◌<◌, ◌^◌, length, IfSome, drop};
 ghost use Rattle.sequences.specs.Sequences.{csi_end, csi_len, escape_len, is_csi_final, is_escape_final};
-ghost use Rattle.sequences.specs.Sequences.{is_intermediate, len_after_escape, opens_string, sequence_len};
+ghost use Rattle.sequences.specs.Sequences.{is_intermediate, len_after_escape, long_len};
+ghost use Rattle.sequences.specs.Sequences.{opens_string, sequence_len};
 ghost use Rattle.sequences.specs.Sequences.{string_end, string_len, terminator_len};
 
-use crate::characters::{Class, char_at, is_c1_introducer, prefix_len};
+use crate::characters::{Class, char_at, ends_piece, is_c1_introducer, prefix_len};
 
 /// The longest string that can have a meaning, in characters.
 pub const LONGEST_STRING: usize = 4_096;
@@ -116,7 +117,7 @@ pub(crate) fn string_end(text: &[char]) -> usize
 }
 
 // Returns the length of what ends a string, or 0 if the text does not begin with that.
-fn terminator_len(is_osc: bool, text: &[char]) -> usize
+pub(crate) fn terminator_len(is_osc: bool, text: &[char]) -> usize
     ensures len { result ≡ terminator_len is_osc text.now }
     ensures within { result ≤ length text.now }
 {
@@ -136,10 +137,32 @@ fn string_len(is_osc: bool, text: &[char]) -> Option<usize>
     ensures within { IfSome result (λ n. n ≤ length text.now) }
 {
     let end = string_end(text);
-    let terminator = terminator_len(is_osc, &text[end..]);
-    if terminator == 0 && end <= LONGEST_STRING {
-        None
-    } else {
-        Some(end + terminator)
+    let (_, rest) = text.split_at(end);
+    if end > LONGEST_STRING {
+        return Some(end + long_len(is_osc, rest));
     }
+    match terminator_len(is_osc, rest) {
+        0 => None,
+        len => Some(end + len),
+    }
+}
+
+// Returns the length of a string that is too long after its first characters, with its end.
+fn long_len(is_osc: bool, text: &[char]) -> usize
+    ensures len { result ≡ long_len is_osc text.now }
+    ensures within { result ≤ length text.now }
+{
+    let mut at = 0;
+    while at < text.len() {
+        let (_, rest) = text.split_at(at);
+        if ends_piece(text[at]) {
+            return at;
+        }
+        let len = terminator_len(is_osc, rest);
+        if len > 0 {
+            return at + len;
+        }
+        at += 1;
+    }
+    at
 }

@@ -4,8 +4,8 @@ ghost use Rattle.sequences.specs.Parameters.{osc_link, uri_link};
 
 use crate::parts::part_end;
 
-/// The greatest length of all links of a paragraph, in characters: 1 MB, at four bytes a character.
-pub const MAX_LINKS_LEN: usize = 262_144;
+/// The greatest length of all links of a paragraph, in characters. URIs are ASCII, so this is 1 MB.
+pub const MAX_LINKS_LEN: usize = 1_048_576;
 
 /// Returns the link that a string after OSC sets, which is empty if it ends a link, or `None` for another
 /// string.

@@ -1,14 +1,14 @@
 //! Finds the characters that a text shows, with their styles.
-ghost use Rattle.std.specs.Prelude.{◌≡◌, ◌+◌, ◌<◌, ◌≤◌, ◌∷◌, [], None, Some, length, drop, MatchOption, ◌&&◌};
+ghost use Rattle.std.specs.Prelude.{◌≡◌, ◌+◌, ◌<◌, ◌≤◌, ◌∷◌, [], None, Some, length, drop, MatchOption};
 ghost use Rattle.std.specs.Prelude.{not, true, take};
 ghost use Rattle.std.specs.List.{list_all};
-ghost use Rattle.sequences.specs.Characters.{is_dropped, is_inline};
-ghost use Rattle.sequences.specs.Overstrikes.{after_backspaces, is_underlined_only};
+ghost use Rattle.sequences.specs.Characters.{is_dropped};
+ghost use Rattle.sequences.specs.Overstrikes.{after_backspaces};
 ghost use Rattle.sequences.specs.Parameters.{sgr};
 ghost use Rattle.sequences.specs.Parts.{parameters_after};
 ghost use Rattle.sequences.specs.Sequences.{after_escape};
 
-use crate::characters::{Class, char_at, is_dropped, is_inline, prefix_len};
+use crate::characters::{Class, char_at, is_dropped, prefix_len};
 use crate::lengths::{LONGEST_STRING, sequence_len, string_end};
 use crate::links::{MAX_LINKS_LEN, osc_link};
 use crate::look::{Look, PLAIN};
@@ -135,7 +135,7 @@ impl Scanner {
         let (at, count) = struck_first(self.after_underline, first, rest);
         let look = struck_look(self.look, at);
         self.text.push(at.shown, look, self.link)?;
-        self.after_underline = leaves_underline(first, look);
+        self.after_underline = is_underlined_only(look);
         Ok(2 * count)
     }
 
@@ -167,7 +167,7 @@ impl Scanner {
         ensures pen { OnOk result (pen_of self.new ≡ plain_pen (pen_of self.old) run.now) }
     {
         self.text.push_all(run, self.look, self.link)?;
-        self.after_underline = leaves_underline(run[run.len() - 1], self.look);
+        self.after_underline = is_underlined_only(self.look);
         Ok(())
     }
 
@@ -240,13 +240,6 @@ fn sgr_parameters(sequence: &[char]) -> Option<&[char]>
     } else {
         None
     }
-}
-
-// Returns whether a low line over a low line is an underline after a character with these attributes.
-fn leaves_underline(c: char, look: Look) -> bool
-    ensures { result ≡ (is_inline c && is_underlined_only look) }
-{
-    is_inline(c) && is_underlined_only(look)
 }
 
 // Returns a number of characters at the start of a text that are shown as they are.

@@ -2,13 +2,13 @@
 ghost use Rattle.std.specs.Prelude.{◌≡◌, ◌<◌, ◌≤◌, map, drop, length};
 ghost use Rattle.sequences.specs.Looks.{applied_after, changed, color_len, color_of, end_attribute};
 ghost use Rattle.sequences.specs.Looks.{field_color, indexed};
-ghost use Rattle.sequences.specs.Looks.{is_color, rgb, set_attribute, set_basic, single, taken, value};
+ghost use Rattle.sequences.specs.Looks.{is_color, is_kind, rgb, set_attribute, set_basic, single, taken};
 ghost use Rattle.sequences.specs.Looks.{with_color};
 ghost use Rattle.sequences.specs.Looks.{with_fields, with_parameter, with_underline};
 ghost use Rattle.sequences.specs.Parts.{fields_after, parameters_after};
 
 use crate::look::{Blink, Color, Look, PLAIN, Underline};
-use crate::parts::{field, field_count, parameter_count, single, single_at, split_parameter};
+use crate::parts::{field, field_count, parameter_count, single_at, split_parameter};
 
 /// Returns the attributes after SGR, given its parameters with the character before them.
 pub(crate) fn applied(look: Look, parameters: &[char]) -> Look
@@ -47,14 +47,34 @@ fn changed(look: Look, parameter: &[char], following: &[char]) -> Look
 fn taken(parameter: &[char], following: &[char]) -> usize
     ensures { result ≡ taken (fields_after parameter.now) (parameters_after following.now) }
 {
-    if !is_color(single(parameter)) {
+    if !is_color(field(parameter, 0)) {
         return 0;
     }
+    if field_count(parameter) == 1 {
+        return color_len(following);
+    }
+    if is_kind(field(parameter, 1)) {
+        0
+    } else {
+        parameter_count(following)
+    }
+}
+
+// Returns the number of following parameters that belong to 38, 48 or 58: all if the kind is unknown.
+fn color_len(following: &[char]) -> usize
+    ensures { result ≡ color_len (parameters_after following.now) }
+{
     match single_at(following, 0) {
         5 => 2,
         2 => 4,
         _ => parameter_count(following),
     }
+}
+
+fn is_kind(kind: u32) -> bool
+    ensures { result ≡ is_kind kind }
+{
+    kind == 5 || kind == 2
 }
 
 fn is_color(n: u32) -> bool

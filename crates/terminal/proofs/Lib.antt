@@ -2,11 +2,14 @@ pub mod BlockLemmas
 pub mod CellLemmas
 pub mod DecoderLemmas
 pub mod Devices
+pub mod DirectionLemmas
 pub mod EndLemmas
 pub mod KnownEndLemmas
 pub mod LayoutLemmas
 pub mod LossyLemmas
+pub mod NewlineLemmas
 pub mod NumberLemmas
+pub mod OutputLemmas
 pub mod ParagraphLemmas
 pub mod PlainLemmas
 pub mod PushLemmas

@@ -1,25 +1,31 @@
 -- The lines of blocks, one block after the other.
-use Rattle.std.proofs.Common.{◌≡◌, ℕ, zero, suc, ◌+◌, ◌*◌, ◌<◌, ◌≤◌, nat_le, nat_lt, Bool, true, false, ◌&&◌, ◌||◌, List, [], ◌∷◌, ◌++◌, length, take, drop, get_or, refl, sym, subst, ap, ap₂, inl, inr, ◌∙◌, append_assoc, arith, drop-drop}
+use Rattle.std.proofs.Common.{◌≡◌, ℕ, zero, suc, ◌+◌, ◌*◌, ◌<◌, ◌≤◌, nat_le, nat_lt, Bool, true, false, ◌&&◌, ◌||◌, List, [], ◌∷◌, ◌++◌, length, take, drop, get_or, Option, None, refl, sym, subst, ap, ap₂, inl, inr, ◌∙◌, append_assoc, arith, drop-drop}
 use Rattle.std.specs.List.{concat, flat_map, onto_first}
 use Rattle.std.proofs.lemmas.Bool.{and_parts, cases_Bool, cond-true, cond-false}
 use Rattle.std.proofs.lemmas.Bool.Decides.{nat_tests}
 use Rattle.std.proofs.lemmas.Grind.{flat_map-append}
 use Rattle.std.proofs.lemmas.List.{append-nil, length-drop, length-take-le, nil_from_length, take-append-drop}
 use Rattle.std.proofs.lemmas.List.Folds.{concat-append, list_all-append}
+use Rattle.std.specs.Option.{option_or}
 use Rattle.lines.specs.Layouts.{Rules, cut_by}
+use Rattle.sequences.specs.Laws.{characters_of}
 use Rattle.sequences.specs.Scanners.{pen_of}
-use Rattle.sequences.specs.Styled.{Pen, Style, next_paragraph, pen_at_end, styled}
+use Rattle.sequences.specs.Styled.{Pen, Style, next_paragraph, pen_at_end, shown_text, styled}
 use Rattle.sequences.specs.StyledTexts.{styled_of}
 use Rattle.terminal.specs.Ends.{AreNoEnds, IsFirst, IsOpen}
+use Rattle.terminal.specs.Newlines.{ended_page, last_of}
 use Rattle.terminal.specs.Run.{IsTooLong, are_within, is_within}
 use Rattle.terminal.specs.RunState.{Adds, AddsEnded, AddsLast, IsFront, Leaves, is_left_long, pages, pen_after_blocks}
-use Rattle.terminal.specs.Texts.{block_page, blocks, ends_block, shown_blocks}
+use Rattle.terminal.specs.Texts.{block_page, blocks, ends_block, shown_blocks, text_page}
+use Rattle.terminal.specs.Whole.{joined}
 use Rattle.terminal.specs.declared.form.Form.{Form}
 use Rattle.terminal.specs.declared.output.Output.{Output}
+use Rattle.terminal.proofs.NewlineLemmas.{ended-append, last-append, text_end}
+use Rattle.terminal.proofs.WholeLemmas.{characters_of-append, shown_whole}
 
 -- ---- blocks one after the other
 
-shown-append : (pen : Pen) (xs ys : List (List ℕ)) → shown_blocks pen (xs ++ ys) ≡ shown_blocks pen xs ++ shown_blocks (pen_after_blocks pen xs) ys
+pub shown-append : (pen : Pen) (xs ys : List (List ℕ)) → shown_blocks pen (xs ++ ys) ≡ shown_blocks pen xs ++ shown_blocks (pen_after_blocks pen xs) ys
 shown-append pen [] ys = refl
 shown-append pen (x ∷ xs) ys = ap (λ (rest : List (List (ℕ × Style))). styled pen x ∷ rest) (shown-append (next_paragraph (pen_at_end pen x)) xs ys)
 
@@ -195,21 +201,35 @@ ends_first rules now form text rest old new start k e h r first long empty =
 
 -- ---- the blocks of a whole text
 
-pub record HasAddedLast (rules : Rules) (form : Form) (text rest : List ℕ) (old new : Output) : Type 0 where
+-- the last character that blocks show
+abbrev pub last_shown : Pen → List (List ℕ) → Option ℕ
+last_shown pen parts = last_of (characters_of (joined (shown_blocks pen parts)))
+
+last_more : (pen : Pen) (parts : List (List ℕ)) (block : List ℕ)
+    → last_shown pen (parts ++ block ∷ []) ≡ option_or (last_of (characters_of (styled (pen_after_blocks pen parts) block))) (last_shown pen parts)
+last_more pen parts block =
+    let front = shown_blocks pen parts in
+    let own = styled (pen_after_blocks pen parts) block in
+    ap (λ (xs : List (List (ℕ × Style))). last_of (characters_of (joined xs))) (shown-append pen parts (block ∷ []))
+    ∙ ap (λ (xs : List (ℕ × Style)). last_of (characters_of xs)) (flat_map-append (λ (group : List (ℕ × Style)). group) front (own ∷ []) ∙ ap (λ (xs : List (ℕ × Style)). joined front ++ xs) (append-nil own))
+    ∙ ap last_of (characters_of-append (joined front) own) ∙ last-append (characters_of (joined front)) (characters_of own)
+
+pub record HasAddedLast (rules : Rules) (form : Form) (text rest : List ℕ) (old new : Output) (last : Option ℕ) : Type 0 where
   pub parts : List (List ℕ)
   pub cuts : blocks (cut_by rules) text ≡ parts ++ blocks (cut_by rules) rest
   pub within : are_within parts ≡ true
   pub lines : new.page.bytes.items ≡ old.page.bytes.items ++ pages rules form (pen_of old.scanner) parts
   pub pen : pen_of new.scanner ≡ pen_after_blocks (pen_of old.scanner) parts
   pub written : new.written ≡ old.written
+  pub shown : last ≡ last_shown (pen_of old.scanner) parts
 
-pub last_none : (rules : Rules) (form : Form) (text : List ℕ) (old : Output) → HasAddedLast rules form text text old old
-last_none rules form text old = record { parts = []; cuts = refl; within = refl; lines = sym (append-nil old.page.bytes.items); pen = refl; written = refl }
+pub last_none : (rules : Rules) (form : Form) (text : List ℕ) (old : Output) → HasAddedLast rules form text text old old None
+last_none rules form text old = record { parts = []; cuts = refl; within = refl; lines = sym (append-nil old.page.bytes.items); pen = refl; written = refl; shown = refl }
 
-pub last_one : (rules now : Rules) (form : Form) (text rest block after : List ℕ) (old mid new : Output) (k : ℕ) → now ≡ rules → HasAddedLast rules form text rest old mid
+pub last_one : (rules now : Rules) (form : Form) (text rest block after : List ℕ) (old mid new : Output) (k : ℕ) (last own both : Option ℕ) → now ≡ rules → HasAddedLast rules form text rest old mid last
     → blocks (cut_by now) rest ≡ take k rest ∷ blocks (cut_by now) (drop k rest) → k ≤ length rest → k ≤ 1048576 → block ≡ take k rest → after ≡ drop k rest
-    → Adds now form (block ∷ []) mid new → HasAddedLast rules form text after old new
-last_one rules now form text rest block after old mid new k e h split within short b a adds =
+    → Adds now form (block ∷ []) mid new → own ≡ last_of (characters_of (styled (pen_of mid.scanner) block)) → both ≡ option_or own last → HasAddedLast rules form text after old new both
+last_one rules now form text rest block after old mid new k last own both e h split within short b a adds l o =
     let P : Rules → Type 0 = λ n. blocks (cut_by n) rest ≡ take k rest ∷ blocks (cut_by n) (drop k rest) in
     let split_is : blocks (cut_by rules) rest ≡ block ∷ blocks (cut_by rules) after =
     subst P e split ∙ ap₂ (λ (x : List ℕ) (xs : List ℕ). x ∷ blocks (cut_by rules) xs) (sym b) (sym a) in
@@ -222,17 +242,27 @@ last_one rules now form text rest block after old mid new k e h split within sho
       lines = lines_more rules form old mid new h.parts (block ∷ []) h.lines h.pen adds_is;
       pen = pen_more rules form old mid new h.parts (block ∷ []) h.pen adds_is;
       written = adds_is.written ∙ h.written;
+      shown = o ∙ ap₂ (λ (a b : Option ℕ). option_or a b) (l ∙ ap (λ (p : Pen). last_of (characters_of (styled p block))) h.pen) h.shown ∙ sym (last_more (pen_of old.scanner) h.parts block);
     }
 
-pub last_all : (rules : Rules) (form : Form) (text rest : List ℕ) (old new : Output) → HasAddedLast rules form text rest old new → length rest ≡ 0 → AddsLast rules form text old new false
-last_all rules form text rest old new h none =
+pub last_all : (rules now : Rules) (form : Form) (is_last : Bool) (text rest : List ℕ) (old mid new : Output) (last : Option ℕ) → now ≡ rules
+    → HasAddedLast rules form text rest old mid last → length rest ≡ 0 → new.page.bytes.items ≡ ended_page now.tables is_last last mid.page.bytes.items
+    → AddsLast rules form is_last text old new false
+last_all rules now form is_last text rest old mid new last same h none ended =
+    let pen = pen_of old.scanner in
+    let page = text_page rules form pen text in
     let nothing : blocks (cut_by rules) rest ≡ [] = ap (blocks (cut_by rules)) (nil_from_length rest none) in
     let all : blocks (cut_by rules) text ≡ h.parts = h.cuts ∙ ap (λ (ps : List (List ℕ)). h.parts ++ ps) nothing ∙ append-nil h.parts in
-    h.lines ∙ ap (λ (ps : List (List ℕ)). old.page.bytes.items ++ pages rules form (pen_of old.scanner) ps) (sym all)
+    let lines : mid.page.bytes.items ≡ old.page.bytes.items ++ page =
+    h.lines ∙ ap (λ (ps : List (List ℕ)). old.page.bytes.items ++ pages rules form pen ps) (sym all) in
+    let shown : last ≡ last_of (shown_text text) =
+    h.shown ∙ ap (last_shown pen) (sym all) ∙ ap last_of (shown_whole (cut_by rules) (length text) pen text (omega arith)) in
+    ended ∙ ap (λ (r : Rules). ended_page r.tables is_last last mid.page.bytes.items) same ∙ ap₂ (ended_page rules.tables is_last) shown lines
+    ∙ ended-append rules.tables is_last old.page.bytes.items page (shown_text text) (text_end rules form pen text)
 
-pub last_long : (rules now : Rules) (form : Form) (text rest : List ℕ) (old new : Output) (k : ℕ) → now ≡ rules → HasAddedLast rules form text rest old new
-    → blocks (cut_by now) rest ≡ take k rest ∷ blocks (cut_by now) (drop k rest) → k ≤ length rest → 1048576 < k → AddsLast rules form text old new true
-last_long rules now form text rest old new k e h split within long =
+pub last_long : (rules now : Rules) (form : Form) (is_last : Bool) (text rest : List ℕ) (old new : Output) (k : ℕ) (last : Option ℕ) → now ≡ rules → HasAddedLast rules form text rest old new last
+    → blocks (cut_by now) rest ≡ take k rest ∷ blocks (cut_by now) (drop k rest) → k ≤ length rest → 1048576 < k → AddsLast rules form is_last text old new true
+last_long rules now form is_last text rest old new k last e h split within long =
     let P : Rules → Type 0 = λ n. blocks (cut_by n) rest ≡ take k rest ∷ blocks (cut_by n) (drop k rest) in (
       h.parts,
       take k rest,

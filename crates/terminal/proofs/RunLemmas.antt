@@ -12,6 +12,7 @@ use Rattle.sequences.specs.Scanners.{pen_of}
 use Rattle.sequences.specs.Styled.{Pen, START}
 use Rattle.stream.specs.declared.reading.TheConstants.{CHUNK}
 use Rattle.terminal.specs.Decoding.{IsBeginning, pictures, text_after}
+use Rattle.terminal.specs.Newlines.{output_page, text_output}
 use Rattle.terminal.specs.Run.{BeginsWith, EndsTooLong, HasRead, IsRun, IsTooLong, WritesFirst, are_within, blocks_page}
 use Rattle.terminal.specs.RunState.{AddsLast, Finishes, IsAt, IsFed, IsFront, Stands, Steps, last_characters, pages, pen_after_blocks}
 use Rattle.sequences.specs.StyledTexts.{styled_of}
@@ -26,6 +27,7 @@ use Rattle.terminal.specs.declared.form.Form.{Form}
 use Rattle.terminal.specs.declared.input.Held.{Held}
 use Rattle.terminal.specs.declared.output.Output.{Output}
 use Rattle.terminal.proofs.LossyLemmas.{lossy_beginning, lossy_none}
+use Rattle.terminal.proofs.OutputLemmas.{output_after}
 use Rattle.terminal.proofs.PushLemmas.{pages-append, pen-append, within-append}
 use Rattle.terminal.proofs.Devices.{Consumes-append, Consumes-kept, FailedLast-after, Took-append, Took-nothing, Wrote-append}
 
@@ -145,7 +147,7 @@ stopped_after front lines m n old mid new wrote stopped n_is =
       FailedLast-after old mid new wrote.1 stopped.2,
     )
 
-module _ (rules : Rules) (form : Form) (reader_old writer_old reader writer : Device) (held : Held) (s : Stands rules form reader_old writer_old reader writer held) where
+module _ (rules : Rules) (form : Form) (is_last : Bool) (reader_old writer_old reader writer : Device) (held : Held) (s : Stands rules form reader_old writer_old reader writer held) where
   -- all blocks that had ended before some more bytes were written
   first_by : (late more : List ℕ) (writer_new : Device) → length late ≤ CHUNK → Took writer_old writer_new (blocks_page rules form s.is_at.sent ++ more)
       → WritesFirst rules form (s.is_at.bytes ++ late) writer_old writer_new
@@ -169,7 +171,7 @@ module _ (rules : Rules) (form : Form) (reader_old writer_old reader writer : De
   took_sent = subst (Took writer_old writer) (sym (append-nil (blocks_page rules form s.is_at.sent))) s.is_at.wrote.0
 
   -- a failed read
-  pub ends_read : (reader_new : Device) → Fails reader reader_new → IsRun rules form reader_old reader_new writer_old writer (Err f.Read)
+  pub ends_read : (reader_new : Device) → Fails reader reader_new → IsRun rules form is_last reader_old reader_new writer_old writer (Err f.Read)
   unfolding first_by
   ends_read reader_new fails = (
     s.is_at.bytes ++ [],
@@ -193,7 +195,7 @@ module _ (rules : Rules) (form : Form) (reader_old writer_old reader writer : De
     )
 
     -- an allocation failed
-    pub ends_memory : IsRun rules form reader_old reader_new writer_old writer (Err f.Memory)
+    pub ends_memory : IsRun rules form is_last reader_old reader_new writer_old writer (Err f.Memory)
     unfolding first_by
     ends_memory = (s.is_at.bytes ++ chunk, has_read, (first_by chunk [] writer few took_sent, s.is_at.wrote))
 
@@ -221,7 +223,7 @@ module _ (rules : Rules) (form : Form) (reader_old writer_old reader writer : De
       page_new = more_page rules form s.is_at.sent parts (pen_of held.output.scanner) s.is_at.pen_is
 
       pub ends_write : (writer_new : Device) (m n : ℕ) → StoppedAt m (pages rules form (pen_of held.output.scanner) parts) writer writer_new → n ≡ held.output.written + m
-          → IsRun rules form reader_old reader_new writer_old writer_new (Err (f.Write n))
+          → IsRun rules form is_last reader_old reader_new writer_old writer_new (Err (f.Write n))
       ends_write writer_new m n stopped n_is =
           let lines = pages rules form (pen_of held.output.scanner) parts in (
             s.is_at.bytes ++ chunk,
@@ -243,7 +245,7 @@ module _ (rules : Rules) (form : Form) (reader_old writer_old reader writer : De
           (Wrote-append writer_old writer writer_new (blocks_page rules form s.is_at.sent) (pages rules form (pen_of held.output.scanner) parts) s.is_at.wrote wrote)
 
       pub ends_long : (writer_new : Device) → Wrote (pages rules form (pen_of held.output.scanner) parts) writer writer_new → IsTooLong (cut_by rules) text_new
-          → IsRun rules form reader_old reader_new writer_old writer_new (Err f.ParagraphTooLong)
+          → IsRun rules form is_last reader_old reader_new writer_old writer_new (Err f.ParagraphTooLong)
       ends_long writer_new wrote long = (
         s.is_at.bytes ++ chunk,
         has_read,
@@ -279,15 +281,21 @@ module _ (rules : Rules) (form : Form) (reader_old writer_old reader writer : De
         ap (λ t. blocks (cut_by rules) (input_text form.escapes t)) (append-nil s.is_at.bytes)
         ∙ fed_blocks rules form s.is_at.bytes s.is_at.sent (take held.decoder.waiting held.decoder.chunk.items) held.text.items held.decoder.started s.is_at.fed held.decoder.waiting s.waits
 
-    page_last : input_page rules form (s.is_at.bytes ++ [])
+    lines_last : input_page rules form (s.is_at.bytes ++ [])
         ≡ blocks_page rules form s.is_at.sent ++ text_page rules form (pen_of held.output.scanner) (held.text.items ++ last_characters held.decoder.waiting)
-    page_last =
+    lines_last =
         ap (input_page rules form) (append-nil s.is_at.bytes)
         ∙ fed_page rules form s.is_at.bytes s.is_at.sent (take held.decoder.waiting held.decoder.chunk.items) held.text.items held.decoder.started s.is_at.fed held.decoder.waiting
         (pen_of held.output.scanner) s.waits s.is_at.pen_is
 
-    pub finish_ok : (writer_new : Device) → Wrote (text_page rules form (pen_of held.output.scanner) (held.text.items ++ last_characters held.decoder.waiting)) writer writer_new
-        → IsRun rules form reader_old reader_new writer_old writer_new (Ok tt)
+    page_last : output_page rules form is_last (s.is_at.bytes ++ [])
+        ≡ blocks_page rules form s.is_at.sent ++ text_output rules form is_last (pen_of held.output.scanner) (held.text.items ++ last_characters held.decoder.waiting)
+    page_last =
+        output_after rules form is_last s.is_at.sent (concat s.is_at.sent ++ held.text.items) held.text.items (input_text form.escapes (s.is_at.bytes ++ []))
+        (held.text.items ++ last_characters held.decoder.waiting) (pen_of held.output.scanner) s.is_at.fed.cuts blocks_last s.is_at.pen_is lines_last
+
+    pub finish_ok : (writer_new : Device) → Wrote (text_output rules form is_last (pen_of held.output.scanner) (held.text.items ++ last_characters held.decoder.waiting)) writer writer_new
+        → IsRun rules form is_last reader_old reader_new writer_old writer_new (Ok tt)
     finish_ok writer_new wrote = (
       s.is_at.bytes ++ [],
       read_all,
@@ -296,7 +304,7 @@ module _ (rules : Rules) (form : Form) (reader_old writer_old reader writer : De
       subst (λ (t : List ℕ). Wrote t writer_old writer_new) (sym page_last) (Wrote-append writer_old writer writer_new (blocks_page rules form s.is_at.sent) _ s.is_at.wrote wrote),
     )
 
-    pub finish_memory : IsRun rules form reader_old reader_new writer_old writer (Err f.Memory)
+    pub finish_memory : IsRun rules form is_last reader_old reader_new writer_old writer (Err f.Memory)
     finish_memory = ends_memory reader_new [] consumed passed (omega arith)
 
     -- the last blocks up to one that is too long
@@ -311,11 +319,11 @@ module _ (rules : Rules) (form : Form) (reader_old writer_old reader writer : De
         omega (arith, long),
       )
 
-      lines_last : blocks_page rules form (s.is_at.sent ++ parts) ≡ blocks_page rules form s.is_at.sent ++ pages rules form (pen_of held.output.scanner) parts
-      lines_last = more_page rules form s.is_at.sent parts (pen_of held.output.scanner) s.is_at.pen_is
+      lines_first : blocks_page rules form (s.is_at.sent ++ parts) ≡ blocks_page rules form s.is_at.sent ++ pages rules form (pen_of held.output.scanner) parts
+      lines_first = more_page rules form s.is_at.sent parts (pen_of held.output.scanner) s.is_at.pen_is
 
       pub finish_long : (writer_new : Device) → Wrote (pages rules form (pen_of held.output.scanner) parts) writer writer_new
-          → IsRun rules form reader_old reader_new writer_old writer_new (Err f.ParagraphTooLong)
+          → IsRun rules form is_last reader_old reader_new writer_old writer_new (Err f.ParagraphTooLong)
       finish_long writer_new wrote = (
         s.is_at.bytes ++ [],
         read_all,
@@ -323,14 +331,14 @@ module _ (rules : Rules) (form : Form) (reader_old writer_old reader writer : De
           first_by [] (pages rules form (pen_of held.output.scanner) parts) writer_new (omega arith) (took_all reader_new [] consumed passed (omega arith) _ writer_new wrote),
           (
             s.is_at.sent ++ parts,
-            subst (λ (t : List ℕ). Wrote t writer_old writer_new) (sym lines_last) (Wrote-append writer_old writer writer_new (blocks_page rules form s.is_at.sent) _ s.is_at.wrote wrote),
+            subst (λ (t : List ℕ). Wrote t writer_old writer_new) (sym lines_first) (Wrote-append writer_old writer writer_new (blocks_page rules form s.is_at.sent) _ s.is_at.wrote wrote),
             inr (end, long_last),
           ),
         ),
       )
 
       pub finish_stopped_long : (writer_new : Device) (m n : ℕ) → StoppedAt m (pages rules form (pen_of held.output.scanner) parts) writer writer_new → n ≡ held.output.written + m
-          → IsRun rules form reader_old reader_new writer_old writer_new (Err (f.Write n))
+          → IsRun rules form is_last reader_old reader_new writer_old writer_new (Err (f.Write n))
       finish_stopped_long writer_new m n stopped n_is = (
         s.is_at.bytes ++ [],
         read_all,
@@ -338,7 +346,7 @@ module _ (rules : Rules) (form : Form) (reader_old writer_old reader writer : De
           first_by [] _ writer_new (omega arith) (took_part reader_new [] consumed passed (omega arith) _ m writer_new stopped),
           inl (
             s.is_at.sent ++ parts,
-            subst (λ (t : List ℕ). StoppedAt n t writer_old writer_new) (sym lines_last)
+            subst (λ (t : List ℕ). StoppedAt n t writer_old writer_new) (sym lines_first)
                 (stopped_after (blocks_page rules form s.is_at.sent) _ m n writer_old writer writer_new s.is_at.wrote stopped (omega (arith, n_is, s.is_at.written_is))),
             inr (end, long_last),
           ),
@@ -346,8 +354,8 @@ module _ (rules : Rules) (form : Form) (reader_old writer_old reader writer : De
       )
 
     pub finish_stopped : (writer_new : Device) (m n : ℕ)
-        → StoppedAt m (text_page rules form (pen_of held.output.scanner) (held.text.items ++ last_characters held.decoder.waiting)) writer writer_new
-        → n ≡ held.output.written + m → IsRun rules form reader_old reader_new writer_old writer_new (Err (f.Write n))
+        → StoppedAt m (text_output rules form is_last (pen_of held.output.scanner) (held.text.items ++ last_characters held.decoder.waiting)) writer writer_new
+        → n ≡ held.output.written + m → IsRun rules form is_last reader_old reader_new writer_old writer_new (Err (f.Write n))
     finish_stopped writer_new m n stopped n_is = (
       s.is_at.bytes ++ [],
       read_all,
@@ -379,8 +387,8 @@ open_none : (rules : Rules) → IsOpen (cut_by rules) 0 []
 open_none rules = record { within = omega arith; none = λ k below more. absurd (omega (arith, below)); rest = inl refl }
 
 -- an allocation failed before anything was read
-pub ends_at_once : (rules : Rules) (form : Form) (reader writer : Device) → IsRun rules form reader reader writer writer (Err f.Memory)
-ends_at_once rules form reader writer = (
+pub ends_at_once : (rules : Rules) (form : Form) (is_last : Bool) (reader writer : Device) → IsRun rules form is_last reader reader writer writer (Err f.Memory)
+ends_at_once rules form is_last reader writer = (
   [],
   (Consumes-refl reader.bytes, omega arith),
   (
@@ -427,19 +435,19 @@ stands_at_start rules form reader writer held w b t c p empty page n room =
     }
 
 -- a step at the rules that the run began with
-pub stepped_as : (rules now : Rules) (form : Form) (reader_old writer_old reader writer reader_new writer_new : Device) (held held_new : Held) → now ≡ rules
+pub stepped_as : (rules now : Rules) (form : Form) (is_last : Bool) (reader_old writer_old reader writer reader_new writer_new : Device) (held held_new : Held) → now ≡ rules
     → Stands rules form reader_old writer_old reader writer held → (result : Result Bool Fault)
-    → (Stands now form reader_old writer_old reader writer held → Steps now form reader_old writer_old reader_new writer_new held_new result)
-    → (as_is : Result Bool Fault) → result ≡ as_is → Steps rules form reader_old writer_old reader_new writer_new held_new as_is
-stepped_as rules now form reader_old writer_old reader writer reader_new writer_new held held_new e s result step as_is is =
+    → (Stands now form reader_old writer_old reader writer held → Steps now form is_last reader_old writer_old reader_new writer_new held_new result)
+    → (as_is : Result Bool Fault) → result ≡ as_is → Steps rules form is_last reader_old writer_old reader_new writer_new held_new as_is
+stepped_as rules now form is_last reader_old writer_old reader writer reader_new writer_new held held_new e s result step as_is is =
     let here = step (subst (λ (r : Rules). Stands r form reader_old writer_old reader writer held) (sym e) s) in
-    subst (λ (r : Result Bool Fault). Steps rules form reader_old writer_old reader_new writer_new held_new r) is
-    (subst (λ (r : Rules). Steps r form reader_old writer_old reader_new writer_new held_new result) e here)
+    subst (λ (r : Result Bool Fault). Steps rules form is_last reader_old writer_old reader_new writer_new held_new r) is
+    (subst (λ (r : Rules). Steps r form is_last reader_old writer_old reader_new writer_new held_new result) e here)
 
 -- the sink failed at the end of the input
-pub finish_write : (rules : Rules) (form : Form) (held : Held) (old new : Device) (fault : Fault) (middle : Output) (is_long : Bool)
-    → AddsLast rules form (held.text.items ++ last_characters held.decoder.waiting) held.output middle is_long → middle.written ≡ held.output.written
-    → ((n : ℕ) × (fault ≡ f.Write (middle.written + n)) × StoppedAt n middle.page.bytes.items old new) → Finishes rules form held old new (Err fault)
-finish_write rules form held old new fault middle is_long adds same (n, fault_is, stopped) =
-    subst (λ (w : Fault). Finishes rules form held old new (Err w)) (sym fault_is)
+pub finish_write : (rules : Rules) (form : Form) (is_last : Bool) (held : Held) (old new : Device) (fault : Fault) (middle : Output) (is_long : Bool)
+    → AddsLast rules form is_last (held.text.items ++ last_characters held.decoder.waiting) held.output middle is_long → middle.written ≡ held.output.written
+    → ((n : ℕ) × (fault ≡ f.Write (middle.written + n)) × StoppedAt n middle.page.bytes.items old new) → Finishes rules form is_last held old new (Err fault)
+finish_write rules form is_last held old new fault middle is_long adds same (n, fault_is, stopped) =
+    subst (λ (w : Fault). Finishes rules form is_last held old new (Err w)) (sym fault_is)
     (middle, is_long, adds, (n, ap (λ k. k + n) same, stopped))

@@ -10,8 +10,8 @@ use Rattle.bidi.proofs.FrontLemmas.{first_paragraph}
 use Rattle.lines.specs.Layouts.{Rules, cut_by}
 use Rattle.ucd.specs.Classes.{is_separator}
 use Rattle.ucd.specs.Tables.{class_of}
-use Rattle.sequences.specs.Characters.{is_dropped, is_inline}
-use Rattle.sequences.specs.Laws.{characters_of, ends_piece}
+use Rattle.sequences.specs.Characters.{ends_piece, is_dropped, is_inline}
+use Rattle.sequences.specs.Laws.{characters_of}
 use Rattle.sequences.specs.Overstrikes.{after_backspaces, strike, strikes, struck}
 use Rattle.sequences.specs.Sequences.{sequence_len}
 use Rattle.sequences.specs.Styled.{Pen, START, Style, after_first_part, first_shown, more_len, next_paragraph, pen_at_end, shown_text, struck_style, styled, styled_after}
@@ -19,14 +19,15 @@ use Rattle.sequences.proofs.LawLemmas.{shows_the_same}
 use Rattle.sequences.proofs.PieceLemmas.{sequence_len_within, shows_pieces}
 use Rattle.sequences.proofs.PlainLemmas.{no_sequence}
 use Rattle.sequences.proofs.ShownLemmas.{AreAlike, first_alike}
+use Rattle.terminal.specs.Newlines.{EndsIn}
 use Rattle.terminal.specs.Texts.{blocks, ends_block, is_apart, next_after, next_character, regrouped, shown_blocks}
 use Rattle.terminal.specs.Whole.{ShowsWhole, joined}
 
-characters_of-append : (xs ys : List (ℕ × Style)) → characters_of (xs ++ ys) ≡ characters_of xs ++ characters_of ys
+pub characters_of-append : (xs ys : List (ℕ × Style)) → characters_of (xs ++ ys) ≡ characters_of xs ++ characters_of ys
 characters_of-append [] ys = refl
 characters_of-append (x ∷ xs) ys = ap (λ rest. x.0 ∷ rest) (characters_of-append xs ys)
 
-onto_concat : (c : ℕ) (parts : List (List ℕ)) → concat (onto_first c parts) ≡ c ∷ concat parts
+pub onto_concat : (c : ℕ) (parts : List (List ℕ)) → concat (onto_first c parts) ≡ c ∷ concat parts
 onto_concat c [] = refl
 onto_concat c (p ∷ parts) = refl
 
@@ -48,7 +49,7 @@ module _ (is_cut : ℕ → ℕ → Bool) where
       ]
 
   -- a text is one block, or its first block ends at a character that no sequence spans
-  record Splits (text : List ℕ) : Type 0 where
+  pub record Splits (text : List ℕ) : Type 0 where
     pub piece : List ℕ
     pub end : ℕ
     pub rest : List ℕ
@@ -76,7 +77,7 @@ module _ (is_cut : ℕ → ℕ → Bool) where
     cut = cond-false (ends_block is_cut c (d ∷ text)) _ _ n ∙ ap (onto_first c) s.cut;
   }
 
-  split : (c : ℕ) (text : List ℕ) → (blocks is_cut (c ∷ text) ≡ (c ∷ text) ∷ []) ⊎ Splits (c ∷ text)
+  pub split : (c : ℕ) (text : List ℕ) → (blocks is_cut (c ∷ text) ≡ (c ∷ text) ∷ []) ⊎ Splits (c ∷ text)
   split c [] =
       elim (cases_Bool (ends_block is_cut c [])) [
         | inl y ↦ inr (first_split c [] y)
@@ -92,7 +93,7 @@ module _ (is_cut : ℕ → ℕ → Bool) where
         ]
       ]
 
-  shown_whole : (fuel : ℕ) (pen : Pen) (text : List ℕ) → length text ≤ fuel → characters_of (joined (shown_blocks pen (blocks is_cut text))) ≡ shown_text text
+  pub shown_whole : (fuel : ℕ) (pen : Pen) (text : List ℕ) → length text ≤ fuel → characters_of (joined (shown_blocks pen (blocks is_cut text))) ≡ shown_text text
   unfolding shown_text
   shown_whole fuel pen [] short = refl
   shown_whole zero pen (c ∷ text) short = absurd (omega (arith, short))
@@ -120,10 +121,6 @@ module _ (is_cut : ℕ → ℕ → Bool) where
       ∙ take-append-drop n shown
 
 -- ---- the last character that a block shows
-
-record EndsIn (c : ℕ) (text : List ℕ) : Type 0 where
-  pub front : List ℕ
-  pub is : text ≡ front ++ c ∷ []
 
 module _ (c : ℕ) (kept : is_dropped c ≡ false) (outer : is_inline c ≡ false) where
   struck_none : (x : ℕ) → (x == 0x08 && is_inline c) ≡ false
@@ -159,7 +156,7 @@ module _ (c : ℕ) (kept : is_dropped c ≡ false) (outer : is_inline c ≡ fals
       ap characters_of (cond-false (is_dropped c) [] (((struck pen.after_underline c []).shown, struck_style pen c []) ∷ []) kept)
       ∙ ap (λ (xs : List ℕ). (fold (strike pen.after_underline) (record { shown = c; bold = false; underlined = false }) xs).shown ∷ []) no_strikes_at
 
-  ends_shown : (skip : ℕ) (pen : Pen) (text : List ℕ) → skip ≤ length text → EndsIn c (characters_of (styled_after skip pen (text ++ c ∷ [])))
+  pub ends_shown : (skip : ℕ) (pen : Pen) (text : List ℕ) → skip ≤ length text → EndsIn c (characters_of (styled_after skip pen (text ++ c ∷ [])))
   ends_shown zero pen [] le =
       let rest = λ (n : ℕ). styled_after n (after_first_part pen c []) [] in
       record {

@@ -1,8 +1,10 @@
 pub mod Decoding
+pub mod Directions
 pub mod Ends
 pub mod Appending
 pub mod Forms
 pub mod Lines
+pub mod Newlines
 pub mod Numbers
 pub mod Paragraphs
 pub mod Parts

@@ -8,7 +8,8 @@ use Rattle.lines.specs.declared.engine.TheConstants.{PARAGRAPH_LIMIT}
 use Rattle.sequences.specs.Styled.{START}
 use Rattle.stream.specs.declared.reading.TheConstants.{CHUNK}
 use Rattle.terminal.specs.Ends.{IsOpen}
-use Rattle.terminal.specs.Texts.{block_page, blocks, input_page, input_text, shown_blocks}
+use Rattle.terminal.specs.Newlines.{output_page}
+use Rattle.terminal.specs.Texts.{block_page, blocks, input_text, shown_blocks}
 use Rattle.terminal.specs.declared.faults.Fault.{Fault}
 use Rattle.terminal.specs.declared.faults.Fault.TheVariants as fault
 use Rattle.terminal.specs.declared.form.Escapes.{Escapes}
@@ -73,24 +74,25 @@ EndsTooLong rules form bytes ended =
     × (are_within ended ≡ true) × (PARAGRAPH_LIMIT < length first)
 
 -- what was written, for each fault
-abbrev pub EndsBy : (rules : Rules) (form : Form) → Device → Device → (writer_old writer_new : Device) → (bytes : List ℕ)
+abbrev pub EndsBy : (rules : Rules) (form : Form) (is_last : Bool) → Device → Device → (writer_old writer_new : Device) → (bytes : List ℕ)
     → WritesFirst rules form bytes writer_old writer_new → Fault → Type 0
-EndsBy rules form reader_old reader_new writer_old writer_new bytes first fault.Read =
+EndsBy rules form is_last reader_old reader_new writer_old writer_new bytes first fault.Read =
     FailedLast reader_old reader_new × (first.late ≡ []) × Wrote (blocks_page rules form first.ended) writer_old writer_new
-EndsBy rules form reader_old reader_new writer_old writer_new bytes first fault.Memory = Wrote (blocks_page rules form first.ended) writer_old writer_new
-EndsBy rules form reader_old reader_new writer_old writer_new bytes first fault.ParagraphTooLong =
+EndsBy rules form is_last reader_old reader_new writer_old writer_new bytes first fault.Memory = Wrote (blocks_page rules form first.ended) writer_old writer_new
+EndsBy rules form is_last reader_old reader_new writer_old writer_new bytes first fault.ParagraphTooLong =
     (ended : List (List ℕ)) × Wrote (blocks_page rules form ended) writer_old writer_new
     × (((rest : List ℕ) × BeginsWith rules form bytes ended rest × IsTooLong (cut_by rules) rest) ⊎ (IsAtEnd reader_new.bytes × EndsTooLong rules form bytes ended))
-EndsBy rules form reader_old reader_new writer_old writer_new bytes first (fault.Write n) =
+EndsBy rules form is_last reader_old reader_new writer_old writer_new bytes first (fault.Write n) =
     ((ended : List (List ℕ)) × StoppedAt n (blocks_page rules form ended) writer_old writer_new
     × (((rest : List ℕ) × BeginsWith rules form bytes ended rest) ⊎ (IsAtEnd reader_new.bytes × EndsTooLong rules form bytes ended)))
-    ⊎ (IsAtEnd reader_new.bytes × StoppedAt n (input_page rules form bytes) writer_old writer_new)
+    ⊎ (IsAtEnd reader_new.bytes × StoppedAt n (output_page rules form is_last bytes) writer_old writer_new)
 
--- How a run ended. Without a fault, it has read the whole input, and has written its lines and nothing else.
-abbrev pub IsRun : Rules → Form → Device → Device → Device → Device → Result (Unit {0}) Fault → Type 0
-IsRun rules form reader_old reader_new writer_old writer_new (Ok done) =
+-- How a run ended. Without a fault, it has read the whole input, and has written its lines and nothing else, without
+-- the last newline if the input is the last one and its text does not end a line.
+abbrev pub IsRun : Rules → Form → Bool → Device → Device → Device → Device → Result (Unit {0}) Fault → Type 0
+IsRun rules form is_last reader_old reader_new writer_old writer_new (Ok done) =
     (bytes : List ℕ) × HasRead reader_old reader_new bytes × IsAtEnd reader_new.bytes × (reader_new.failures ≡ reader_old.failures)
-    × Wrote (input_page rules form bytes) writer_old writer_new
-IsRun rules form reader_old reader_new writer_old writer_new (Err fault) =
+    × Wrote (output_page rules form is_last bytes) writer_old writer_new
+IsRun rules form is_last reader_old reader_new writer_old writer_new (Err fault) =
     (bytes : List ℕ) × HasRead reader_old reader_new bytes
-    × ((first : WritesFirst rules form bytes writer_old writer_new) × EndsBy rules form reader_old reader_new writer_old writer_new bytes first fault)
+    × ((first : WritesFirst rules form bytes writer_old writer_new) × EndsBy rules form is_last reader_old reader_new writer_old writer_new bytes first fault)

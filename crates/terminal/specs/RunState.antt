@@ -10,8 +10,9 @@ use Rattle.sequences.specs.StyledTexts.{styled_of}
 use Rattle.stream.specs.declared.reading.TheConstants.{CHUNK}
 use Rattle.terminal.specs.Decoding.{IsBeginning, Takes, text_after}
 use Rattle.terminal.specs.Ends.{IsOpen}
+use Rattle.terminal.specs.Newlines.{text_output}
 use Rattle.terminal.specs.Run.{are_within, blocks_page, HasRead, IsRun, IsTooLong}
-use Rattle.terminal.specs.Texts.{block_page, blocks, input_text, shown_blocks, text_page}
+use Rattle.terminal.specs.Texts.{block_page, blocks, input_text, shown_blocks}
 use Rattle.terminal.specs.declared.faults.Fault.{Fault}
 use Rattle.terminal.specs.declared.faults.Fault.TheVariants as f
 use Rattle.terminal.specs.declared.form.Form.{Form}
@@ -58,9 +59,9 @@ pub record AddsEnded (rules : Rules) (form : Form) (text : List ℕ) (old new : 
   pub leaves : Leaves rules is_long scanned (drop start text)
 
 -- The lines of the blocks of a whole text were added to the page, or of those before one that is too long.
-abbrev pub AddsLast : Rules → Form → List ℕ → Output → Output → Bool → Type 0
-AddsLast rules form text old new false = new.page.bytes.items ≡ old.page.bytes.items ++ text_page rules form (pen_of old.scanner) text
-AddsLast rules form text old new true =
+abbrev pub AddsLast : Rules → Form → Bool → List ℕ → Output → Output → Bool → Type 0
+AddsLast rules form is_last text old new false = new.page.bytes.items ≡ old.page.bytes.items ++ text_output rules form is_last (pen_of old.scanner) text
+AddsLast rules form is_last text old new true =
     (parts : List (List ℕ)) × (first : List ℕ) × (others : List (List ℕ)) × (blocks (cut_by rules) text ≡ parts ++ first ∷ others) × (are_within parts ≡ true)
     × (PARAGRAPH_LIMIT + 1 ≤ length first) × (new.page.bytes.items ≡ old.page.bytes.items ++ pages rules form (pen_of old.scanner) parts)
 
@@ -106,19 +107,19 @@ pub record Stands (rules : Rules) (form : Form) (reader_old writer_old reader wr
   pub waits : length (take held.decoder.waiting held.decoder.chunk.items) ≡ held.decoder.waiting
 
 -- a step continues the run or ends it
-abbrev pub Steps : Rules → Form → Device → Device → Device → Device → Held → Result Bool Fault → Type 0
-Steps rules form reader_old writer_old reader_new writer_new held (Ok true) = Stands rules form reader_old writer_old reader_new writer_new held
-Steps rules form reader_old writer_old reader_new writer_new held (Ok false) = IsRun rules form reader_old reader_new writer_old writer_new (Ok tt)
-Steps rules form reader_old writer_old reader_new writer_new held (Err fault) = IsRun rules form reader_old reader_new writer_old writer_new (Err fault)
+abbrev pub Steps : Rules → Form → Bool → Device → Device → Device → Device → Held → Result Bool Fault → Type 0
+Steps rules form is_last reader_old writer_old reader_new writer_new held (Ok true) = Stands rules form reader_old writer_old reader_new writer_new held
+Steps rules form is_last reader_old writer_old reader_new writer_new held (Ok false) = IsRun rules form is_last reader_old reader_new writer_old writer_new (Ok tt)
+Steps rules form is_last reader_old writer_old reader_new writer_new held (Err fault) = IsRun rules form is_last reader_old reader_new writer_old writer_new (Err fault)
 
 -- what is written at the end of an input, for each result
-abbrev pub Finishes : Rules → Form → Held → Device → Device → Result (Unit {0}) Fault → Type 0
-Finishes rules form held old new (Ok done) =
-    Wrote (held.output.page.bytes.items ++ text_page rules form (pen_of held.output.scanner) (held.text.items ++ last_characters held.decoder.waiting)) old new
-Finishes rules form held old new (Err f.Memory) = new ≡ old
-Finishes rules form held old new (Err f.Read) = ⊥
-Finishes rules form held old new (Err f.ParagraphTooLong) =
-    (middle : Output) × AddsLast rules form (held.text.items ++ last_characters held.decoder.waiting) held.output middle true × Wrote middle.page.bytes.items old new
-Finishes rules form held old new (Err (f.Write n)) =
-    (middle : Output) × (is_long : Bool) × AddsLast rules form (held.text.items ++ last_characters held.decoder.waiting) held.output middle is_long
+abbrev pub Finishes : Rules → Form → Bool → Held → Device → Device → Result (Unit {0}) Fault → Type 0
+Finishes rules form is_last held old new (Ok done) =
+    Wrote (held.output.page.bytes.items ++ text_output rules form is_last (pen_of held.output.scanner) (held.text.items ++ last_characters held.decoder.waiting)) old new
+Finishes rules form is_last held old new (Err f.Memory) = new ≡ old
+Finishes rules form is_last held old new (Err f.Read) = ⊥
+Finishes rules form is_last held old new (Err f.ParagraphTooLong) =
+    (middle : Output) × AddsLast rules form is_last (held.text.items ++ last_characters held.decoder.waiting) held.output middle true × Wrote middle.page.bytes.items old new
+Finishes rules form is_last held old new (Err (f.Write n)) =
+    (middle : Output) × (is_long : Bool) × AddsLast rules form is_last (held.text.items ++ last_characters held.decoder.waiting) held.output middle is_long
     × ((m : ℕ) × (n ≡ held.output.written + m) × StoppedAt m middle.page.bytes.items old new)

@@ -1,7 +1,7 @@
 //! Adds the lines of what a text shows, one block at a time. A block ends where a paragraph ends, and no
 //! sequence and no overstrike spans its end.
 ghost use Rattle.std.specs.Prelude.{◌≡◌, ◌≤◌, ◌<◌, ◌++◌, ◌∷◌, ◌-◌, [], ℕ, List, drop, length, map};
-ghost use Rattle.std.specs.Prelude.{slice_index, slice_range, take, All, OnOk};
+ghost use Rattle.std.specs.Prelude.{slice_index, slice_range, take, All, IfOk, OnOk};
 ghost use Rattle.std.specs.List.{flat_map};
 ghost use Rattle.lines.specs.Engine.{rules_of, SameRules};
 ghost use Rattle.lines.specs.Layouts.{cut_by, IsParagraph};
@@ -10,6 +10,7 @@ ghost use Rattle.sequences.specs.Laws.{characters_of};
 ghost use Rattle.sequences.specs.Scanners.{pen_of};
 ghost use Rattle.sequences.specs.Styled.{Style, next_paragraph, pen_at_end, styled};
 ghost use Rattle.sequences.specs.StyledTexts.{styled_of};
+ghost use Rattle.terminal.specs.Newlines.{last_of};
 ghost use Rattle.terminal.specs.Numbers.{numbered};
 ghost use Rattle.terminal.specs.Paragraphs.{styles_of};
 ghost use Rattle.terminal.specs.Parts.{styles_in};
@@ -138,8 +139,8 @@ fn push_shown(
     push_parts(alloc, page, engine, form, &part, &mut buffers.out)
 }
 
-/// Adds the lines of what a block shows. The scanner begins the next block. After a failed allocation, what
-/// it holds does not matter.
+/// Adds the lines of what a block shows, and returns the last character shown. The scanner begins the next
+/// block. After a failed allocation, what it holds does not matter.
 pub(crate) fn push_block(
     alloc: Global,
     page: &mut Page,
@@ -148,7 +149,7 @@ pub(crate) fn push_block(
     scanner: &mut Scanner,
     block: &[char],
     buffers: &mut Buffers,
-) -> Result<(), AllocError>
+) -> Result<Option<char>, AllocError>
     requires empty { styled_of scanner.old.text ≡ [] }
     requires short { length block.now ≤ PARAGRAPH_LIMIT }
     ensures ok { OnOk result (page.new.bytes.items ≡ page.old.bytes.items
@@ -156,10 +157,13 @@ pub(crate) fn push_block(
     ensures pen { OnOk result (pen_of scanner.new
         ≡ next_paragraph (pen_at_end (pen_of scanner.old) block.now)) }
     ensures empty { OnOk result (styled_of scanner.new.text ≡ []) }
+    ensures last { IfOk result (λ last. last
+        ≡ last_of (characters_of (styled (pen_of scanner.old) block.now))) }
     ensures rules { SameRules engine.old engine.new }
 {
     scanner.push_text(block)?;
     push_shown(alloc, page, engine, form, &scanner.text, buffers)?;
+    let last = scanner.text.characters.last().copied();
     scanner.start_paragraph();
-    Ok(())
+    Ok(last)
 }

@@ -83,10 +83,7 @@ impl Decoder {
         ensures { OnOk result (text.new.items ≡ text.old.items
             ++ (if nat_lt 0 self.now.waiting then 0xFFFD ∷ [] else [])) }
     {
-        if self.waiting > 0 {
-            text.push('\u{fffd}')?;
-        }
-        Ok(())
+        push_end(self.waiting, text)
     }
 
     // Moves the bytes in `start..end`, which are not a whole character yet, to the front of the chunk.
@@ -103,9 +100,20 @@ impl Decoder {
     }
 }
 
-// Removes the character at an index of a text if it is U+FEFF, unless characters were decoded before. Returns
-// whether any are decoded now.
-fn start(started: bool, text: &mut Vec<char>, at: usize) -> bool
+/// Adds U+FFFD to a text if an input ends with this number of bytes of an incomplete character.
+pub(crate) fn push_end(waiting: usize, text: &mut Vec<char>) -> Result<(), AllocError>
+    ensures { OnOk result (text.new.items ≡ text.old.items
+        ++ (if nat_lt 0 waiting then 0xFFFD ∷ [] else [])) }
+{
+    if waiting > 0 {
+        text.push('\u{fffd}')?;
+    }
+    Ok(())
+}
+
+/// Removes the character at an index of a text if it is U+FEFF, unless characters were decoded before. Returns
+/// whether any are decoded now.
+pub(crate) fn start(started: bool, text: &mut Vec<char>, at: usize) -> bool
     requires { at ≤ vec_len text.old }
     ensures text { text.new.items ≡ take at text.old.items
         ++ (if started then drop at text.old.items else without_mark (drop at text.old.items)) }
@@ -131,8 +139,8 @@ fn drop_mark(text: &mut Vec<char>, at: usize)
     }
 }
 
-// Replaces the characters from an index on by what stands for them in a mode.
-fn show_pictures(escapes: Escapes, text: &mut [char], from: usize)
+/// Replaces the characters from an index on by what stands for them in a mode.
+pub(crate) fn show_pictures(escapes: Escapes, text: &mut [char], from: usize)
     requires { from ≤ length text.old }
     ensures { text.new ≡ take from text.old ++ pictures escapes (drop from text.old) }
 {

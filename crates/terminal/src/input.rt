@@ -89,22 +89,24 @@ impl Held {
     }
 
     // Adds the lines of the text that is left at the end of the input to the page, up to a block that is too
-    // long. Returns whether one is.
+    // long. Returns whether one is. If none is, the page of the last input ends as its text does.
     fn gather_last(
         &mut self,
         alloc: Global,
         engine: &mut Engine,
         form: &Form,
+        is_last: bool,
     ) -> Result<bool, AllocError>
         requires empty { styled_of self.old.output.scanner.text ≡ [] }
-        ensures adds { IfOk result (AddsLast (rules_of engine.old) form.now
+        ensures adds { IfOk result (AddsLast (rules_of engine.old) form.now is_last
             (self.old.text.items ++ last_characters self.old.decoder.waiting)
             self.old.output self.new.output) }
         ensures written { self.new.output.written ≡ self.old.output.written }
         ensures rules { SameRules engine.old engine.new }
     {
         self.decoder.finish(&mut self.text)?;
-        self.output.push_last(alloc, engine, form, &self.text)
+        self.output
+            .push_last(alloc, engine, form, &self.text, is_last)
     }
 }
 
@@ -127,15 +129,16 @@ fn finish<W: Sink>(
     writer: &mut W,
     engine: &mut Engine,
     form: &Form,
+    is_last: bool,
     held: &mut Held,
 ) -> Result<(), Fault>
     requires empty { styled_of held.old.output.scanner.text ≡ [] }
     requires counted { held.old.output.written ≤ (W.state writer.old).passed }
-    ensures ends { Finishes (rules_of engine.old) form.now held.old
+    ensures ends { Finishes (rules_of engine.old) form.now is_last held.old
         (W.state writer.old) (W.state writer.new) result }
     ensures rules { SameRules engine.old engine.new }
 {
-    let Ok(is_long) = held.gather_last(alloc, engine, form) else {
+    let Ok(is_long) = held.gather_last(alloc, engine, form, is_last) else {
         return Err(Fault::Memory);
     };
     if let Err(fault) = held.output.write(writer) {
@@ -155,6 +158,7 @@ fn step<R: Source, W: Sink>(
     writer: &mut W,
     engine: &mut Engine,
     form: &Form,
+    is_last: bool,
     held: &mut Held,
 ) -> Result<bool, Fault>
     requires stands { (reader_start : Device) × (writer_start : Device)
@@ -163,7 +167,7 @@ fn step<R: Source, W: Sink>(
     ensures steps { (reader_start : Device) (writer_start : Device)
         → Stands (rules_of engine.old) form.now reader_start writer_start
         (R.state reader.old) (W.state writer.old) held.old
-        → Steps (rules_of engine.old) form.now reader_start writer_start
+        → Steps (rules_of engine.old) form.now is_last reader_start writer_start
         (R.state reader.new) (W.state writer.new) held.new result }
     ensures rises { result ≡ Ok true → (R.state reader.old).passed < (R.state reader.new).passed }
     ensures counted { result ≡ Ok true → (R.state reader.new).passed ≤ 2 ^ 64 - 1 }
@@ -174,7 +178,7 @@ fn step<R: Source, W: Sink>(
         Err(_) => return Err(Fault::Read),
     };
     if len == 0 {
-        return match finish(alloc, writer, engine, form, held) {
+        return match finish(alloc, writer, engine, form, is_last, held) {
             Ok(()) => Ok(false),
             Err(fault) => Err(fault),
         };
@@ -197,6 +201,9 @@ fn step<R: Source, W: Sink>(
 /// paragraph are written as soon as its end is known, before more is read. Only the last paragraph and one
 /// chunk of the input are kept in memory.
 ///
+/// With `is_last`, the last newline is left out if the text does not end a line: its last character has
+/// neither bidi class B nor line breaking class BK, CR, LF or NL.
+///
 /// Errors:
 ///
 /// - `Read`: the source failed. All paragraphs that have ended were written.
@@ -210,8 +217,9 @@ pub fn run<R: Source, W: Sink>(
     writer: &mut W,
     engine: &mut Engine,
     form: &Form,
+    is_last: bool,
 ) -> Result<(), Fault>
-    ensures run { IsRun (rules_of engine.old) form.now
+    ensures run { IsRun (rules_of engine.old) form.now is_last
         (R.state reader.old) (R.state reader.new) (W.state writer.old) (W.state writer.new) result }
     ensures rules { SameRules engine.old engine.new }
 {
@@ -219,7 +227,7 @@ pub fn run<R: Source, W: Sink>(
         return Err(Fault::Memory);
     };
     loop {
-        match step(alloc, reader, writer, engine, form, &mut held) {
+        match step(alloc, reader, writer, engine, form, is_last, &mut held) {
             Ok(true) => (),
             Ok(false) => return Ok(()),
             Err(fault) => return Err(fault),

@@ -1,4 +1,5 @@
 //! Theorems about what is printed. Calls of these functions cost nothing at run time.
+ghost use Rattle.terminal.specs.Newlines.{PagesEndInNewlines};
 ghost use Rattle.terminal.specs.Plain.{PrintsPlainLines, PrintsWithoutPrefix};
 
 /// States, as a theorem, that the lines of a paragraph are those that `lines` prints if all its characters
@@ -10,4 +11,10 @@ pub fn prints_plain_lines()
 /// States, as a theorem, that a paragraph without a prefix is printed as a whole at the width.
 pub fn prints_without_prefix()
     ensures { PrintsWithoutPrefix }
+{}
+
+/// States, as a theorem, that the lines of an input that shows something end in a newline. `run` leaves out
+/// this newline or nothing.
+pub fn pages_end_in_newlines()
+    ensures { PagesEndInNewlines }
 {}

@@ -7,6 +7,7 @@
 mod block;
 mod decoder;
 mod decoding;
+mod direction;
 mod ends;
 mod faults;
 mod form;
@@ -22,9 +23,10 @@ mod prefix;
 mod text;
 mod whole;
 
+pub use direction::{FIRST_CHARACTERS, known_direction, whole_direction};
 pub use faults::Fault;
 pub use form::{Escapes, Form, Prefix};
 pub use input::run;
-pub use laws::{prints_plain_lines, prints_without_prefix};
+pub use laws::{pages_end_in_newlines, prints_plain_lines, prints_without_prefix};
 pub use text::{picture, push_text};
 pub use whole::shows_whole;

@@ -4,10 +4,12 @@ ghost use Rattle.device.specs.Device.{StoppedAt, Wrote};
 ghost use Rattle.lines.specs.Engine.{rules_of, SameRules};
 ghost use Rattle.lines.specs.Layouts.{cut_by};
 ghost use Rattle.lines.specs.declared.engine.TheConstants.{PARAGRAPH_LIMIT};
+ghost use Rattle.sequences.specs.Laws.{characters_of};
 ghost use Rattle.sequences.specs.Scanners.{pen_of};
-ghost use Rattle.sequences.specs.Styled.{START};
+ghost use Rattle.sequences.specs.Styled.{styled, START};
 ghost use Rattle.sequences.specs.StyledTexts.{styled_of};
 ghost use Rattle.terminal.specs.Ends.{AreNoEnds};
+ghost use Rattle.terminal.specs.Newlines.{ended_page, is_ended, last_of};
 ghost use Rattle.terminal.specs.RunState.{is_left_long, Adds, AddsEnded, AddsLast};
 ghost use Rattle.terminal.specs.declared.faults.Fault.TheVariants.{Write as WriteFault};
 
@@ -69,17 +71,19 @@ impl Output {
         }
     }
 
-    // Adds the lines of a block.
+    // Adds the lines of a block, and returns the last character that it shows.
     fn push(
         &mut self,
         alloc: Global,
         engine: &mut Engine,
         form: &Form,
         block: &[char],
-    ) -> Result<(), AllocError>
+    ) -> Result<Option<char>, AllocError>
         requires empty { styled_of self.old.scanner.text ≡ [] }
         requires short { length block.now ≤ PARAGRAPH_LIMIT }
         ensures adds { OnOk result (Adds (rules_of engine.old) form.now (block.now ∷ []) self.old self.new) }
+        ensures last { IfOk result (λ last. last
+            ≡ last_of (characters_of (styled (pen_of self.old.scanner) block.now))) }
         ensures written { self.new.written ≡ self.old.written }
         ensures rules { SameRules engine.old engine.new }
     {
@@ -134,31 +138,49 @@ impl Output {
         }
     }
 
-    /// Adds the lines of the blocks of a text that nothing follows, up to one that is too long. Returns
-    /// whether one is.
+    /// Adds the lines of the blocks of a text that nothing follows, up to one that is too long. If none is,
+    /// and the text is the last one, ends the page as the text ends. Returns whether one is too long.
     pub(crate) fn push_last(
         &mut self,
         alloc: Global,
         engine: &mut Engine,
         form: &Form,
         text: &[char],
+        is_last: bool,
     ) -> Result<bool, AllocError>
         requires empty { styled_of self.old.scanner.text ≡ [] }
-        ensures adds { IfOk result (AddsLast (rules_of engine.old) form.now text.now self.old self.new) }
+        ensures adds { IfOk result (AddsLast (rules_of engine.old) form.now is_last text.now
+            self.old self.new) }
         ensures written { self.new.written ≡ self.old.written }
         ensures rules { SameRules engine.old engine.new }
     {
         let mut rest = text;
+        let mut last = None;
         while !rest.is_empty() {
             let len = block_len(engine, rest);
             if len > PARAGRAPH_LIMIT {
                 return Ok(true);
             }
             let (block, after) = rest.split_at(len);
-            self.push(alloc, engine, form, block)?;
+            let shown = self.push(alloc, engine, form, block)?;
+            last = shown.or(last);
             rest = after;
         }
+        self.end_page(engine, is_last, last);
         Ok(false)
+    }
+
+    // Removes the last newline if the text is the last one and does not end a line, given the last character
+    // that it shows.
+    fn end_page(&mut self, engine: &Engine, is_last: bool, last: Option<char>)
+        ensures page { self.new.page.bytes.items
+            ≡ ended_page (rules_of engine.now).tables is_last last self.old.page.bytes.items }
+        ensures written { self.new.written ≡ self.old.written }
+    {
+        if is_last && !is_ended(engine, last) {
+            let len = self.page.bytes.len();
+            self.page.bytes.truncate(len.saturating_sub(1));
+        }
     }
 
     /// Writes the lines.
@@ -180,6 +202,16 @@ impl Output {
             }
             Err(written) => Err(Fault::Write(self.written + written as u64)),
         }
+    }
+}
+
+// Returns whether a text with this last character ends a line or is empty.
+fn is_ended(engine: &Engine, last: Option<char>) -> bool
+    ensures { result ≡ is_ended (rules_of engine.now).tables last }
+{
+    match last {
+        Some(c) => engine.separator_len('\0', c) > 0,
+        None => true,
     }
 }
 

@@ -24,6 +24,7 @@ fn are_written_as(
     alloc: Global,
     engine: &mut Engine,
     form: &Form,
+    is_last: bool,
     first: &[u8],
     second: &[u8],
     expected: &str,
@@ -33,11 +34,29 @@ fn are_written_as(
     }
     let mut reader = FromRead::new(first.chain(second));
     let mut page = Page::new(alloc);
-    let result = run(alloc, &mut reader, &mut page, engine, form);
+    let result = run(alloc, &mut reader, &mut page, engine, form, is_last);
     Ok(result == Ok(()) && page.bytes() == expected.as_bytes())
 }
 
 // Returns whether an input is written as expected, wherever the first chunk ends.
+fn is_output(
+    alloc: Global,
+    engine: &mut Engine,
+    form: &Form,
+    is_last: bool,
+    bytes: &[u8],
+    expected: &str,
+) -> Result<bool, Fail> {
+    for k in 0..bytes.len() + 1 {
+        let (first, second) = bytes.split_at(k);
+        if !are_written_as(alloc, engine, form, is_last, first, second, expected)? {
+            return Ok(false);
+        }
+    }
+    Ok(true)
+}
+
+// Returns the same for an input that is not the last one.
 fn is_written_as(
     alloc: Global,
     engine: &mut Engine,
@@ -45,13 +64,64 @@ fn is_written_as(
     bytes: &[u8],
     expected: &str,
 ) -> Result<bool, Fail> {
-    for k in 0..bytes.len() + 1 {
-        let (first, second) = bytes.split_at(k);
-        if !are_written_as(alloc, engine, form, first, second, expected)? {
-            return Ok(false);
-        }
+    is_output(alloc, engine, form, false, bytes, expected)
+}
+
+#[test]
+fn last_newline_is_left_out_where_the_text_has_none(rt: HostRuntime) -> Result<(), Fail> {
+    let mut engine = engine(rt.alloc(), 0)?;
+    let form = form(20, Escapes::Keep);
+    for (bytes, expected) in [
+        (b"a".as_slice(), "a"),
+        (b"a\nb".as_slice(), "a\nb"),
+        (b"a\n\x1b[31mb".as_slice(), "a\n\x1b[31mb\x1b[m"),
+        (b"a\x1b[m".as_slice(), "a"),
+        (b"a\xe2\x82".as_slice(), "a\u{fffd}"),
+        (b"a\x1b[31".as_slice(), "a[31"),
+    ] {
+        assert!(rt; is_output(rt.alloc(), &mut engine, &form, true, bytes, expected)?);
     }
-    Ok(true)
+    Ok(())
+}
+
+#[test]
+fn last_newline_is_written_after_all_that_end_a_line(rt: HostRuntime) -> Result<(), Fail> {
+    let mut engine = engine(rt.alloc(), 0)?;
+    let form = form(20, Escapes::Keep);
+    for (bytes, expected) in [
+        (b"a\n".as_slice(), "a\n"),
+        (b"a\n\n".as_slice(), "a\n\n"),
+        (b"a\r".as_slice(), "a\n"),
+        (b"a\r\n".as_slice(), "a\n"),
+        (b"a\x0b".as_slice(), "a\n"),
+        (b"a\x0c".as_slice(), "a\n"),
+        (b"a\xc2\x85".as_slice(), "a\n"),
+        (b"a\xe2\x80\xa8".as_slice(), "a\n"),
+        (b"a\xe2\x80\xa9".as_slice(), "a\n"),
+        // Sequences and dropped controls after the separator show nothing.
+        (b"a\n\x1b[31m".as_slice(), "a\n"),
+        (b"a\n\x07".as_slice(), "a\n"),
+        (b"a\x0b\x1b[31m".as_slice(), "a\n"),
+        (b"".as_slice(), ""),
+        (b"\x1b[31m".as_slice(), ""),
+    ] {
+        assert!(rt; is_output(rt.alloc(), &mut engine, &form, true, bytes, expected)?);
+    }
+    Ok(())
+}
+
+#[test]
+fn newline_after_an_input_that_others_follow_is_written(rt: HostRuntime) -> Result<(), Fail> {
+    let mut engine = engine(rt.alloc(), 0)?;
+    let form = form(20, Escapes::Keep);
+    for (bytes, expected) in [
+        (b"a".as_slice(), "a\n"),
+        (b"a\n".as_slice(), "a\n"),
+        (b"".as_slice(), ""),
+    ] {
+        assert!(rt; is_output(rt.alloc(), &mut engine, &form, false, bytes, expected)?);
+    }
+    Ok(())
 }
 
 #[test]
@@ -155,7 +225,7 @@ fn is_written_before_failure(
     }
     let mut reader = FromRead::new(bytes.chain(Broken));
     let mut page = Page::new(alloc);
-    let result = run(alloc, &mut reader, &mut page, engine, form);
+    let result = run(alloc, &mut reader, &mut page, engine, form, false);
     Ok(result == Err(Fault::Read) && page.bytes() == expected.as_bytes())
 }
 
@@ -193,7 +263,14 @@ fn a_full_sink_ends_the_run(rt: HostRuntime) -> Result<(), Fail> {
     let mut room = [0; 3];
     let mut reader = FromRead::new(b"a\nb\nc\n".as_slice());
     let mut writer = ToWrite::new(room.as_mut_slice());
-    let result = run(rt.alloc(), &mut reader, &mut writer, &mut engine, &form);
+    let result = run(
+        rt.alloc(),
+        &mut reader,
+        &mut writer,
+        &mut engine,
+        &form,
+        false,
+    );
     assert!(rt; result == Err(Fault::Write(3)));
     assert!(rt; room.as_slice() == b"a\nb".as_slice());
     Ok(())
@@ -218,7 +295,14 @@ fn a_paragraph_over_the_limit_ends_the_run(rt: HostRuntime) -> Result<(), Fail> 
     push_times(b'b', 1_048_577, &mut bytes)?;
     let mut reader = FromRead::new(bytes.as_slice());
     let mut page = Page::new(rt.alloc());
-    let result = run(rt.alloc(), &mut reader, &mut page, &mut engine, &form);
+    let result = run(
+        rt.alloc(),
+        &mut reader,
+        &mut page,
+        &mut engine,
+        &form,
+        false,
+    );
     assert!(rt; result == Err(Fault::ParagraphTooLong) && page.bytes() == b"a\n".as_slice());
     Ok(())
 }
@@ -234,7 +318,14 @@ fn input_that_is_all_invalid_is_read_to_its_end(rt: HostRuntime) -> Result<(), F
     push_times(0xff, 200_000, &mut bytes)?;
     let mut reader = FromRead::new(bytes.as_slice());
     let mut page = Page::new(rt.alloc());
-    let result = run(rt.alloc(), &mut reader, &mut page, &mut engine, &form);
+    let result = run(
+        rt.alloc(),
+        &mut reader,
+        &mut page,
+        &mut engine,
+        &form,
+        false,
+    );
     assert!(rt; result == Ok(()) && page.bytes().len() == 200_000 * 3 + 10_000);
     Ok(())
 }

@@ -1,9 +1,13 @@
-use Rattle.std.proofs.Common.{◌∙◌, ◌++◌, ap}
+use Rattle.std.proofs.Common.{◌∙◌, ◌++◌, ◌-◌, length, ap, sym}
+use Rattle.std.specs.Prelude.{slice_get}
 use Rattle.lines.specs.Engine.{rules_of}
+use Rattle.sequences.specs.Laws.{characters_of}
 use Rattle.sequences.specs.Scanners.{pen_of}
 use Rattle.sequences.specs.Styled.{next_paragraph, styled}
 use Rattle.terminal.specs.Texts.{block_page}
-use Rattle.terminal.proofs.BlockLemmas.{block_short}
+use Rattle.terminal.specs.Newlines.{last_of}
+use Rattle.terminal.proofs.BlockLemmas.{block_short, text_characters}
+use Rattle.terminal.proofs.NewlineLemmas.{last_is}
 use Rattle.terminal.proofs.block.push_block.Goals as goal
 
 pub push_shown-requires : goal.push_shown-requires
@@ -25,3 +29,12 @@ returns-clause-ok c =
 
 pub returns-clause-pen : goal.returns-clause-pen
 returns-clause-pen c = c.start_paragraph.ensures.pen ∙ ap next_paragraph c.in_ok-push_text.ensures.pen
+
+pub returns-clause-last : goal.returns-clause-last
+returns-clause-last c =
+    let pen = pen_of c.args.scanner.now in
+    let block = c.args.block.now in
+    let text = c.push_text.new.self.text in
+    c.copied-last.ensures ∙ c.last.ensures.value ∙ ap (λ xs. slice_get xs (length xs - 1)) c.deref.ensures.value ∙ last_is text.characters.items
+    ∙ ap last_of (sym (text_characters text))
+    ∙ ap (λ shown. last_of (characters_of shown)) (c.in_ok-push_text.ensures.text ∙ ap (λ xs. xs ++ styled pen block) c.requires.empty)

@@ -6,41 +6,41 @@ use Rattle.terminal.proofs.input.step.Goals as goal
 
 pub returns-in-Err-clause-steps : goal.returns-in-Err-clause-steps
 returns-in-Err-clause-steps g c = λ reader_start writer_start stands.
-    ends_read (rules_of c.args.engine.now) c.args.form.now reader_start writer_start (g.R.Source.state c.args.reader.now) (g.W.Sink.state c.args.writer.now)
+    ends_read (rules_of c.args.engine.now) c.args.form.now c.args.is_last reader_start writer_start (g.R.Source.state c.args.reader.now) (g.W.Sink.state c.args.writer.now)
     c.args.held.now stands (g.R.Source.state c.read.new.reader) c.in-Err.ensures.err
 
 pub returns-in-Ok-finish-clause-steps : goal.returns-in-Ok-finish-clause-steps
 returns-in-Ok-finish-clause-steps g c = λ reader_start writer_start stands.
-    step_end (rules_of c.args.engine.now) c.args.form.now reader_start writer_start (g.R.Source.state c.args.reader.now) (g.W.Sink.state c.args.writer.now)
+    step_end (rules_of c.args.engine.now) c.args.form.now c.args.is_last reader_start writer_start (g.R.Source.state c.args.reader.now) (g.W.Sink.state c.args.writer.now)
     c.args.held.now stands (g.R.Source.state c.read.new.reader) c.in-Ok.len c.read.new.self c.in-Ok.ensures.ok c.if-len-eq0.true
     (g.W.Sink.state c.finish.new.writer) (Ok tt) c.in-Ok-finish.ensures.ends
 
 pub returns-in-Err-finish-clause-steps : goal.returns-in-Err-finish-clause-steps
 returns-in-Err-finish-clause-steps g c = λ reader_start writer_start stands.
-    step_end (rules_of c.args.engine.now) c.args.form.now reader_start writer_start (g.R.Source.state c.args.reader.now) (g.W.Sink.state c.args.writer.now)
+    step_end (rules_of c.args.engine.now) c.args.form.now c.args.is_last reader_start writer_start (g.R.Source.state c.args.reader.now) (g.W.Sink.state c.args.writer.now)
     c.args.held.now stands (g.R.Source.state c.read.new.reader) c.in-Ok.len c.read.new.self c.in-Ok.ensures.ok c.if-len-eq0.true
     (g.W.Sink.state c.finish.new.writer) (Err c.in-Err-finish.fault) c.in-Err-finish.ensures.ends
 
 pub returns-in_default-clause-steps : goal.returns-in_default-clause-steps
 returns-in_default-clause-steps g c = λ reader_start writer_start stands.
-    step_memory (rules_of c.args.engine.now) c.args.form.now reader_start writer_start (g.R.Source.state c.args.reader.now) (g.W.Sink.state c.args.writer.now)
+    step_memory (rules_of c.args.engine.now) c.args.form.now c.args.is_last reader_start writer_start (g.R.Source.state c.args.reader.now) (g.W.Sink.state c.args.writer.now)
     c.args.held.now stands (g.R.Source.state c.read.new.reader) c.in-Ok.len c.read.new.self c.in-Ok.ensures.ok
 
 pub returns-in-Err-write-clause-steps : goal.returns-in-Err-write-clause-steps
 returns-in-Err-write-clause-steps g c = λ reader_start writer_start stands.
-    step_fault (rules_of c.args.engine.now) c.args.form.now reader_start writer_start (g.R.Source.state c.args.reader.now) (g.W.Sink.state c.args.writer.now)
+    step_fault (rules_of c.args.engine.now) c.args.form.now c.args.is_last reader_start writer_start (g.R.Source.state c.args.reader.now) (g.W.Sink.state c.args.writer.now)
     c.args.held.now stands (g.R.Source.state c.read.new.reader) c.in-Ok.len c.read.new.self c.in-Ok.ensures.ok
     c.gather.new.self c.in-Ok-gather.is_long c.in-Ok-gather.ensures.gathers (g.W.Sink.state c.write.new.writer) c.in-Err-write.fault c.in-Err-write.ensures.err
 
 pub returns-then-is_long-clause-steps : goal.returns-then-is_long-clause-steps
 returns-then-is_long-clause-steps g c = λ reader_start writer_start stands.
-    step_long (rules_of c.args.engine.now) c.args.form.now reader_start writer_start (g.R.Source.state c.args.reader.now) (g.W.Sink.state c.args.writer.now)
+    step_long (rules_of c.args.engine.now) c.args.form.now c.args.is_last reader_start writer_start (g.R.Source.state c.args.reader.now) (g.W.Sink.state c.args.writer.now)
     c.args.held.now stands (g.R.Source.state c.read.new.reader) c.in-Ok.len c.read.new.self c.in-Ok.ensures.ok
     c.gather.new.self c.in-Ok-gather.is_long c.in-Ok-gather.ensures.gathers (g.W.Sink.state c.write.new.writer) c.in_default-write.ensures.ok c.if-is_long.true
 
 pub returns-clause-steps : goal.returns-clause-steps
 returns-clause-steps g c = λ reader_start writer_start stands.
-    step_on (rules_of c.args.engine.now) c.args.form.now reader_start writer_start (g.R.Source.state c.args.reader.now) (g.W.Sink.state c.args.writer.now)
+    step_on (rules_of c.args.engine.now) c.args.form.now c.args.is_last reader_start writer_start (g.R.Source.state c.args.reader.now) (g.W.Sink.state c.args.writer.now)
     c.args.held.now stands (g.R.Source.state c.read.new.reader) c.in-Ok.len c.read.new.self c.in-Ok.ensures.ok
     c.gather.new.self c.in-Ok-gather.is_long c.in-Ok-gather.ensures.gathers (g.W.Sink.state c.write.new.writer) c.write.new.self c.in_default-write.ensures.ok
     c.in_default-write.ensures.empty c.in_default-write.ensures.written c.write.ensures.scanner c.if-is_long.false

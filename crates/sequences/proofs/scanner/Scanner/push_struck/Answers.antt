@@ -1,5 +1,4 @@
-use Rattle.std.proofs.Common.{ℕ, List, [], ◌∷◌, ◌++◌, ◌&&◌, ap, ◌∙◌}
-use Rattle.sequences.specs.Characters.{is_inline}
+use Rattle.std.proofs.Common.{ℕ, List, [], ◌∷◌, ◌++◌, ap, ◌∙◌}
 use Rattle.sequences.specs.Overstrikes.{is_underlined_only, struck_look}
 use Rattle.sequences.specs.Scanners.{pen_at, pen_of}
 use Rattle.sequences.specs.StyledTexts.{style_of, styled_of}
@@ -21,7 +20,7 @@ unfolding pen_of
 returns-clause-pen c =
     let scanner = c.args.self.now in
     let links = scanner.text.links.items in
-    ap (λ (l : List ℕ). pen_at l scanner.look scanner.link c.leaves_underline-self.result) c.push.ensures.links
-    ∙ ap (pen_at links scanner.look scanner.link) c.leaves_underline-self.ensures
-    ∙ ap (λ (look : Look). pen_at links scanner.look scanner.link (is_inline c.args.first && is_underlined_only look)) c.struck_look-look.ensures
-    ∙ ap (λ (at : Struck). pen_at links scanner.look scanner.link (is_inline c.args.first && is_underlined_only (struck_look scanner.look at))) c.struck_first-count.ensures.struck
+    ap (λ (l : List ℕ). pen_at l scanner.look scanner.link c.is_underlined_only-self.result) c.push.ensures.links
+    ∙ ap (pen_at links scanner.look scanner.link) c.is_underlined_only-self.ensures
+    ∙ ap (λ (look : Look). pen_at links scanner.look scanner.link (is_underlined_only look)) c.struck_look-look.ensures
+    ∙ ap (λ (at : Struck). pen_at links scanner.look scanner.link (is_underlined_only (struck_look scanner.look at))) c.struck_first-count.ensures.struck

@@ -8,7 +8,7 @@ abbrev pub invariant-loop-rest : goal.invariant-loop-rest
 invariant-loop-rest l = record {
   rules : SameRules l.fn.engine l.engine;
   empty : styled_of l.self.scanner.text ≡ [];
-  added : HasAddedLast (rules_of l.fn.engine) l.form l.text l.rest l.fn.self l.self;
+  added : HasAddedLast (rules_of l.fn.engine) l.form l.text l.rest l.fn.self l.self l.last;
 }
 
 abbrev pub decreases-loop-rest : goal.decreases-loop-rest

@@ -1,0 +1,23 @@
+//! Messages about files.
+use std::io;
+
+/// Reports why a file cannot be read or written.
+pub(crate) fn report_error(rt: &HostRuntime, name: &str, error: &io::Error) {
+    match format!(in rt.alloc(); "{error}") {
+        Ok(text) => report(rt, name, reason_in(&text)),
+        Err(_) => report(rt, name, "out of memory"),
+    }
+}
+
+/// Reports what is wrong with a file.
+pub(crate) fn report(rt: &HostRuntime, name: &str, reason: &str) {
+    let _ = eprintln!(rt; "hordguli: {name}: {reason}");
+}
+
+// Returns the system's reason without its number.
+fn reason_in(text: &str) -> &str {
+    match text.split_once(" (os error ") {
+        Some((reason, _)) => reason,
+        None => text,
+    }
+}
