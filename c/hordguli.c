@@ -12,15 +12,24 @@ typedef struct part {
     size_t size;
 } part;
 
-/* Returns whether two parts overlap. A part of more than PTRDIFF_MAX bytes counts as overlapping. */
+/* Returns whether a part has more than PTRDIFF_MAX bytes, or ends past the last address. */
+static inline int is_too_long(part a) { return a.size > PTRDIFF_MAX || (uintptr_t)a.at > UINTPTR_MAX - a.size; }
+
+/* Returns whether two parts overlap. A part that is too long counts as overlapping. */
+static inline int overlap_2(part a, part b) {
+    uintptr_t from = (uintptr_t)a.at, other = (uintptr_t)b.at;
+    if (is_too_long(a) || is_too_long(b)) return 1;
+    return a.size != 0 && b.size != 0 && (from < other ? other - from < a.size : from - other < b.size);
+}
+
+static inline int overlap_3(part a, part b, part c) { return overlap_2(a, b) || overlap_2(a, c) || overlap_2(b, c); }
+
+/* The same for any number of parts. */
 static int overlap(const part *parts, size_t count) {
     for (size_t i = 0; i < count; i++) {
-        uintptr_t a = (uintptr_t)parts[i].at;
         if (parts[i].size == 0) continue;
-        if (parts[i].size > PTRDIFF_MAX || a > UINTPTR_MAX - parts[i].size) return 1;
         for (size_t j = 0; j < i; j++) {
-            uintptr_t b = (uintptr_t)parts[j].at;
-            if (parts[j].size != 0 && (a < b ? b - a < parts[i].size : a - b < parts[j].size)) return 1;
+            if (overlap_2(parts[i], parts[j])) return 1;
         }
     }
     return 0;
@@ -29,6 +38,8 @@ static int overlap(const part *parts, size_t count) {
 static size_t times(size_t count, size_t size) { return count > SIZE_MAX / size ? SIZE_MAX : count * size; }
 
 #define OVERLAP(...) overlap((const part[]){__VA_ARGS__}, sizeof((const part[]){__VA_ARGS__}) / sizeof(part))
+#define OVERLAP_2(a, b) overlap_2((part)a, (part)b)
+#define OVERLAP_3(a, b, c) overlap_3((part)a, (part)b, (part)c)
 #define AT(pointer) {(pointer), sizeof *(pointer)}
 #define ARRAY(pointer, count) {(pointer), (pointer) == NULL ? 0 : times((count), sizeof *(pointer))}
 #define LACKS(pointer, count) ((pointer) == NULL && (count) != 0)
@@ -83,7 +94,7 @@ PUBLIC hordguli_status hordguli_tables_read_version(hordguli_tables *tables, uin
     const uint8_t *bytes[HORDGULI_TABLE_FILES];
     hordguli_status status;
     if (tables == NULL || files == NULL) return HORDGULI_NULL;
-    if (OVERLAP(AT(tables), ARRAY(files, HORDGULI_TABLE_FILES), ARRAY(fault, 1))) return HORDGULI_OVERLAP;
+    if (OVERLAP_3(AT(tables), ARRAY(files, HORDGULI_TABLE_FILES), ARRAY(fault, 1))) return HORDGULI_OVERLAP;
     for (size_t k = 0; k < HORDGULI_TABLE_FILES; k++) {
         if (LACKS(files[k].bytes, files[k].length)) return HORDGULI_NULL;
         if (OVERLAP(AT(tables), ARRAY(fault, 1), {files[k].bytes, files[k].length})) return HORDGULI_OVERLAP;
@@ -129,7 +140,7 @@ PUBLIC hordguli_status hordguli_tables_open_builtin(hordguli_tables *tables) {
 
 PUBLIC hordguli_status hordguli_tables_version(hordguli_tables *tables, uint32_t *version) {
     if (tables == NULL || version == NULL) return HORDGULI_NULL;
-    if (OVERLAP(AT(tables), AT(version))) return HORDGULI_OVERLAP;
+    if (OVERLAP_2(AT(tables), AT(version))) return HORDGULI_OVERLAP;
     return (hordguli_status)hordguli_core_tables_version(tables, version);
 }
 
@@ -152,13 +163,13 @@ PUBLIC hordguli_status hordguli_layout(hordguli_tables *tables, uint32_t options
 
 PUBLIC hordguli_status hordguli_count_utf8(const char *bytes, size_t length, size_t *count) {
     if (count == NULL || LACKS(bytes, length)) return HORDGULI_NULL;
-    if (OVERLAP(AT(count), ARRAY(bytes, length))) return HORDGULI_OVERLAP;
+    if (OVERLAP_2(AT(count), ARRAY(bytes, length))) return HORDGULI_OVERLAP;
     return (hordguli_status)hordguli_core_count_utf8(BYTES(bytes), length, count);
 }
 
 PUBLIC hordguli_status hordguli_valid_utf8(const char *bytes, size_t length, size_t *valid) {
     if (valid == NULL || LACKS(bytes, length)) return HORDGULI_NULL;
-    if (OVERLAP(AT(valid), ARRAY(bytes, length))) return HORDGULI_OVERLAP;
+    if (OVERLAP_2(AT(valid), ARRAY(bytes, length))) return HORDGULI_OVERLAP;
     return (hordguli_status)hordguli_core_valid_utf8(BYTES(bytes), length, valid);
 }
 
@@ -167,7 +178,7 @@ PUBLIC hordguli_status hordguli_valid_utf8(const char *bytes, size_t length, siz
 PUBLIC hordguli_status hordguli_session_open(hordguli_session *session, hordguli_tables *tables, uint32_t options,
                                              uint32_t width, const char *text, size_t length) {
     if (session == NULL || tables == NULL || LACKS(text, length)) return HORDGULI_NULL;
-    if (OVERLAP(AT(session), AT(tables), ARRAY(text, length))) return HORDGULI_OVERLAP;
+    if (OVERLAP_3(AT(session), AT(tables), ARRAY(text, length))) return HORDGULI_OVERLAP;
     if (width > UINT16_MAX) return HORDGULI_WIDTH_OUT_OF_RANGE;
     return (hordguli_status)hordguli_core_session_open(session, tables, options, (uint16_t)width, BYTES(text), length);
 }
@@ -176,7 +187,7 @@ PUBLIC hordguli_status hordguli_session_open_measured(hordguli_session *session,
                                                       uint32_t options, uint32_t width, const char *text,
                                                       size_t length) {
     if (session == NULL || tables == NULL || LACKS(text, length)) return HORDGULI_NULL;
-    if (OVERLAP(AT(session), AT(tables), ARRAY(text, length))) return HORDGULI_OVERLAP;
+    if (OVERLAP_3(AT(session), AT(tables), ARRAY(text, length))) return HORDGULI_OVERLAP;
     return (hordguli_status)hordguli_core_session_open_measured(session, tables, options, width, BYTES(text), length);
 }
 
@@ -188,14 +199,14 @@ PUBLIC hordguli_status hordguli_insert(hordguli_session *session, size_t pos, co
                                        hordguli_damage *damage) {
     hordguli_damage unused;
     if (session == NULL || LACKS(text, length)) return HORDGULI_NULL;
-    if (OVERLAP(AT(session), ARRAY(damage, 1), ARRAY(text, length))) return HORDGULI_OVERLAP;
+    if (OVERLAP_3(AT(session), ARRAY(damage, 1), ARRAY(text, length))) return HORDGULI_OVERLAP;
     return (hordguli_status)hordguli_core_insert(session, pos, BYTES(text), length, OR(damage, unused));
 }
 
 PUBLIC hordguli_status hordguli_delete(hordguli_session *session, size_t pos, size_t count, hordguli_damage *damage) {
     hordguli_damage unused;
     if (session == NULL) return HORDGULI_NULL;
-    if (OVERLAP(AT(session), ARRAY(damage, 1))) return HORDGULI_OVERLAP;
+    if (OVERLAP_2(AT(session), ARRAY(damage, 1))) return HORDGULI_OVERLAP;
     return (hordguli_status)hordguli_core_delete(session, pos, count, OR(damage, unused));
 }
 
@@ -203,14 +214,14 @@ PUBLIC hordguli_status hordguli_replace(hordguli_session *session, size_t pos, s
                                         size_t length, hordguli_damage *damage) {
     hordguli_damage unused;
     if (session == NULL || LACKS(text, length)) return HORDGULI_NULL;
-    if (OVERLAP(AT(session), ARRAY(damage, 1), ARRAY(text, length))) return HORDGULI_OVERLAP;
+    if (OVERLAP_3(AT(session), ARRAY(damage, 1), ARRAY(text, length))) return HORDGULI_OVERLAP;
     return (hordguli_status)hordguli_core_replace(session, pos, count, BYTES(text), length, OR(damage, unused));
 }
 
 PUBLIC hordguli_status hordguli_set_width(hordguli_session *session, uint32_t width, hordguli_damage *damage) {
     hordguli_damage unused;
     if (session == NULL) return HORDGULI_NULL;
-    if (OVERLAP(AT(session), ARRAY(damage, 1))) return HORDGULI_OVERLAP;
+    if (OVERLAP_2(AT(session), ARRAY(damage, 1))) return HORDGULI_OVERLAP;
     if (width == 0 || width > UINT16_MAX) return HORDGULI_WIDTH_OUT_OF_RANGE;
     return (hordguli_status)hordguli_core_set_width(session, (uint16_t)width, OR(damage, unused));
 }
@@ -218,7 +229,7 @@ PUBLIC hordguli_status hordguli_set_width(hordguli_session *session, uint32_t wi
 PUBLIC hordguli_status hordguli_set_measured_width(hordguli_session *session, uint32_t width, hordguli_damage *damage) {
     hordguli_damage unused;
     if (session == NULL) return HORDGULI_NULL;
-    if (OVERLAP(AT(session), ARRAY(damage, 1))) return HORDGULI_OVERLAP;
+    if (OVERLAP_2(AT(session), ARRAY(damage, 1))) return HORDGULI_OVERLAP;
     return (hordguli_status)hordguli_core_set_measured_width(session, width, OR(damage, unused));
 }
 
@@ -226,19 +237,19 @@ PUBLIC hordguli_status hordguli_set_advances(hordguli_session *session, size_t p
                                              const uint32_t *advances, hordguli_damage *damage) {
     hordguli_damage unused;
     if (session == NULL || LACKS(advances, count)) return HORDGULI_NULL;
-    if (OVERLAP(AT(session), ARRAY(damage, 1), ARRAY(advances, count))) return HORDGULI_OVERLAP;
+    if (OVERLAP_3(AT(session), ARRAY(damage, 1), ARRAY(advances, count))) return HORDGULI_OVERLAP;
     return (hordguli_status)hordguli_core_set_advances(session, pos, NUMBERS(advances), count, OR(damage, unused));
 }
 
 PUBLIC hordguli_status hordguli_session_counts(hordguli_session *session, hordguli_counts *counts) {
     if (session == NULL || counts == NULL) return HORDGULI_NULL;
-    if (OVERLAP(AT(session), AT(counts))) return HORDGULI_OVERLAP;
+    if (OVERLAP_2(AT(session), AT(counts))) return HORDGULI_OVERLAP;
     return (hordguli_status)hordguli_core_session_counts(session, counts);
 }
 
 PUBLIC hordguli_status hordguli_session_work(hordguli_session *session, hordguli_work *work) {
     if (session == NULL || work == NULL) return HORDGULI_NULL;
-    if (OVERLAP(AT(session), AT(work))) return HORDGULI_OVERLAP;
+    if (OVERLAP_2(AT(session), AT(work))) return HORDGULI_OVERLAP;
     return (hordguli_status)hordguli_core_session_work(session, work);
 }
 
@@ -246,7 +257,7 @@ PUBLIC hordguli_status hordguli_session_work(hordguli_session *session, hordguli
 
 PUBLIC hordguli_status hordguli_line_start(hordguli_session *session, size_t line, size_t *start) {
     if (session == NULL || start == NULL) return HORDGULI_NULL;
-    if (OVERLAP(AT(session), AT(start))) return HORDGULI_OVERLAP;
+    if (OVERLAP_2(AT(session), AT(start))) return HORDGULI_OVERLAP;
     return (hordguli_status)hordguli_core_line_start(session, line, start);
 }
 
@@ -274,7 +285,7 @@ PUBLIC hordguli_status hordguli_runs(hordguli_session *session, size_t line, siz
                                      size_t *count) {
     hordguli_run none[1];
     if (session == NULL || count == NULL || LACKS(runs, capacity)) return HORDGULI_NULL;
-    if (OVERLAP(AT(session), AT(count), ARRAY(runs, capacity))) return HORDGULI_OVERLAP;
+    if (OVERLAP_3(AT(session), AT(count), ARRAY(runs, capacity))) return HORDGULI_OVERLAP;
     return (hordguli_status)hordguli_core_runs(session, line, ROOM(hordguli_run, runs, none), capacity, count);
 }
 
@@ -282,7 +293,7 @@ PUBLIC hordguli_status hordguli_lines_utf8(hordguli_session *session, size_t fir
                                            size_t capacity, char *buffer, size_t *length) {
     uint8_t none[1];
     if (session == NULL || length == NULL || LACKS(buffer, capacity)) return HORDGULI_NULL;
-    if (OVERLAP(AT(session), AT(length), ARRAY(buffer, capacity))) return HORDGULI_OVERLAP;
+    if (OVERLAP_3(AT(session), AT(length), ARRAY(buffer, capacity))) return HORDGULI_OVERLAP;
     return (hordguli_status)hordguli_core_lines_utf8(session, first, count, print, ROOM(uint8_t, buffer, none),
                                                      capacity, length);
 }
@@ -291,7 +302,7 @@ PUBLIC hordguli_status hordguli_text(hordguli_session *session, size_t pos, size
                                      size_t *length) {
     uint8_t none[1];
     if (session == NULL || length == NULL || LACKS(buffer, capacity)) return HORDGULI_NULL;
-    if (OVERLAP(AT(session), AT(length), ARRAY(buffer, capacity))) return HORDGULI_OVERLAP;
+    if (OVERLAP_3(AT(session), AT(length), ARRAY(buffer, capacity))) return HORDGULI_OVERLAP;
     return (hordguli_status)hordguli_core_text(session, pos, count, ROOM(uint8_t, buffer, none), capacity, length);
 }
 
@@ -299,38 +310,38 @@ PUBLIC hordguli_status hordguli_text_utf32(hordguli_session *session, size_t pos
                                            uint32_t *characters, size_t *length) {
     uint32_t none[1];
     if (session == NULL || length == NULL || LACKS(characters, capacity)) return HORDGULI_NULL;
-    if (OVERLAP(AT(session), AT(length), ARRAY(characters, capacity))) return HORDGULI_OVERLAP;
+    if (OVERLAP_3(AT(session), AT(length), ARRAY(characters, capacity))) return HORDGULI_OVERLAP;
     return (hordguli_status)hordguli_core_text_utf32(session, pos, count, ROOM(uint32_t, characters, none), capacity,
                                                      length);
 }
 
 PUBLIC hordguli_status hordguli_utf8_length(hordguli_session *session, size_t pos, size_t count, size_t *length) {
     if (session == NULL || length == NULL) return HORDGULI_NULL;
-    if (OVERLAP(AT(session), AT(length))) return HORDGULI_OVERLAP;
+    if (OVERLAP_2(AT(session), AT(length))) return HORDGULI_OVERLAP;
     return (hordguli_status)hordguli_core_utf8_length(session, pos, count, length);
 }
 
 PUBLIC hordguli_status hordguli_byte_of(hordguli_session *session, size_t pos, size_t *byte) {
     if (session == NULL || byte == NULL) return HORDGULI_NULL;
-    if (OVERLAP(AT(session), AT(byte))) return HORDGULI_OVERLAP;
+    if (OVERLAP_2(AT(session), AT(byte))) return HORDGULI_OVERLAP;
     return (hordguli_status)hordguli_core_byte_of(session, pos, byte);
 }
 
 PUBLIC hordguli_status hordguli_utf16_of(hordguli_session *session, size_t pos, size_t *unit) {
     if (session == NULL || unit == NULL) return HORDGULI_NULL;
-    if (OVERLAP(AT(session), AT(unit))) return HORDGULI_OVERLAP;
+    if (OVERLAP_2(AT(session), AT(unit))) return HORDGULI_OVERLAP;
     return (hordguli_status)hordguli_core_utf16_of(session, pos, unit);
 }
 
 PUBLIC hordguli_status hordguli_position_of_byte(hordguli_session *session, size_t byte, hordguli_position *position) {
     if (session == NULL || position == NULL) return HORDGULI_NULL;
-    if (OVERLAP(AT(session), AT(position))) return HORDGULI_OVERLAP;
+    if (OVERLAP_2(AT(session), AT(position))) return HORDGULI_OVERLAP;
     return (hordguli_status)hordguli_core_position_of_byte(session, byte, position);
 }
 
 PUBLIC hordguli_status hordguli_position_of_utf16(hordguli_session *session, size_t unit, hordguli_position *position) {
     if (session == NULL || position == NULL) return HORDGULI_NULL;
-    if (OVERLAP(AT(session), AT(position))) return HORDGULI_OVERLAP;
+    if (OVERLAP_2(AT(session), AT(position))) return HORDGULI_OVERLAP;
     return (hordguli_status)hordguli_core_position_of_utf16(session, unit, position);
 }
 
@@ -350,31 +361,31 @@ PUBLIC hordguli_status hordguli_paragraph(hordguli_session *session, size_t para
 
 PUBLIC hordguli_status hordguli_place_of(hordguli_session *session, size_t pos, hordguli_place *place) {
     if (session == NULL || place == NULL) return HORDGULI_NULL;
-    if (OVERLAP(AT(session), AT(place))) return HORDGULI_OVERLAP;
+    if (OVERLAP_2(AT(session), AT(place))) return HORDGULI_OVERLAP;
     return (hordguli_status)hordguli_core_place_of(session, pos, place);
 }
 
 PUBLIC hordguli_status hordguli_caret_at(hordguli_session *session, size_t pos, hordguli_caret *caret) {
     if (session == NULL || caret == NULL) return HORDGULI_NULL;
-    if (OVERLAP(AT(session), AT(caret))) return HORDGULI_OVERLAP;
+    if (OVERLAP_2(AT(session), AT(caret))) return HORDGULI_OVERLAP;
     return (hordguli_status)hordguli_core_caret_at(session, pos, caret);
 }
 
 PUBLIC hordguli_status hordguli_hit_at(hordguli_session *session, size_t line, size_t column, hordguli_hit *hit) {
     if (session == NULL || hit == NULL) return HORDGULI_NULL;
-    if (OVERLAP(AT(session), AT(hit))) return HORDGULI_OVERLAP;
+    if (OVERLAP_2(AT(session), AT(hit))) return HORDGULI_OVERLAP;
     return (hordguli_status)hordguli_core_hit_at(session, line, column, hit);
 }
 
 PUBLIC hordguli_status hordguli_cluster_at(hordguli_session *session, size_t pos, hordguli_cluster *cluster) {
     if (session == NULL || cluster == NULL) return HORDGULI_NULL;
-    if (OVERLAP(AT(session), AT(cluster))) return HORDGULI_OVERLAP;
+    if (OVERLAP_2(AT(session), AT(cluster))) return HORDGULI_OVERLAP;
     return (hordguli_status)hordguli_core_cluster_at(session, pos, cluster);
 }
 
 PUBLIC hordguli_status hordguli_word_at(hordguli_session *session, size_t pos, hordguli_word *word) {
     if (session == NULL || word == NULL) return HORDGULI_NULL;
-    if (OVERLAP(AT(session), AT(word))) return HORDGULI_OVERLAP;
+    if (OVERLAP_2(AT(session), AT(word))) return HORDGULI_OVERLAP;
     return (hordguli_status)hordguli_core_word_at(session, pos, word);
 }
 
@@ -382,40 +393,40 @@ PUBLIC hordguli_status hordguli_spans(hordguli_session *session, size_t line, si
                                       hordguli_span *spans, size_t *count) {
     hordguli_span none[1];
     if (session == NULL || count == NULL || LACKS(spans, capacity)) return HORDGULI_NULL;
-    if (OVERLAP(AT(session), AT(count), ARRAY(spans, capacity))) return HORDGULI_OVERLAP;
+    if (OVERLAP_3(AT(session), AT(count), ARRAY(spans, capacity))) return HORDGULI_OVERLAP;
     return (hordguli_status)hordguli_core_spans(session, line, from, to, ROOM(hordguli_span, spans, none), capacity,
                                                 count);
 }
 
 PUBLIC hordguli_status hordguli_edge_caret(hordguli_session *session, hordguli_edge edge, hordguli_caret *caret) {
     if (session == NULL || caret == NULL) return HORDGULI_NULL;
-    if (OVERLAP(AT(session), AT(caret))) return HORDGULI_OVERLAP;
+    if (OVERLAP_2(AT(session), AT(caret))) return HORDGULI_OVERLAP;
     return (hordguli_status)hordguli_core_edge_caret(session, edge.pos, edge.side, caret);
 }
 
 PUBLIC hordguli_status hordguli_step(hordguli_session *session, hordguli_edge edge, uint32_t direction,
                                      hordguli_edge *next, uint32_t *moved) {
     if (session == NULL || next == NULL || moved == NULL) return HORDGULI_NULL;
-    if (OVERLAP(AT(session), AT(next), AT(moved))) return HORDGULI_OVERLAP;
+    if (OVERLAP_3(AT(session), AT(next), AT(moved))) return HORDGULI_OVERLAP;
     return (hordguli_status)hordguli_core_step(session, edge.pos, edge.side, direction, next, moved);
 }
 
 PUBLIC hordguli_status hordguli_edge_at(hordguli_session *session, size_t line, size_t column, hordguli_edge *edge) {
     if (session == NULL || edge == NULL) return HORDGULI_NULL;
-    if (OVERLAP(AT(session), AT(edge))) return HORDGULI_OVERLAP;
+    if (OVERLAP_2(AT(session), AT(edge))) return HORDGULI_OVERLAP;
     return (hordguli_status)hordguli_core_edge_at(session, line, column, edge);
 }
 
 PUBLIC hordguli_status hordguli_nearest_edge(hordguli_session *session, size_t line, size_t column, hordguli_edge *edge) {
     if (session == NULL || edge == NULL) return HORDGULI_NULL;
-    if (OVERLAP(AT(session), AT(edge))) return HORDGULI_OVERLAP;
+    if (OVERLAP_2(AT(session), AT(edge))) return HORDGULI_OVERLAP;
     return (hordguli_status)hordguli_core_nearest_edge(session, line, column, edge);
 }
 
 PUBLIC hordguli_status hordguli_line_edges(hordguli_session *session, size_t line, hordguli_edge *first,
                                            hordguli_edge *last) {
     if (session == NULL || first == NULL || last == NULL) return HORDGULI_NULL;
-    if (OVERLAP(AT(session), AT(first), AT(last))) return HORDGULI_OVERLAP;
+    if (OVERLAP_3(AT(session), AT(first), AT(last))) return HORDGULI_OVERLAP;
     return (hordguli_status)hordguli_core_line_edges(session, line, first, last);
 }
 
@@ -423,7 +434,7 @@ PUBLIC hordguli_status hordguli_line_clusters(hordguli_session *session, size_t 
                                               size_t *count) {
     size_t none[1];
     if (session == NULL || count == NULL || LACKS(ends, capacity)) return HORDGULI_NULL;
-    if (OVERLAP(AT(session), AT(count), ARRAY(ends, capacity))) return HORDGULI_OVERLAP;
+    if (OVERLAP_3(AT(session), AT(count), ARRAY(ends, capacity))) return HORDGULI_OVERLAP;
     return (hordguli_status)hordguli_core_line_clusters(session, line, ROOM(size_t, ends, none), capacity, count);
 }
 
@@ -469,7 +480,7 @@ PUBLIC hordguli_status hordguli_row_runs(hordguli_tables *tables, uint32_t base,
 PUBLIC hordguli_status hordguli_base(hordguli_tables *tables, uint32_t direction, const uint32_t *characters,
                                      size_t count, uint32_t *base) {
     if (tables == NULL || base == NULL || LACKS(characters, count)) return HORDGULI_NULL;
-    if (OVERLAP(AT(tables), AT(base), ARRAY(characters, count))) return HORDGULI_OVERLAP;
+    if (OVERLAP_3(AT(tables), AT(base), ARRAY(characters, count))) return HORDGULI_OVERLAP;
     return (hordguli_status)hordguli_core_base(tables, direction, NUMBERS(characters), count, base);
 }
 
@@ -477,7 +488,7 @@ PUBLIC hordguli_status hordguli_levels(hordguli_tables *tables, uint32_t directi
                                        size_t count, size_t capacity, uint8_t *levels) {
     uint8_t none[1];
     if (tables == NULL || LACKS(levels, capacity) || LACKS(characters, count)) return HORDGULI_NULL;
-    if (OVERLAP(AT(tables), ARRAY(levels, capacity), ARRAY(characters, count))) return HORDGULI_OVERLAP;
+    if (OVERLAP_3(AT(tables), ARRAY(levels, capacity), ARRAY(characters, count))) return HORDGULI_OVERLAP;
     return (hordguli_status)hordguli_core_levels(tables, direction, NUMBERS(characters), count,
                                                  ROOM(uint8_t, levels, none), capacity);
 }
@@ -486,7 +497,7 @@ PUBLIC hordguli_status hordguli_marks(hordguli_tables *tables, uint32_t options,
                                       size_t count, size_t capacity, uint8_t *marks) {
     uint8_t none[1];
     if (tables == NULL || LACKS(marks, capacity) || LACKS(characters, count)) return HORDGULI_NULL;
-    if (OVERLAP(AT(tables), ARRAY(marks, capacity), ARRAY(characters, count))) return HORDGULI_OVERLAP;
+    if (OVERLAP_3(AT(tables), ARRAY(marks, capacity), ARRAY(characters, count))) return HORDGULI_OVERLAP;
     return (hordguli_status)hordguli_core_marks(tables, options, NUMBERS(characters), count,
                                                 ROOM(uint8_t, marks, none), capacity);
 }
@@ -495,7 +506,7 @@ PUBLIC hordguli_status hordguli_properties(hordguli_tables *tables, size_t count
                                            hordguli_character *records) {
     hordguli_character none[1];
     if (tables == NULL || LACKS(characters, count) || LACKS(records, count)) return HORDGULI_NULL;
-    if (OVERLAP(AT(tables), ARRAY(characters, count), ARRAY(records, count))) return HORDGULI_OVERLAP;
+    if (OVERLAP_3(AT(tables), ARRAY(characters, count), ARRAY(records, count))) return HORDGULI_OVERLAP;
     return (hordguli_status)hordguli_core_properties(tables, NUMBERS(characters), count,
                                                      ROOM(hordguli_character, records, none), count);
 }
