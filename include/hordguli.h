@@ -107,8 +107,8 @@
  * free them.
  *
  * A session keeps 5 KB for itself, 0.5 KB for each paragraph, 12 bytes for each further line of a paragraph, and 19 bytes
- * for each character. Its buffers keep up to 26 bytes more for each character of its longest paragraph. Tables keep 107
- * KB, which their sessions share. These are measured by `bench/memory` in the sources, with glibc's malloc. */
+ * for each character. Its buffers keep up to 26 bytes more for each character of its longest paragraph. Tables keep 112
+ * KB, which their sessions share. `bench/memory` in the sources has measured this, with glibc's malloc. */
 #ifndef HORDGULI_H
 #define HORDGULI_H
 
