@@ -42,7 +42,7 @@
 #   make test-recipes  Tests the recipes of docs/guide.md with Debian's programs under tmux, after make program (installs packages): 30 seconds.
 #   make test-pango Compares measured sessions with Pango, in C and in Python, after make c (installs Debian packages): two minutes.
 #   make test-programs  Tests three C programs that are written from the manual, beside a plain model, less and ICU, after make c (installs
-#                   Debian packages): two minutes.
+#                   Debian packages): a minute.
 #   make test-python  Tests the Python package, compares it with python-bidi and pyfribidi, and runs its mutants, after make c.
 #   make test-rust  Tests the Rust crates, also with Rust 1.63 (Debian 12), and runs their mutants, after make c.
 #   make test-hosts Runs examples/many on three hosts on the loopback address, and kills one during a run.

@@ -107,8 +107,8 @@
  * free them.
  *
  * A session keeps 5 KB for itself, 0.5 KB for each paragraph, 12 bytes for each further line of a paragraph, and 19 bytes
- * for each character. Its buffers keep up to 26 bytes more for each character of its longest paragraph. Tables keep 107
- * KB, which their sessions share. These are measured by `bench/memory` in the sources, with glibc's malloc. */
+ * for each character. Its buffers keep up to 26 bytes more for each character of its longest paragraph. Tables keep 112
+ * KB, which their sessions share. `bench/memory` in the sources has measured this, with glibc's malloc. */
 #ifndef HORDGULI_H
 #define HORDGULI_H
 
@@ -961,7 +961,7 @@ hordguli_status hordguli_row_runs(hordguli_tables *tables, uint32_t base, size_t
  *
  * `hordguli_base`, `hordguli_levels` and `hordguli_marks` take one paragraph of `count` characters, and do not split it
  * at separators. `direction` is a base direction without other options, or 0. NO_ROOM means that `capacity` is less
- * than `count`, also if the array is NULL.
+ * than `count`.
  *
  * To lay out text with these functions, a caller has to:
  *   - split the text into paragraphs (UAX #9, P1);
@@ -974,13 +974,14 @@ hordguli_status hordguli_row_runs(hordguli_tables *tables, uint32_t base, size_t
 hordguli_status hordguli_base(hordguli_tables *tables, uint32_t direction, const uint32_t *characters, size_t count,
                               uint32_t *base);
 
-/* Stores in `levels` the level of each character before L1.
+/* Stores in `levels` the level of each character before L1. NULL is NO_ROOM, unless `count` is 0 (see BUFFERS).
  * Errors: NULL, OVERLAP, UNKNOWN_OPTION, CLOSED, NO_ROOM, NOT_A_CHARACTER, NO_MEMORY.
  * Cost: time and memory proportional to `count`. */
 hordguli_status hordguli_levels(hordguli_tables *tables, uint32_t direction, const uint32_t *characters, size_t count,
                                 size_t capacity, uint8_t *levels);
 
-/* Stores in `marks` the break mark after each character. `options` is 0 or HORDGULI_WHOLE_NUMBERS.
+/* Stores in `marks` the break mark after each character. `options` is 0 or HORDGULI_WHOLE_NUMBERS. NULL is NO_ROOM, unless
+ * `count` is 0 (see BUFFERS).
  * Errors: NULL, OVERLAP, UNKNOWN_OPTION, CLOSED, NO_ROOM, NOT_A_CHARACTER, NO_MEMORY.
  * Cost: time and memory proportional to `count`. */
 hordguli_status hordguli_marks(hordguli_tables *tables, uint32_t options, const uint32_t *characters, size_t count,

@@ -85,10 +85,13 @@ class Header:
         sections = zip(titled[::2], titled[1::2])
         self.constants = [Constant(*define, title) for title, body in sections for define in defines(body)]
 
+    def comment(self, function):
+        """Returns the comment above a function."""
+        return known(re.search(rf"/\*((?:(?!\*/).)*)\*/\n[^\n;{{]*\b{function}\(", self.text, re.S), function)[1]
+
     def since(self, function):
         """Returns the first version that has a function, such as `0.6`, or None if the comment above it does not say."""
-        comment = known(re.search(rf"/\*((?:(?!\*/).)*)\*/\n[^\n;{{]*\b{function}\(", self.text, re.S), function)[1]
-        found = re.search(r"(?m)^ \* Since: (\d+\.\d+)\.", comment)
+        found = re.search(r"(?m)^ \* Since: (\d+\.\d+)\.", self.comment(function))
         return found and found[1]
 
     def members(self, name):

@@ -1209,7 +1209,7 @@ extern "C" {
         count: usize,
         base: *mut u32,
     ) -> hordguli_status;
-    /// Stores in `levels` the level of each character before L1.
+    /// Stores in `levels` the level of each character before L1. NULL is NO_ROOM, unless `count` is 0 (see BUFFERS).
     ///
     /// Errors: NULL, OVERLAP, UNKNOWN_OPTION, CLOSED, NO_ROOM, NOT_A_CHARACTER, NO_MEMORY.
     ///
@@ -1222,7 +1222,8 @@ extern "C" {
         capacity: usize,
         levels: *mut u8,
     ) -> hordguli_status;
-    /// Stores in `marks` the break mark after each character. `options` is 0 or HORDGULI_WHOLE_NUMBERS.
+    /// Stores in `marks` the break mark after each character. `options` is 0 or HORDGULI_WHOLE_NUMBERS. NULL is NO_ROOM, unless
+    /// `count` is 0 (see BUFFERS).
     ///
     /// Errors: NULL, OVERLAP, UNKNOWN_OPTION, CLOSED, NO_ROOM, NOT_A_CHARACTER, NO_MEMORY.
     ///
