@@ -55,32 +55,34 @@ from ._errors import TableError as TableError
 from ._explain import explain
 from ._library import UNICODE_VERSION, WIDTH_UNICODE_VERSION
 from ._library import VERSION as __version__
-from ._records import Break as Break
-from ._records import Caret as Caret
-from ._records import Character as Character
-from ._records import Cluster as Cluster
-from ._records import Counts as Counts
-from ._records import Damage as Damage
-from ._records import Direction as Direction
-from ._records import Edge as Edge
-from ._records import ExplainedCharacter as ExplainedCharacter
-from ._records import ExplainedParagraph as ExplainedParagraph
-from ._records import Explanation as Explanation
-from ._records import Hit as Hit
-from ._records import Line as Line
-from ._records import Options as Options
-from ._records import Paragraph as Paragraph
-from ._records import ParagraphText as ParagraphText
-from ._records import Piece as Piece
-from ._records import Place as Place
-from ._records import Position as Position
-from ._records import Print as Print
-from ._records import Row as Row
-from ._records import Run as Run
-from ._records import Side as Side
-from ._records import Span as Span
-from ._records import Word as Word
-from ._records import Work as Work
+from ._records import (
+    Break as Break,
+    Caret as Caret,
+    Character as Character,
+    Cluster as Cluster,
+    Counts as Counts,
+    Damage as Damage,
+    Direction as Direction,
+    Edge as Edge,
+    ExplainedCharacter as ExplainedCharacter,
+    ExplainedParagraph as ExplainedParagraph,
+    Explanation as Explanation,
+    Hit as Hit,
+    Line as Line,
+    Options as Options,
+    Paragraph as Paragraph,
+    ParagraphText as ParagraphText,
+    Piece as Piece,
+    Place as Place,
+    Position as Position,
+    Print as Print,
+    Row as Row,
+    Run as Run,
+    Side as Side,
+    Span as Span,
+    Word as Word,
+    Work as Work,
+)
 from .session import Session as Session
 from .tables import TABLE_FILES, default_tables
 from .tables import Tables as Tables
