@@ -111,8 +111,8 @@ pub(crate) fn push_end(waiting: usize, text: &mut Vec<char>) -> Result<(), Alloc
     Ok(())
 }
 
-/// Removes the character at an index of a text if it is U+FEFF, unless characters were decoded before. Returns
-/// whether any are decoded now.
+/// Removes the character at an index of a text if it is U+FEFF, unless characters were decoded before.
+/// Returns whether any are decoded now.
 pub(crate) fn start(started: bool, text: &mut Vec<char>, at: usize) -> bool
     requires { at ≤ vec_len text.old }
     ensures text { text.new.items ≡ take at text.old.items
