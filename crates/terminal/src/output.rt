@@ -80,7 +80,6 @@ impl Output {
         block: &[char],
     ) -> Result<Option<char>, AllocError>
         requires empty { styled_of self.old.scanner.text ≡ [] }
-        requires short { length block.now ≤ PARAGRAPH_LIMIT }
         ensures adds { OnOk result (Adds (rules_of engine.old) form.now (block.now ∷ []) self.old self.new) }
         ensures last { IfOk result (λ last. last
             ≡ last_of (characters_of (styled (pen_of self.old.scanner) block.now))) }
