@@ -84,6 +84,10 @@ fn show<R: Read + Drop>(
             report_read(rt, name, &input.error);
             Ok(false)
         }
+        Err(Fault::NotUtf8(at)) => {
+            let _ = eprintln!(rt; "hordguli: {name}: not UTF-8 at byte {at}");
+            Ok(false)
+        }
         Err(Fault::ParagraphTooLong) => {
             let _ = eprintln!(rt;
                 "hordguli: {name}: a paragraph has more than {PARAGRAPH_LIMIT} characters"

@@ -78,6 +78,7 @@ pub(crate) fn form_of<'a>(
         nomirror: settings.nomirror,
         basedir: settings.basedir,
         escapes: settings.escapes,
+        strict: settings.strict,
         prefix,
     })
 }

@@ -1,16 +1,13 @@
 -- What a block shows, one paragraph at a time.
-use Rattle.std.proofs.Common.{◌≡◌, ℕ, zero, suc, ◌+◌, ◌-◌, ◌<◌, ◌≤◌, Bool, List, [], ◌∷◌, ◌++◌, length, map, take, drop, get_or, Some, None, refl, sym, subst, ap, ap₂, inl, inr, ◌∙◌, append_assoc, arith}
+use Rattle.std.proofs.Common.{◌≡◌, ℕ, suc, ◌+◌, ◌-◌, ◌<◌, ◌≤◌, Bool, List, [], ◌∷◌, ◌++◌, length, map, take, drop, get_or, Some, None, refl, sym, subst, ap, ap₂, ◌∙◌, append_assoc, arith}
 use Rattle.std.specs.Prelude.{slice_range}
 use Rattle.std.specs.List.{flat_map}
-use Rattle.std.proofs.lemmas.Bool.{cases_Bool, cond-true, cond-false}
-use Rattle.std.proofs.lemmas.List.{append-nil, drop-drop, drop-map, length-append, length-drop, length-map, length-take-le, nil_from_length, take-map, take_all}
+use Rattle.std.proofs.lemmas.List.{append-nil, drop-drop, drop-map, length-drop, length-map, length-take-le, nil_from_length, take-map, take_all}
 use Rattle.bidi.specs.Cuts.{SplitsAt, paragraphs}
 use Rattle.bidi.specs.Pieces.{ArePieces, IsPiece, ParagraphsArePieces}
-use Rattle.lines.specs.Layouts.{IsParagraph, Rules, cut_by}
-use Rattle.sequences.specs.Characters.{is_dropped}
+use Rattle.lines.specs.Layouts.{Rules, cut_by}
 use Rattle.sequences.specs.Laws.{characters_of}
-use Rattle.sequences.specs.Overstrikes.{struck}
-use Rattle.sequences.specs.Styled.{DEFAULT, Pen, Style, after_first_part, first_shown, more_len, struck_style, styled, styled_after}
+use Rattle.sequences.specs.Styled.{DEFAULT, Style}
 use Rattle.sequences.specs.StyledTexts.{styled_of}
 use Rattle.sequences.specs.declared.style.StyleRun.{StyleRun}
 use Rattle.sequences.specs.declared.style.StyledText.{StyledText}
@@ -18,6 +15,7 @@ use Rattle.terminal.specs.Lines.{in_style}
 use Rattle.terminal.specs.Numbers.{numbered}
 use Rattle.terminal.specs.Paragraphs.{styles_of}
 use Rattle.terminal.specs.Parts.{styles_in}
+use Rattle.terminal.specs.Pieces.{IsWhole, printed_pieces}
 use Rattle.terminal.specs.Prefixes.{printed_bytes, printed_paragraph}
 use Rattle.terminal.specs.Texts.{in_mode, regrouped, styled_paragraphs}
 use Rattle.terminal.specs.declared.form.Escapes.{Escapes}
@@ -26,27 +24,6 @@ use Rattle.terminal.specs.declared.form.Form.{Form}
 use Rattle.terminal.specs.declared.numbers.Part.{Part}
 use Rattle.terminal.proofs.NumberLemmas.{characters-with}
 use Rattle.terminal.proofs.PlainLemmas.{plain_characters}
-
--- ---- a text shows at most as many characters as it has
-
-first_short : (pen : Pen) (c : ℕ) (text : List ℕ) → length (first_shown pen c text) ≤ 1
-first_short pen c text =
-    let one : List (ℕ × Style) = ((struck pen.after_underline c text).shown, struck_style pen c text) ∷ [] in
-    elim (cases_Bool (is_dropped c)) [
-      | inl y ↦ omega (arith, ap length (cond-true (is_dropped c) [] one y))
-      | inr n ↦ omega (arith, ap length (cond-false (is_dropped c) [] one n))
-    ]
-
-after_short : (skip : ℕ) (pen : Pen) (text : List ℕ) → length (styled_after skip pen text) ≤ length text
-after_short skip pen [] = omega arith
-after_short (suc skip) pen (c ∷ text) = omega (arith, after_short skip pen text)
-after_short zero pen (c ∷ text) =
-    let rest : List (ℕ × Style) = styled_after (more_len c text) (after_first_part pen c text) text in
-    omega (arith, length-append (first_shown pen c text) rest, first_short pen c text, after_short (more_len c text) (after_first_part pen c text) text)
-
-pub shown_short : (pen : Pen) (text : List ℕ) → length (styled pen text) ≤ length text
-unfolding styled
-shown_short pen text = after_short 0 pen text
 
 -- ---- numbers that are all 0
 
@@ -89,44 +66,51 @@ module _ (is_cut : ℕ → ℕ → Bool) where
   pub no_group : (shown : List (ℕ × Style)) → length shown ≡ 0 → styled_paragraphs is_cut shown ≡ []
   no_group shown none = ap (styled_paragraphs is_cut) (nil_from_length shown none)
 
+-- the characters and the styles of a range
+pub range_text : (shown : List (ℕ × Style)) (characters own : List ℕ) (at end : ℕ) → characters_of shown ≡ characters → own ≡ slice_range characters at end
+    → own ≡ characters_of (take (end - at) (drop at shown))
+range_text shown characters own at end c o =
+    o ∙ ap (λ xs. take (end - at) (drop at xs)) (sym c) ∙ ap (take (end - at)) (drop-map (λ (x : ℕ × Style). x.0) at shown)
+    ∙ take-map (λ (x : ℕ × Style). x.0) (end - at) (drop at shown)
+
+pub range_styles : (shown : List (ℕ × Style)) (styles own_styles : List Style) (at end : ℕ) → styles_of shown ≡ styles → own_styles ≡ slice_range styles at end
+    → own_styles ≡ styles_of (take (end - at) (drop at shown))
+range_styles shown styles own_styles at end s t =
+    t ∙ ap (λ (xs : List Style). take (end - at) (drop at xs)) (sym s) ∙ ap (take (end - at)) (drop-map (λ (x : ℕ × Style). x.1) at shown)
+    ∙ take-map (λ (x : ℕ × Style). x.1) (end - at) (drop at shown)
+
 module _ (rules : Rules) (form : Form) where
   abbrev pub pages : List (ℕ × Style) → List ℕ
-  pages shown = flat_map (printed_paragraph rules form) (styled_paragraphs (cut_by rules) shown)
+  pages shown = flat_map (printed_pieces rules form) (styled_paragraphs (cut_by rules) shown)
 
   -- the lines of a range, as those of a paragraph
   pub range_is : (shown : List (ℕ × Style)) (characters own : List ℕ) (styles own_styles : List Style) (at end : ℕ)
       → characters_of shown ≡ characters → styles_of shown ≡ styles → own ≡ slice_range characters at end → own_styles ≡ slice_range styles at end
       → printed_bytes rules form own own_styles ≡ printed_paragraph rules form (take (end - at) (drop at shown))
   range_is shown characters own styles own_styles at end c s o t =
-      let cs : own ≡ characters_of (take (end - at) (drop at shown)) =
-      o ∙ ap (λ xs. take (end - at) (drop at xs)) (sym c) ∙ ap (take (end - at)) (drop-map (λ (x : ℕ × Style). x.0) at shown)
-      ∙ take-map (λ (x : ℕ × Style). x.0) (end - at) (drop at shown) in
-      let ss : own_styles ≡ styles_of (take (end - at) (drop at shown)) =
-      t ∙ ap (λ (xs : List Style). take (end - at) (drop at xs)) (sym s) ∙ ap (take (end - at)) (drop-map (λ (x : ℕ × Style). x.1) at shown)
-      ∙ take-map (λ (x : ℕ × Style). x.1) (end - at) (drop at shown) in
-      ap₂ (printed_bytes rules form) cs ss
+      ap₂ (printed_bytes rules form) (range_text shown characters own at end c o) (range_styles shown styles own_styles at end s t)
 
   -- one more paragraph of a block
   pub next_group : (shown : List (ℕ × Style)) (at end : ℕ) (old new all : List ℕ)
       → styled_paragraphs (cut_by rules) (drop at shown) ≡ take (end - at) (drop at shown) ∷ styled_paragraphs (cut_by rules) (drop end shown)
-      → new ≡ old ++ printed_paragraph rules form (take (end - at) (drop at shown)) → old ++ pages (drop at shown) ≡ all → new ++ pages (drop end shown) ≡ all
+      → new ≡ old ++ printed_pieces rules form (take (end - at) (drop at shown)) → old ++ pages (drop at shown) ≡ all → new ++ pages (drop end shown) ≡ all
   next_group shown at end old new all split n h =
-      let first : List ℕ = printed_paragraph rules form (take (end - at) (drop at shown)) in
+      let first : List ℕ = printed_pieces rules form (take (end - at) (drop at shown)) in
       ap (λ xs. xs ++ pages (drop end shown)) n ∙ append_assoc old first (pages (drop end shown))
-      ∙ ap (λ groups. old ++ flat_map (printed_paragraph rules form) groups) (sym split) ∙ h
+      ∙ ap (λ groups. old ++ flat_map (printed_pieces rules form) groups) (sym split) ∙ h
 
   pub last_group : (shown : List (ℕ × Style)) (at : ℕ) (old all : List ℕ) → length shown ≤ at → old ++ pages (drop at shown) ≡ all → old ≡ all
   last_group shown at old all end h =
-      sym (append-nil old) ∙ ap (λ groups. old ++ flat_map (printed_paragraph rules form) groups) (sym (no_group (cut_by rules) (drop at shown) (omega (arith, end, length-drop at shown)))) ∙ h
+      sym (append-nil old) ∙ ap (λ groups. old ++ flat_map (printed_pieces rules form) groups) (sym (no_group (cut_by rules) (drop at shown) (omega (arith, end, length-drop at shown)))) ∙ h
 
 pub next_by : (rules now : Rules) (form : Form) → now ≡ rules → (shown : List (ℕ × Style)) (at end : ℕ) (old new all : List ℕ)
     → styled_paragraphs (cut_by now) (drop at shown) ≡ take (end - at) (drop at shown) ∷ styled_paragraphs (cut_by now) (drop end shown)
-    → new ≡ old ++ printed_paragraph now form (take (end - at) (drop at shown)) → old ++ pages rules form (drop at shown) ≡ all
+    → new ≡ old ++ printed_pieces now form (take (end - at) (drop at shown)) → old ++ pages rules form (drop at shown) ≡ all
     → new ++ pages rules form (drop end shown) ≡ all
 next_by rules now form e shown at end old new all split n h =
     let P : Rules → Type 0 = λ r. styled_paragraphs (cut_by r) (drop at shown) ≡ take (end - at) (drop at shown) ∷ styled_paragraphs (cut_by r) (drop end shown) in
     next_group rules form shown at end old new all (subst P e split)
-    (n ∙ ap (λ (r : Rules). old ++ printed_paragraph r form (take (end - at) (drop at shown))) e) h
+    (n ∙ ap (λ (r : Rules). old ++ printed_pieces r form (take (end - at) (drop at shown))) e) h
 
 module _ (rules : Rules) where
   -- where the next paragraph ends
@@ -163,24 +147,20 @@ first_alone law is_cut text p ps splits =
     let piece = first_piece is_cut p ps (subst (ArePieces is_cut) splits (law.pieces is_cut text)) in
     ap (paragraphs is_cut) (sym (append-nil p)) ∙ law.only is_cut (p ∷ []) piece
 
-pub range_ends : ParagraphsArePieces → (rules : Rules) (characters rest : List ℕ) (at k end : ℕ) → rest ≡ drop at characters → end ≡ at + k → length characters ≤ 1048576
-    → SplitsAt (cut_by rules) rest (Some k) → IsParagraph rules (slice_range characters at end)
-range_ends law rules characters rest at k end r e short splits =
+pub range_ends : ParagraphsArePieces → (rules : Rules) (characters rest : List ℕ) (at k end : ℕ) → rest ≡ drop at characters → end ≡ at + k → SplitsAt (cut_by rules) rest (Some k)
+    → IsWhole rules (slice_range characters at end)
+range_ends law rules characters rest at k end r e splits =
     let size : k ≡ end - at = omega (arith, e) in
-    let len : length (take k rest) ≡ k = length-take-le k rest (omega (arith, splits.1)) in
     let is : take k rest ≡ slice_range characters at end = ap (take k) r ∙ ap (λ n. take n (drop at characters)) size in
-    subst (IsParagraph rules) is (record {
-      whole = first_alone law (cut_by rules) rest (take k rest) _ splits.2;
-      within = omega (arith, len, short, splits.1, ap length r, length-drop at characters);
-    })
+    subst (IsWhole rules) is (first_alone law (cut_by rules) rest (take k rest) _ splits.2)
 
-pub range_last : (rules : Rules) (characters rest : List ℕ) (at : ℕ) → rest ≡ drop at characters → at < length characters → length characters ≤ 1048576
-    → SplitsAt (cut_by rules) rest None → IsParagraph rules (slice_range characters at (length characters))
-range_last rules characters rest at r within short splits =
+pub range_last : (rules : Rules) (characters rest : List ℕ) (at : ℕ) → rest ≡ drop at characters → at < length characters → SplitsAt (cut_by rules) rest None
+    → IsWhole rules (slice_range characters at (length characters))
+range_last rules characters rest at r within splits =
     let size : length rest ≡ length characters - at = ap length r ∙ length-drop at characters in
     let is : rest ≡ slice_range characters at (length characters) =
     r ∙ sym (take_all (length characters - at) (drop at characters) (omega (arith, length-drop at characters))) in
-    subst (IsParagraph rules) is (record { whole = splits (omega (arith, size, within)); within = omega (arith, size, short) })
+    subst (IsWhole rules) is (splits (omega (arith, size, within)))
 
 -- ---- the parts of a block
 
@@ -194,11 +174,6 @@ styles_range part own at end n t =
 pub text_characters : (text : StyledText) → characters_of (styled_of text) ≡ text.characters.items
 unfolding styled_of
 text_characters text = characters-with text.links.items text.runs.items 0 text.characters.items
-
--- a text that was shown is no longer than the block
-pub block_short : (text : StyledText) (pen : Pen) (block : List ℕ) → styled_of text ≡ styled pen block → length block ≤ 1048576 → length text.characters.items ≤ 1048576
-block_short text pen block e short =
-    omega (arith, ap length (sym (text_characters text)), length-map (styled_of text) (λ (c : ℕ × Style). c.0), ap length e, shown_short pen block, short)
 
 pub zeros_text : (text : StyledText) (numbers : List ℕ) → length numbers ≡ length text.characters.items → ((k : ℕ) → get_or numbers k 0 ≡ 0)
     → map (numbered text.links.items text.runs.items) numbers ≡ styles_of (in_style DEFAULT (characters_of (styled_of text)))

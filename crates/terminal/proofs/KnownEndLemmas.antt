@@ -115,6 +115,7 @@ module _ (rules : Rules) where
   first_is text k within none known here = record {
     some = omega arith;
     within = omega (arith, within);
+    none = let same : k ≡ k + 1 - 1 = omega arith in subst (λ n. AreNoEnds (cut_by rules) n text) same none;
     block = λ more.
         let all = text ++ more in
         let at : (j : ℕ) → j < length text → ends_block (cut_by rules) (get_or all j 0) (drop (j + 1) all) ≡ ends_block (cut_by rules) (get_or text j 0) (drop (j + 1) text ++ more) =

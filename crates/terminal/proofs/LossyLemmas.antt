@@ -1,17 +1,18 @@
 -- Bytes that are not UTF-8, in chunks.
-use Rattle.std.proofs.Common.{◌≡◌, ⊎_elim, ℕ, ◌+◌, ◌<◌, ◌≤◌, Bool, false, List, [], ◌∷◌, ◌++◌, length, take, drop, Some, None, refl, sym, subst, ap, ap₂, ◌∙◌, append_assoc, arith, zero-add}
+use Rattle.std.proofs.Common.{◌≡◌, ⊎_elim, ℕ, ◌+◌, ◌<◌, ◌≤◌, Bool, true, false, ◌&&◌, if◌then◌else◌, List, [], ◌∷◌, ◌++◌, length, take, drop, Some, None, refl, sym, subst, ap, ap₂, inl, inr, ◌∙◌, append_assoc, arith, zero-add, take_all, take-take}
 use Rattle.std.specs.Prelude.{IsUtf8, is_some, Option, unwrap_or}
+use Rattle.std.proofs.lemmas.Bool.{and_parts, cases_Bool, cond-false, cond-true}
 use Rattle.std.specs.Str.{IsValidUpTo, chars}
 use Rattle.std.specs.Str.Lossy.{after_first_chunk, replacement_bytes, utf8_error_len, utf8_invalid_len, utf8_lossy, utf8_valid_len}
 use Rattle.std.proofs.lemmas.Bool.Decides.{nat_tests}
 use Rattle.std.proofs.lemmas.Grind.{common_steps}
 use Rattle.std.proofs.lemmas.List.{append-nil, drop-append-le, drop_all, length-append, length-drop, length-take-le, drop-drop, take-append-drop}
-use Rattle.std.proofs.lemmas.Str.{IsUtf8-append, chars-append, chars-nil, utf8_lossy-IsUtf8, utf8_lossy_empty, utf8_lossy_step, utf8_valid_len_le}
+use Rattle.std.proofs.lemmas.Str.{IsUtf8-append, chars-append, chars-nil, utf8_lossy-IsUtf8, utf8_lossy_empty, utf8_lossy_step, utf8_valid_len-IsUtf8, utf8_valid_len_le}
 use Rattle.std.proofs.Math.Seq.{drop-append-add}
-use Rattle.stream.proofs.Utf8Lemmas.{bad_stays, drop-valid-after, take-valid-after, utf8_front, utf8_or_not, utf8_valid_len-after}
+use Rattle.stream.proofs.Utf8Lemmas.{bad_stays, drop-valid-after, take-valid-after, utf8_front, utf8_or_not, utf8_valid_len-after, whole_good, whole_text}
 use Rattle.stream.specs.Utf8.{is_bad}
 use lib.Utf8.{encode}
-use Rattle.terminal.specs.Decoding.{IsAllDecoded, IsBeginning, IsDecoded, IsValidPrefix, lossy}
+use Rattle.terminal.specs.Decoding.{Decodes, IsAllDecoded, IsBeginning, IsDecoded, IsValidPrefix, good_part, lossy}
 
 -- text at the front stays as it is
 pub lossy_after : (a b : List ℕ) → IsUtf8 a → utf8_lossy (a ++ b) ≡ a ++ utf8_lossy b
@@ -183,6 +184,82 @@ front_decoded bytes text before new bad t b good few e =
     no_error : (o : Option ℕ) → is_some o ≡ false → o ≡ None
     no_error None h = refl
     no_error (Some n) h = absurd cc
+
+-- ---- bytes up to an error
+
+pub good_whole : (strict : Bool) (bytes : List ℕ) → (strict && is_bad bytes) ≡ false → good_part strict bytes ≡ bytes
+good_whole strict bytes e = cond-false (strict && is_bad bytes) (take (utf8_valid_len bytes) bytes) bytes e
+
+pub good_front : (strict : Bool) (bytes : List ℕ) → (strict && is_bad bytes) ≡ true → good_part strict bytes ≡ take (utf8_valid_len bytes) bytes
+good_front strict bytes e = cond-true (strict && is_bad bytes) (take (utf8_valid_len bytes) bytes) bytes e
+
+-- what is decoded, if the form is strict, is as long as the valid text
+pub good_len : (bytes : List ℕ) → utf8_valid_len (good_part true bytes) ≡ utf8_valid_len bytes
+good_len bytes =
+    let v = utf8_valid_len bytes in
+    elim (cases_Bool (is_bad bytes)) [
+      | inl y ↦
+          ap utf8_valid_len (good_front true bytes y) ∙ utf8_valid_len-IsUtf8 (take v bytes) (utf8_front bytes) ∙ length-take-le v bytes (utf8_valid_len_le bytes)
+      | inr n ↦ ap utf8_valid_len (good_whole true bytes n)
+    ]
+
+pub good_take : (bytes : List ℕ) → take (utf8_valid_len bytes) (good_part true bytes) ≡ take (utf8_valid_len bytes) bytes
+good_take bytes =
+    let v = utf8_valid_len bytes in
+    elim (cases_Bool (is_bad bytes)) [
+      | inl y ↦
+          ap (take v) (good_front true bytes y) ∙ take_all v (take v bytes) (omega (arith, length-take-le v bytes (utf8_valid_len_le bytes)))
+      | inr n ↦ ap (take v) (good_whole true bytes n)
+    ]
+
+-- valid text
+pub lossy_front : (bytes more : List ℕ) → lossy (take (utf8_valid_len bytes) bytes ++ more) ≡ chars (take (utf8_valid_len bytes) bytes) ++ lossy more
+lossy_front bytes more =
+    let front = take (utf8_valid_len bytes) bytes in
+    ap chars (lossy_after front more (utf8_front bytes)) ∙ chars-append front (utf8_lossy more) (utf8_front bytes)
+
+pub front_decodes : (bad : Bool) (bytes text before new : List ℕ) → text ≡ take (utf8_valid_len bytes) bytes → bad ≡ is_bad bytes
+    → (bad ≡ false → length bytes < utf8_valid_len bytes + 4) → new ≡ before ++ chars text → Decodes true bytes (length text) bad before new
+front_decodes bad bytes text before new t b few e = record {
+  all = by_test bad b few;
+  stops_is = b;
+  within = omega (arith, len, utf8_valid_len_le bytes);
+  valid = λ _. (len, e ∙ ap (λ x. before ++ chars x) (t ∙ ap (λ n. take n bytes) (sym len)));
+}
+  where
+    len : length text ≡ utf8_valid_len bytes
+    len = text_len bytes text t
+
+    by_test : (bad : Bool) → bad ≡ is_bad bytes → (bad ≡ false → length bytes < utf8_valid_len bytes + 4) → IsAllDecoded (good_part true bytes) (length text) before new
+    by_test false b few =
+        subst (λ (x : List ℕ). IsAllDecoded x (length text) before new) (sym (good_whole true bytes (sym b)))
+        (front_decoded bytes text before new false t b refl few e)
+    by_test true b few =
+        let v = utf8_valid_len bytes in
+        let front = take v bytes in
+        let u = utf8_front bytes in
+        let text_is : text ≡ take (utf8_valid_len front) front = t ∙ sym (whole_text front u) in
+        subst (λ (x : List ℕ). IsAllDecoded x (length text) before new) (sym (good_front true bytes (sym b)))
+        (front_decoded front text before new false text_is (whole_good front u) refl (λ _. omega (arith, utf8_valid_len-IsUtf8 front u)) e)
+
+-- bytes with errors that are read as U+FFFD
+pub lossy_decodes : (bytes before new : List ℕ) (n : ℕ) → IsAllDecoded bytes n before new → Decodes false bytes n false before new
+lossy_decodes bytes before new n all = record { all = all; stops_is = refl; within = all.decoded.within; valid = λ s. absurd cc }
+
+-- the bytes of a chunk up to an error
+pub ended_part : (strict stops : Bool) (chunk : List ℕ) (filled n end : ℕ) → end ≡ (if stops then n else filled) → stops ≡ (strict && is_bad (take filled chunk))
+    → (strict ≡ true → n ≡ utf8_valid_len (take filled chunk)) → n ≤ length (take filled chunk) → filled ≤ length chunk → take end chunk ≡ good_part strict (take filled chunk)
+ended_part strict false chunk filled n end e s valid small within = ap (λ k. take k chunk) e ∙ sym (good_whole strict (take filled chunk) (sym s))
+ended_part strict true chunk filled n end e s valid small within =
+    let bytes = take filled chunk in
+    let v = utf8_valid_len bytes in
+    let v_is : n ≡ v = valid (and_parts strict (is_bad bytes) (sym s)).0 in
+    let below : n ≤ filled = omega (arith, small, length-take-le filled chunk within) in
+    ap (λ k. take k chunk) (e ∙ v_is) ∙ sym (take-take v filled chunk (omega (arith, v_is, below))) ∙ sym (good_front strict bytes (sym s))
+
+pub end_bounds : (stops : Bool) (n filled end : ℕ) → end ≡ (if stops then n else filled) → n ≤ filled → (n ≤ end) × (end ≤ filled)
+end_bounds false n filled end e within = (omega (arith, e, within), omega (arith, e))
+end_bounds true n filled end e within = (omega (arith, e), omega (arith, e, within))
 
 pub lossy_none : lossy [] ≡ []
 lossy_none = ap chars (utf8_lossy_empty [] refl) ∙ chars-nil

@@ -1,10 +1,10 @@
 -- The newline at the end of what is written.
-use Rattle.std.proofs.Common.{◌≡◌, ℕ, zero, suc, ◌+◌, ◌-◌, ◌<◌, ◌≤◌, Bool, true, false, List, [], ◌∷◌, ◌++◌, length, take, drop, encode_utf8_all, Option, Some, None, if◌then◌else◌, refl, sym, subst, ap, ap₂, ◌∙◌, append_assoc, arith}
+use Rattle.std.proofs.Common.{◌≡◌, ℕ, zero, suc, ◌+◌, ◌-◌, ◌<◌, ◌≤◌, lit<, Bool, true, false, List, [], ◌∷◌, ◌++◌, length, take, drop, encode_utf8_all, Option, Some, None, if◌then◌else◌, refl, sym, subst, ap, ap₂, ◌∙◌, append_assoc, arith}
 use Rattle.std.specs.Prelude.{◌&&◌, not, codes, slice_get}
 use Rattle.std.specs.Char.{encode_utf8}
 use Rattle.std.specs.Option.{option_or}
 use Rattle.std.specs.List.{concat, enumerate_from, flat_map, onto_first}
-use Rattle.std.proofs.lemmas.List.{append-nil, length-append, length-drop, length-map, length-take-le, nil_from_length}
+use Rattle.std.proofs.lemmas.List.{append-nil, length-append, length-drop, length-map, length-take, length-take-le, nil_from_length}
 use Rattle.std.proofs.Math.Seq.{take-append-add}
 use Rattle.std.proofs.lemmas.List.FromFn.{length-enumerate_from}
 use Rattle.ucd.specs.declared.tables.Tables.{Tables}
@@ -35,6 +35,7 @@ use Rattle.terminal.specs.Forms.{rules_in}
 use Rattle.terminal.specs.Lines.{LinePrefix, shown_line, styled_line, styled_lines, with_prefix}
 use Rattle.terminal.specs.Newlines.{EndsIn, PagesEndInNewlines, ended_page, is_ended, last_of, without_last}
 use Rattle.terminal.specs.Paragraphs.{styled_bytes, styles_of, styled_nth}
+use Rattle.terminal.specs.Pieces.{first_pieces, in_direction, pieces, printed_pieces}
 use Rattle.terminal.specs.Prefixes.{bytes_after, or_one, prefix_len, prefix_line, prefixed_bytes, printed_bytes, printed_paragraph}
 use Rattle.terminal.specs.Texts.{block_page, blocks, in_mode, input_text, regrouped, shown_blocks, text_page}
 use Rattle.terminal.specs.Whole.{joined}
@@ -139,6 +140,47 @@ unfolding printed_bytes
 printed_end rules form text styles some =
     prefixed_end (rules_in form rules) form text styles (prefix_len (rules_in form rules).tables form.prefix text) some
 
+-- ---- the pieces of a paragraph
+
+piece_end : (rules : Rules) (form : Form) (shown : List (ℕ × Style)) → 0 < length shown → EndsIn 10 (printed_paragraph rules form shown)
+piece_end rules form shown some =
+    printed_end rules form (characters_of shown) (styles_of shown) (omega (arith, some, length-map shown (λ (c : ℕ × Style). c.0)))
+
+take_some : {A : Type 0} (k : ℕ) (text : List A) → 0 < k → 0 < length text → 0 < length (take k text)
+take_some k text some filled = omega (arith, some, filled, length-take k text)
+
+nothing : 0 < 0 → ⊥
+nothing h = omega (arith, h)
+
+some_more : {A : Type 0} (a : A) (list : List A) → 0 < length (a ∷ list)
+some_more a list = omega arith
+
+first_end : (rules : Rules) (form : Form) (shown : List (ℕ × Style)) → 0 < length shown → EndsIn 10 (printed_paragraph rules form (take 1048576 shown))
+first_end rules form shown some = piece_end rules form (take 1048576 shown) (take_some 1048576 shown (lit< tt) some)
+
+each_end : (rules : Rules) (form : Form) (n : ℕ) (shown : List (ℕ × Style)) → 0 < length (first_pieces n shown) → EndsIn 10 (flat_map (printed_paragraph rules form) (first_pieces n shown))
+each_end rules form zero shown some = absurd (nothing some)
+each_end rules form (suc n) [] some = absurd (nothing some)
+each_end rules form (suc n) (c ∷ shown) some =
+    by_rest (first_pieces n (drop 1048576 (c ∷ shown))) (each_end rules form n (drop 1048576 (c ∷ shown)))
+  where
+    own : List ℕ
+    own = printed_paragraph rules form (take 1048576 (c ∷ shown))
+
+    by_rest : (rest : List (List (ℕ × Style))) → (0 < length rest → EndsIn 10 (flat_map (printed_paragraph rules form) rest)) → EndsIn 10 (own ++ flat_map (printed_paragraph rules form) rest)
+    by_rest [] later = ends-nil 10 own (first_end rules form (c ∷ shown) (some_more c shown))
+    by_rest (p ∷ rest) later = ends-append 10 own _ (later (some_more p rest))
+
+pieces_end : (rules : Rules) (form : Form) (shown : List (ℕ × Style)) → 0 < length shown → EndsIn 10 (printed_pieces rules form shown)
+unfolding printed_pieces pieces
+pieces_end rules form shown some = by_rest (first_pieces (length (drop 1048576 shown)) (drop 1048576 shown)) (each_end (in_direction rules (base_of rules (characters_of (take 1048576 shown)))) form (length (drop 1048576 shown)) (drop 1048576 shown))
+  where
+    by_rest : (rest : List (List (ℕ × Style)))
+        → (0 < length rest → EndsIn 10 (flat_map (printed_paragraph (in_direction rules (base_of rules (characters_of (take 1048576 shown)))) form) rest))
+        → EndsIn 10 (printed_paragraph rules form (take 1048576 shown) ++ flat_map (printed_paragraph (in_direction rules (base_of rules (characters_of (take 1048576 shown)))) form) rest)
+    by_rest [] ends = ends-nil 10 (printed_paragraph rules form (take 1048576 shown)) (first_end rules form shown some)
+    by_rest (p ∷ rest) ends = ends-append 10 (printed_paragraph rules form (take 1048576 shown)) _ (ends (some_more p rest))
+
 -- ---- the paragraphs of a block
 
 AreSome : List (List ℕ) → Type 0
@@ -171,19 +213,17 @@ module _ (is_cut : ℕ → ℕ → Bool) where
       by_test rest false = onto_concat a (paragraphs is_cut (b ∷ text)) ∙ ap (λ xs. a ∷ xs) rest
 
 module _ (rules : Rules) (form : Form) where
-  group_ends : (n : ℕ) (shown : List (ℕ × Style)) → 0 < n → n ≤ length shown → EndsIn 10 (printed_paragraph rules form (take n shown))
-  group_ends n shown some within =
-      printed_end rules form (characters_of (take n shown)) (styles_of (take n shown))
-      (omega (arith, some, within, length-take-le n shown within, length-map (take n shown) (λ (c : ℕ × Style). c.0)))
+  group_ends : (n : ℕ) (shown : List (ℕ × Style)) → 0 < n → n ≤ length shown → EndsIn 10 (printed_pieces rules form (take n shown))
+  group_ends n shown some within = pieces_end rules form (take n shown) (omega (arith, some, within, length-take-le n shown within))
 
   groups_end : (groups : List (List ℕ)) (shown : List (ℕ × Style)) → AreSome groups → 0 < length groups → length (concat groups) ≡ length shown
-      → EndsIn 10 (flat_map (printed_paragraph rules form) (regrouped groups shown))
+      → EndsIn 10 (flat_map (printed_pieces rules form) (regrouped groups shown))
   unfolding AreSome
   groups_end [] shown are some len = absurd (omega (arith, some))
   groups_end (g ∷ []) shown are some len =
-      ends-nil 10 (printed_paragraph rules form (take (length g) shown)) (group_ends (length g) shown are.0 (omega (arith, len, length-append g [])))
+      ends-nil 10 (printed_pieces rules form (take (length g) shown)) (group_ends (length g) shown are.0 (omega (arith, len, length-append g [])))
   groups_end (g ∷ h ∷ groups) shown are some len =
-      ends-append 10 (printed_paragraph rules form (take (length g) shown)) _
+      ends-append 10 (printed_pieces rules form (take (length g) shown)) _
       (groups_end (h ∷ groups) (drop (length g) shown) are.1 (omega arith)
       (omega (arith, len, length-append g (concat (h ∷ groups)), length-drop (length g) shown)))
 
@@ -206,7 +246,7 @@ module _ (rules : Rules) (form : Form) where
   unfolding block_page
   block_none = by_mode form.escapes
     where
-      by_mode : (escapes : Escapes) → flat_map (printed_paragraph rules form) (regrouped (paragraphs (cut_by rules) (characters_of (in_mode escapes []))) (in_mode escapes [])) ≡ []
+      by_mode : (escapes : Escapes) → flat_map (printed_pieces rules form) (regrouped (paragraphs (cut_by rules) (characters_of (in_mode escapes []))) (in_mode escapes [])) ≡ []
       by_mode Keep = refl
       by_mode Strip = refl
       by_mode Text = refl

@@ -1,7 +1,7 @@
 -- The lines of blocks, one block after the other.
-use Rattle.std.proofs.Common.{◌≡◌, ℕ, zero, suc, ◌+◌, ◌*◌, ◌<◌, ◌≤◌, nat_le, nat_lt, Bool, true, false, ◌&&◌, ◌||◌, List, [], ◌∷◌, ◌++◌, length, take, drop, get_or, Option, None, refl, sym, subst, ap, ap₂, inl, inr, ◌∙◌, append_assoc, arith, drop-drop}
+use Rattle.std.proofs.Common.{◌≡◌, ℕ, zero, suc, ◌+◌, ◌-◌, ◌*◌, ◌<◌, ◌≤◌, nat_le, nat_lt, ◌==◌, Bool, true, false, ◌&&◌, ◌||◌, List, [], ◌∷◌, ◌++◌, length, take, drop, get_or, Option, None, refl, sym, subst, ap, ap₂, inl, inr, ◌∙◌, append_assoc, arith, drop-drop}
 use Rattle.std.specs.List.{concat, flat_map, onto_first}
-use Rattle.std.proofs.lemmas.Bool.{and_parts, cases_Bool, cond-true, cond-false}
+use Rattle.std.proofs.lemmas.Bool.{and_parts, cases_Bool, cond-true, cond-false, eqb-true}
 use Rattle.std.proofs.lemmas.Bool.Decides.{nat_tests}
 use Rattle.std.proofs.lemmas.Grind.{flat_map-append}
 use Rattle.std.proofs.lemmas.List.{append-nil, length-drop, length-take-le, nil_from_length, take-append-drop}
@@ -12,7 +12,7 @@ use Rattle.sequences.specs.Laws.{characters_of}
 use Rattle.sequences.specs.Scanners.{pen_of}
 use Rattle.sequences.specs.Styled.{Pen, Style, next_paragraph, pen_at_end, shown_text, styled}
 use Rattle.sequences.specs.StyledTexts.{styled_of}
-use Rattle.terminal.specs.Ends.{AreNoEnds, IsFirst, IsOpen}
+use Rattle.terminal.specs.Ends.{AreNoEnds, IsFirst, IsHeld, IsOpen}
 use Rattle.terminal.specs.Newlines.{ended_page, last_of}
 use Rattle.terminal.specs.Run.{IsTooLong, are_within, is_within}
 use Rattle.terminal.specs.RunState.{Adds, AddsEnded, AddsLast, IsFront, Leaves, is_left_long, pages, pen_after_blocks}
@@ -117,14 +117,34 @@ added_one rules now form text rest block old mid new start k e h r first short b
       written = adds_is.written ∙ h.written;
     }
 
+-- If the form is strict, something is left of a text.
+abbrev pub IsHolding : Bool → List ℕ → ℕ → Type 0
+IsHolding strict text start = strict ≡ true → length text ≤ start → length text ≡ 0
+
+-- whether a block is held back
+not_equal : (a b : ℕ) → (a == b) ≡ false → a ≡ b → ⊥
+not_equal a b e same = grind (arith, nat_tests)
+
+pub held_is : (strict held : Bool) (k n : ℕ) → held ≡ (strict && (k == n)) → held ≡ true → (strict ≡ true) × (k ≡ n)
+held_is strict held k n e holds =
+    let both = and_parts strict (k == n) (sym e ∙ holds) in
+    (both.0, eqb-true k n both.1)
+
+pub holding_more : (strict held : Bool) (text rest : List ℕ) (start k : ℕ) → rest ≡ drop start text → held ≡ (strict && (k == length rest)) → held ≡ false → k ≤ length rest
+    → IsHolding strict text (start + k)
+holding_more strict held text rest start k r e free within is beyond =
+    let other : (k == length rest) ≡ false = ap (λ (b : Bool). b && (k == length rest)) (sym is) ∙ sym e ∙ free in
+    absurd (not_equal k (length rest) other (omega (arith, ap length r, length-drop start text, beyond, within)))
+
 pub added_ended : (rules : Rules) (form : Form) (text : List ℕ) (old new : Output) (start scanned : ℕ) (is_long : Bool) → HasAdded rules form text old new start
-    → Leaves rules is_long scanned (drop start text) → styled_of new.scanner.text ≡ [] → AddsEnded rules form text old new start scanned is_long
-added_ended rules form text old new start scanned is_long h leaves empty = record {
+    → Leaves rules form.strict is_long scanned (drop start text) → styled_of new.scanner.text ≡ [] → IsHolding form.strict text start → AddsEnded rules form text old new start scanned is_long
+added_ended rules form text old new start scanned is_long h leaves empty holding = record {
   parts = h.parts;
   front = h.front;
   within = h.within;
   adds = record { lines = h.lines; pen = h.pen; empty = empty; written = h.written };
   leaves = leaves;
+  holds = λ is none. holding is (omega (arith, none, length-drop start text));
 }
 
 -- ---- blocks that are too long
@@ -159,9 +179,10 @@ long_first is_cut (suc n) (c ∷ text) more none less =
     let here : ends_block is_cut c (text ++ more) ≡ false = none 0 (omega arith) more in
     (c ∷ some.0, some.1, cond-false (ends_block is_cut c (text ++ more)) _ _ here ∙ ap (onto_first c) some.2, omega (arith, some.3))
 
-pub left_is : (rules : Rules) (scanned : ℕ) (text : List ℕ) (is_long : Bool) → IsOpen (cut_by rules) scanned text → is_long ≡ is_left_long scanned (length text) → Leaves rules is_long scanned text
-left_is rules scanned text false o e = o
-left_is rules scanned text true o e =
+pub left_is : (rules : Rules) (holds : Bool) (scanned : ℕ) (text : List ℕ) (is_long : Bool) → IsOpen (cut_by rules) scanned text → is_long ≡ is_left_long scanned (length text)
+    → Leaves rules holds is_long scanned text
+left_is rules holds scanned text false o e = inl o
+left_is rules holds scanned text true o e =
     let both = and_parts (nat_lt 1048576 (length text)) (nat_le 1048576 scanned || nat_lt (2 * 1048576) (length text)) (sym e) in
     let less : 1048576 < length text = lt_of (length text) both.0 in
     elim (cases_Bool (nat_le 1048576 scanned)) [
@@ -186,18 +207,31 @@ first_long is_cut k text first long =
 
 pub ends_open : (rules now : Rules) (form : Form) (text rest : List ℕ) (old new : Output) (start k left_start left_scanned : ℕ) (is_long : Bool) → now ≡ rules
     → HasAdded rules form text old new start → rest ≡ drop start text → IsOpen (cut_by now) k rest → left_start ≡ start → left_scanned ≡ k
-    → is_long ≡ is_left_long k (length rest) → styled_of new.scanner.text ≡ [] → AddsEnded rules form text old new left_start left_scanned is_long
-ends_open rules now form text rest old new start k left_start left_scanned is_long e h r open_ s c l empty =
+    → is_long ≡ is_left_long k (length rest) → styled_of new.scanner.text ≡ [] → IsHolding form.strict text start → AddsEnded rules form text old new left_start left_scanned is_long
+ends_open rules now form text rest old new start k left_start left_scanned is_long e h r open_ s c l empty holding =
     let open_is : IsOpen (cut_by rules) k (drop start text) = subst (λ (t : List ℕ). IsOpen (cut_by rules) k t) r (subst (λ (n : Rules). IsOpen (cut_by n) k rest) e open_) in
-    let leaves : Leaves rules is_long k (drop start text) = left_is rules k (drop start text) is_long open_is (l ∙ ap (λ t. is_left_long k (length t)) r) in
+    let leaves : Leaves rules form.strict is_long k (drop start text) = left_is rules form.strict k (drop start text) is_long open_is (l ∙ ap (λ t. is_left_long k (length t)) r) in
     subst (λ n. AddsEnded rules form text old new n left_scanned is_long) (sym s)
-    (subst (λ n. AddsEnded rules form text old new start n is_long) (sym c) (added_ended rules form text old new start k is_long h leaves empty))
+    (subst (λ n. AddsEnded rules form text old new start n is_long) (sym c) (added_ended rules form text old new start k is_long h leaves empty holding))
 
 pub ends_first : (rules now : Rules) (form : Form) (text rest : List ℕ) (old new : Output) (start k : ℕ) → now ≡ rules → HasAdded rules form text old new start
-    → rest ≡ drop start text → IsFirst (cut_by now) k rest → 1048576 < k → styled_of new.scanner.text ≡ [] → AddsEnded rules form text old new start 0 true
-ends_first rules now form text rest old new start k e h r first long empty =
+    → rest ≡ drop start text → IsFirst (cut_by now) k rest → 1048576 < k → styled_of new.scanner.text ≡ [] → IsHolding form.strict text start
+    → AddsEnded rules form text old new start 0 true
+ends_first rules now form text rest old new start k e h r first long empty holding =
     let first_is : IsFirst (cut_by rules) k (drop start text) = subst (λ (t : List ℕ). IsFirst (cut_by rules) k t) r (subst (λ (n : Rules). IsFirst (cut_by n) k rest) e first) in
-    added_ended rules form text old new start 0 true h (first_long (cut_by rules) k (drop start text) first_is long) empty
+    added_ended rules form text old new start 0 true h (first_long (cut_by rules) k (drop start text) first_is long) empty holding
+
+-- a block is held back
+pub ends_held : (rules now : Rules) (form : Form) (text rest : List ℕ) (old new : Output) (start k scanned : ℕ) → now ≡ rules → HasAdded rules form text old new start
+    → rest ≡ drop start text → IsFirst (cut_by now) k rest → k ≡ length rest → form.strict ≡ true → scanned ≡ k - 1 → styled_of new.scanner.text ≡ []
+    → IsHolding form.strict text start → AddsEnded rules form text old new start scanned false
+ends_held rules now form text rest old new start k scanned e h r first whole strict s empty holding =
+    let first_is : IsFirst (cut_by rules) k (drop start text) = subst (λ (t : List ℕ). IsFirst (cut_by rules) k t) r (subst (λ (n : Rules). IsFirst (cut_by n) k rest) e first) in
+    let held : IsHeld (cut_by rules) scanned (drop start text) = record {
+      last = omega (arith, s, first_is.some, whole, ap length r);
+      none = subst (λ n. AreNoEnds (cut_by rules) n (drop start text)) (sym s) first_is.none;
+    } in
+    added_ended rules form text old new start scanned false h (inr (strict, held)) empty holding
 
 -- ---- the blocks of a whole text
 

@@ -1,9 +1,11 @@
 -- One step of `run`, as it follows from the results of the calls that it makes.
-use Rattle.std.proofs.Common.{◌≡◌, ℕ, ◌+◌, ◌<◌, ◌≤◌, nat_lt, Bool, true, false, List, [], ◌∷◌, ◌++◌, length, take, min, Option, Some, None, Result, Ok, Err, vec_len, if◌then◌else◌, refl, sym, subst, ap, inl, inr, ◌∙◌, append_assoc, arith}
+use Rattle.std.proofs.Common.{◌≡◌, ℕ, ◌+◌, ◌<◌, ◌≤◌, nat_lt, Bool, true, false, List, [], ◌∷◌, ◌++◌, length, take, min, Option, Some, None, Result, Ok, Err, vec_len, ◌&&◌, drop, take_at, if◌then◌else◌, refl, sym, subst, ap, ap₂, inl, inr, ◌∙◌, append_assoc, arith}
 use Rattle.std.specs.List.{concat}
 use Rattle.std.specs.Io.KnownBytes.{Consumes, IsAtEnd}
-use Rattle.std.proofs.lemmas.Bool.{lt-ltb}
-use Rattle.std.proofs.lemmas.List.{append-nil, length-append}
+use Rattle.std.specs.Prelude.{IsUtf8}
+use Rattle.std.specs.Str.Lossy.{utf8_valid_len}
+use Rattle.std.proofs.lemmas.Bool.{and_parts, cases_Bool, lt-ltb}
+use Rattle.std.proofs.lemmas.List.{append-nil, length-append, take-append-drop}
 use Rattle.std.proofs.lemmas.List.Folds.{concat-append}
 use Rattle.std.proofs.Math.Seq.{take-append-add}
 use Rattle.device.specs.Device.{Device, Fails, StoppedAt, Took, Wrote, greatest}
@@ -11,13 +13,15 @@ use Rattle.lines.specs.Layouts.{Rules, cut_by}
 use Rattle.sequences.specs.Scanners.{pen_of}
 use Rattle.sequences.specs.Styled.{Pen, START}
 use Rattle.stream.specs.declared.reading.TheConstants.{CHUNK}
-use Rattle.terminal.specs.Decoding.{IsBeginning, pictures, text_after}
+use Rattle.terminal.specs.Decoding.{IsBeginning, IsValidText, good_part, pictures, text_after}
 use Rattle.terminal.specs.Newlines.{output_page, text_output}
 use Rattle.terminal.specs.Run.{BeginsWith, EndsTooLong, HasRead, IsRun, IsTooLong, WritesFirst, are_within, blocks_page}
-use Rattle.terminal.specs.RunState.{AddsLast, Finishes, IsAt, IsFed, IsFront, Stands, Steps, last_characters, pages, pen_after_blocks}
+use Rattle.terminal.specs.RunState.{AddsLast, Finishes, IsAt, IsFed, IsFront, IsValidSoFar, Stands, Steps, last_characters, pages, pen_after_blocks}
 use Rattle.sequences.specs.StyledTexts.{styled_of}
-use Rattle.stream.proofs.Utf8Lemmas.{nothing_bad, nothing_valid}
-use Rattle.terminal.specs.Ends.{IsOpen}
+use Rattle.std.proofs.lemmas.Str.{IsUtf8-append}
+use Rattle.stream.proofs.Utf8Lemmas.{is_bad-after, nothing_bad, nothing_valid, take-valid-after, utf8_front, utf8_valid_len-after}
+use Rattle.stream.specs.Utf8.{is_bad}
+use Rattle.terminal.specs.Ends.{AreNoEnds, IsLeft, IsOpen}
 use Rattle.terminal.specs.Texts.{blocks, decoded, input_page, input_text, text_page, without_mark}
 use Rattle.terminal.specs.declared.faults.Fault.{Fault}
 use Rattle.terminal.specs.declared.faults.Fault.TheVariants as f
@@ -26,10 +30,36 @@ use Rattle.terminal.specs.declared.form.Escapes.TheVariants.{Keep, Strip, Text}
 use Rattle.terminal.specs.declared.form.Form.{Form}
 use Rattle.terminal.specs.declared.input.Held.{Held}
 use Rattle.terminal.specs.declared.output.Output.{Output}
-use Rattle.terminal.proofs.LossyLemmas.{lossy_beginning, lossy_none}
+use Rattle.terminal.proofs.LossyLemmas.{good_front, good_whole, lossy_beginning, lossy_none}
 use Rattle.terminal.proofs.OutputLemmas.{output_after}
 use Rattle.terminal.proofs.PushLemmas.{pages-append, pen-append, within-append}
 use Rattle.terminal.proofs.Devices.{Consumes-append, Consumes-kept, FailedLast-after, Took-append, Took-nothing, Wrote-append}
+
+-- ---- valid UTF-8
+
+-- one more chunk
+valid_more : (escapes : Escapes) (bytes chunk waiting waiting_new text characters text_new : List ℕ) (started started_new : Bool) → IsValidSoFar escapes bytes waiting text started
+    → IsValidText escapes (waiting ++ chunk) waiting_new characters started started_new → text_new ≡ text ++ characters → IsValidSoFar escapes (bytes ++ chunk) waiting_new text_new started_new
+valid_more escapes bytes chunk waiting waiting_new text characters text_new started started_new s t e =
+    let both = waiting ++ chunk in
+    let v = utf8_valid_len both in
+    record {
+      front = s.front ++ take v both;
+      whole = ap (λ x. x ++ chunk) s.whole ∙ append_assoc s.front waiting chunk ∙ ap (λ x. s.front ++ x) (sym (take-append-drop v both))
+          ∙ sym (append_assoc s.front (take v both) (drop v both)) ∙ ap (λ x. (s.front ++ take v both) ++ x) (sym t.rest);
+      utf8 = IsUtf8-append s.front (take v both) s.utf8 (utf8_front both);
+      decoded = λ more.
+          ap (input_text escapes) (append_assoc s.front (take v both) more) ∙ s.decoded (take v both ++ more) ∙ ap (λ x. text ++ x) (t.text more)
+          ∙ sym (append_assoc text characters (text_after escapes started_new more)) ∙ ap (λ x. x ++ text_after escapes started_new more) (sym e);
+    }
+
+-- what is not UTF-8 is in the waiting bytes or after them
+pub same_bad : (strict : Bool) (escapes : Escapes) (bytes chunk waiting text : List ℕ) (started : Bool) → (strict ≡ true → IsValidSoFar escapes bytes waiting text started)
+    → (strict && is_bad (bytes ++ chunk)) ≡ (strict && is_bad (waiting ++ chunk))
+same_bad false escapes bytes chunk waiting text started valid = refl
+same_bad true escapes bytes chunk waiting text started valid =
+    let s = valid refl in
+    ap is_bad (ap (λ x. x ++ chunk) s.whole ∙ append_assoc s.front waiting chunk) ∙ is_bad-after s.front (waiting ++ chunk) s.utf8
 
 -- ---- the end of an input
 
@@ -108,12 +138,23 @@ module _ (rules : Rules) (form : Form) (bytes : List ℕ) (sent : List (List ℕ
       ap (pages rules form START) (fed_blocks n len) ∙ pages-append rules form START sent (blocks (cut_by rules) (text ++ last_characters n))
       ∙ ap (λ (q : Pen). blocks_page rules form sent ++ text_page rules form q (text ++ last_characters n)) (sym pen_is)
 
-  -- a chunk was read and decoded, and the first blocks of the text were taken
+  -- the same before the waiting bytes
+  pub fed_front : (v : IsValidSoFar form.escapes bytes waiting (concat sent ++ text) started) → IsFed rules form v.front sent [] text started
+  fed_front v = record {
+    decoded = v.decoded;
+    beginning = record { none = nothing_valid [] refl; fault = nothing_bad [] refl; few = omega arith };
+    cuts = fed.cuts;
+    within = fed.within;
+    valid = λ is. record { front = v.front; whole = sym (append-nil v.front); utf8 = v.utf8; decoded = v.decoded };
+  }
+
+  -- a chunk was decoded, and the first blocks of the text were taken
   pub fed_more : (chunk waiting_new all text_new characters : List ℕ) (started_new : Bool) (parts : List (List ℕ))
       → ((more : List ℕ) → text_after form.escapes started ((waiting ++ chunk) ++ more) ≡ characters ++ text_after form.escapes started_new (waiting_new ++ more))
       → IsBeginning waiting_new → all ≡ text ++ characters → IsFront (cut_by rules) parts all text_new
+      → (form.strict ≡ true → IsValidText form.escapes (waiting ++ chunk) waiting_new characters started started_new)
       → IsFed rules form (bytes ++ chunk) (sent ++ parts) waiting_new text_new started_new
-  fed_more chunk waiting_new all text_new characters started_new parts decoded beginning all_is front =
+  fed_more chunk waiting_new all text_new characters started_new parts decoded beginning all_is front valid =
       let both : concat (sent ++ parts) ++ text_new ≡ (concat sent ++ text) ++ characters =
       ap (λ t. t ++ text_new) (concat-append sent parts) ∙ append_assoc (concat sent) (concat parts) text_new
       ∙ ap (λ t. concat sent ++ t) (sym front.whole ∙ all_is) ∙ sym (append_assoc (concat sent) text characters) in
@@ -131,7 +172,41 @@ module _ (rules : Rules) (form : Form) (bytes : List ℕ) (sent : List (List ℕ
             ∙ ap (λ t. sent ++ blocks (cut_by rules) (t ++ more)) (sym all_is)
             ∙ ap (λ (ps : List (List ℕ)). sent ++ ps) (front.cuts more) ∙ sym (append_assoc sent parts (blocks (cut_by rules) (text_new ++ more)));
         within = within-append sent parts fed.within front.within;
+        valid = λ is.
+            valid_more form.escapes bytes chunk waiting waiting_new (concat sent ++ text) characters (concat (sent ++ parts) ++ text_new) started started_new (fed.valid is) (valid is) both;
       }
+
+-- a chunk was read, and was decoded up to an error
+pub fed_read : (rules : Rules) (form : Form) (bytes : List ℕ) (sent : List (List ℕ)) (waiting text : List ℕ) (started : Bool) → IsFed rules form bytes sent waiting text started
+    → (chunk waiting_new all text_new characters : List ℕ) (started_new : Bool) (parts : List (List ℕ))
+    → ((more : List ℕ) → text_after form.escapes started (good_part form.strict (waiting ++ chunk) ++ more) ≡ characters ++ text_after form.escapes started_new (waiting_new ++ more))
+    → IsBeginning waiting_new → all ≡ text ++ characters → IsFront (cut_by rules) parts all text_new
+    → (form.strict ≡ true → IsValidText form.escapes (good_part form.strict (waiting ++ chunk)) waiting_new characters started started_new)
+    → IsFed rules form (good_part form.strict (bytes ++ chunk)) (sent ++ parts) waiting_new text_new started_new
+fed_read rules form bytes sent waiting text started fed chunk waiting_new all text_new characters started_new parts decoded beginning all_is front valid =
+    elim (cases_Bool (form.strict && is_bad (waiting ++ chunk))) [
+      | inl y ↦
+          let is = (and_parts form.strict (is_bad (waiting ++ chunk)) y).0 in
+          let v = fed.valid is in
+          let good = take (utf8_valid_len (waiting ++ chunk)) (waiting ++ chunk) in
+          let part : good_part form.strict (waiting ++ chunk) ≡ good = good_front form.strict (waiting ++ chunk) y in
+          let all_bytes : bytes ++ chunk ≡ v.front ++ (waiting ++ chunk) = ap (λ x. x ++ chunk) v.whole ∙ append_assoc v.front waiting chunk in
+          let whole : good_part form.strict (bytes ++ chunk) ≡ v.front ++ good =
+          good_front form.strict (bytes ++ chunk) (same ∙ y) ∙ ap (λ x. take (utf8_valid_len x) x) all_bytes ∙ take-valid-after v.front (waiting ++ chunk) v.utf8 in
+          subst (λ (x : List ℕ). IsFed rules form x (sent ++ parts) waiting_new text_new started_new) (sym whole)
+          (fed_more rules form v.front sent [] text started (fed_front rules form bytes sent waiting text started fed v) good waiting_new all text_new characters started_new parts
+          (λ more. ap (λ x. text_after form.escapes started (x ++ more)) (sym part) ∙ decoded more) beginning all_is front
+          (λ s. subst (λ (x : List ℕ). IsValidText form.escapes x waiting_new characters started started_new) part (valid s)))
+      | inr n ↦
+          let part : good_part form.strict (waiting ++ chunk) ≡ waiting ++ chunk = good_whole form.strict (waiting ++ chunk) n in
+          subst (λ (x : List ℕ). IsFed rules form x (sent ++ parts) waiting_new text_new started_new) (sym (good_whole form.strict (bytes ++ chunk) (same ∙ n)))
+          (fed_more rules form bytes sent waiting text started fed chunk waiting_new all text_new characters started_new parts
+          (λ more. ap (λ x. text_after form.escapes started (x ++ more)) (sym part) ∙ decoded more) beginning all_is front
+          (λ s. subst (λ (x : List ℕ). IsValidText form.escapes x waiting_new characters started started_new) part (valid s)))
+    ]
+  where
+    same : (form.strict && is_bad (bytes ++ chunk)) ≡ (form.strict && is_bad (waiting ++ chunk))
+    same = same_bad form.strict form.escapes bytes chunk waiting (concat sent ++ text) started fed.valid
 
 -- the lines of some more blocks
 pub more_page : (rules : Rules) (form : Form) (sent parts : List (List ℕ)) (pen : Pen) → pen ≡ pen_after_blocks START sent
@@ -161,7 +236,8 @@ module _ (rules : Rules) (form : Form) (is_last : Bool) (reader_old writer_old r
       rest = held.text.items;
       begins = fed_begins rules form s.is_at.bytes s.is_at.sent (take held.decoder.waiting held.decoder.chunk.items) held.text.items held.decoder.started s.is_at.fed;
       upto = held.scanned;
-      is_open = s.is_open;
+      is_left = s.is_left;
+      holds = s.holds;
     };
     more = more;
     took = took;
@@ -207,17 +283,10 @@ module _ (rules : Rules) (form : Form) (is_last : Bool) (reader_old writer_old r
     took_all lines writer_new wrote = Took-append writer_old writer writer_new (blocks_page rules form s.is_at.sent) lines s.is_at.wrote.0 wrote.0
 
     -- the chunk was decoded
-    module _ (waiting_new all text_new characters : List ℕ) (started_new : Bool) (parts : List (List ℕ))
-        (decoded : (more : List ℕ) → text_after form.escapes held.decoder.started ((take held.decoder.waiting held.decoder.chunk.items ++ chunk) ++ more)
-        ≡ characters ++ text_after form.escapes started_new (waiting_new ++ more))
-        (beginning : IsBeginning waiting_new) (all_is : all ≡ held.text.items ++ characters) (front : IsFront (cut_by rules) parts all text_new) where
-      fed_new : IsFed rules form (s.is_at.bytes ++ chunk) (s.is_at.sent ++ parts) waiting_new text_new started_new
-      fed_new =
-          fed_more rules form s.is_at.bytes s.is_at.sent (take held.decoder.waiting held.decoder.chunk.items) held.text.items held.decoder.started s.is_at.fed
-          chunk waiting_new all text_new characters started_new parts decoded beginning all_is front
-
-      begins_new : BeginsWith rules form (s.is_at.bytes ++ chunk) (s.is_at.sent ++ parts) text_new
-      begins_new = fed_begins rules form (s.is_at.bytes ++ chunk) (s.is_at.sent ++ parts) waiting_new text_new started_new fed_new
+    module _ (waiting_new text_new : List ℕ) (started_new : Bool) (parts : List (List ℕ))
+        (fed_new : IsFed rules form (good_part form.strict (s.is_at.bytes ++ chunk)) (s.is_at.sent ++ parts) waiting_new text_new started_new) where
+      begins_new : BeginsWith rules form (good_part form.strict (s.is_at.bytes ++ chunk)) (s.is_at.sent ++ parts) text_new
+      begins_new = fed_begins rules form (good_part form.strict (s.is_at.bytes ++ chunk)) (s.is_at.sent ++ parts) waiting_new text_new started_new fed_new
 
       page_new : blocks_page rules form (s.is_at.sent ++ parts) ≡ blocks_page rules form s.is_at.sent ++ pages rules form (pen_of held.output.scanner) parts
       page_new = more_page rules form s.is_at.sent parts (pen_of held.output.scanner) s.is_at.pen_is
@@ -255,20 +324,55 @@ module _ (rules : Rules) (form : Form) (is_last : Bool) (reader_old writer_old r
         ),
       )
 
-      pub at_new : (writer_new : Device) (pen_new : Pen) (written_new : ℕ) → reader_new.failures ≡ reader.failures → Wrote (pages rules form (pen_of held.output.scanner) parts) writer writer_new
+      -- it is not UTF-8
+      pub ends_bad : (writer_new : Device) (n upto : ℕ) → Wrote (pages rules form (pen_of held.output.scanner) parts) writer writer_new → form.strict ≡ true
+          → is_bad (s.is_at.bytes ++ chunk) ≡ true → n ≡ utf8_valid_len (s.is_at.bytes ++ chunk) → IsLeft (cut_by rules) form.strict upto text_new
+          → (form.strict ≡ true → length text_new ≡ 0 → length (s.is_at.sent ++ parts) ≡ 0)
+          → IsRun rules form is_last reader_old reader_new writer_old writer_new (Err (f.NotUtf8 n))
+      ends_bad writer_new n upto wrote strict bad n_is is_left holds =
+          let bytes = s.is_at.bytes ++ chunk in
+          let part : good_part form.strict bytes ≡ take n bytes =
+          good_front form.strict bytes (ap₂ (λ (a b : Bool). a && b) strict bad) ∙ ap (λ k. take k bytes) (sym n_is) in (
+            bytes,
+            has_read,
+            (
+              first_by chunk (pages rules form (pen_of held.output.scanner) parts) writer_new few (took_all _ writer_new wrote),
+              (
+                strict,
+                n_is,
+                inl bad,
+                (
+                  s.is_at.sent ++ parts,
+                  record {
+                    rest = text_new;
+                    begins = subst (λ (x : List ℕ). BeginsWith rules form x (s.is_at.sent ++ parts) text_new) part begins_new;
+                    upto = upto;
+                    is_left = is_left;
+                    holds = holds;
+                  },
+                  wrote_new writer_new wrote,
+                ),
+              ),
+            ),
+          )
+
+      pub at_new : (writer_new : Device) (pen_new : Pen) (written_new : ℕ) → good_part form.strict (s.is_at.bytes ++ chunk) ≡ s.is_at.bytes ++ chunk → reader_new.failures ≡ reader.failures → Wrote (pages rules form (pen_of held.output.scanner) parts) writer writer_new
           → pen_new ≡ pen_after_blocks (pen_of held.output.scanner) parts → written_new ≡ held.output.written + length (pages rules form (pen_of held.output.scanner) parts)
-          → IsAt rules form reader_old reader_new writer_old writer_new waiting_new text_new started_new pen_new written_new
-      at_new writer_new pen_new written_new failures wrote pen_is written_is = record {
-        bytes = s.is_at.bytes ++ chunk;
-        sent = s.is_at.sent ++ parts;
-        read = has_read;
-        failures = failures ∙ s.is_at.failures;
-        fed = fed_new;
-        wrote = wrote_new writer_new wrote;
-        pen_is = pen_is ∙ ap (λ (q : Pen). pen_after_blocks q parts) s.is_at.pen_is ∙ sym (pen-append START s.is_at.sent parts);
-        written_is =
-            omega (arith, written_is, s.is_at.written_is, ap length page_new, length-append (blocks_page rules form s.is_at.sent) (pages rules form (pen_of held.output.scanner) parts));
-      }
+          → (at : IsAt rules form reader_old reader_new writer_old writer_new waiting_new text_new started_new pen_new written_new) × (length at.sent ≡ length (s.is_at.sent ++ parts))
+      at_new writer_new pen_new written_new good failures wrote pen_is written_is = (
+        record {
+          bytes = s.is_at.bytes ++ chunk;
+          sent = s.is_at.sent ++ parts;
+          read = has_read;
+          failures = failures ∙ s.is_at.failures;
+          fed = subst (λ (x : List ℕ). IsFed rules form x (s.is_at.sent ++ parts) waiting_new text_new started_new) good fed_new;
+          wrote = wrote_new writer_new wrote;
+          pen_is = pen_is ∙ ap (λ (q : Pen). pen_after_blocks q parts) s.is_at.pen_is ∙ sym (pen-append START s.is_at.sent parts);
+          written_is =
+              omega (arith, written_is, s.is_at.written_is, ap length page_new, length-append (blocks_page rules form s.is_at.sent) (pages rules form (pen_of held.output.scanner) parts));
+        },
+        refl,
+      )
 
   -- nothing was read, since the source has ended
   module _ (reader_new : Device) (consumed : Consumes reader.bytes reader_new.bytes []) (passed : reader_new.passed ≡ reader.passed + 0) (end : IsAtEnd reader_new.bytes)
@@ -294,15 +398,58 @@ module _ (rules : Rules) (form : Form) (is_last : Bool) (reader_old writer_old r
         output_after rules form is_last s.is_at.sent (concat s.is_at.sent ++ held.text.items) held.text.items (input_text form.escapes (s.is_at.bytes ++ []))
         (held.text.items ++ last_characters held.decoder.waiting) (pen_of held.output.scanner) s.is_at.fed.cuts blocks_last s.is_at.pen_is lines_last
 
-    pub finish_ok : (writer_new : Device) → Wrote (text_output rules form is_last (pen_of held.output.scanner) (held.text.items ++ last_characters held.decoder.waiting)) writer writer_new
+    pub finish_ok : (writer_new : Device) → (form.strict ≡ true → held.decoder.waiting ≡ 0) → Wrote (text_output rules form is_last (pen_of held.output.scanner) (held.text.items ++ last_characters held.decoder.waiting)) writer writer_new
         → IsRun rules form is_last reader_old reader_new writer_old writer_new (Ok tt)
-    finish_ok writer_new wrote = (
+    finish_ok writer_new none wrote = (
       s.is_at.bytes ++ [],
       read_all,
       end,
       failures ∙ s.is_at.failures,
+      λ is.
+          let v = s.is_at.fed.valid is in
+          let all : s.is_at.bytes ++ [] ≡ v.front =
+          append-nil s.is_at.bytes ∙ v.whole ∙ ap (λ k. v.front ++ take k held.decoder.chunk.items) (none is) ∙ append-nil v.front in
+          subst IsUtf8 (sym all) v.utf8,
       subst (λ (t : List ℕ). Wrote t writer_old writer_new) (sym page_last) (Wrote-append writer_old writer writer_new (blocks_page rules form s.is_at.sent) _ s.is_at.wrote wrote),
     )
+
+    -- the input ends inside a character
+    pub finish_bad : (n : ℕ) → form.strict ≡ true → 0 < held.decoder.waiting → n ≡ held.decoder.decoded → IsRun rules form is_last reader_old reader_new writer_old writer (Err (f.NotUtf8 n))
+    unfolding first_by
+    finish_bad n is some n_is =
+        let waiting = take held.decoder.waiting held.decoder.chunk.items in
+        let v = s.is_at.fed.valid is in
+        let all : s.is_at.bytes ++ [] ≡ v.front ++ waiting = append-nil s.is_at.bytes ∙ v.whole in
+        let size : length (s.is_at.bytes ++ []) ≡ length v.front + held.decoder.waiting = ap length all ∙ length-append v.front waiting ∙ ap (λ k. length v.front + k) s.waits in
+        let front_is : length v.front ≡ n = omega (arith, n_is, s.counts, size, length-append s.is_at.bytes []) in
+        let valid : utf8_valid_len (s.is_at.bytes ++ []) ≡ length v.front + 0 =
+        ap utf8_valid_len all ∙ utf8_valid_len-after v.front waiting v.utf8 ∙ ap (λ k. length v.front + k) s.is_at.fed.beginning.none in
+        let front : v.front ≡ take n (s.is_at.bytes ++ []) = sym (take_at v.front waiting n front_is) ∙ ap (take n) (sym all) in (
+          s.is_at.bytes ++ [],
+          read_all,
+          (
+            first_by [] [] writer (omega arith) took_sent,
+            (
+              is,
+              omega (arith, valid, front_is),
+              inr (end, omega (arith, size, front_is, some)),
+              (
+                s.is_at.sent,
+                record {
+                  rest = held.text.items;
+                  begins =
+                      subst (λ (x : List ℕ). BeginsWith rules form x s.is_at.sent held.text.items) front
+                      (fed_begins rules form v.front s.is_at.sent [] held.text.items held.decoder.started
+                      (fed_front rules form s.is_at.bytes s.is_at.sent waiting held.text.items held.decoder.started s.is_at.fed v));
+                  upto = held.scanned;
+                  is_left = s.is_left;
+                  holds = s.holds;
+                },
+                s.is_at.wrote,
+              ),
+            ),
+          ),
+        )
 
     pub finish_memory : IsRun rules form is_last reader_old reader_new writer_old writer (Err f.Memory)
     finish_memory = ends_memory reader_new [] consumed passed (omega arith)
@@ -381,7 +528,17 @@ fed_none rules form = record {
   beginning = record { none = nothing_valid [] refl; fault = nothing_bad [] refl; few = omega arith };
   cuts = λ more. refl;
   within = refl;
+  valid = λ is. record { front = []; whole = refl; utf8 = ([], (refl, refl)); decoded = λ more. input_is form.escapes more };
 }
+
+-- where no block has ended
+pub left_within : (rules : Rules) (holds : Bool) (n : ℕ) (text : List ℕ) → IsLeft (cut_by rules) holds n text → n ≤ length text
+left_within rules holds n text (inl o) = o.within
+left_within rules holds n text (inr (is, h)) = omega (arith, h.last)
+
+pub left_none : (rules : Rules) (holds : Bool) (n : ℕ) (text : List ℕ) → IsLeft (cut_by rules) holds n text → AreNoEnds (cut_by rules) n text
+left_none rules holds n text (inl o) = o.none
+left_none rules holds n text (inr (is, h)) = h.none
 
 open_none : (rules : Rules) → IsOpen (cut_by rules) 0 []
 open_none rules = record { within = omega arith; none = λ k below more. absurd (omega (arith, below)); rest = inl refl }
@@ -398,7 +555,7 @@ ends_at_once rules form is_last reader writer = (
       parts = refl;
       chunk = omega arith;
       ended = [];
-      has_ended = record { rest = []; begins = fed_begins rules form [] [] [] [] false (fed_none rules form); upto = 0; is_open = open_none rules };
+      has_ended = record { rest = []; begins = fed_begins rules form [] [] [] [] false (fed_none rules form); upto = 0; is_left = inl (open_none rules); holds = λ is none. refl };
       more = [];
       took = Took-nothing writer;
     },
@@ -408,29 +565,29 @@ ends_at_once rules form is_last reader writer = (
 
 pub stands_at_start : (rules : Rules) (form : Form) (reader writer : Device) (held : Held) → held.decoder.waiting ≡ 0 → held.decoder.started ≡ false → held.text.items ≡ [] → held.scanned ≡ 0
     → pen_of held.output.scanner ≡ START → styled_of held.output.scanner.text ≡ [] → held.output.page.bytes.items ≡ [] → held.output.written ≡ 0 → vec_len held.decoder.chunk ≡ CHUNK
-    → Stands rules form reader writer reader writer held
-stands_at_start rules form reader writer held w b t c p empty page n room =
-    let nothing : take held.decoder.waiting held.decoder.chunk.items ≡ [] = ap (λ k. take k held.decoder.chunk.items) w in
-    let at : IsAt rules form reader reader writer writer [] [] false START 0 = record {
-      bytes = [];
-      sent = [];
-      read = (Consumes-refl reader.bytes, omega arith);
-      failures = refl;
-      fed = fed_none rules form;
-      wrote = (Took-nothing writer, refl);
-      pen_is = refl;
-      written_is = refl;
-    } in
-    let at_w = subst (λ (x : List ℕ). IsAt rules form reader reader writer writer x [] false START 0) (sym nothing) at in
-    let at_t = subst (λ (x : List ℕ). IsAt rules form reader reader writer writer (take held.decoder.waiting held.decoder.chunk.items) x false START 0) (sym t) at_w in
-    let at_b = subst (λ (x : Bool). IsAt rules form reader reader writer writer (take held.decoder.waiting held.decoder.chunk.items) held.text.items x START 0) (sym b) at_t in
-    let at_p = subst (λ (x : Pen). IsAt rules form reader reader writer writer (take held.decoder.waiting held.decoder.chunk.items) held.text.items held.decoder.started x 0) (sym p) at_b in
+    → held.decoder.decoded ≡ 0 → Stands rules form reader writer reader writer held
+stands_at_start rules form reader writer held w b t c p empty page n room d =
+    let waiting = take held.decoder.waiting held.decoder.chunk.items in
+    let nothing : waiting ≡ [] = ap (λ k. take k held.decoder.chunk.items) w in
+    let fed_w = subst (λ (x : List ℕ). IsFed rules form [] [] x [] false) (sym nothing) (fed_none rules form) in
+    let fed_t = subst (λ (x : List ℕ). IsFed rules form [] [] waiting x false) (sym t) fed_w in
     record {
-      is_at = subst (λ (x : ℕ). IsAt rules form reader reader writer writer (take held.decoder.waiting held.decoder.chunk.items) held.text.items held.decoder.started (pen_of held.output.scanner) x) (sym n) at_p;
-      is_open = subst (λ (x : List ℕ). IsOpen (cut_by rules) held.scanned x) (sym t) (subst (λ (x : ℕ). IsOpen (cut_by rules) x []) (sym c) (open_none rules));
+      is_at = record {
+        bytes = [];
+        sent = [];
+        read = (Consumes-refl reader.bytes, omega arith);
+        failures = refl;
+        fed = subst (λ (x : Bool). IsFed rules form [] [] waiting held.text.items x) (sym b) fed_t;
+        wrote = (Took-nothing writer, refl);
+        pen_is = p;
+        written_is = n;
+      };
+      is_left = inl (subst (λ (x : List ℕ). IsOpen (cut_by rules) held.scanned x) (sym t) (subst (λ (x : ℕ). IsOpen (cut_by rules) x []) (sym c) (open_none rules)));
+      holds = λ is none. refl;
       empty = empty;
       lines = page;
       room = room;
+      counts = omega (arith, d, w);
       waits = ap length nothing ∙ sym w;
     }
 

@@ -1,8 +1,9 @@
 -- The characters of bytes that come in chunks.
-use Rattle.std.specs.Prelude.{◌≡◌, ℕ, ◌<◌, ◌≤◌, Bool, List, ◌++◌, map, ◌+◌, length, take, drop, vec_len, Option, None, if◌then◌else◌}
+use Rattle.std.specs.Prelude.{◌≡◌, ℕ, ◌<◌, ◌≤◌, Bool, true, ◌&&◌, List, ◌++◌, map, ◌+◌, length, take, drop, vec_len, Option, None, if◌then◌else◌}
 use Rattle.std.specs.Str.{chars}
 use Rattle.std.specs.Str.Lossy.{utf8_error_len, utf8_lossy, utf8_valid_len}
 use Rattle.stream.specs.Reading.{IsReadTo}
+use Rattle.stream.specs.Utf8.{is_bad}
 use Rattle.device.specs.Device.{Device}
 use Rattle.terminal.specs.Texts.{picture, without_mark}
 use Rattle.terminal.specs.declared.decoder.Decoder.{Decoder}
@@ -48,6 +49,17 @@ pictures Text text = map picture text
 abbrev pub text_after : Escapes → Bool → List ℕ → List ℕ
 text_after escapes started bytes = pictures escapes (if started then lossy bytes else without_mark (lossy bytes))
 
+-- the bytes that are decoded: if `strict`, those before the first ones that are not UTF-8
+abbrev pub good_part : Bool → List ℕ → List ℕ
+good_part strict bytes = if strict && is_bad bytes then take (utf8_valid_len bytes) bytes else bytes
+
+-- The first n bytes were decoded. If `strict`, they are UTF-8, and the rest is dropped if it is not.
+pub record Decodes (strict : Bool) (bytes : List ℕ) (n : ℕ) (stops : Bool) (before after : List ℕ) : Type 0 where
+  pub all : IsAllDecoded (good_part strict bytes) n before after
+  pub stops_is : stops ≡ (strict && is_bad bytes)
+  pub within : n ≤ length bytes
+  pub valid : strict ≡ true → (n ≡ utf8_valid_len bytes) × (after ≡ before ++ chars (take n bytes))
+
 -- n bytes were read, and are after the waiting ones
 pub record IsRead (n : ℕ) (old new : Decoder) (reader_old reader_new : Device) : Type 0 where
   pub read : IsReadTo old.waiting n old.chunk.items new.chunk.items reader_old reader_new
@@ -55,8 +67,13 @@ pub record IsRead (n : ℕ) (old new : Decoder) (reader_old reader_new : Device)
   pub room : vec_len new.chunk ≡ vec_len old.chunk
   pub same : new ≡ record old { chunk = new.chunk }
 
+-- The valid UTF-8 that bytes begin with has these characters, whatever follows, and the other bytes wait for the next read.
+pub record IsValidText (escapes : Escapes) (bytes waiting characters : List ℕ) (started started_new : Bool) : Type 0 where
+  pub rest : waiting ≡ drop (utf8_valid_len bytes) bytes
+  pub text : (more : List ℕ) → text_after escapes started (take (utf8_valid_len bytes) bytes ++ more) ≡ characters ++ text_after escapes started_new more
+
 -- The characters of bytes were added to a list. Only an incomplete character waits for the next read.
-pub record Takes (escapes : Escapes) (bytes : List ℕ) (old new : Decoder) (before after : List ℕ) : Type 0 where
+pub record Takes (strict : Bool) (escapes : Escapes) (bytes : List ℕ) (old new : Decoder) (before after : List ℕ) : Type 0 where
   pub characters : List ℕ
   pub added : after ≡ before ++ characters
   pub text : (more : List ℕ) → text_after escapes old.started (bytes ++ more)
@@ -64,3 +81,5 @@ pub record Takes (escapes : Escapes) (bytes : List ℕ) (old new : Decoder) (bef
   pub beginning : IsBeginning (take new.waiting new.chunk.items)
   pub waits : length (take new.waiting new.chunk.items) ≡ new.waiting
   pub room : vec_len new.chunk ≡ vec_len old.chunk
+  pub counts : new.decoded + new.waiting ≡ old.decoded + length bytes
+  pub valid : strict ≡ true → IsValidText escapes bytes (take new.waiting new.chunk.items) characters old.started new.started

@@ -1,5 +1,5 @@
 -- Which ends of blocks are known before a text is complete.
-use Rattle.std.specs.Prelude.{◌≡◌, ◌⊎◌, ℕ, zero, suc, ◌+◌, ◌<◌, ◌≤◌, Bool, true, false, ◌&&◌, List, [], ◌∷◌, ◌++◌, length, take, drop, slice_index, if◌then◌else◌}
+use Rattle.std.specs.Prelude.{◌≡◌, ◌⊎◌, ℕ, zero, suc, ◌+◌, ◌-◌, ◌<◌, ◌≤◌, Bool, true, false, ◌&&◌, List, [], ◌∷◌, ◌++◌, length, take, drop, slice_index, if◌then◌else◌}
 use Rattle.sequences.specs.Characters.{is_dropped}
 use Rattle.sequences.specs.Known.{knows_sequence}
 use Rattle.sequences.specs.Styled.{more_len}
@@ -26,8 +26,18 @@ module _ (is_cut : ℕ → ℕ → Bool) where
     pub none : AreNoEnds n text
     pub rest : (n ≡ length text) ⊎ ((slice_index text n ≡ 0x0D) × (knows_next (drop (n + 1) text) ≡ false))
 
+  -- The only end of a block that is known is the end of the text, at which nothing is known to follow.
+  pub record IsHeld (n : ℕ) (text : List ℕ) : Type 0 where
+    pub last : n + 1 ≡ length text
+    pub none : AreNoEnds n text
+
+  -- No end of a block is known before the end of the text. Only if `holds`, one may be known there.
+  abbrev pub IsLeft : Bool → ℕ → List ℕ → Type 0
+  IsLeft holds n text = IsOpen n text ⊎ ((holds ≡ true) × IsHeld n text)
+
   -- the first n characters of a text are its first block, whatever follows the text
   pub record IsFirst (n : ℕ) (text : List ℕ) : Type 0 where
     pub some : 0 < n
     pub within : n ≤ length text
+    pub none : AreNoEnds (n - 1) text
     pub block : (more : List ℕ) → blocks is_cut (text ++ more) ≡ take n text ∷ blocks is_cut (drop n text ++ more)

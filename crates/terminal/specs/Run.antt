@@ -1,13 +1,16 @@
 -- What is written for an input that is read in chunks, and how the run ends.
-use Rattle.std.specs.Prelude.{◌≡◌, ◌⊎◌, ℕ, ◌+◌, ◌*◌, ◌<◌, ◌≤◌, nat_le, Bool, true, List, [], ◌∷◌, ◌++◌, length, Result, Ok, Err}
+use Rattle.std.specs.Prelude.{◌≡◌, ◌⊎◌, ℕ, ◌+◌, ◌*◌, ◌<◌, ◌≤◌, nat_le, Bool, true, List, [], ◌∷◌, ◌++◌, length, take, Result, Ok, Err, IsUtf8}
 use Rattle.std.specs.List.{concat, flat_map, list_all}
+use Rattle.std.specs.Str.Lossy.{utf8_valid_len}
 use Rattle.std.specs.Io.KnownBytes.{Consumes, IsAtEnd}
 use Rattle.device.specs.Device.{Device, FailedLast, StoppedAt, Took, Wrote}
 use Rattle.lines.specs.Layouts.{Rules, cut_by}
 use Rattle.lines.specs.declared.engine.TheConstants.{PARAGRAPH_LIMIT}
 use Rattle.sequences.specs.Styled.{START}
+use Rattle.stream.specs.Utf8.{is_bad}
 use Rattle.stream.specs.declared.reading.TheConstants.{CHUNK}
-use Rattle.terminal.specs.Ends.{IsOpen}
+use Rattle.terminal.specs.Decoding.{good_part}
+use Rattle.terminal.specs.Ends.{IsLeft}
 use Rattle.terminal.specs.Newlines.{output_page}
 use Rattle.terminal.specs.Texts.{block_page, blocks, input_text, shown_blocks}
 use Rattle.terminal.specs.declared.faults.Fault.{Fault}
@@ -38,12 +41,13 @@ pub record BeginsWith (rules : Rules) (form : Form) (bytes : List ℕ) (ended : 
   pub blocks : (more : List ℕ) → blocks (cut_by rules) ((concat ended ++ rest) ++ more) ≡ ended ++ blocks (cut_by rules) (rest ++ more)
   pub within : are_within ended ≡ true
 
--- All blocks that have ended.
+-- All blocks that have ended. If the form is strict, these are the blocks that something follows.
 pub record HasEnded (rules : Rules) (form : Form) (bytes : List ℕ) (ended : List (List ℕ)) : Type 0 where
   pub rest : List ℕ
   pub begins : BeginsWith rules form bytes ended rest
   pub upto : ℕ
-  pub is_open : IsOpen (cut_by rules) upto rest
+  pub is_left : IsLeft (cut_by rules) form.strict upto rest
+  pub holds : form.strict ≡ true → length rest ≡ 0 → length ended ≡ 0
 
 -- The first block of a text is too long, whatever follows; or a sequence after its CR is not complete yet, and both are longer
 -- than two paragraphs may be.
@@ -73,26 +77,29 @@ EndsTooLong rules form bytes ended =
     (first : List ℕ) × (others : List (List ℕ)) × (blocks (cut_by rules) (input_text form.escapes bytes) ≡ ended ++ first ∷ others)
     × (are_within ended ≡ true) × (PARAGRAPH_LIMIT < length first)
 
--- what was written, for each fault
+-- What was written, for each fault. If the form is strict, the input counts up to where it is not UTF-8.
 abbrev pub EndsBy : (rules : Rules) (form : Form) (is_last : Bool) → Device → Device → (writer_old writer_new : Device) → (bytes : List ℕ)
     → WritesFirst rules form bytes writer_old writer_new → Fault → Type 0
 EndsBy rules form is_last reader_old reader_new writer_old writer_new bytes first fault.Read =
     FailedLast reader_old reader_new × (first.late ≡ []) × Wrote (blocks_page rules form first.ended) writer_old writer_new
 EndsBy rules form is_last reader_old reader_new writer_old writer_new bytes first fault.Memory = Wrote (blocks_page rules form first.ended) writer_old writer_new
+EndsBy rules form is_last reader_old reader_new writer_old writer_new bytes first (fault.NotUtf8 n) =
+    (form.strict ≡ true) × (n ≡ utf8_valid_len bytes) × ((is_bad bytes ≡ true) ⊎ (IsAtEnd reader_new.bytes × (n < length bytes)))
+    × ((ended : List (List ℕ)) × HasEnded rules form (take n bytes) ended × Wrote (blocks_page rules form ended) writer_old writer_new)
 EndsBy rules form is_last reader_old reader_new writer_old writer_new bytes first fault.ParagraphTooLong =
     (ended : List (List ℕ)) × Wrote (blocks_page rules form ended) writer_old writer_new
-    × (((rest : List ℕ) × BeginsWith rules form bytes ended rest × IsTooLong (cut_by rules) rest) ⊎ (IsAtEnd reader_new.bytes × EndsTooLong rules form bytes ended))
+    × (((rest : List ℕ) × BeginsWith rules form (good_part form.strict bytes) ended rest × IsTooLong (cut_by rules) rest) ⊎ (IsAtEnd reader_new.bytes × EndsTooLong rules form bytes ended))
 EndsBy rules form is_last reader_old reader_new writer_old writer_new bytes first (fault.Write n) =
     ((ended : List (List ℕ)) × StoppedAt n (blocks_page rules form ended) writer_old writer_new
-    × (((rest : List ℕ) × BeginsWith rules form bytes ended rest) ⊎ (IsAtEnd reader_new.bytes × EndsTooLong rules form bytes ended)))
+    × (((rest : List ℕ) × BeginsWith rules form (good_part form.strict bytes) ended rest) ⊎ (IsAtEnd reader_new.bytes × EndsTooLong rules form bytes ended)))
     ⊎ (IsAtEnd reader_new.bytes × StoppedAt n (output_page rules form is_last bytes) writer_old writer_new)
 
--- How a run ended. Without a fault, it has read the whole input, and has written its lines and nothing else, without
--- the last newline if the input is the last one and its text does not end a line.
+-- How a run ended. Without a fault, it has read the whole input, which is UTF-8 if the form is strict. It has written its
+-- lines and nothing else, without the last newline if the input is the last one and its text does not end a line.
 abbrev pub IsRun : Rules → Form → Bool → Device → Device → Device → Device → Result (Unit {0}) Fault → Type 0
 IsRun rules form is_last reader_old reader_new writer_old writer_new (Ok done) =
     (bytes : List ℕ) × HasRead reader_old reader_new bytes × IsAtEnd reader_new.bytes × (reader_new.failures ≡ reader_old.failures)
-    × Wrote (output_page rules form is_last bytes) writer_old writer_new
+    × (form.strict ≡ true → IsUtf8 bytes) × Wrote (output_page rules form is_last bytes) writer_old writer_new
 IsRun rules form is_last reader_old reader_new writer_old writer_new (Err fault) =
     (bytes : List ℕ) × HasRead reader_old reader_new bytes
     × ((first : WritesFirst rules form bytes writer_old writer_new) × EndsBy rules form is_last reader_old reader_new writer_old writer_new bytes first fault)

@@ -1,5 +1,5 @@
 -- The state of `run` between two reads. No contract of an exported function uses these definitions.
-use Rattle.std.specs.Prelude.{◌≡◌, ℕ, ◌+◌, ◌*◌, ◌≤◌, nat_le, nat_lt, ◌&&◌, ◌||◌, Bool, true, false, List, [], ◌∷◌, ◌++◌, length, take, drop, vec_len, Result, Ok, Err, if◌then◌else◌}
+use Rattle.std.specs.Prelude.{◌≡◌, ℕ, ◌+◌, ◌*◌, ◌<◌, ◌≤◌, nat_le, nat_lt, ◌&&◌, ◌||◌, Bool, true, false, List, [], ◌∷◌, ◌++◌, length, take, drop, vec_len, Option, Some, None, IsUtf8, Result, Ok, Err, if◌then◌else◌}
 use Rattle.std.specs.List.{concat, flat_map}
 use Rattle.device.specs.Device.{Device, StoppedAt, Wrote}
 use Rattle.lines.specs.Layouts.{Rules, cut_by}
@@ -7,14 +7,16 @@ use Rattle.lines.specs.declared.engine.TheConstants.{PARAGRAPH_LIMIT}
 use Rattle.sequences.specs.Scanners.{pen_of}
 use Rattle.sequences.specs.Styled.{Pen, START, next_paragraph, pen_at_end}
 use Rattle.sequences.specs.StyledTexts.{styled_of}
+use Rattle.stream.specs.Utf8.{is_bad}
 use Rattle.stream.specs.declared.reading.TheConstants.{CHUNK}
-use Rattle.terminal.specs.Decoding.{IsBeginning, Takes, text_after}
-use Rattle.terminal.specs.Ends.{IsOpen}
+use Rattle.terminal.specs.Decoding.{IsBeginning, Takes, good_part, text_after}
+use Rattle.terminal.specs.Ends.{IsLeft}
 use Rattle.terminal.specs.Newlines.{text_output}
 use Rattle.terminal.specs.Run.{are_within, blocks_page, HasRead, IsRun, IsTooLong}
 use Rattle.terminal.specs.Texts.{block_page, blocks, input_text, shown_blocks}
 use Rattle.terminal.specs.declared.faults.Fault.{Fault}
 use Rattle.terminal.specs.declared.faults.Fault.TheVariants as f
+use Rattle.terminal.specs.declared.form.Escapes.{Escapes}
 use Rattle.terminal.specs.declared.form.Form.{Form}
 use Rattle.terminal.specs.declared.output.Output.{Output}
 use Rattle.terminal.specs.declared.input.Held.{Held}
@@ -46,9 +48,9 @@ abbrev pub is_left_long : ℕ → ℕ → Bool
 is_left_long scanned len = nat_lt PARAGRAPH_LIMIT len && (nat_le PARAGRAPH_LIMIT scanned || nat_lt (2 * PARAGRAPH_LIMIT) len)
 
 -- what is left of a text: if it is not too long, no end of a block is known before `scanned`
-abbrev pub Leaves : Rules → Bool → ℕ → List ℕ → Type 0
-Leaves rules true scanned rest = IsTooLong (cut_by rules) rest
-Leaves rules false scanned rest = IsOpen (cut_by rules) scanned rest
+abbrev pub Leaves : Rules → Bool → Bool → ℕ → List ℕ → Type 0
+Leaves rules holds true scanned rest = IsTooLong (cut_by rules) rest
+Leaves rules holds false scanned rest = IsLeft (cut_by rules) holds scanned rest
 
 -- The lines of all blocks that have ended were added to the page, or of those before one that is too long.
 pub record AddsEnded (rules : Rules) (form : Form) (text : List ℕ) (old new : Output) (start scanned : ℕ) (is_long : Bool) : Type 0 where
@@ -56,7 +58,8 @@ pub record AddsEnded (rules : Rules) (form : Form) (text : List ℕ) (old new : 
   pub front : IsFront (cut_by rules) parts text (drop start text)
   pub within : start ≤ length text
   pub adds : Adds rules form parts old new
-  pub leaves : Leaves rules is_long scanned (drop start text)
+  pub leaves : Leaves rules form.strict is_long scanned (drop start text)
+  pub holds : form.strict ≡ true → length (drop start text) ≡ 0 → length text ≡ 0
 
 -- The lines of the blocks of a whole text were added to the page, or of those before one that is too long.
 abbrev pub AddsLast : Rules → Form → Bool → List ℕ → Output → Output → Bool → Type 0
@@ -69,14 +72,30 @@ AddsLast rules form is_last text old new true =
 abbrev pub last_characters : ℕ → List ℕ
 last_characters waiting = if nat_lt 0 waiting then 0xFFFD ∷ [] else []
 
+-- why a run ends after a chunk, given whether a block is too long, and whether the bytes from an index on are not UTF-8
+abbrev pub fault_after : Bool → Bool → ℕ → Option Fault
+fault_after true stops n = Some f.ParagraphTooLong
+fault_after false true n = Some (f.NotUtf8 n)
+fault_after false false n = None
+
 -- A chunk was decoded, and the lines of all blocks that have ended were added to the page, or of those before one that is too long.
-pub record Gathers (rules : Rules) (form : Form) (bytes : List ℕ) (old new : Held) (is_long : Bool) : Type 0 where
+pub record Gathers (rules : Rules) (form : Form) (bytes : List ℕ) (old new : Held) (fault : Option Fault) : Type 0 where
   pub text : List ℕ
-  pub takes : Takes form.escapes bytes old.decoder new.decoder old.text.items text
+  pub takes : Takes form.strict form.escapes (good_part form.strict bytes) old.decoder new.decoder old.text.items text
   pub parts : List (List ℕ)
   pub front : IsFront (cut_by rules) parts text new.text.items
   pub adds : Adds rules form parts old.output new.output
-  pub leaves : Leaves rules is_long new.scanned new.text.items
+  pub is_long : Bool
+  pub leaves : Leaves rules form.strict is_long new.scanned new.text.items
+  pub holds : form.strict ≡ true → length new.text.items ≡ 0 → length text ≡ 0
+  pub fault_is : fault ≡ fault_after is_long (form.strict && is_bad bytes) new.decoder.decoded
+
+-- The bytes before those that wait are UTF-8. They have these characters, whatever follows.
+pub record IsValidSoFar (escapes : Escapes) (bytes waiting text : List ℕ) (started : Bool) : Type 0 where
+  pub front : List ℕ
+  pub whole : bytes ≡ front ++ waiting
+  pub utf8 : IsUtf8 front
+  pub decoded : (more : List ℕ) → input_text escapes (front ++ more) ≡ text ++ text_after escapes started more
 
 -- The bytes so far are the blocks `sent`, a text that is left, and bytes that wait for the next read.
 pub record IsFed (rules : Rules) (form : Form) (bytes : List ℕ) (sent : List (List ℕ)) (waiting text : List ℕ) (started : Bool) : Type 0 where
@@ -84,6 +103,7 @@ pub record IsFed (rules : Rules) (form : Form) (bytes : List ℕ) (sent : List (
   pub beginning : IsBeginning waiting
   pub cuts : (more : List ℕ) → blocks (cut_by rules) ((concat sent ++ text) ++ more) ≡ sent ++ blocks (cut_by rules) (text ++ more)
   pub within : are_within sent ≡ true
+  pub valid : form.strict ≡ true → IsValidSoFar form.escapes bytes waiting (concat sent ++ text) started
 
 -- What a run did between two states of its source and sink. It wrote the lines of the blocks `sent`.
 pub record IsAt (rules : Rules) (form : Form) (reader_old reader writer_old writer : Device) (waiting text : List ℕ) (started : Bool) (pen : Pen) (written : ℕ) : Type 0 where
@@ -100,10 +120,12 @@ pub record IsAt (rules : Rules) (form : Form) (reader_old reader writer_old writ
 pub record Stands (rules : Rules) (form : Form) (reader_old writer_old reader writer : Device) (held : Held) : Type 0 where
   pub is_at : IsAt rules form reader_old reader writer_old writer (take held.decoder.waiting held.decoder.chunk.items) held.text.items held.decoder.started
       (pen_of held.output.scanner) held.output.written
-  pub is_open : IsOpen (cut_by rules) held.scanned held.text.items
+  pub is_left : IsLeft (cut_by rules) form.strict held.scanned held.text.items
+  pub holds : form.strict ≡ true → length held.text.items ≡ 0 → length is_at.sent ≡ 0
   pub empty : styled_of held.output.scanner.text ≡ []
   pub lines : held.output.page.bytes.items ≡ []
   pub room : vec_len held.decoder.chunk ≡ CHUNK
+  pub counts : held.decoder.decoded + held.decoder.waiting ≡ length is_at.bytes
   pub waits : length (take held.decoder.waiting held.decoder.chunk.items) ≡ held.decoder.waiting
 
 -- a step continues the run or ends it
@@ -115,9 +137,11 @@ Steps rules form is_last reader_old writer_old reader_new writer_new held (Err f
 -- what is written at the end of an input, for each result
 abbrev pub Finishes : Rules → Form → Bool → Held → Device → Device → Result (Unit {0}) Fault → Type 0
 Finishes rules form is_last held old new (Ok done) =
-    Wrote (held.output.page.bytes.items ++ text_output rules form is_last (pen_of held.output.scanner) (held.text.items ++ last_characters held.decoder.waiting)) old new
+    (form.strict ≡ true → held.decoder.waiting ≡ 0)
+    × Wrote (held.output.page.bytes.items ++ text_output rules form is_last (pen_of held.output.scanner) (held.text.items ++ last_characters held.decoder.waiting)) old new
 Finishes rules form is_last held old new (Err f.Memory) = new ≡ old
 Finishes rules form is_last held old new (Err f.Read) = ⊥
+Finishes rules form is_last held old new (Err (f.NotUtf8 n)) = (form.strict ≡ true) × (0 < held.decoder.waiting) × (n ≡ held.decoder.decoded) × (new ≡ old)
 Finishes rules form is_last held old new (Err f.ParagraphTooLong) =
     (middle : Output) × AddsLast rules form is_last (held.text.items ++ last_characters held.decoder.waiting) held.output middle true × Wrote middle.page.bytes.items old new
 Finishes rules form is_last held old new (Err (f.Write n)) =

@@ -9,7 +9,7 @@ use Rattle.sequences.specs.Characters.{is_dropped, is_inline}
 use Rattle.sequences.specs.Laws.{characters_of}
 use Rattle.sequences.specs.Styled.{DEFAULT, Pen, Style, START, more_len, next_paragraph, pen_at_end, styled}
 use Rattle.terminal.specs.Lines.{in_style}
-use Rattle.terminal.specs.Prefixes.{printed_paragraph}
+use Rattle.terminal.specs.Pieces.{printed_pieces}
 use Rattle.terminal.specs.declared.form.Escapes.{Escapes}
 use Rattle.terminal.specs.declared.form.Escapes.TheVariants.{Keep, Strip, Text}
 use Rattle.terminal.specs.declared.form.Form.{Form}
@@ -83,7 +83,7 @@ shown_blocks pen (block ∷ blocks) = styled pen block ∷ shown_blocks (next_pa
 -- the printed bytes of what a block shows
 unfoldable pub block_page : Rules → Form → List (ℕ × Style) → List ℕ
 block_page rules form shown =
-    flat_map (printed_paragraph rules form) (styled_paragraphs (cut_by rules) (in_mode form.escapes shown))
+    flat_map (printed_pieces rules form) (styled_paragraphs (cut_by rules) (in_mode form.escapes shown))
 
 -- the printed bytes of a text with its sequences
 abbrev pub text_page : Rules → Form → Pen → List ℕ → List ℕ

@@ -4,8 +4,7 @@ ghost use Rattle.std.specs.Prelude.{◌≡◌, ◌≤◌, ◌<◌, ◌++◌, ◌
 ghost use Rattle.std.specs.Prelude.{slice_index, slice_range, take, All, IfOk, OnOk};
 ghost use Rattle.std.specs.List.{flat_map};
 ghost use Rattle.lines.specs.Engine.{rules_of, SameRules};
-ghost use Rattle.lines.specs.Layouts.{cut_by, IsParagraph};
-ghost use Rattle.lines.specs.declared.engine.TheConstants.{PARAGRAPH_LIMIT};
+ghost use Rattle.lines.specs.Layouts.{cut_by};
 ghost use Rattle.sequences.specs.Laws.{characters_of};
 ghost use Rattle.sequences.specs.Scanners.{pen_of};
 ghost use Rattle.sequences.specs.Styled.{Style, next_paragraph, pen_at_end, styled};
@@ -14,12 +13,12 @@ ghost use Rattle.terminal.specs.Newlines.{last_of};
 ghost use Rattle.terminal.specs.Numbers.{numbered};
 ghost use Rattle.terminal.specs.Paragraphs.{styles_of};
 ghost use Rattle.terminal.specs.Parts.{styles_in};
-ghost use Rattle.terminal.specs.Prefixes.{printed_paragraph};
+ghost use Rattle.terminal.specs.Pieces.{printed_pieces, IsWhole};
 ghost use Rattle.terminal.specs.Texts.{block_page, in_mode, styled_paragraphs};
 
 use crate::form::{Escapes, Form};
 use crate::numbers::{Part, number_styles};
-use crate::paragraph::push_paragraph;
+use crate::pieces::push_pieces;
 use bidi::paragraphs_are_pieces;
 use lines::Engine;
 use sequences::{Scanner, StyledText};
@@ -73,9 +72,8 @@ fn number_mode(
 // Returns where the paragraph at an index of a block ends.
 fn paragraph_end(engine: &Engine, characters: &[char], at: usize) -> usize
     requires at { at < length characters.now }
-    requires short { length characters.now ≤ PARAGRAPH_LIMIT }
     ensures within { (at < result) × (result ≤ length characters.now) }
-    ensures paragraph { IsParagraph (rules_of engine.now) (slice_range characters.now at result) }
+    ensures paragraph { IsWhole (rules_of engine.now) (slice_range characters.now at result) }
     ensures split { (shown : List (ℕ × Style)) → characters.now ≡ characters_of shown
         → styled_paragraphs (cut_by (rules_of engine.now)) (drop at shown)
         ≡ take (result - at) (drop at shown) ∷ styled_paragraphs (cut_by (rules_of engine.now))
@@ -98,19 +96,18 @@ fn push_parts(
     part: &Part<'_>,
     out: &mut Vec<char>,
 ) -> Result<(), AllocError>
-    requires short { length part.now.characters.now ≤ PARAGRAPH_LIMIT }
     requires len { length part.now.numbers.now ≡ length part.now.characters.now }
     ensures ok { (shown : List (ℕ × Style)) → part.now.characters.now ≡ characters_of shown
         → styles_of shown ≡ styles_in part.now
         → OnOk result (page.new.bytes.items ≡ page.old.bytes.items ++ flat_map
-        (printed_paragraph (rules_of engine.old) form.now)
+        (printed_pieces (rules_of engine.old) form.now)
         (styled_paragraphs (cut_by (rules_of engine.old)) shown)) }
     ensures rules { SameRules engine.old engine.new }
 {
     let mut at = 0;
     while at < part.characters.len() {
         let end = paragraph_end(engine, part.characters, at);
-        push_paragraph(alloc, page, engine, form, &part.paragraph(at, end), out)?;
+        push_pieces(alloc, page, engine, form, &part.paragraph(at, end), out)?;
         at = end;
     }
     Ok(())
@@ -125,7 +122,6 @@ fn push_shown(
     text: &StyledText,
     buffers: &mut Buffers,
 ) -> Result<(), AllocError>
-    requires short { length text.now.characters.items ≤ PARAGRAPH_LIMIT }
     ensures ok { OnOk result (page.new.bytes.items ≡ page.old.bytes.items
         ++ block_page (rules_of engine.old) form.now (styled_of text.now)) }
     ensures rules { SameRules engine.old engine.new }
@@ -151,7 +147,6 @@ pub(crate) fn push_block(
     buffers: &mut Buffers,
 ) -> Result<Option<char>, AllocError>
     requires empty { styled_of scanner.old.text ≡ [] }
-    requires short { length block.now ≤ PARAGRAPH_LIMIT }
     ensures ok { OnOk result (page.new.bytes.items ≡ page.old.bytes.items
         ++ block_page (rules_of engine.old) form.now (styled (pen_of scanner.old) block.now)) }
     ensures pen { OnOk result (pen_of scanner.new

@@ -1,13 +1,14 @@
 //! Decodes a source whose bytes come in chunks.
-ghost use Rattle.std.specs.Prelude.{◌≡◌, ◌+◌, ◌-◌, ◌++◌, ◌<◌, ◌≤◌, [], ◌∷◌, drop, length, map, take};
-ghost use Rattle.std.specs.Prelude.{◌||◌, OnErr, OnOk, IfOk, false, if◌then◌else◌, nat_lt, vec_len};
+ghost use Rattle.std.specs.Prelude.{◌≡◌, ◌+◌, ◌-◌, ◌^◌, ◌++◌, ◌<◌, ◌≤◌, [], ◌∷◌, drop, length, map, take};
+ghost use Rattle.std.specs.Prelude.{◌&&◌, ◌||◌, OnErr, OnOk, IfOk, false, if◌then◌else◌, nat_lt, vec_len};
 ghost use Rattle.device.specs.Device.{Fails};
 ghost use Rattle.stream.specs.declared.reading.TheConstants.{CHUNK};
-ghost use Rattle.terminal.specs.Decoding.{pictures, IsRead, Takes};
+ghost use Rattle.stream.specs.Utf8.{is_bad};
+ghost use Rattle.terminal.specs.Decoding.{good_part, pictures, IsRead, Takes};
 ghost use Rattle.terminal.specs.Texts.{picture, without_mark};
 
 use crate::decoding::decode;
-use crate::form::Escapes;
+use crate::form::{Escapes, Form};
 use crate::text::picture;
 use device::Source;
 use std::alloc::{AllocError, Global};
@@ -19,6 +20,8 @@ pub(crate) struct Decoder {
     // The last chunk. Its first `waiting` bytes are the beginning of a character.
     chunk: Vec<u8>,
     waiting: usize,
+    // The number of bytes before the waiting ones.
+    pub(crate) decoded: u64,
     // Whether a character has been decoded. The first one is dropped if it is U+FEFF.
     started: bool,
 }
@@ -28,6 +31,7 @@ impl Drop for Decoder {
         let Decoder {
             chunk: _,
             waiting: _,
+            decoded: _,
             started: _,
         } = self;
     }
@@ -38,11 +42,13 @@ impl Decoder {
     pub(crate) fn new(alloc: Global) -> Result<Decoder, AllocError>
         ensures room { IfOk result (λ decoder. vec_len decoder.chunk ≡ CHUNK) }
         ensures waiting { IfOk result (λ decoder. decoder.waiting ≡ 0) }
+        ensures decoded { IfOk result (λ decoder. decoder.decoded ≡ 0) }
         ensures started { IfOk result (λ decoder. decoder.started ≡ false) }
     {
         Ok(Decoder {
             chunk: zeroed(alloc, CHUNK)?,
             waiting: 0,
+            decoded: 0,
             started: false,
         })
     }
@@ -57,25 +63,37 @@ impl Decoder {
         read_to(reader, &mut self.chunk, self.waiting)
     }
 
-    /// Decodes the waiting bytes and `len` more bytes, and adds their characters to a text. After a failed
-    /// allocation, some characters may be missing.
+    /// Decodes the waiting bytes and `len` more bytes, and adds their characters to a text. With
+    /// `form.strict`, stops at bytes that are not UTF-8, drops the rest, and returns whether there are any.
+    /// After a failed allocation, some characters may be missing.
     pub(crate) fn decode(
         &mut self,
-        escapes: Escapes,
+        form: &Form,
         len: usize,
         text: &mut Vec<char>,
-    ) -> Result<(), AllocError>
-        requires { self.old.waiting + len ≤ vec_len self.old.chunk }
-        ensures { OnOk result (Takes escapes (take (self.old.waiting + len) self.old.chunk.items)
+    ) -> Result<bool, AllocError>
+        requires room { self.old.waiting + len ≤ vec_len self.old.chunk }
+        requires counted { self.old.decoded + (self.old.waiting + len) ≤ 2 ^ 64 - 1 }
+        ensures bad { IfOk result (λ stops. stops ≡ (form.now.strict
+            && is_bad (take (self.old.waiting + len) self.old.chunk.items))) }
+        ensures takes { OnOk result (Takes form.now.strict form.now.escapes
+            (good_part form.now.strict (take (self.old.waiting + len) self.old.chunk.items))
             self.old self.new text.old.items text.new.items) }
     {
         let filled = self.waiting + len;
         let from = text.len();
-        let n = decode(&self.chunk[..filled], text)?;
+        let (n, stops) = decode(&self.chunk[..filled], form.strict, text)?;
         self.started = start(self.started, text, from);
-        show_pictures(escapes, text, from);
-        self.keep_bytes(n, filled);
-        Ok(())
+        show_pictures(form.escapes, text, from);
+        self.keep_bytes(n, end_of(stops, n, filled));
+        Ok(stops)
+    }
+
+    /// Returns whether the input has ended inside a character although the form is strict.
+    pub(crate) fn is_cut_short(&self, strict: bool) -> bool
+        ensures { result ≡ (strict && nat_lt 0 self.now.waiting) }
+    {
+        strict && self.waiting > 0
     }
 
     /// Adds U+FFFD to a text if the input has ended inside a character.
@@ -88,16 +106,26 @@ impl Decoder {
 
     // Moves the bytes in `start..end`, which are not a whole character yet, to the front of the chunk.
     fn keep_bytes(&mut self, start: usize, end: usize)
-        requires { (start ≤ end) × (end ≤ vec_len self.old.chunk) }
+        requires within { (start ≤ end) × (end ≤ vec_len self.old.chunk) }
+        requires counted { self.old.decoded + start ≤ 2 ^ 64 - 1 }
         ensures bytes { take self.new.waiting self.new.chunk.items
             ≡ drop start (take end self.old.chunk.items) }
-        ensures waiting { self.new.waiting ≡ end - start }
         ensures room { vec_len self.new.chunk ≡ vec_len self.old.chunk }
+        ensures waiting { self.new.waiting ≡ end - start }
+        ensures decoded { self.new.decoded ≡ self.old.decoded + start }
         ensures started { self.new.started ≡ self.old.started }
     {
         self.chunk.copy_within(start..end, 0);
         self.waiting = end - start;
+        self.decoded += start as u64;
     }
+}
+
+// Returns where the bytes end that are not dropped, given the number of decoded ones and of all.
+fn end_of(stops: bool, decoded: usize, filled: usize) -> usize
+    ensures { result ≡ (if stops then decoded else filled) }
+{
+    if stops { decoded } else { filled }
 }
 
 /// Adds U+FFFD to a text if an input ends with this number of bytes of an incomplete character.
@@ -111,8 +139,8 @@ pub(crate) fn push_end(waiting: usize, text: &mut Vec<char>) -> Result<(), Alloc
     Ok(())
 }
 
-/// Removes the character at an index of a text if it is U+FEFF, unless characters were decoded before. Returns
-/// whether any are decoded now.
+/// Removes the character at an index of a text if it is U+FEFF, unless characters were decoded before.
+/// Returns whether any are decoded now.
 pub(crate) fn start(started: bool, text: &mut Vec<char>, at: usize) -> bool
     requires { at ≤ vec_len text.old }
     ensures text { text.new.items ≡ take at text.old.items

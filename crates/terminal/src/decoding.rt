@@ -1,7 +1,7 @@
 //! Decodes bytes that come in chunks. What is not UTF-8 becomes U+FFFD.
-ghost use Rattle.std.specs.Prelude.{◌≡◌, ◌+◌, ◌++◌, ◌<◌, ◌≤◌, ℕ, List, None, IfOk, length, drop, take};
+ghost use Rattle.std.specs.Prelude.{◌≡◌, ◌+◌, ◌++◌, ◌<◌, ◌≤◌, ℕ, List, None, true, IfOk, length, drop, take};
 ghost use Rattle.std.specs.Str.Lossy.{utf8_error_len, utf8_valid_len};
-ghost use Rattle.terminal.specs.Decoding.{IsAllDecoded, IsValidPrefix};
+ghost use Rattle.terminal.specs.Decoding.{Decodes, IsAllDecoded, IsValidPrefix};
 
 use std::alloc::AllocError;
 use std::str::from_utf8;
@@ -23,8 +23,35 @@ fn valid_prefix(bytes: &[u8]) -> (&str, Option<usize>)
 }
 
 /// Adds the characters of bytes to a list, and returns the number of decoded bytes. The other bytes are the
-/// beginning of a character. After a failed allocation, some characters may be missing.
-pub(crate) fn decode(bytes: &[u8], characters: &mut Vec<char>) -> Result<usize, AllocError>
+/// beginning of a character. If `strict`, stops at bytes that are not UTF-8, and returns whether there are
+/// any. After a failed allocation, some characters may be missing.
+pub(crate) fn decode(
+    bytes: &[u8],
+    strict: bool,
+    characters: &mut Vec<char>,
+) -> Result<(usize, bool), AllocError>
+    ensures { IfOk result (λ decoded. Decodes strict bytes.now decoded.0 decoded.1
+        characters.old.items characters.new.items) }
+{
+    if strict {
+        return decode_strict(bytes, characters);
+    }
+    let n = decode_lossy(bytes, characters)?;
+    Ok((n, false))
+}
+
+// Does the work of `decode` if bytes that are not UTF-8 end the text.
+fn decode_strict(bytes: &[u8], characters: &mut Vec<char>) -> Result<(usize, bool), AllocError>
+    ensures { IfOk result (λ decoded. Decodes true bytes.now decoded.0 decoded.1
+        characters.old.items characters.new.items) }
+{
+    let (text, is_bad) = front(bytes);
+    push_characters(text, characters)?;
+    Ok((text.len(), is_bad))
+}
+
+/// Does the work of `decode` if each invalid sequence becomes U+FFFD.
+pub(crate) fn decode_lossy(bytes: &[u8], characters: &mut Vec<char>) -> Result<usize, AllocError>
     ensures { IfOk result (λ n. IsAllDecoded bytes.now n characters.old.items characters.new.items) }
 {
     let (text, is_bad) = front(bytes);
@@ -35,7 +62,7 @@ pub(crate) fn decode(bytes: &[u8], characters: &mut Vec<char>) -> Result<usize, 
     Ok(text.len())
 }
 
-// Does the work of `decode` for bytes some of which are invalid. Each byte is validated at most twice.
+// Does the work of `decode_lossy` for bytes some of which are invalid. Each byte is validated at most twice.
 fn decode_parts(bytes: &[u8], characters: &mut Vec<char>) -> Result<usize, AllocError>
     ensures { IfOk result (λ n. IsAllDecoded bytes.now n characters.old.items characters.new.items) }
 {

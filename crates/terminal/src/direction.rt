@@ -9,7 +9,7 @@ ghost use Rattle.lines.specs.Layouts.{cut_by};
 ghost use Rattle.terminal.specs.Directions.{base_by, direction_of, first_level, shown_level, StartsWith};
 
 use crate::decoder::{push_end, show_pictures, start};
-use crate::decoding::decode;
+use crate::decoding::decode_lossy;
 use crate::form::Escapes;
 use crate::known_ends::{FirstEnd, first_end};
 use bidi::{Base, paragraphs_are_pieces};
@@ -121,7 +121,7 @@ fn decode_start(escapes: Escapes, bytes: &[u8], text: &mut Vec<char>) -> Result<
     requires { text.old.items ≡ [] }
     ensures { IfOk result (λ n. StartsWith escapes bytes.now n text.new.items) }
 {
-    let n = decode(bytes, text)?;
+    let n = decode_lossy(bytes, text)?;
     let _started = start(false, text, 0);
     show_pictures(escapes, text, 0);
     Ok(n)

@@ -57,6 +57,8 @@ pub struct Form<'a> {
     /// Writes `LTR` or `RTL` after the first line of each paragraph.
     pub basedir: bool,
     pub escapes: Escapes,
+    /// Stops at bytes that are not UTF-8. A paragraph is then written only once something follows it.
+    pub strict: bool,
     /// A prefix as wide as the width or wider is none.
     pub prefix: Prefix<'a>,
 }

@@ -11,7 +11,8 @@ ghost use Rattle.sequences.specs.StyledTexts.{styled_of};
 ghost use Rattle.stream.specs.declared.reading.TheConstants.{CHUNK};
 ghost use Rattle.terminal.specs.Ends.{AreNoEnds};
 ghost use Rattle.terminal.specs.Run.{IsRun};
-ghost use Rattle.terminal.specs.RunState.{last_characters, AddsLast, Finishes, Gathers, Stands, Steps};
+ghost use Rattle.terminal.specs.RunState.{fault_after, last_characters};
+ghost use Rattle.terminal.specs.RunState.{AddsLast, Finishes, Gathers, Stands, Steps};
 
 use crate::decoder::Decoder;
 use crate::faults::Fault;
@@ -46,6 +47,7 @@ impl Held {
     fn new(alloc: Global) -> Result<Held, AllocError>
         ensures room { IfOk result (λ held. vec_len held.decoder.chunk ≡ CHUNK) }
         ensures waiting { IfOk result (λ held. held.decoder.waiting ≡ 0) }
+        ensures decoded { IfOk result (λ held. held.decoder.decoded ≡ 0) }
         ensures started { IfOk result (λ held. held.decoder.started ≡ false) }
         ensures text { IfOk result (λ held. held.text.items ≡ []) }
         ensures scanned { IfOk result (λ held. held.scanned ≡ 0) }
@@ -63,15 +65,16 @@ impl Held {
     }
 
     // Decodes the waiting bytes and `len` more bytes, and adds the lines of the blocks that have ended to the
-    // page, up to one that is too long. Returns whether one is.
+    // page, up to one that is too long. Returns why the run ends, if it does.
     fn gather(
         &mut self,
         alloc: Global,
         engine: &mut Engine,
         form: &Form,
         len: usize,
-    ) -> Result<bool, AllocError>
+    ) -> Result<Option<Fault>, AllocError>
         requires room { self.old.decoder.waiting + len ≤ vec_len self.old.decoder.chunk }
+        requires counted { self.old.decoder.decoded + (self.old.decoder.waiting + len) ≤ 2 ^ 64 - 1 }
         requires within { self.old.scanned ≤ length self.old.text.items }
         requires none { AreNoEnds (cut_by (rules_of engine.old)) self.old.scanned self.old.text.items }
         requires empty { styled_of self.old.output.scanner.text ≡ [] }
@@ -79,13 +82,13 @@ impl Held {
             (take (self.old.decoder.waiting + len) self.old.decoder.chunk.items) self.old self.new) }
         ensures rules { SameRules engine.old engine.new }
     {
-        self.decoder.decode(form.escapes, len, &mut self.text)?;
+        let stops = self.decoder.decode(form, len, &mut self.text)?;
         let left = self
             .output
             .push_ended(alloc, engine, form, &self.text, self.scanned)?;
         remove_front(&mut self.text, left.start);
         self.scanned = left.scanned;
-        Ok(left.is_long)
+        Ok(fault_of(left.is_long, stops, self.decoder.decoded))
     }
 
     // Adds the lines of the text that is left at the end of the input to the page, up to a block that is too
@@ -107,6 +110,20 @@ impl Held {
         self.decoder.finish(&mut self.text)?;
         self.output
             .push_last(alloc, engine, form, &self.text, is_last)
+    }
+}
+
+// Returns why a run ends after a chunk, given whether a block is too long, and whether the bytes are not
+// UTF-8 from an index on.
+fn fault_of(is_long: bool, stops: bool, at: u64) -> Option<Fault>
+    ensures { result ≡ fault_after is_long stops at }
+{
+    if is_long {
+        Some(Fault::ParagraphTooLong)
+    } else if stops {
+        Some(Fault::NotUtf8(at))
+    } else {
+        None
     }
 }
 
@@ -138,6 +155,9 @@ fn finish<W: Sink>(
         (W.state writer.old) (W.state writer.new) result }
     ensures rules { SameRules engine.old engine.new }
 {
+    if held.decoder.is_cut_short(form.strict) {
+        return Err(Fault::NotUtf8(held.decoder.decoded));
+    }
     let Ok(is_long) = held.gather_last(alloc, engine, form, is_last) else {
         return Err(Fault::Memory);
     };
@@ -183,23 +203,23 @@ fn step<R: Source, W: Sink>(
             Err(fault) => Err(fault),
         };
     }
-    let Ok(is_long) = held.gather(alloc, engine, form, len) else {
+    let Ok(fault) = held.gather(alloc, engine, form, len) else {
         return Err(Fault::Memory);
     };
     if let Err(fault) = held.output.write(writer) {
         return Err(fault);
     }
-    if is_long {
-        return Err(Fault::ParagraphTooLong);
+    match fault {
+        Some(fault) => Err(fault),
+        None => Ok(true),
     }
-    Ok(true)
 }
 
 /// Reads a text to its end, and writes the lines of what it shows, at a width that must not be 0.
 ///
-/// Invalid UTF-8 is read as U+FFFD, and a U+FEFF that the text begins with is dropped. The lines of a
-/// paragraph are written as soon as its end is known, before more is read. Only the last paragraph and one
-/// chunk of the input are kept in memory.
+/// Invalid UTF-8 is read as U+FFFD, unless the form is strict, and a U+FEFF that the text begins with is
+/// dropped. The lines of a paragraph are written as soon as its end is known, before more is read. Only the
+/// last paragraph and one chunk of the input are kept in memory.
 ///
 /// With `is_last`, the last newline is left out if the text does not end a line: its last character has
 /// neither bidi class B nor line breaking class BK, CR, LF or NL.
@@ -208,6 +228,8 @@ fn step<R: Source, W: Sink>(
 ///
 /// - `Read`: the source failed. All paragraphs that have ended were written.
 /// - `Write`: the sink failed.
+/// - `NotUtf8`: the form is strict, and the input is not UTF-8. All paragraphs before this were written but
+///   the last one.
 /// - `ParagraphTooLong`: a paragraph with its sequences is longer than `PARAGRAPH_LIMIT`. All paragraphs
 ///   before it were written.
 /// - `Memory`: an allocation failed.

@@ -1,5 +1,5 @@
 //! Collects the lines of blocks, and writes them.
-ghost use Rattle.std.specs.Prelude.{◌≡◌, ◌+◌, ◌≤◌, ◌<◌, ◌∷◌, [], ℕ, length, IfErr, IfOk, OnOk};
+ghost use Rattle.std.specs.Prelude.{◌≡◌, ◌+◌, ◌≤◌, ◌<◌, ◌==◌, ◌&&◌, ◌∷◌, [], ℕ, length, IfErr, IfOk, OnOk};
 ghost use Rattle.device.specs.Device.{StoppedAt, Wrote};
 ghost use Rattle.lines.specs.Engine.{rules_of, SameRules};
 ghost use Rattle.lines.specs.Layouts.{cut_by};
@@ -80,7 +80,6 @@ impl Output {
         block: &[char],
     ) -> Result<Option<char>, AllocError>
         requires empty { styled_of self.old.scanner.text ≡ [] }
-        requires short { length block.now ≤ PARAGRAPH_LIMIT }
         ensures adds { OnOk result (Adds (rules_of engine.old) form.now (block.now ∷ []) self.old self.new) }
         ensures last { IfOk result (λ last. last
             ≡ last_of (characters_of (styled (pen_of self.old.scanner) block.now))) }
@@ -99,7 +98,8 @@ impl Output {
     }
 
     /// Adds the lines of the blocks of a text that have ended, whatever follows it, up to one that is too
-    /// long. No block ends before the index `scanned`, whatever follows the text.
+    /// long. If the form is strict, holds back a block that nothing follows yet. No block ends before the
+    /// index `scanned`, whatever follows the text.
     pub(crate) fn push_ended(
         &mut self,
         alloc: Global,
@@ -126,6 +126,14 @@ impl Output {
                         start,
                         scanned: 0,
                         is_long: true,
+                    });
+                }
+                // Like `fribidi`, does not write the last paragraph before bytes that are not UTF-8.
+                FirstEnd::At(k) if is_held(form, k, rest.len()) => {
+                    return Ok(Left {
+                        start,
+                        scanned: k - 1,
+                        is_long: false,
                     });
                 }
                 FirstEnd::At(k) => {
@@ -213,6 +221,13 @@ fn is_ended(engine: &Engine, last: Option<char>) -> bool
         Some(c) => engine.separator_len('\0', c) > 0,
         None => true,
     }
+}
+
+// Returns whether a block of this length, with which a text of another length begins, is held back.
+fn is_held(form: &Form, block: usize, len: usize) -> bool
+    ensures { result ≡ (form.now.strict && (block == len)) }
+{
+    form.strict && block == len
 }
 
 // Returns what is left of a text, which begins at `start`, has `len` characters, and has no known end. It is

@@ -1,7 +1,6 @@
 //! Adds the lines of what a text shows.
 ghost use Rattle.std.specs.Prelude.{◌≡◌, ◌≤◌, ◌<◌, ◌++◌, length, OnOk};
 ghost use Rattle.lines.specs.Engine.{rules_of, SameRules};
-ghost use Rattle.lines.specs.declared.engine.TheConstants.{PARAGRAPH_LIMIT};
 ghost use Rattle.sequences.specs.Styled.{START};
 ghost use Rattle.terminal.specs.Texts.{picture, text_page};
 
@@ -30,8 +29,9 @@ pub fn picture(c: char) -> char
     }
 }
 
-/// Adds the lines of what a text shows to a page. The text begins in the default style, and must not have
-/// more characters than a paragraph may have. After a failed allocation, some lines may be missing.
+/// Adds the lines of what a text shows to a page. The text begins in the default style. A paragraph over
+/// `PARAGRAPH_LIMIT` is laid out in pieces of this length, in the direction of the first one. After a failed
+/// allocation, some lines may be missing.
 pub fn push_text(
     alloc: Global,
     page: &mut Page,
@@ -39,7 +39,6 @@ pub fn push_text(
     form: &Form<'_>,
     text: &[char],
 ) -> Result<(), AllocError>
-    requires short { length text.now ≤ PARAGRAPH_LIMIT }
     ensures ok { OnOk result (page.new.bytes.items ≡ page.old.bytes.items
         ++ text_page (rules_of engine.old) form.now START text.now) }
     ensures rules { SameRules engine.old engine.new }

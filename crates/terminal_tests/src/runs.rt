@@ -329,3 +329,66 @@ fn input_that_is_all_invalid_is_read_to_its_end(rt: HostRuntime) -> Result<(), F
     assert!(rt; result == Ok(()) && page.bytes().len() == 200_000 * 3 + 10_000);
     Ok(())
 }
+
+// Returns whether a strict run ends with a fault after writing the lines that are expected, wherever the
+// first chunk ends.
+fn ends_with(
+    alloc: Global,
+    engine: &mut Engine,
+    bytes: &[u8],
+    expected: &str,
+    fault: Fault,
+) -> Result<bool, Fail> {
+    let form = Form {
+        strict: true,
+        ..form(20, Escapes::Keep)
+    };
+    for k in 0..bytes.len() + 1 {
+        let (first, second) = bytes.split_at(k);
+        let mut reader = FromRead::new(first.chain(second));
+        let mut page = Page::new(alloc);
+        let result = run(alloc, &mut reader, &mut page, engine, &form, true);
+        if result != Err(fault) || page.bytes() != expected.as_bytes() {
+            return Ok(false);
+        }
+    }
+    Ok(true)
+}
+
+#[test]
+fn strict_run_ends_where_the_input_is_not_utf8(rt: HostRuntime) -> Result<(), Fail> {
+    let mut engine = engine(rt.alloc(), 0)?;
+    for (bytes, expected, at) in [
+        (b"a\nb\n\xffc\n".as_slice(), "a\n", 4),
+        (b"a\nb\xff".as_slice(), "a\n", 3),
+        (b"\xffa\n".as_slice(), "", 0),
+        (b"a\n\n\xff".as_slice(), "a\n", 3),
+        (b"a\nb\xe2\x82c".as_slice(), "a\n", 3),
+        // The input ends inside a character.
+        (b"a\nb\n\xe2\x82".as_slice(), "a\n", 4),
+        (b"a\r\nb\xf0\x9f\x98".as_slice(), "a\n", 4),
+        (b"\xef\xbb\xbfa\nb\xff".as_slice(), "a\n", 6),
+    ] {
+        let fault = Fault::NotUtf8(at);
+        assert!(rt; ends_with(rt.alloc(), &mut engine, bytes, expected, fault)?);
+    }
+    Ok(())
+}
+
+#[test]
+fn strict_run_of_valid_text_writes_all(rt: HostRuntime) -> Result<(), Fail> {
+    let mut engine = engine(rt.alloc(), 0)?;
+    let form = Form {
+        strict: true,
+        ..form(20, Escapes::Keep)
+    };
+    for (bytes, expected) in [
+        (b"a\nb".as_slice(), "a\nb"),
+        (b"a\n\x1b[31mb\n".as_slice(), "a\n\x1b[31mb\x1b[m\n"),
+        (b"\xe2\x82\xac\r\n".as_slice(), "\u{20ac}\n"),
+        (b"".as_slice(), ""),
+    ] {
+        assert!(rt; is_output(rt.alloc(), &mut engine, &form, true, bytes, expected)?);
+    }
+    Ok(())
+}

@@ -34,6 +34,7 @@ pub(crate) fn form(width: u16, escapes: Escapes) -> Form<'static> {
         nomirror: false,
         basedir: false,
         escapes,
+        strict: false,
         prefix: Prefix::None,
     }
 }

@@ -5,8 +5,7 @@ use Rattle.terminal.proofs.block.paragraph_end.Goals as goal
 
 pub returns-in-Some-clause-paragraph : goal.returns-in-Some-clause-paragraph
 returns-in-Some-clause-paragraph c =
-    range_ends c.paragraphs_are_pieces.ensures (rules_of c.args.engine.now) c.args.characters.now _ c.args.at c.in-Some.k (c.args.at + c.in-Some.k) c.split_at.ensures.back refl c.requires.short
-    c.in-Some.ensures.paragraphs
+    range_ends c.paragraphs_are_pieces.ensures (rules_of c.args.engine.now) c.args.characters.now _ c.args.at c.in-Some.k (c.args.at + c.in-Some.k) c.split_at.ensures.back refl c.in-Some.ensures.paragraphs
 
 pub returns-in-Some-clause-split : goal.returns-in-Some-clause-split
 returns-in-Some-clause-split c = λ shown same.
@@ -14,7 +13,7 @@ returns-in-Some-clause-split c = λ shown same.
 
 pub returns-in-None-clause-paragraph : goal.returns-in-None-clause-paragraph
 returns-in-None-clause-paragraph c =
-    range_last (rules_of c.args.engine.now) c.args.characters.now _ c.args.at c.split_at.ensures.back c.requires.at c.requires.short c.in-None.ensures.paragraphs
+    range_last (rules_of c.args.engine.now) c.args.characters.now _ c.args.at c.split_at.ensures.back c.requires.at c.in-None.ensures.paragraphs
 
 pub returns-in-None-clause-split : goal.returns-in-None-clause-split
 returns-in-None-clause-split c = λ shown same.

@@ -6,18 +6,9 @@ use Rattle.sequences.specs.Scanners.{pen_of}
 use Rattle.sequences.specs.Styled.{next_paragraph, styled}
 use Rattle.terminal.specs.Texts.{block_page}
 use Rattle.terminal.specs.Newlines.{last_of}
-use Rattle.terminal.proofs.BlockLemmas.{block_short, text_characters}
+use Rattle.terminal.proofs.BlockLemmas.{text_characters}
 use Rattle.terminal.proofs.NewlineLemmas.{last_is}
 use Rattle.terminal.proofs.block.push_block.Goals as goal
-
-pub push_shown-requires : goal.push_shown-requires
-push_shown-requires c =
-    let pen = pen_of c.args.scanner.now in
-    let block = c.args.block.now in
-    record {
-      short = block_short c.push_text.new.self.text pen block (c.in_ok-push_text.ensures.text ∙ ap (λ xs. xs ++ styled pen block) c.requires.empty)
-          c.requires.short;
-    }
 
 pub returns-clause-ok : goal.returns-clause-ok
 returns-clause-ok c =

@@ -1,7 +1,14 @@
-use Rattle.terminal.proofs.LossyLemmas.{front_decoded}
+use Rattle.std.proofs.Common.{Bool, false, IfOk, sym, subst}
+use Rattle.terminal.specs.Decoding.{Decodes}
+use Rattle.terminal.proofs.LossyLemmas.{lossy_decodes}
 use Rattle.terminal.proofs.decoding.decode.Goals as goal
+
+pub returns-then-strict : goal.returns-then-strict
+returns-then-strict c =
+    subst (λ (strict : Bool). IfOk c.decode_strict.result (λ decoded. Decodes strict c.args.bytes.now decoded.0 decoded.1 c.args.characters.now.items c.decode_strict.new.characters.items))
+    (sym c.if-strict.true) c.decode_strict.ensures
 
 pub returns : goal.returns
 returns c =
-    front_decoded c.args.bytes.now _ c.args.characters.now.items _ _ c.front-is_bad.ensures.text c.front-is_bad.ensures.bad c.if-is_bad.false c.front-is_bad.ensures.few
-    c.in_ok-push_characters.ensures.ok
+    subst (λ (strict : Bool). Decodes strict c.args.bytes.now c.in_ok-n.n false c.args.characters.now.items c.decode_lossy.new.characters.items) (sym c.if-strict.false)
+    (lossy_decodes c.args.bytes.now c.args.characters.now.items c.decode_lossy.new.characters.items c.in_ok-n.n c.in_ok-n.ensures)

@@ -1,7 +1,7 @@
 use Rattle.std.proofs.Common.{Ok, Err}
 use Rattle.lines.specs.Engine.{rules_of}
 use Rattle.terminal.proofs.RunLemmas.{ends_read}
-use Rattle.terminal.proofs.StepLemmas.{step_end, step_fault, step_long, step_memory, step_on}
+use Rattle.terminal.proofs.StepLemmas.{step_end, step_fault, step_memory, step_on, step_stop}
 use Rattle.terminal.proofs.input.step.Goals as goal
 
 pub returns-in-Err-clause-steps : goal.returns-in-Err-clause-steps
@@ -30,17 +30,17 @@ pub returns-in-Err-write-clause-steps : goal.returns-in-Err-write-clause-steps
 returns-in-Err-write-clause-steps g c = λ reader_start writer_start stands.
     step_fault (rules_of c.args.engine.now) c.args.form.now c.args.is_last reader_start writer_start (g.R.Source.state c.args.reader.now) (g.W.Sink.state c.args.writer.now)
     c.args.held.now stands (g.R.Source.state c.read.new.reader) c.in-Ok.len c.read.new.self c.in-Ok.ensures.ok
-    c.gather.new.self c.in-Ok-gather.is_long c.in-Ok-gather.ensures.gathers (g.W.Sink.state c.write.new.writer) c.in-Err-write.fault c.in-Err-write.ensures.err
+    c.gather.new.self c.in-Ok-gather.fault c.in-Ok-gather.ensures.gathers (g.W.Sink.state c.write.new.writer) c.in-Err-write.fault c.in-Err-write.ensures.err
 
-pub returns-then-is_long-clause-steps : goal.returns-then-is_long-clause-steps
-returns-then-is_long-clause-steps g c = λ reader_start writer_start stands.
-    step_long (rules_of c.args.engine.now) c.args.form.now c.args.is_last reader_start writer_start (g.R.Source.state c.args.reader.now) (g.W.Sink.state c.args.writer.now)
+pub returns-in-Some-clause-steps : goal.returns-in-Some-clause-steps
+returns-in-Some-clause-steps g c = λ reader_start writer_start stands.
+    step_stop (rules_of c.args.engine.now) c.args.form.now c.args.is_last reader_start writer_start (g.R.Source.state c.args.reader.now) (g.W.Sink.state c.args.writer.now)
     c.args.held.now stands (g.R.Source.state c.read.new.reader) c.in-Ok.len c.read.new.self c.in-Ok.ensures.ok
-    c.gather.new.self c.in-Ok-gather.is_long c.in-Ok-gather.ensures.gathers (g.W.Sink.state c.write.new.writer) c.in_default-write.ensures.ok c.if-is_long.true
+    c.gather.new.self c.in-Ok-gather.fault c.in-Ok-gather.ensures.gathers (g.W.Sink.state c.write.new.writer) c.in-Some.fault c.in_default-write.ensures.ok c.in-Some.is
 
-pub returns-clause-steps : goal.returns-clause-steps
-returns-clause-steps g c = λ reader_start writer_start stands.
+pub returns-in-None-clause-steps : goal.returns-in-None-clause-steps
+returns-in-None-clause-steps g c = λ reader_start writer_start stands.
     step_on (rules_of c.args.engine.now) c.args.form.now c.args.is_last reader_start writer_start (g.R.Source.state c.args.reader.now) (g.W.Sink.state c.args.writer.now)
     c.args.held.now stands (g.R.Source.state c.read.new.reader) c.in-Ok.len c.read.new.self c.in-Ok.ensures.ok
-    c.gather.new.self c.in-Ok-gather.is_long c.in-Ok-gather.ensures.gathers (g.W.Sink.state c.write.new.writer) c.write.new.self c.in_default-write.ensures.ok
-    c.in_default-write.ensures.empty c.in_default-write.ensures.written c.write.ensures.scanner c.if-is_long.false
+    c.gather.new.self c.in-Ok-gather.fault c.in-Ok-gather.ensures.gathers (g.W.Sink.state c.write.new.writer) c.write.new.self c.in_default-write.ensures.ok
+    c.in_default-write.ensures.empty c.in_default-write.ensures.written c.write.ensures.scanner c.in-None.is

@@ -8,21 +8,16 @@ use Rattle.terminal.proofs.text.push_text.Goals as goal
 pub loop-rest-init : goal.loop-rest-init
 loop-rest-init c = record {
   rules = refl;
-  short = c.requires.short;
   empty = c.new-scanner.ensures.text;
   text = ap (λ pen. c.args.page.now.bytes.items ++ text_page (rules_of c.args.engine.now) c.args.form.now pen c.args.text.now) c.new-scanner.ensures.pen;
 }
 
-pub push_block-requires-clause-empty : goal.push_block-requires-clause-empty
-push_block-requires-clause-empty c = c.loop-rest.invariant.empty
-
-pub push_block-requires-clause-short : goal.push_block-requires-clause-short
-push_block-requires-clause-short c = omega (arith, c.split_at.ensures.front_len, c.block_len.ensures.within.1, c.loop-rest.invariant.short)
+pub push_block-requires : goal.push_block-requires
+push_block-requires c = record { empty = c.loop-rest.invariant.empty }
 
 pub loop-rest-preserved : goal.loop-rest-preserved
 loop-rest-preserved c = record {
   rules = c.in_ok-push_block.ensures.rules ∙ c.loop-rest.invariant.rules;
-  short = omega (arith, c.split_at.ensures.back_len, c.loop-rest.invariant.short);
   empty = c.in_ok-push_block.ensures.empty;
   text = next_block (rules_of c.args.engine.now) c.args.form.now (rules_of c.loop-rest.engine) (pen_of c.loop-rest.scanner) (pen_of c.push_block.new.scanner)
       c.loop-rest.rest.now c.split_at.result.0.now c.split_at.result.1.now c.block_len.result c.loop-rest.page.bytes.items _ _ c.loop-rest.invariant.rules

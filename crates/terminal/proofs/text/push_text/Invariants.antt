@@ -1,4 +1,4 @@
-use Rattle.std.proofs.Common.{◌≡◌, ◌≤◌, ◌++◌, [], length}
+use Rattle.std.proofs.Common.{◌≡◌, ◌++◌, [], length}
 use Rattle.lines.specs.Engine.{rules_of, SameRules}
 use Rattle.sequences.specs.Scanners.{pen_of}
 use Rattle.sequences.specs.Styled.{START}
@@ -9,7 +9,6 @@ use Rattle.terminal.proofs.text.push_text.Given as goal
 abbrev pub invariant-loop-rest : goal.invariant-loop-rest
 invariant-loop-rest l = record {
   rules : SameRules l.fn.engine l.engine;
-  short : length l.rest ≤ 1048576;
   empty : styled_of l.scanner.text ≡ [];
   text : l.page.bytes.items ++ text_page (rules_of l.fn.engine) l.form (pen_of l.scanner) l.rest
       ≡ l.fn.page.bytes.items ++ text_page (rules_of l.fn.engine) l.form START l.text;

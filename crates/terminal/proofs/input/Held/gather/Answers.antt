@@ -1,21 +1,21 @@
-use Rattle.std.proofs.Common.{List, ℕ, sym, subst, ap, length, arith}
+use Rattle.std.proofs.Common.{Bool, ◌∙◌, List, ℕ, sym, subst, ap, length, arith}
 use Rattle.lines.specs.Engine.{rules_of}
 use Rattle.lines.specs.Layouts.{cut_by}
 use Rattle.std.proofs.lemmas.List.{length-append}
 use Rattle.terminal.specs.Ends.{AreNoEnds}
-use Rattle.terminal.specs.RunState.{AddsEnded, IsFront, Leaves}
+use Rattle.terminal.specs.RunState.{AddsEnded, IsFront, Leaves, fault_after}
 use Rattle.terminal.proofs.KnownEndLemmas.{no_ends_append}
 use Rattle.terminal.proofs.input.Held.gather.Goals as goal
 
 pub push_ended-requires-clause-within : goal.push_ended-requires-clause-within
 push_ended-requires-clause-within c =
-    let takes = c.in_ok-decode.ensures in
+    let takes = c.in_ok-stops.ensures.takes in
     let old = c.args.self.now.text.items in
     omega (arith, ap length c.deref.ensures.value, ap length takes.added, length-append old takes.characters, c.requires.within)
 
 pub push_ended-requires-clause-none : goal.push_ended-requires-clause-none
 push_ended-requires-clause-none c =
-    let takes = c.in_ok-decode.ensures in
+    let takes = c.in_ok-stops.ensures.takes in
     let is_cut = cut_by (rules_of c.args.engine.now) in
     let scanned = c.args.self.now.scanned in
     subst (AreNoEnds is_cut scanned) (sym c.deref.ensures.value)
@@ -30,9 +30,12 @@ returns-clause-gathers c =
     subst (λ (t : List ℕ). AddsEnded rules c.args.form.now t c.args.self.now.output c.push_ended.new.self left.start left.scanned left.is_long) c.deref.ensures.value c.in_ok-left.ensures.adds in
     record {
       text = text;
-      takes = c.in_ok-decode.ensures;
+      takes = c.in_ok-stops.ensures.takes;
       parts = added.parts;
       front = subst (IsFront (cut_by rules) added.parts text) (sym c.remove_front.ensures) added.front;
       adds = added.adds;
-      leaves = subst (λ (t : List ℕ). Leaves rules left.is_long left.scanned t) (sym c.remove_front.ensures) added.leaves;
+      is_long = left.is_long;
+      leaves = subst (λ (t : List ℕ). Leaves rules c.args.form.now.strict left.is_long left.scanned t) (sym c.remove_front.ensures) added.leaves;
+      holds = λ is none. added.holds is (sym (ap length c.remove_front.ensures) ∙ none);
+      fault_is = c.fault_of.ensures ∙ ap (λ (b : Bool). fault_after left.is_long b c.decode.new.self.decoded) c.in_ok-stops.ensures.bad;
     }

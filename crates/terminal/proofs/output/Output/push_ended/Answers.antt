@@ -1,6 +1,6 @@
-use Rattle.std.proofs.Common.{◌∙◌, length, ap, arith, length-drop}
+use Rattle.std.proofs.Common.{◌∙◌, length, ap, refl, arith, length-drop}
 use Rattle.lines.specs.Engine.{rules_of}
-use Rattle.terminal.proofs.PushLemmas.{added_one, ends_first, ends_open}
+use Rattle.terminal.proofs.PushLemmas.{added_one, ends_first, ends_held, ends_open, held_is, holding_more}
 use Rattle.terminal.proofs.output.Output.push_ended.Goals as goal
 
 pub returns-in-After-clause-adds : goal.returns-in-After-clause-adds
@@ -8,24 +8,33 @@ returns-in-After-clause-adds c =
     let at = c.loop-k.invariant in
     ends_open (rules_of c.args.engine.now) (rules_of c.loop-k.engine) c.args.form.now c.args.text.now c.split_at.result.1.now c.args.self.now c.loop-k.self
     c.loop-k.start c.in-After.k c.left_open.result.start c.left_open.result.scanned c.left_open.result.is_long at.rules at.added c.split_at.ensures.back
-    (c.first_end.ensures.open c.in-After.k c.in-After.is) c.left_open.ensures.start c.left_open.ensures.scanned c.left_open.ensures.short at.empty
+    (c.first_end.ensures.open c.in-After.k c.in-After.is) c.left_open.ensures.start c.left_open.ensures.scanned c.left_open.ensures.short at.empty at.holding
 
 pub returns-in-At-clause-adds : goal.returns-in-At-clause-adds
 returns-in-At-clause-adds c =
     let at = c.loop-k.invariant in
     ends_first (rules_of c.args.engine.now) (rules_of c.loop-k.engine) c.args.form.now c.args.text.now c.split_at.result.1.now c.args.self.now c.loop-k.self
-    c.loop-k.start c.in-At.k at.rules at.added c.split_at.ensures.back (c.first_end.ensures.at c.in-At.k c.in-At.is) c.if-k-gt-PARAGRAPH_LIMIT.true at.empty
+    c.loop-k.start c.in-At.k at.rules at.added c.split_at.ensures.back (c.first_end.ensures.at c.in-At.k c.in-At.is) c.if-k-gt-PARAGRAPH_LIMIT.true at.empty at.holding
 
 pub loop-k-preserved : goal.loop-k-preserved
 loop-k-preserved c =
     let at = c.loop-k.invariant in
     let first = c.first_end.ensures.at c.in-At.k c.in-At.is in
     record {
-      rules = c.in_ok-push-in-At-2.ensures.rules ∙ at.rules;
+      rules = c.in_ok-push-in-At-3.ensures.rules ∙ at.rules;
       within = omega (arith, first.within, ap length c.split_at.ensures.back, length-drop c.loop-k.start c.args.text.now, at.within);
       none = λ k below more. absurd (omega (arith, below));
-      empty = c.in_ok-push-in-At-2.ensures.adds.empty;
-      added = added_one (rules_of c.args.engine.now) (rules_of c.loop-k.engine) c.args.form.now c.args.text.now c.split_at.result.1.now c.split_at-in-At-2.result.0.now
+      empty = c.in_ok-push-in-At-3.ensures.adds.empty;
+      holding = holding_more c.args.form.now.strict c.is_held.result c.args.text.now c.split_at.result.1.now c.loop-k.start c.in-At.k c.split_at.ensures.back c.is_held.ensures
+          c.if-is_held.false first.within;
+      added = added_one (rules_of c.args.engine.now) (rules_of c.loop-k.engine) c.args.form.now c.args.text.now c.split_at.result.1.now c.split_at-in-At-3.result.0.now
           c.args.self.now c.loop-k.self c.push.new.self c.loop-k.start c.in-At.k at.rules at.added c.split_at.ensures.back first c.if-k-gt-PARAGRAPH_LIMIT.false
-          c.split_at-in-At-2.ensures.front c.in_ok-push-in-At-2.ensures.adds;
+          c.split_at-in-At-3.ensures.front c.in_ok-push-in-At-3.ensures.adds;
     }
+
+pub returns-in-At-2-clause-adds : goal.returns-in-At-2-clause-adds
+returns-in-At-2-clause-adds c =
+    let at = c.loop-k.invariant in
+    let held = held_is c.args.form.now.strict c.is_held.result c.in-At.k (length c.split_at.result.1.now) c.is_held.ensures c.if-is_held.true in
+    ends_held (rules_of c.args.engine.now) (rules_of c.loop-k.engine) c.args.form.now c.args.text.now c.split_at.result.1.now c.args.self.now c.loop-k.self
+    c.loop-k.start c.in-At.k _ at.rules at.added c.split_at.ensures.back (c.first_end.ensures.at c.in-At.k c.in-At.is) held.1 held.0 refl at.empty at.holding
