@@ -13,6 +13,7 @@ from ._records import ExplainedCharacter, ExplainedParagraph, Explanation, Optio
 from .session import Session
 from .tables import Tables, default_tables
 from .text import base_level, properties
+from .text import levels as levels_of
 
 WIDTHS = range(1, 121)  # of the layouts in a page
 _PAGE = os.path.join(os.path.dirname(os.path.abspath(__file__)), "_explain.html")
@@ -35,6 +36,8 @@ _COLUMNS = {
     "why": "why",
 }
 _CHARACTER_COLUMNS = 4  # of a terminal, for the column "char"
+_FIXED = Options.LTR, Options.RTL  # for each base level
+_NO_BRACKET = "!"  # (which has the class of brackets)
 
 
 class Reason(NamedTuple):
@@ -70,9 +73,11 @@ def explain(
         for offset, (level, visual) in enumerate(zip(line.levels, line.logical_to_visual)):
             places[line.start + offset] = number, level, visual
     known = dict(zip(set(text), _described("".join(set(text)), tables)))
+    no_brackets = {ord(one): _NO_BRACKET for one, its in known.items() if its[-1]}
+    without_n0 = [level for one in paragraphs for level in _levels_without_n0(text, one, no_brackets, tables)]
     characters = tuple(
-        ExplainedCharacter._make((position, character, *known[character], levels[position], marks[position], *places[position]))
-        for position, character in enumerate(text)
+        ExplainedCharacter._make((position, character, *known[character], level, without, mark, *place))
+        for position, (character, level, without, mark, place) in enumerate(zip(text, levels, without_n0, marks, places))
     )
     explained = [
         ExplainedParagraph(one.start, one.length, one.base_level, _decider(text, one, options, tables)) for one in paragraphs
@@ -86,6 +91,13 @@ def _described(characters: str, tables: Tables) -> list[tuple[Any, ...]]:
         (_code_point(one), unicodedata.name(one, ""), *its._replace(mirror=_code_point(its.mirror), pair=_code_point(its.pair)))
         for one, its in zip(characters, properties(characters, tables=tables))
     ]
+
+
+def _levels_without_n0(text: str, paragraph: Paragraph, no_brackets: dict[int, str], tables: Tables) -> Sequence[int]:
+    """Returns the levels of a paragraph in which each bracket is replaced by another character of the same class."""
+    given = text[paragraph.start : paragraph.start + paragraph.length]
+    changed = given.translate(no_brackets)
+    return paragraph.levels if changed == given else levels_of(changed, _FIXED[paragraph.base_level], tables=tables)
 
 
 def _code_point(character: str) -> str:
@@ -173,12 +185,7 @@ def _columns_of(one: ExplainedCharacter) -> int:
 
 def _whys(explained: Explanation, reasons: Sequence[Reason]) -> list[list[str]]:
     """Returns what rules changed at each character, as sentences."""
-    found: list[list[str]] = [[] for _ in explained.characters]
-    for number, paragraph in enumerate(explained.paragraphs):
-        if paragraph.decided_by is not None:
-            found[paragraph.decided_by].append(f"P2: decides the base level of paragraph {number}")
-    for at, reason in enumerate(reasons):
-        found[at] += [*reason.sentences, *([f"unpaired: {reason.unpaired}"] if reason.unpaired else [])]
+    found = _whys_of_paragraphs(explained, reasons)
     for one in explained.characters:
         if one.line is not None and one.visual is not None:
             if one.level != one.line_level:
@@ -186,6 +193,20 @@ def _whys(explained: Explanation, reasons: Sequence[Reason]) -> list[list[str]]:
             drawn = explained.lines[one.line].text[one.visual]
             if drawn != one.character:
                 found[one.position].append(f"L4: drawn as {drawn}")
+    return found
+
+
+def _whys_of_paragraphs(explained: Explanation, reasons: Sequence[Reason]) -> list[list[str]]:
+    """Returns those sentences that do not depend on the lines."""
+    found: list[list[str]] = [[] for _ in explained.characters]
+    for number, paragraph in enumerate(explained.paragraphs):
+        if paragraph.decided_by is not None:
+            found[paragraph.decided_by].append(f"P2: decides the base level of paragraph {number}")
+    for at, reason in enumerate(reasons):
+        found[at] += [*reason.sentences, *([f"unpaired: {reason.unpaired}"] if reason.unpaired else [])]
+    for one in explained.characters:
+        if one.level != one.level_without_n0:
+            found[one.position].append(f"N0: bracket pairs change level {one.level_without_n0} to {one.level}")
     return found
 
 
@@ -216,7 +237,9 @@ def page(
         "paragraphs": explained.paragraphs,
         **layouts,
         "columns": {name: field for name, field in _COLUMNS.items() if reasons or field != "partner"},
-        "reasons": reasons,
+        "partners": [reason.partner for reason in reasons],
+        "unpaired": {at: reason.unpaired for at, reason in enumerate(reasons) if reason.unpaired},
+        "whys": {at: whys for at, whys in enumerate(_whys_of_paragraphs(explained, reasons)) if whys},
     }
     packed = zlib.compress(json.dumps(data, separators=(",", ":")).encode())
     with open(_PAGE, encoding="utf-8") as template:

@@ -330,8 +330,8 @@ class ExplainedCharacter(NamedTuple):
     """A character of an `Explanation`.
 
     `position`: its index in the text. `character`, `code_point`, `name`: which it is, such as `"("`, `"U+0028"`, `"LEFT PARENTHESIS"`.
-    `mirror` to `bracket`: its properties, as in `Character`. `level`: its level before L1. `break_mark`: the break mark after it.
-    `line`: its line. `line_level`: its level after L1. `visual`: its visual position in the line. These three are `None` if the
+    `mirror` to `bracket`: its properties, as in `Character`. `level`: its level before L1. `level_without_n0`: its level if no brackets
+    were paired (UAX #9, N0). `break_mark`: the break mark after it. `line`: its line. `line_level`: its level after L1. `visual`: its visual position in the line. These three are `None` if the
     character is not shown.
     """
 
@@ -348,6 +348,7 @@ class ExplainedCharacter(NamedTuple):
     columns: int
     bracket: str
     level: int
+    level_without_n0: int
     break_mark: Break
     line: Optional[int]
     line_level: Optional[int]

@@ -58,8 +58,20 @@ def test_a_character_has_its_properties_and_place():
     assert bracket == hordguli.ExplainedCharacter(
         position=2, character="(", code_point="U+0028", name="LEFT PARENTHESIS", mirror="U+0029", pair="U+0029",
         is_mark=False, is_wide=False, bidi_class="ON", line_class="OP", columns=1, bracket="open",
-        level=0, break_mark=Break.NEVER, line=1, line_level=0, visual=0,
+        level=0, level_without_n0=0, break_mark=Break.NEVER, line=1, line_level=0, visual=0,
     )  # fmt: skip
+
+
+def test_levels_without_n0_are_those_without_bracket_pairs():
+    explained = hordguli.explain("\u05d0 (b) c\na (b)\n")  # (a right-to-left paragraph, where the closing bracket is between two Latin letters)
+    assert [one.level for one in explained.characters] == [1, 1, 1, 2, 1, 1, 2, 1, 0, 0, 0, 0, 0, 0]
+    assert [one.level_without_n0 for one in explained.characters] == [1, 1, 1, 2, 2, 2, 2, 1, 0, 0, 0, 0, 0, 0]
+    lines = table(explained).split("\n")
+    assert lines[5].endswith("  N0: bracket pairs change level 2 to 1; L4: drawn as (") and not lines[3].endswith("to 1")
+    assert data_of(page("\u05d0 (b) c"))["whys"]["4"] == ["N0: bracket pairs change level 2 to 1"]
+    with hordguli.Tables(unicode="17.0") as tables:
+        later = hordguli.explain("\u05d0 (b) c", options=Options.RTL, tables=tables)
+    assert [one.level_without_n0 for one in later.characters] == [1, 1, 1, 2, 2, 2, 2]
 
 
 def test_what_is_not_shown_has_no_place():
