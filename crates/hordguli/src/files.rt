@@ -67,7 +67,13 @@ fn show<R: Read + Drop>(
         run(rt.alloc(), &mut reader, &mut writer, engine, form, last)
     };
     match result {
-        Ok(()) => Ok(true),
+        Ok(false) => Ok(true),
+        Ok(true) => {
+            let _ = eprintln!(rt;
+                "hordguli: {name}: a paragraph has more than {PARAGRAPH_LIMIT} characters, and is laid out in parts"
+            );
+            Ok(false)
+        }
         Err(Fault::Memory) => Err(End::Memory),
         Err(Fault::Write(_)) => Err(output_end(stdout.error)),
         Err(Fault::Read) => {
@@ -79,9 +85,7 @@ fn show<R: Read + Drop>(
             Ok(false)
         }
         Err(Fault::ParagraphTooLong) => {
-            let _ = eprintln!(rt;
-                "hordguli: {name}: a paragraph has more than {PARAGRAPH_LIMIT} characters"
-            );
+            let _ = eprintln!(rt; "hordguli: {name}: paragraph too long");
             Ok(false)
         }
     }
