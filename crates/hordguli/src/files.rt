@@ -77,7 +77,13 @@ fn show<R: Read + Drop>(
         run_input(rt, engine, &showing.form, last, &mut input, stdout)
     };
     match result {
-        Ok(()) => Ok(true),
+        Ok(false) => Ok(true),
+        Ok(true) => {
+            let _ = eprintln!(rt;
+                "hordguli: {name}: a paragraph has more than {PARAGRAPH_LIMIT} characters, and is laid out in parts"
+            );
+            Ok(false)
+        }
         Err(Fault::Memory) => Err(End::Memory),
         Err(Fault::Write(_)) => Err(output_end(rt, &stdout.error)),
         Err(Fault::Read) => {
@@ -89,9 +95,7 @@ fn show<R: Read + Drop>(
             Ok(false)
         }
         Err(Fault::ParagraphTooLong) => {
-            let _ = eprintln!(rt;
-                "hordguli: {name}: a paragraph has more than {PARAGRAPH_LIMIT} characters"
-            );
+            let _ = eprintln!(rt; "hordguli: {name}: paragraph too long");
             Ok(false)
         }
     }

@@ -1,5 +1,5 @@
 -- One step of `run`, as it follows from the results of the calls that it makes.
-use Rattle.std.proofs.Common.{◌≡◌, ℕ, ◌+◌, ◌<◌, ◌≤◌, nat_lt, Bool, true, false, List, [], ◌∷◌, ◌++◌, length, take, min, Option, Some, None, Result, Ok, Err, vec_len, ◌&&◌, drop, take_at, if◌then◌else◌, refl, sym, subst, ap, ap₂, inl, inr, ◌∙◌, append_assoc, arith}
+use Rattle.std.proofs.Common.{◌≡◌, ℕ, ◌+◌, ◌<◌, ◌≤◌, nat_lt, Bool, true, false, List, [], ◌∷◌, ◌++◌, length, take, min, Option, Some, None, Result, Ok, Err, vec_len, ◌&&◌, ◌||◌, drop, take_at, if◌then◌else◌, refl, sym, subst, ap, ap₂, inl, inr, ◌∙◌, append_assoc, arith}
 use Rattle.std.specs.List.{concat}
 use Rattle.std.specs.Io.KnownBytes.{Consumes, IsAtEnd}
 use Rattle.std.specs.Prelude.{IsUtf8}
@@ -15,7 +15,7 @@ use Rattle.sequences.specs.Styled.{Pen, START}
 use Rattle.stream.specs.declared.reading.TheConstants.{CHUNK}
 use Rattle.terminal.specs.Decoding.{IsBeginning, IsValidText, good_part, pictures, text_after}
 use Rattle.terminal.specs.Newlines.{output_page, text_output}
-use Rattle.terminal.specs.Run.{BeginsWith, EndsTooLong, HasRead, IsRun, IsTooLong, WritesFirst, are_within, blocks_page}
+use Rattle.terminal.specs.Run.{ArePermitted, BeginsWith, EndsTooLong, HasRead, IsRun, IsTooLong, WritesFirst, are_within, blocks_page, have_over}
 use Rattle.terminal.specs.RunState.{AddsLast, Finishes, IsAt, IsFed, IsFront, IsValidSoFar, Stands, Steps, last_characters, pages, pen_after_blocks}
 use Rattle.sequences.specs.StyledTexts.{styled_of}
 use Rattle.std.proofs.lemmas.Str.{IsUtf8-append}
@@ -32,7 +32,7 @@ use Rattle.terminal.specs.declared.input.Held.{Held}
 use Rattle.terminal.specs.declared.output.Output.{Output}
 use Rattle.terminal.proofs.LossyLemmas.{good_front, good_whole, lossy_beginning, lossy_none}
 use Rattle.terminal.proofs.OutputLemmas.{output_after}
-use Rattle.terminal.proofs.PushLemmas.{pages-append, pen-append, within-append}
+use Rattle.terminal.proofs.PushLemmas.{over-append, pages-append, pen-append, permit_join, within-append}
 use Rattle.terminal.proofs.Devices.{Consumes-append, Consumes-kept, FailedLast-after, Took-append, Took-nothing, Wrote-append}
 
 -- ---- valid UTF-8
@@ -120,7 +120,7 @@ module _ (rules : Rules) (form : Form) (bytes : List ℕ) (sent : List (List ℕ
       );
     };
     blocks = fed.cuts;
-    within = fed.within;
+    permitted = fed.permitted;
   }
 
   -- the blocks of the whole text, if nothing follows
@@ -144,17 +144,17 @@ module _ (rules : Rules) (form : Form) (bytes : List ℕ) (sent : List (List ℕ
     decoded = v.decoded;
     beginning = record { none = nothing_valid [] refl; fault = nothing_bad [] refl; few = omega arith };
     cuts = fed.cuts;
-    within = fed.within;
+    permitted = fed.permitted;
     valid = λ is. record { front = v.front; whole = sym (append-nil v.front); utf8 = v.utf8; decoded = v.decoded };
   }
 
   -- a chunk was decoded, and the first blocks of the text were taken
   pub fed_more : (chunk waiting_new all text_new characters : List ℕ) (started_new : Bool) (parts : List (List ℕ))
       → ((more : List ℕ) → text_after form.escapes started ((waiting ++ chunk) ++ more) ≡ characters ++ text_after form.escapes started_new (waiting_new ++ more))
-      → IsBeginning waiting_new → all ≡ text ++ characters → IsFront (cut_by rules) parts all text_new
+      → IsBeginning waiting_new → all ≡ text ++ characters → IsFront (cut_by rules) parts all text_new → ArePermitted form parts
       → (form.strict ≡ true → IsValidText form.escapes (waiting ++ chunk) waiting_new characters started started_new)
       → IsFed rules form (bytes ++ chunk) (sent ++ parts) waiting_new text_new started_new
-  fed_more chunk waiting_new all text_new characters started_new parts decoded beginning all_is front valid =
+  fed_more chunk waiting_new all text_new characters started_new parts decoded beginning all_is front permit valid =
       let both : concat (sent ++ parts) ++ text_new ≡ (concat sent ++ text) ++ characters =
       ap (λ t. t ++ text_new) (concat-append sent parts) ∙ append_assoc (concat sent) (concat parts) text_new
       ∙ ap (λ t. concat sent ++ t) (sym front.whole ∙ all_is) ∙ sym (append_assoc (concat sent) text characters) in
@@ -171,7 +171,7 @@ module _ (rules : Rules) (form : Form) (bytes : List ℕ) (sent : List (List ℕ
             ∙ fed.cuts (characters ++ more) ∙ ap (λ t. sent ++ blocks (cut_by rules) t) (sym (append_assoc text characters more))
             ∙ ap (λ t. sent ++ blocks (cut_by rules) (t ++ more)) (sym all_is)
             ∙ ap (λ (ps : List (List ℕ)). sent ++ ps) (front.cuts more) ∙ sym (append_assoc sent parts (blocks (cut_by rules) (text_new ++ more)));
-        within = within-append sent parts fed.within front.within;
+        permitted = permit_join form sent parts fed.permitted permit;
         valid = λ is.
             valid_more form.escapes bytes chunk waiting waiting_new (concat sent ++ text) characters (concat (sent ++ parts) ++ text_new) started started_new (fed.valid is) (valid is) both;
       }
@@ -180,10 +180,10 @@ module _ (rules : Rules) (form : Form) (bytes : List ℕ) (sent : List (List ℕ
 pub fed_read : (rules : Rules) (form : Form) (bytes : List ℕ) (sent : List (List ℕ)) (waiting text : List ℕ) (started : Bool) → IsFed rules form bytes sent waiting text started
     → (chunk waiting_new all text_new characters : List ℕ) (started_new : Bool) (parts : List (List ℕ))
     → ((more : List ℕ) → text_after form.escapes started (good_part form.strict (waiting ++ chunk) ++ more) ≡ characters ++ text_after form.escapes started_new (waiting_new ++ more))
-    → IsBeginning waiting_new → all ≡ text ++ characters → IsFront (cut_by rules) parts all text_new
+    → IsBeginning waiting_new → all ≡ text ++ characters → IsFront (cut_by rules) parts all text_new → ArePermitted form parts
     → (form.strict ≡ true → IsValidText form.escapes (good_part form.strict (waiting ++ chunk)) waiting_new characters started started_new)
     → IsFed rules form (good_part form.strict (bytes ++ chunk)) (sent ++ parts) waiting_new text_new started_new
-fed_read rules form bytes sent waiting text started fed chunk waiting_new all text_new characters started_new parts decoded beginning all_is front valid =
+fed_read rules form bytes sent waiting text started fed chunk waiting_new all text_new characters started_new parts decoded beginning all_is front permit valid =
     elim (cases_Bool (form.strict && is_bad (waiting ++ chunk))) [
       | inl y ↦
           let is = (and_parts form.strict (is_bad (waiting ++ chunk)) y).0 in
@@ -195,13 +195,13 @@ fed_read rules form bytes sent waiting text started fed chunk waiting_new all te
           good_front form.strict (bytes ++ chunk) (same ∙ y) ∙ ap (λ x. take (utf8_valid_len x) x) all_bytes ∙ take-valid-after v.front (waiting ++ chunk) v.utf8 in
           subst (λ (x : List ℕ). IsFed rules form x (sent ++ parts) waiting_new text_new started_new) (sym whole)
           (fed_more rules form v.front sent [] text started (fed_front rules form bytes sent waiting text started fed v) good waiting_new all text_new characters started_new parts
-          (λ more. ap (λ x. text_after form.escapes started (x ++ more)) (sym part) ∙ decoded more) beginning all_is front
+          (λ more. ap (λ x. text_after form.escapes started (x ++ more)) (sym part) ∙ decoded more) beginning all_is front permit
           (λ s. subst (λ (x : List ℕ). IsValidText form.escapes x waiting_new characters started started_new) part (valid s)))
       | inr n ↦
           let part : good_part form.strict (waiting ++ chunk) ≡ waiting ++ chunk = good_whole form.strict (waiting ++ chunk) n in
           subst (λ (x : List ℕ). IsFed rules form x (sent ++ parts) waiting_new text_new started_new) (sym (good_whole form.strict (bytes ++ chunk) (same ∙ n)))
           (fed_more rules form bytes sent waiting text started fed chunk waiting_new all text_new characters started_new parts
-          (λ more. ap (λ x. text_after form.escapes started (x ++ more)) (sym part) ∙ decoded more) beginning all_is front
+          (λ more. ap (λ x. text_after form.escapes started (x ++ more)) (sym part) ∙ decoded more) beginning all_is front permit
           (λ s. subst (λ (x : List ℕ). IsValidText form.escapes x waiting_new characters started started_new) part (valid s)))
     ]
   where
@@ -242,6 +242,11 @@ module _ (rules : Rules) (form : Form) (is_last : Bool) (reader_old writer_old r
     more = more;
     took = took;
   }
+
+  -- paragraphs over the limit, in what was written and in more blocks
+  all_over : (parts : List (List ℕ)) → (held.output.over || have_over rules (pen_of held.output.scanner) parts) ≡ have_over rules START (s.is_at.sent ++ parts)
+  all_over parts =
+      ap₂ (λ (b : Bool) (q : Pen). b || have_over rules q parts) s.is_at.over_is s.is_at.pen_is ∙ sym (over-append rules START s.is_at.sent parts)
 
   took_sent : Took writer_old writer (blocks_page rules form s.is_at.sent ++ [])
   took_sent = subst (Took writer_old writer) (sym (append-nil (blocks_page rules form s.is_at.sent))) s.is_at.wrote.0
@@ -313,14 +318,14 @@ module _ (rules : Rules) (form : Form) (is_last : Bool) (reader_old writer_old r
           subst (λ (t : List ℕ). Wrote t writer_old writer_new) (sym page_new)
           (Wrote-append writer_old writer writer_new (blocks_page rules form s.is_at.sent) (pages rules form (pen_of held.output.scanner) parts) s.is_at.wrote wrote)
 
-      pub ends_long : (writer_new : Device) → Wrote (pages rules form (pen_of held.output.scanner) parts) writer writer_new → IsTooLong (cut_by rules) text_new
+      pub ends_long : (writer_new : Device) → Wrote (pages rules form (pen_of held.output.scanner) parts) writer writer_new → (form.strict ≡ true) × IsTooLong (cut_by rules) text_new
           → IsRun rules form is_last reader_old reader_new writer_old writer_new (Err f.ParagraphTooLong)
       ends_long writer_new wrote long = (
         s.is_at.bytes ++ chunk,
         has_read,
         (
           first_by chunk (pages rules form (pen_of held.output.scanner) parts) writer_new few (took_all _ writer_new wrote),
-          (s.is_at.sent ++ parts, wrote_new writer_new wrote, inl (text_new, begins_new, long)),
+          (long.0, (s.is_at.sent ++ parts, wrote_new writer_new wrote, inl (text_new, begins_new, long.1))),
         ),
       )
 
@@ -356,10 +361,11 @@ module _ (rules : Rules) (form : Form) (is_last : Bool) (reader_old writer_old r
             ),
           )
 
-      pub at_new : (writer_new : Device) (pen_new : Pen) (written_new : ℕ) → good_part form.strict (s.is_at.bytes ++ chunk) ≡ s.is_at.bytes ++ chunk → reader_new.failures ≡ reader.failures → Wrote (pages rules form (pen_of held.output.scanner) parts) writer writer_new
+      pub at_new : (writer_new : Device) (pen_new : Pen) (written_new : ℕ) (over_new : Bool) → good_part form.strict (s.is_at.bytes ++ chunk) ≡ s.is_at.bytes ++ chunk → reader_new.failures ≡ reader.failures → Wrote (pages rules form (pen_of held.output.scanner) parts) writer writer_new
           → pen_new ≡ pen_after_blocks (pen_of held.output.scanner) parts → written_new ≡ held.output.written + length (pages rules form (pen_of held.output.scanner) parts)
-          → (at : IsAt rules form reader_old reader_new writer_old writer_new waiting_new text_new started_new pen_new written_new) × (length at.sent ≡ length (s.is_at.sent ++ parts))
-      at_new writer_new pen_new written_new good failures wrote pen_is written_is = (
+          → over_new ≡ (held.output.over || have_over rules (pen_of held.output.scanner) parts)
+          → (at : IsAt rules form reader_old reader_new writer_old writer_new waiting_new text_new started_new pen_new written_new over_new) × (length at.sent ≡ length (s.is_at.sent ++ parts))
+      at_new writer_new pen_new written_new over_new good failures wrote pen_is written_is over_is = (
         record {
           bytes = s.is_at.bytes ++ chunk;
           sent = s.is_at.sent ++ parts;
@@ -370,6 +376,7 @@ module _ (rules : Rules) (form : Form) (is_last : Bool) (reader_old writer_old r
           pen_is = pen_is ∙ ap (λ (q : Pen). pen_after_blocks q parts) s.is_at.pen_is ∙ sym (pen-append START s.is_at.sent parts);
           written_is =
               omega (arith, written_is, s.is_at.written_is, ap length page_new, length-append (blocks_page rules form s.is_at.sent) (pages rules form (pen_of held.output.scanner) parts));
+          over_is = over_is ∙ all_over parts;
         },
         refl,
       )
@@ -398,9 +405,10 @@ module _ (rules : Rules) (form : Form) (is_last : Bool) (reader_old writer_old r
         output_after rules form is_last s.is_at.sent (concat s.is_at.sent ++ held.text.items) held.text.items (input_text form.escapes (s.is_at.bytes ++ []))
         (held.text.items ++ last_characters held.decoder.waiting) (pen_of held.output.scanner) s.is_at.fed.cuts blocks_last s.is_at.pen_is lines_last
 
-    pub finish_ok : (writer_new : Device) → (form.strict ≡ true → held.decoder.waiting ≡ 0) → Wrote (text_output rules form is_last (pen_of held.output.scanner) (held.text.items ++ last_characters held.decoder.waiting)) writer writer_new
-        → IsRun rules form is_last reader_old reader_new writer_old writer_new (Ok tt)
-    finish_ok writer_new none wrote = (
+    pub finish_ok : (writer_new : Device) (over : Bool) → (form.strict ≡ true → held.decoder.waiting ≡ 0)
+        → over ≡ (held.output.over || have_over rules (pen_of held.output.scanner) (blocks (cut_by rules) (held.text.items ++ last_characters held.decoder.waiting))) → Wrote (text_output rules form is_last (pen_of held.output.scanner) (held.text.items ++ last_characters held.decoder.waiting)) writer writer_new
+        → IsRun rules form is_last reader_old reader_new writer_old writer_new (Ok over)
+    finish_ok writer_new over none over_is wrote = (
       s.is_at.bytes ++ [],
       read_all,
       end,
@@ -410,6 +418,7 @@ module _ (rules : Rules) (form : Form) (is_last : Bool) (reader_old writer_old r
           let all : s.is_at.bytes ++ [] ≡ v.front =
           append-nil s.is_at.bytes ∙ v.whole ∙ ap (λ k. v.front ++ take k held.decoder.chunk.items) (none is) ∙ append-nil v.front in
           subst IsUtf8 (sym all) v.utf8,
+      over_is ∙ all_over (blocks (cut_by rules) (held.text.items ++ last_characters held.decoder.waiting)) ∙ ap (have_over rules START) (sym blocks_last),
       subst (λ (t : List ℕ). Wrote t writer_old writer_new) (sym page_last) (Wrote-append writer_old writer writer_new (blocks_page rules form s.is_at.sent) _ s.is_at.wrote wrote),
     )
 
@@ -456,13 +465,14 @@ module _ (rules : Rules) (form : Form) (is_last : Bool) (reader_old writer_old r
 
     -- the last blocks up to one that is too long
     module _ (parts others : List (List ℕ)) (first : List ℕ)
-        (cuts : blocks (cut_by rules) (held.text.items ++ last_characters held.decoder.waiting) ≡ parts ++ first ∷ others) (within : are_within parts ≡ true) (long : 1048577 ≤ length first) where
+        (cuts : blocks (cut_by rules) (held.text.items ++ last_characters held.decoder.waiting) ≡ parts ++ first ∷ others) (strict : form.strict ≡ true) (within : are_within parts ≡ true)
+        (long : 1048577 ≤ length first) where
       long_last : EndsTooLong rules form (s.is_at.bytes ++ []) (s.is_at.sent ++ parts)
       long_last = (
         first,
         others,
         blocks_last ∙ ap (λ (ps : List (List ℕ)). s.is_at.sent ++ ps) cuts ∙ sym (append_assoc s.is_at.sent parts (first ∷ others)),
-        within-append s.is_at.sent parts s.is_at.fed.within within,
+        within-append s.is_at.sent parts (s.is_at.fed.permitted strict) within,
         omega (arith, long),
       )
 
@@ -477,9 +487,12 @@ module _ (rules : Rules) (form : Form) (is_last : Bool) (reader_old writer_old r
         (
           first_by [] (pages rules form (pen_of held.output.scanner) parts) writer_new (omega arith) (took_all reader_new [] consumed passed (omega arith) _ writer_new wrote),
           (
-            s.is_at.sent ++ parts,
-            subst (λ (t : List ℕ). Wrote t writer_old writer_new) (sym lines_first) (Wrote-append writer_old writer writer_new (blocks_page rules form s.is_at.sent) _ s.is_at.wrote wrote),
-            inr (end, long_last),
+            strict,
+            (
+              s.is_at.sent ++ parts,
+              subst (λ (t : List ℕ). Wrote t writer_old writer_new) (sym lines_first) (Wrote-append writer_old writer writer_new (blocks_page rules form s.is_at.sent) _ s.is_at.wrote wrote),
+              inr (end, long_last),
+            ),
           ),
         ),
       )
@@ -527,7 +540,7 @@ fed_none rules form = record {
   decoded = λ more. input_is form.escapes more;
   beginning = record { none = nothing_valid [] refl; fault = nothing_bad [] refl; few = omega arith };
   cuts = λ more. refl;
-  within = refl;
+  permitted = λ is. refl;
   valid = λ is. record { front = []; whole = refl; utf8 = ([], (refl, refl)); decoded = λ more. input_is form.escapes more };
 }
 
@@ -565,8 +578,8 @@ ends_at_once rules form is_last reader writer = (
 
 pub stands_at_start : (rules : Rules) (form : Form) (reader writer : Device) (held : Held) → held.decoder.waiting ≡ 0 → held.decoder.started ≡ false → held.text.items ≡ [] → held.scanned ≡ 0
     → pen_of held.output.scanner ≡ START → styled_of held.output.scanner.text ≡ [] → held.output.page.bytes.items ≡ [] → held.output.written ≡ 0 → vec_len held.decoder.chunk ≡ CHUNK
-    → held.decoder.decoded ≡ 0 → Stands rules form reader writer reader writer held
-stands_at_start rules form reader writer held w b t c p empty page n room d =
+    → held.decoder.decoded ≡ 0 → held.output.over ≡ false → Stands rules form reader writer reader writer held
+stands_at_start rules form reader writer held w b t c p empty page n room d o =
     let waiting = take held.decoder.waiting held.decoder.chunk.items in
     let nothing : waiting ≡ [] = ap (λ k. take k held.decoder.chunk.items) w in
     let fed_w = subst (λ (x : List ℕ). IsFed rules form [] [] x [] false) (sym nothing) (fed_none rules form) in
@@ -581,6 +594,7 @@ stands_at_start rules form reader writer held w b t c p empty page n room d =
         wrote = (Took-nothing writer, refl);
         pen_is = p;
         written_is = n;
+        over_is = o;
       };
       is_left = inl (subst (λ (x : List ℕ). IsOpen (cut_by rules) held.scanned x) (sym t) (subst (λ (x : ℕ). IsOpen (cut_by rules) x []) (sym c) (open_none rules)));
       holds = λ is none. refl;
@@ -602,9 +616,9 @@ stepped_as rules now form is_last reader_old writer_old reader writer reader_new
     (subst (λ (r : Rules). Steps r form is_last reader_old writer_old reader_new writer_new held_new result) e here)
 
 -- the sink failed at the end of the input
-pub finish_write : (rules : Rules) (form : Form) (is_last : Bool) (held : Held) (old new : Device) (fault : Fault) (middle : Output) (is_long : Bool)
+pub finish_write : (rules : Rules) (form : Form) (is_last : Bool) (held : Held) (over : Bool) (old new : Device) (fault : Fault) (middle : Output) (is_long : Bool)
     → AddsLast rules form is_last (held.text.items ++ last_characters held.decoder.waiting) held.output middle is_long → middle.written ≡ held.output.written
-    → ((n : ℕ) × (fault ≡ f.Write (middle.written + n)) × StoppedAt n middle.page.bytes.items old new) → Finishes rules form is_last held old new (Err fault)
-finish_write rules form is_last held old new fault middle is_long adds same (n, fault_is, stopped) =
-    subst (λ (w : Fault). Finishes rules form is_last held old new (Err w)) (sym fault_is)
+    → ((n : ℕ) × (fault ≡ f.Write (middle.written + n)) × StoppedAt n middle.page.bytes.items old new) → Finishes rules form is_last held over old new (Err fault)
+finish_write rules form is_last held over old new fault middle is_long adds same (n, fault_is, stopped) =
+    subst (λ (w : Fault). Finishes rules form is_last held over old new (Err w)) (sym fault_is)
     (middle, is_long, adds, (n, ap (λ k. k + n) same, stopped))

@@ -1,5 +1,5 @@
 -- What a step of `run` does, as it follows from what was read, decoded and written.
-use Rattle.std.proofs.Common.{◌≡◌, ◌⊎◌, ℕ, ◌+◌, ◌-◌, ◌^◌, ◌≤◌, Bool, true, false, ◌&&◌, List, [], ◌∷◌, ◌++◌, length, take, Option, Some, None, Result, Ok, Err, refl, sym, subst, ap, ap₂, inl, inr, ◌∙◌, append_assoc, arith}
+use Rattle.std.proofs.Common.{◌≡◌, ◌⊎◌, ℕ, ◌+◌, ◌-◌, ◌^◌, ◌≤◌, Bool, true, false, ◌&&◌, ◌||◌, List, [], ◌∷◌, ◌++◌, length, take, Option, Some, None, Ok, Err, refl, sym, subst, ap, ap₂, inl, inr, ◌∙◌, append_assoc, arith}
 use Rattle.std.specs.List.{concat}
 use Rattle.std.specs.Str.Lossy.{utf8_valid_len}
 use Rattle.std.specs.Io.KnownBytes.{Consumes, IsAtEnd}
@@ -14,7 +14,7 @@ use Rattle.stream.specs.Utf8.{is_bad}
 use Rattle.stream.proofs.Utf8Lemmas.{utf8_valid_len-after}
 use Rattle.terminal.specs.Decoding.{IsRead, IsValidText, good_part, text_after}
 use Rattle.terminal.specs.Newlines.{text_output}
-use Rattle.terminal.specs.Run.{IsRun}
+use Rattle.terminal.specs.Run.{IsRun, have_over}
 use Rattle.terminal.specs.RunState.{AddsLast, Finishes, Gathers, IsFed, Leaves, Stands, fault_after, last_characters, pages}
 use Rattle.sequences.specs.StyledTexts.{styled_of}
 use Rattle.terminal.specs.Texts.{blocks}
@@ -76,7 +76,7 @@ module _ (rules : Rules) (form : Form) (is_last : Bool) (reader_old writer_old r
         fed_read rules form s.is_at.bytes s.is_at.sent (take held.decoder.waiting held.decoder.chunk.items) held.text.items held.decoder.started s.is_at.fed
         (take n r.read.buffer) (take new.decoder.waiting new.decoder.chunk.items) g.text new.text.items g.takes.characters new.decoder.started g.parts
         (λ more. ap₂ (λ (b : Bool) t. text_after form.escapes b (good_part form.strict t ++ more)) (sym started_same) (sym bytes_are) ∙ g.takes.text more)
-        g.takes.beginning g.takes.added g.front
+        g.takes.beginning g.takes.added g.front g.permitted
         (λ is. subst (λ (b : Bool). IsValidText form.escapes (good_part form.strict (take held.decoder.waiting held.decoder.chunk.items ++ take n r.read.buffer))
         (take new.decoder.waiting new.decoder.chunk.items) g.takes.characters b new.decoder.started) started_same
         (subst (λ (t : List ℕ). IsValidText form.escapes (good_part form.strict t) (take new.decoder.waiting new.decoder.chunk.items) g.takes.characters decoder.started new.decoder.started)
@@ -160,17 +160,17 @@ module _ (rules : Rules) (form : Form) (is_last : Bool) (reader_old writer_old r
         ]
 
     pub step_on : (writer_new : Device) (output : Output) → Wrote new.output.page.bytes.items writer writer_new → output.page.bytes.items ≡ []
-        → output.written ≡ new.output.written + length new.output.page.bytes.items → output.scanner ≡ new.output.scanner → fault ≡ None
+        → output.written ≡ new.output.written + length new.output.page.bytes.items → output.scanner ≡ new.output.scanner → output.over ≡ new.output.over → fault ≡ None
         → Stands rules form reader_old writer_old reader_new writer_new (record new { output = output })
-    step_on writer_new output wrote empty written scanner goes_on =
+    step_on writer_new output wrote empty written scanner over goes_on =
         let bytes = take (decoder.waiting + n) decoder.chunk.items in
         let cases = none_is g.is_long (form.strict && is_bad bytes) new.decoder.decoded (sym goes_on ∙ g.fault_is) in
         let is = cases.0 in
         let both =
         at_new rules form is_last reader_old writer_old reader writer held s reader_new (take n r.read.buffer) r.read.gives.bytes passed few
         (take new.decoder.waiting new.decoder.chunk.items) new.text.items new.decoder.started g.parts fed_new
-        writer_new (pen_of output.scanner) output.written (good_whole form.strict (s.is_at.bytes ++ take n r.read.buffer) (stops_same ∙ cases.1)) r.read.gives.passes.failures (wrote_pages writer_new wrote)
-        (ap pen_of scanner ∙ g.adds.pen) (omega (arith, written, g.adds.written, ap length page_is)) in
+        writer_new (pen_of output.scanner) output.written output.over (good_whole form.strict (s.is_at.bytes ++ take n r.read.buffer) (stops_same ∙ cases.1)) r.read.gives.passes.failures (wrote_pages writer_new wrote)
+        (ap pen_of scanner ∙ g.adds.pen) (omega (arith, written, g.adds.written, ap length page_is)) (over ∙ g.adds.over) in
         record {
           is_at = both.0;
           is_left = subst (λ (b : Bool). Leaves rules form.strict b new.scanned new.text.items) is g.leaves;
@@ -215,12 +215,12 @@ module _ (rules : Rules) (form : Form) (is_last : Bool) (reader_old writer_old r
     long_by : (writer_new : Device) (k : ℕ) (middle : Output) → AddsLast rules form is_last (held.text.items ++ last_characters decoder.waiting) held.output middle true
         → (Wrote middle.page.bytes.items writer writer_new → IsRun rules form is_last reader_old reader_new writer_old writer_new (Err f.ParagraphTooLong))
         × ((m : ℕ) → k ≡ held.output.written + m → StoppedAt m middle.page.bytes.items writer writer_new → IsRun rules form is_last reader_old reader_new writer_old writer_new (Err (f.Write k)))
-    long_by writer_new k middle (parts, first, others, cuts, within, long, lines) =
+    long_by writer_new k middle (strict, (parts, first, others, cuts, within, long, lines)) =
         let page : middle.page.bytes.items ≡ pages rules form (pen_of held.output.scanner) parts = lines ∙ lines_are (pages rules form (pen_of held.output.scanner) parts) in
         let cuts_are = subst (λ (t : List ℕ). blocks (cut_by rules) t ≡ parts ++ first ∷ others) text_is cuts in (
-          λ wrote. finish_long rules form is_last reader_old writer_old reader writer held s reader_new nothing stays at_end r.read.gives.passes.failures parts others first cuts_are within long writer_new
+          λ wrote. finish_long rules form is_last reader_old writer_old reader writer held s reader_new nothing stays at_end r.read.gives.passes.failures parts others first cuts_are strict within long writer_new
               (subst (λ (t : List ℕ). Wrote t writer writer_new) page wrote),
-          λ m k_is stopped. finish_stopped_long rules form is_last reader_old writer_old reader writer held s reader_new nothing stays at_end r.read.gives.passes.failures parts others first cuts_are within long
+          λ m k_is stopped. finish_stopped_long rules form is_last reader_old writer_old reader writer held s reader_new nothing stays at_end r.read.gives.passes.failures parts others first cuts_are strict within long
               writer_new m k (subst (λ (t : List ℕ). StoppedAt m t writer writer_new) page stopped) k_is,
         )
 
@@ -233,21 +233,28 @@ module _ (rules : Rules) (form : Form) (is_last : Bool) (reader_old writer_old r
     stopped_by writer_new k middle true adds m k_is stopped = (long_by writer_new k middle adds).1 m k_is stopped
     stopped_by writer_new k middle false adds m k_is stopped =
         finish_stopped rules form is_last reader_old writer_old reader writer held s reader_new nothing stays at_end r.read.gives.passes.failures writer_new m k
-        (subst (λ (t : List ℕ). StoppedAt m t writer writer_new) (all_page middle.page.bytes.items adds) stopped) k_is
+        (subst (λ (t : List ℕ). StoppedAt m t writer writer_new) (all_page middle.page.bytes.items adds.0) stopped) k_is
 
-    pub step_end : (writer_new : Device) (result : Result (Unit {0}) Fault) → Finishes rules form is_last (record held { decoder = decoder }) writer writer_new result
-        → IsRun rules form is_last reader_old reader_new writer_old writer_new result
-    step_end writer_new (Ok done) (none, wrote) =
-        finish_ok rules form is_last reader_old writer_old reader writer held s reader_new nothing stays at_end r.read.gives.passes.failures writer_new
-        (λ is. sym waiting_same ∙ none is)
+    over_as : (over : Bool) → over ≡ (held.output.over || have_over rules (pen_of held.output.scanner) (blocks (cut_by rules) (held.text.items ++ last_characters decoder.waiting)))
+        → over ≡ (held.output.over || have_over rules (pen_of held.output.scanner) (blocks (cut_by rules) (held.text.items ++ last_characters held.decoder.waiting)))
+    over_as over e = e ∙ ap (λ (t : List ℕ). held.output.over || have_over rules (pen_of held.output.scanner) (blocks (cut_by rules) t)) text_is
+
+    pub step_done : (writer_new : Device) (over : Bool) → Finishes rules form is_last (record held { decoder = decoder }) over writer writer_new (Ok tt)
+        → IsRun rules form is_last reader_old reader_new writer_old writer_new (Ok over)
+    step_done writer_new over (none, over_is, wrote) =
+        finish_ok rules form is_last reader_old writer_old reader writer held s reader_new nothing stays at_end r.read.gives.passes.failures writer_new over
+        (λ is. sym waiting_same ∙ none is) (over_as over over_is)
         (subst (λ (t : List ℕ). Wrote t writer writer_new) (all_page _ refl) wrote)
-    step_end writer_new (Err f.Read) never = absurd never
-    step_end writer_new (Err (f.NotUtf8 k)) (strict, some, k_is, same) =
+
+    pub step_end : (writer_new : Device) (over : Bool) (fault : Fault) → Finishes rules form is_last (record held { decoder = decoder }) over writer writer_new (Err fault)
+        → IsRun rules form is_last reader_old reader_new writer_old writer_new (Err fault)
+    step_end writer_new over f.Read never = absurd never
+    step_end writer_new over (f.NotUtf8 k) (strict, some, k_is, same) =
         subst (λ (w : Device). IsRun rules form is_last reader_old reader_new writer_old w (Err (f.NotUtf8 k))) (sym same)
         (finish_bad rules form is_last reader_old writer_old reader writer held s reader_new nothing stays at_end r.read.gives.passes.failures k strict
         (omega (arith, some, waiting_same)) (k_is ∙ decoded_same))
-    step_end writer_new (Err f.Memory) same =
+    step_end writer_new over f.Memory same =
         subst (λ (w : Device). IsRun rules form is_last reader_old reader_new writer_old w (Err f.Memory)) (sym same)
         (finish_memory rules form is_last reader_old writer_old reader writer held s reader_new nothing stays at_end r.read.gives.passes.failures)
-    step_end writer_new (Err f.ParagraphTooLong) (middle, adds, wrote) = (long_by writer_new 0 middle adds).0 wrote
-    step_end writer_new (Err (f.Write k)) (middle, is_long, adds, (m, k_is, stopped)) = stopped_by writer_new k middle is_long adds m k_is stopped
+    step_end writer_new over f.ParagraphTooLong (middle, adds, wrote) = (long_by writer_new 0 middle adds).0 wrote
+    step_end writer_new over (f.Write k) (middle, is_long, adds, (m, k_is, stopped)) = stopped_by writer_new k middle is_long adds m k_is stopped

@@ -1,6 +1,6 @@
 -- Paragraphs over the limit, which are laid out in pieces.
-use Rattle.std.specs.Prelude.{◌≡◌, ℕ, zero, suc, List, [], ◌∷◌, ◌++◌, length, take, drop, if◌then◌else◌}
-use Rattle.std.specs.List.{flat_map}
+use Rattle.std.specs.Prelude.{◌≡◌, ℕ, zero, suc, nat_lt, Bool, List, [], ◌∷◌, ◌++◌, length, take, drop, if◌then◌else◌}
+use Rattle.std.specs.List.{flat_map, list_any}
 use Rattle.bidi.specs.Cuts.{paragraphs}
 use Rattle.bidi.specs.declared.base.Base.TheVariants.{Ltr, Rtl}
 use Rattle.lines.specs.Layouts.{Rules, base_of, cut_by}
@@ -16,6 +16,10 @@ use Rattle.terminal.specs.declared.form.Form.{Form}
 -- whether a text is one paragraph
 abbrev pub IsWhole : Rules → List ℕ → Type 0
 IsWhole rules text = paragraphs (cut_by rules) text ≡ text ∷ []
+
+-- whether a paragraph of a text is over the limit
+abbrev pub has_over : Rules → List ℕ → Bool
+has_over rules text = list_any (λ paragraph. nat_lt PARAGRAPH_LIMIT (length paragraph)) (paragraphs (cut_by rules) text)
 
 -- the first n pieces of a text, each as long as a paragraph may be, but for the last one
 abbrev pub first_pieces : {A : Type 0} → ℕ → List A → List (List A)

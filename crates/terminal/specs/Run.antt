@@ -1,17 +1,19 @@
 -- What is written for an input that is read in chunks, and how the run ends.
 use Rattle.std.specs.Prelude.{◌≡◌, ◌⊎◌, ℕ, ◌+◌, ◌*◌, ◌<◌, ◌≤◌, nat_le, Bool, true, List, [], ◌∷◌, ◌++◌, length, take, Result, Ok, Err, IsUtf8}
-use Rattle.std.specs.List.{concat, flat_map, list_all}
+use Rattle.std.specs.List.{concat, flat_map, list_all, list_any}
 use Rattle.std.specs.Str.Lossy.{utf8_valid_len}
 use Rattle.std.specs.Io.KnownBytes.{Consumes, IsAtEnd}
 use Rattle.device.specs.Device.{Device, FailedLast, StoppedAt, Took, Wrote}
 use Rattle.lines.specs.Layouts.{Rules, cut_by}
 use Rattle.lines.specs.declared.engine.TheConstants.{PARAGRAPH_LIMIT}
-use Rattle.sequences.specs.Styled.{START}
+use Rattle.sequences.specs.Laws.{characters_of}
+use Rattle.sequences.specs.Styled.{Pen, START}
 use Rattle.stream.specs.Utf8.{is_bad}
 use Rattle.stream.specs.declared.reading.TheConstants.{CHUNK}
 use Rattle.terminal.specs.Decoding.{good_part}
 use Rattle.terminal.specs.Ends.{IsLeft}
 use Rattle.terminal.specs.Newlines.{output_page}
+use Rattle.terminal.specs.Pieces.{has_over}
 use Rattle.terminal.specs.Texts.{block_page, blocks, input_text, shown_blocks}
 use Rattle.terminal.specs.declared.faults.Fault.{Fault}
 use Rattle.terminal.specs.declared.faults.Fault.TheVariants as fault
@@ -29,17 +31,25 @@ is_within block = nat_le (length block) PARAGRAPH_LIMIT
 abbrev pub are_within : List (List ℕ) → Bool
 are_within parts = list_all is_within parts
 
+-- If the form is strict, blocks are within the limit.
+abbrev pub ArePermitted : Form → List (List ℕ) → Type 0
+ArePermitted form parts = form.strict ≡ true → are_within parts ≡ true
+
+-- whether a paragraph of what blocks show is over the limit, so that it is laid out in pieces
+abbrev pub have_over : Rules → Pen → List (List ℕ) → Bool
+have_over rules pen parts = list_any (λ shown. has_over rules (characters_of shown)) (shown_blocks pen parts)
+
 -- The characters of some bytes that are the same whatever follows these bytes. If they end inside a character, one U+FFFD is missing.
 pub record IsText (escapes : Escapes) (bytes text : List ℕ) : Type 0 where
   pub after : List ℕ → List ℕ
   pub begins : (more : List ℕ) → input_text escapes (bytes ++ more) ≡ text ++ after more
   pub few : length (after []) ≤ 1
 
--- Blocks with which an input begins, whatever follows the bytes, and the characters after them. None of the blocks is too long.
+-- Blocks with which an input begins, whatever follows the bytes, and the characters after them.
 pub record BeginsWith (rules : Rules) (form : Form) (bytes : List ℕ) (ended : List (List ℕ)) (rest : List ℕ) : Type 0 where
   pub text : IsText form.escapes bytes (concat ended ++ rest)
   pub blocks : (more : List ℕ) → blocks (cut_by rules) ((concat ended ++ rest) ++ more) ≡ ended ++ blocks (cut_by rules) (rest ++ more)
-  pub within : are_within ended ≡ true
+  pub permitted : ArePermitted form ended
 
 -- All blocks that have ended. If the form is strict, these are the blocks that something follows.
 pub record HasEnded (rules : Rules) (form : Form) (bytes : List ℕ) (ended : List (List ℕ)) : Type 0 where
@@ -87,19 +97,21 @@ EndsBy rules form is_last reader_old reader_new writer_old writer_new bytes firs
     (form.strict ≡ true) × (n ≡ utf8_valid_len bytes) × ((is_bad bytes ≡ true) ⊎ (IsAtEnd reader_new.bytes × (n < length bytes)))
     × ((ended : List (List ℕ)) × HasEnded rules form (take n bytes) ended × Wrote (blocks_page rules form ended) writer_old writer_new)
 EndsBy rules form is_last reader_old reader_new writer_old writer_new bytes first fault.ParagraphTooLong =
-    (ended : List (List ℕ)) × Wrote (blocks_page rules form ended) writer_old writer_new
-    × (((rest : List ℕ) × BeginsWith rules form (good_part form.strict bytes) ended rest × IsTooLong (cut_by rules) rest) ⊎ (IsAtEnd reader_new.bytes × EndsTooLong rules form bytes ended))
+    (form.strict ≡ true) × ((ended : List (List ℕ)) × Wrote (blocks_page rules form ended) writer_old writer_new
+    × (((rest : List ℕ) × BeginsWith rules form (good_part form.strict bytes) ended rest × IsTooLong (cut_by rules) rest) ⊎ (IsAtEnd reader_new.bytes × EndsTooLong rules form bytes ended)))
 EndsBy rules form is_last reader_old reader_new writer_old writer_new bytes first (fault.Write n) =
     ((ended : List (List ℕ)) × StoppedAt n (blocks_page rules form ended) writer_old writer_new
     × (((rest : List ℕ) × BeginsWith rules form (good_part form.strict bytes) ended rest) ⊎ (IsAtEnd reader_new.bytes × EndsTooLong rules form bytes ended)))
     ⊎ (IsAtEnd reader_new.bytes × StoppedAt n (output_page rules form is_last bytes) writer_old writer_new)
 
 -- How a run ended. Without a fault, it has read the whole input, which is UTF-8 if the form is strict. It has written its
--- lines and nothing else, without the last newline if the input is the last one and its text does not end a line.
-abbrev pub IsRun : Rules → Form → Bool → Device → Device → Device → Device → Result (Unit {0}) Fault → Type 0
-IsRun rules form is_last reader_old reader_new writer_old writer_new (Ok done) =
+-- lines and nothing else, without the last newline if the input is the last one and its text does not end a line. It tells
+-- whether a paragraph was over the limit.
+abbrev pub IsRun : Rules → Form → Bool → Device → Device → Device → Device → Result Bool Fault → Type 0
+IsRun rules form is_last reader_old reader_new writer_old writer_new (Ok over) =
     (bytes : List ℕ) × HasRead reader_old reader_new bytes × IsAtEnd reader_new.bytes × (reader_new.failures ≡ reader_old.failures)
-    × (form.strict ≡ true → IsUtf8 bytes) × Wrote (output_page rules form is_last bytes) writer_old writer_new
+    × (form.strict ≡ true → IsUtf8 bytes) × (over ≡ have_over rules START (blocks (cut_by rules) (input_text form.escapes bytes)))
+    × Wrote (output_page rules form is_last bytes) writer_old writer_new
 IsRun rules form is_last reader_old reader_new writer_old writer_new (Err fault) =
     (bytes : List ℕ) × HasRead reader_old reader_new bytes
     × ((first : WritesFirst rules form bytes writer_old writer_new) × EndsBy rules form is_last reader_old reader_new writer_old writer_new bytes first fault)

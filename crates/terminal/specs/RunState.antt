@@ -12,7 +12,7 @@ use Rattle.stream.specs.declared.reading.TheConstants.{CHUNK}
 use Rattle.terminal.specs.Decoding.{IsBeginning, Takes, good_part, text_after}
 use Rattle.terminal.specs.Ends.{IsLeft}
 use Rattle.terminal.specs.Newlines.{text_output}
-use Rattle.terminal.specs.Run.{are_within, blocks_page, HasRead, IsRun, IsTooLong}
+use Rattle.terminal.specs.Run.{are_within, blocks_page, have_over, ArePermitted, HasRead, IsRun, IsTooLong}
 use Rattle.terminal.specs.Texts.{block_page, blocks, input_text, shown_blocks}
 use Rattle.terminal.specs.declared.faults.Fault.{Fault}
 use Rattle.terminal.specs.declared.faults.Fault.TheVariants as f
@@ -34,7 +34,6 @@ pen_after_blocks pen (block ∷ parts) = pen_after_blocks (next_paragraph (pen_a
 pub record IsFront (is_cut : ℕ → ℕ → Bool) (parts : List (List ℕ)) (text rest : List ℕ) : Type 0 where
   pub whole : text ≡ concat parts ++ rest
   pub cuts : (more : List ℕ) → blocks is_cut (text ++ more) ≡ parts ++ blocks is_cut (rest ++ more)
-  pub within : are_within parts ≡ true
 
 -- The lines of blocks were added to the page.
 pub record Adds (rules : Rules) (form : Form) (parts : List (List ℕ)) (old new : Output) : Type 0 where
@@ -42,6 +41,7 @@ pub record Adds (rules : Rules) (form : Form) (parts : List (List ℕ)) (old new
   pub pen : pen_of new.scanner ≡ pen_after_blocks (pen_of old.scanner) parts
   pub empty : styled_of new.scanner.text ≡ []
   pub written : new.written ≡ old.written
+  pub over : new.over ≡ (old.over || have_over rules (pen_of old.scanner) parts)
 
 -- whether the first block of a text is too long, given a number of characters that end no block and the length of the text
 abbrev pub is_left_long : ℕ → ℕ → Bool
@@ -49,13 +49,14 @@ is_left_long scanned len = nat_lt PARAGRAPH_LIMIT len && (nat_le PARAGRAPH_LIMIT
 
 -- what is left of a text: if it is not too long, no end of a block is known before `scanned`
 abbrev pub Leaves : Rules → Bool → Bool → ℕ → List ℕ → Type 0
-Leaves rules holds true scanned rest = IsTooLong (cut_by rules) rest
+Leaves rules holds true scanned rest = (holds ≡ true) × IsTooLong (cut_by rules) rest
 Leaves rules holds false scanned rest = IsLeft (cut_by rules) holds scanned rest
 
 -- The lines of all blocks that have ended were added to the page, or of those before one that is too long.
 pub record AddsEnded (rules : Rules) (form : Form) (text : List ℕ) (old new : Output) (start scanned : ℕ) (is_long : Bool) : Type 0 where
   pub parts : List (List ℕ)
   pub front : IsFront (cut_by rules) parts text (drop start text)
+  pub permitted : ArePermitted form parts
   pub within : start ≤ length text
   pub adds : Adds rules form parts old new
   pub leaves : Leaves rules form.strict is_long scanned (drop start text)
@@ -63,10 +64,12 @@ pub record AddsEnded (rules : Rules) (form : Form) (text : List ℕ) (old new : 
 
 -- The lines of the blocks of a whole text were added to the page, or of those before one that is too long.
 abbrev pub AddsLast : Rules → Form → Bool → List ℕ → Output → Output → Bool → Type 0
-AddsLast rules form is_last text old new false = new.page.bytes.items ≡ old.page.bytes.items ++ text_output rules form is_last (pen_of old.scanner) text
+AddsLast rules form is_last text old new false =
+    (new.page.bytes.items ≡ old.page.bytes.items ++ text_output rules form is_last (pen_of old.scanner) text)
+    × (new.over ≡ (old.over || have_over rules (pen_of old.scanner) (blocks (cut_by rules) text)))
 AddsLast rules form is_last text old new true =
-    (parts : List (List ℕ)) × (first : List ℕ) × (others : List (List ℕ)) × (blocks (cut_by rules) text ≡ parts ++ first ∷ others) × (are_within parts ≡ true)
-    × (PARAGRAPH_LIMIT + 1 ≤ length first) × (new.page.bytes.items ≡ old.page.bytes.items ++ pages rules form (pen_of old.scanner) parts)
+    (form.strict ≡ true) × ((parts : List (List ℕ)) × (first : List ℕ) × (others : List (List ℕ)) × (blocks (cut_by rules) text ≡ parts ++ first ∷ others) × (are_within parts ≡ true)
+    × (PARAGRAPH_LIMIT + 1 ≤ length first) × (new.page.bytes.items ≡ old.page.bytes.items ++ pages rules form (pen_of old.scanner) parts))
 
 -- the characters at the end of an input, given how many bytes are left
 abbrev pub last_characters : ℕ → List ℕ
@@ -84,6 +87,7 @@ pub record Gathers (rules : Rules) (form : Form) (bytes : List ℕ) (old new : H
   pub takes : Takes form.strict form.escapes (good_part form.strict bytes) old.decoder new.decoder old.text.items text
   pub parts : List (List ℕ)
   pub front : IsFront (cut_by rules) parts text new.text.items
+  pub permitted : ArePermitted form parts
   pub adds : Adds rules form parts old.output new.output
   pub is_long : Bool
   pub leaves : Leaves rules form.strict is_long new.scanned new.text.items
@@ -102,11 +106,11 @@ pub record IsFed (rules : Rules) (form : Form) (bytes : List ℕ) (sent : List (
   pub decoded : (more : List ℕ) → input_text form.escapes (bytes ++ more) ≡ (concat sent ++ text) ++ text_after form.escapes started (waiting ++ more)
   pub beginning : IsBeginning waiting
   pub cuts : (more : List ℕ) → blocks (cut_by rules) ((concat sent ++ text) ++ more) ≡ sent ++ blocks (cut_by rules) (text ++ more)
-  pub within : are_within sent ≡ true
+  pub permitted : ArePermitted form sent
   pub valid : form.strict ≡ true → IsValidSoFar form.escapes bytes waiting (concat sent ++ text) started
 
 -- What a run did between two states of its source and sink. It wrote the lines of the blocks `sent`.
-pub record IsAt (rules : Rules) (form : Form) (reader_old reader writer_old writer : Device) (waiting text : List ℕ) (started : Bool) (pen : Pen) (written : ℕ) : Type 0 where
+pub record IsAt (rules : Rules) (form : Form) (reader_old reader writer_old writer : Device) (waiting text : List ℕ) (started : Bool) (pen : Pen) (written : ℕ) (over : Bool) : Type 0 where
   pub bytes : List ℕ
   pub sent : List (List ℕ)
   pub read : HasRead reader_old reader bytes
@@ -115,11 +119,12 @@ pub record IsAt (rules : Rules) (form : Form) (reader_old reader writer_old writ
   pub wrote : Wrote (blocks_page rules form sent) writer_old writer
   pub pen_is : pen ≡ pen_after_blocks START sent
   pub written_is : written ≡ length (blocks_page rules form sent)
+  pub over_is : over ≡ have_over rules START sent
 
 -- the state between two reads, when all lines are written
 pub record Stands (rules : Rules) (form : Form) (reader_old writer_old reader writer : Device) (held : Held) : Type 0 where
   pub is_at : IsAt rules form reader_old reader writer_old writer (take held.decoder.waiting held.decoder.chunk.items) held.text.items held.decoder.started
-      (pen_of held.output.scanner) held.output.written
+      (pen_of held.output.scanner) held.output.written held.output.over
   pub is_left : IsLeft (cut_by rules) form.strict held.scanned held.text.items
   pub holds : form.strict ≡ true → length held.text.items ≡ 0 → length is_at.sent ≡ 0
   pub empty : styled_of held.output.scanner.text ≡ []
@@ -131,19 +136,20 @@ pub record Stands (rules : Rules) (form : Form) (reader_old writer_old reader wr
 -- a step continues the run or ends it
 abbrev pub Steps : Rules → Form → Bool → Device → Device → Device → Device → Held → Result Bool Fault → Type 0
 Steps rules form is_last reader_old writer_old reader_new writer_new held (Ok true) = Stands rules form reader_old writer_old reader_new writer_new held
-Steps rules form is_last reader_old writer_old reader_new writer_new held (Ok false) = IsRun rules form is_last reader_old reader_new writer_old writer_new (Ok tt)
+Steps rules form is_last reader_old writer_old reader_new writer_new held (Ok false) = IsRun rules form is_last reader_old reader_new writer_old writer_new (Ok held.output.over)
 Steps rules form is_last reader_old writer_old reader_new writer_new held (Err fault) = IsRun rules form is_last reader_old reader_new writer_old writer_new (Err fault)
 
 -- what is written at the end of an input, for each result
-abbrev pub Finishes : Rules → Form → Bool → Held → Device → Device → Result (Unit {0}) Fault → Type 0
-Finishes rules form is_last held old new (Ok done) =
+abbrev pub Finishes : Rules → Form → Bool → Held → Bool → Device → Device → Result (Unit {0}) Fault → Type 0
+Finishes rules form is_last held over old new (Ok done) =
     (form.strict ≡ true → held.decoder.waiting ≡ 0)
+    × (over ≡ (held.output.over || have_over rules (pen_of held.output.scanner) (blocks (cut_by rules) (held.text.items ++ last_characters held.decoder.waiting))))
     × Wrote (held.output.page.bytes.items ++ text_output rules form is_last (pen_of held.output.scanner) (held.text.items ++ last_characters held.decoder.waiting)) old new
-Finishes rules form is_last held old new (Err f.Memory) = new ≡ old
-Finishes rules form is_last held old new (Err f.Read) = ⊥
-Finishes rules form is_last held old new (Err (f.NotUtf8 n)) = (form.strict ≡ true) × (0 < held.decoder.waiting) × (n ≡ held.decoder.decoded) × (new ≡ old)
-Finishes rules form is_last held old new (Err f.ParagraphTooLong) =
+Finishes rules form is_last held over old new (Err f.Memory) = new ≡ old
+Finishes rules form is_last held over old new (Err f.Read) = ⊥
+Finishes rules form is_last held over old new (Err (f.NotUtf8 n)) = (form.strict ≡ true) × (0 < held.decoder.waiting) × (n ≡ held.decoder.decoded) × (new ≡ old)
+Finishes rules form is_last held over old new (Err f.ParagraphTooLong) =
     (middle : Output) × AddsLast rules form is_last (held.text.items ++ last_characters held.decoder.waiting) held.output middle true × Wrote middle.page.bytes.items old new
-Finishes rules form is_last held old new (Err (f.Write n)) =
+Finishes rules form is_last held over old new (Err (f.Write n)) =
     (middle : Output) × (is_long : Bool) × AddsLast rules form is_last (held.text.items ++ last_characters held.decoder.waiting) held.output middle is_long
     × ((m : ℕ) × (n ≡ held.output.written + m) × StoppedAt m middle.page.bytes.items old new)

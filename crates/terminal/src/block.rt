@@ -13,14 +13,14 @@ ghost use Rattle.terminal.specs.Newlines.{last_of};
 ghost use Rattle.terminal.specs.Numbers.{numbered};
 ghost use Rattle.terminal.specs.Paragraphs.{styles_of};
 ghost use Rattle.terminal.specs.Parts.{styles_in};
-ghost use Rattle.terminal.specs.Pieces.{printed_pieces, IsWhole};
+ghost use Rattle.terminal.specs.Pieces.{has_over, printed_pieces, IsWhole};
 ghost use Rattle.terminal.specs.Texts.{block_page, in_mode, styled_paragraphs};
 
 use crate::form::{Escapes, Form};
 use crate::numbers::{Part, number_styles};
 use crate::pieces::push_pieces;
 use bidi::paragraphs_are_pieces;
-use lines::Engine;
+use lines::{Engine, PARAGRAPH_LIMIT};
 use sequences::{Scanner, StyledText};
 use std::alloc::{AllocError, Global};
 use stream::Page;
@@ -87,6 +87,25 @@ fn paragraph_end(engine: &Engine, characters: &[char], at: usize) -> usize
     }
 }
 
+// Returns whether a paragraph of a text is over the limit.
+fn has_over(engine: &Engine, characters: &[char]) -> bool
+    ensures { result ≡ has_over (rules_of engine.now) characters.now }
+{
+    let mut rest = characters;
+    while !rest.is_empty() {
+        let len = match engine.first_cut(rest) {
+            Some(k) => k,
+            None => rest.len(),
+        };
+        if len > PARAGRAPH_LIMIT {
+            return true;
+        }
+        let (_, after) = rest.split_at(len);
+        rest = after;
+    }
+    false
+}
+
 // Adds the lines of the paragraphs of a block, given the styles of its characters.
 fn push_parts(
     alloc: Global,
@@ -135,8 +154,16 @@ fn push_shown(
     push_parts(alloc, page, engine, form, &part, &mut buffers.out)
 }
 
-/// Adds the lines of what a block shows, and returns the last character shown. The scanner begins the next
-/// block. After a failed allocation, what it holds does not matter.
+/// What a block shows.
+#[derive(Clone, Copy)]
+pub(crate) struct Shown {
+    pub(crate) last: Option<char>,
+    /// Whether a paragraph is over the limit.
+    pub(crate) over: bool,
+}
+
+/// Adds the lines of what a block shows. The scanner begins the next block. After a failed allocation, what
+/// it holds does not matter.
 pub(crate) fn push_block(
     alloc: Global,
     page: &mut Page,
@@ -145,20 +172,23 @@ pub(crate) fn push_block(
     scanner: &mut Scanner,
     block: &[char],
     buffers: &mut Buffers,
-) -> Result<Option<char>, AllocError>
+) -> Result<Shown, AllocError>
     requires empty { styled_of scanner.old.text ≡ [] }
     ensures ok { OnOk result (page.new.bytes.items ≡ page.old.bytes.items
         ++ block_page (rules_of engine.old) form.now (styled (pen_of scanner.old) block.now)) }
     ensures pen { OnOk result (pen_of scanner.new
         ≡ next_paragraph (pen_at_end (pen_of scanner.old) block.now)) }
     ensures empty { OnOk result (styled_of scanner.new.text ≡ []) }
-    ensures last { IfOk result (λ last. last
+    ensures over { IfOk result (λ shown. shown.over
+        ≡ has_over (rules_of engine.old) (characters_of (styled (pen_of scanner.old) block.now))) }
+    ensures last { IfOk result (λ shown. shown.last
         ≡ last_of (characters_of (styled (pen_of scanner.old) block.now))) }
     ensures rules { SameRules engine.old engine.new }
 {
     scanner.push_text(block)?;
     push_shown(alloc, page, engine, form, &scanner.text, buffers)?;
     let last = scanner.text.characters.last().copied();
+    let over = has_over(engine, &scanner.text.characters);
     scanner.start_paragraph();
-    Ok(last)
+    Ok(Shown { last, over })
 }

@@ -57,7 +57,8 @@ pub struct Form<'a> {
     /// Writes `LTR` or `RTL` after the first line of each paragraph.
     pub basedir: bool,
     pub escapes: Escapes,
-    /// Stops at bytes that are not UTF-8. A paragraph is then written only once something follows it.
+    /// Stops at bytes that are not UTF-8, and at a paragraph over the limit. A paragraph is then written only
+    /// once something follows it.
     pub strict: bool,
     /// A prefix as wide as the width or wider is none.
     pub prefix: Prefix<'a>,

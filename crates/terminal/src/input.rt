@@ -55,6 +55,7 @@ impl Held {
         ensures empty { IfOk result (λ held. styled_of held.output.scanner.text ≡ []) }
         ensures page { IfOk result (λ held. held.output.page.bytes.items ≡ []) }
         ensures written { IfOk result (λ held. held.output.written ≡ 0) }
+        ensures over { IfOk result (λ held. held.output.over ≡ false) }
     {
         Ok(Held {
             decoder: Decoder::new(alloc)?,
@@ -151,7 +152,7 @@ fn finish<W: Sink>(
 ) -> Result<(), Fault>
     requires empty { styled_of held.old.output.scanner.text ≡ [] }
     requires counted { held.old.output.written ≤ (W.state writer.old).passed }
-    ensures ends { Finishes (rules_of engine.old) form.now is_last held.old
+    ensures ends { Finishes (rules_of engine.old) form.now is_last held.old held.new.output.over
         (W.state writer.old) (W.state writer.new) result }
     ensures rules { SameRules engine.old engine.new }
 {
@@ -224,14 +225,17 @@ fn step<R: Source, W: Sink>(
 /// With `is_last`, the last newline is left out if the text does not end a line: its last character has
 /// neither bidi class B nor line breaking class BK, CR, LF or NL.
 ///
+/// A paragraph over `PARAGRAPH_LIMIT` is laid out in pieces of this length, in the direction of the first
+/// one, unless the form is strict. Returns whether there was one.
+///
 /// Errors:
 ///
 /// - `Read`: the source failed. All paragraphs that have ended were written.
 /// - `Write`: the sink failed.
 /// - `NotUtf8`: the form is strict, and the input is not UTF-8. All paragraphs before this were written but
 ///   the last one.
-/// - `ParagraphTooLong`: a paragraph with its sequences is longer than `PARAGRAPH_LIMIT`. All paragraphs
-///   before it were written.
+/// - `ParagraphTooLong`: the form is strict, and a paragraph with its sequences is longer than
+///   `PARAGRAPH_LIMIT`. All paragraphs before it were written.
 /// - `Memory`: an allocation failed.
 pub fn run<R: Source, W: Sink>(
     alloc: Global,
@@ -240,7 +244,7 @@ pub fn run<R: Source, W: Sink>(
     engine: &mut Engine,
     form: &Form,
     is_last: bool,
-) -> Result<(), Fault>
+) -> Result<bool, Fault>
     ensures run { IsRun (rules_of engine.old) form.now is_last
         (R.state reader.old) (R.state reader.new) (W.state writer.old) (W.state writer.new) result }
     ensures rules { SameRules engine.old engine.new }
@@ -251,7 +255,7 @@ pub fn run<R: Source, W: Sink>(
     loop {
         match step(alloc, reader, writer, engine, form, is_last, &mut held) {
             Ok(true) => (),
-            Ok(false) => return Ok(()),
+            Ok(false) => return Ok(held.output.over),
             Err(fault) => return Err(fault),
         }
     }

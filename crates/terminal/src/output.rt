@@ -1,5 +1,6 @@
 //! Collects the lines of blocks, and writes them.
-ghost use Rattle.std.specs.Prelude.{◌≡◌, ◌+◌, ◌≤◌, ◌<◌, ◌==◌, ◌&&◌, ◌∷◌, [], ℕ, length, IfErr, IfOk, OnOk};
+ghost use Rattle.std.specs.Prelude.{◌≡◌, ◌+◌, ◌≤◌, ◌<◌, ◌==◌, ◌&&◌, ◌∷◌, [], ℕ, false, nat_lt, length};
+ghost use Rattle.std.specs.Prelude.{IfErr, IfOk, OnOk};
 ghost use Rattle.device.specs.Device.{StoppedAt, Wrote};
 ghost use Rattle.lines.specs.Engine.{rules_of, SameRules};
 ghost use Rattle.lines.specs.Layouts.{cut_by};
@@ -31,6 +32,8 @@ pub(crate) struct Output {
     pub(crate) page: Page,
     // The number of bytes written.
     pub(crate) written: u64,
+    // Whether a paragraph was over the limit.
+    pub(crate) over: bool,
 }
 
 impl Drop for Output {
@@ -40,6 +43,7 @@ impl Drop for Output {
             buffers: _,
             page: _,
             written: _,
+            over: _,
         } = self;
     }
 }
@@ -62,12 +66,14 @@ impl Output {
         ensures empty { styled_of result.scanner.text ≡ [] }
         ensures page { result.page.bytes.items ≡ [] }
         ensures written { result.written ≡ 0 }
+        ensures over { result.over ≡ false }
     {
         Output {
             scanner: Scanner::new(alloc),
             buffers: Buffers::new(alloc),
             page: Page::new(alloc),
             written: 0,
+            over: false,
         }
     }
 
@@ -86,7 +92,7 @@ impl Output {
         ensures written { self.new.written ≡ self.old.written }
         ensures rules { SameRules engine.old engine.new }
     {
-        push_block(
+        let shown = push_block(
             alloc,
             &mut self.page,
             engine,
@@ -94,7 +100,9 @@ impl Output {
             &mut self.scanner,
             block,
             &mut self.buffers,
-        )
+        )?;
+        self.over = self.over || shown.over;
+        Ok(shown.last)
     }
 
     /// Adds the lines of the blocks of a text that have ended, whatever follows it, up to one that is too
@@ -120,8 +128,8 @@ impl Output {
         loop {
             let (_, rest) = text.split_at(start);
             match first_end(engine, rest, from) {
-                FirstEnd::After(k) => return Ok(left_open(start, k, rest.len())),
-                FirstEnd::At(k) if k > PARAGRAPH_LIMIT => {
+                FirstEnd::After(k) => return Ok(left_open(form, start, k, rest.len())),
+                FirstEnd::At(k) if is_too_long(form, k) => {
                     return Ok(Left {
                         start,
                         scanned: 0,
@@ -166,7 +174,7 @@ impl Output {
         let mut last = None;
         while !rest.is_empty() {
             let len = block_len(engine, rest);
-            if len > PARAGRAPH_LIMIT {
+            if is_too_long(form, len) {
                 return Ok(true);
             }
             let (block, after) = rest.split_at(len);
@@ -184,6 +192,7 @@ impl Output {
         ensures page { self.new.page.bytes.items
             ≡ ended_page (rules_of engine.now).tables is_last last self.old.page.bytes.items }
         ensures written { self.new.written ≡ self.old.written }
+        ensures over { self.new.over ≡ self.old.over }
     {
         if is_last && !is_ended(engine, last) {
             let len = self.page.bytes.len();
@@ -199,6 +208,7 @@ impl Output {
         ensures written { OnOk result (self.new.written
             ≡ self.old.written + length self.old.page.bytes.items) }
         ensures scanner { self.new.scanner ≡ self.old.scanner }
+        ensures over { self.new.over ≡ self.old.over }
         ensures err { IfErr result (λ fault. (n : ℕ) × (fault ≡ WriteFault (self.old.written + n))
             × StoppedAt n self.old.page.bytes.items (W.state writer.old) (W.state writer.new)) }
     {
@@ -230,14 +240,23 @@ fn is_held(form: &Form, block: usize, len: usize) -> bool
     form.strict && block == len
 }
 
-// Returns what is left of a text, which begins at `start`, has `len` characters, and has no known end. It is
-// too long if its first block is, or if the sequence after its CR is longer than another block may be.
-fn left_open(start: usize, scanned: usize, len: usize) -> Left
+// Returns whether a block of this length ends a run.
+fn is_too_long(form: &Form, len: usize) -> bool
+    ensures { result ≡ (form.now.strict && nat_lt PARAGRAPH_LIMIT len) }
+{
+    form.strict && len > PARAGRAPH_LIMIT
+}
+
+// Returns what is left of a text, which begins at `start`, has `len` characters, and has no known end. If the
+// form is strict, it is too long if its first block is, or if the sequence after its CR is longer than
+// another block may be.
+fn left_open(form: &Form, start: usize, scanned: usize, len: usize) -> Left
     ensures start { result.start ≡ start }
     ensures scanned { result.scanned ≡ scanned }
-    ensures short { result.is_long ≡ is_left_long scanned len }
+    ensures short { result.is_long ≡ (form.now.strict && is_left_long scanned len) }
 {
-    let is_long = len > PARAGRAPH_LIMIT
+    let is_long = form.strict
+        && len > PARAGRAPH_LIMIT
         && (scanned >= PARAGRAPH_LIMIT || len > 2 * PARAGRAPH_LIMIT);
     Left {
         start,

@@ -35,7 +35,7 @@ fn are_written_as(
     let mut reader = FromRead::new(first.chain(second));
     let mut page = Page::new(alloc);
     let result = run(alloc, &mut reader, &mut page, engine, form, is_last);
-    Ok(result == Ok(()) && page.bytes() == expected.as_bytes())
+    Ok(result == Ok(false) && page.bytes() == expected.as_bytes())
 }
 
 // Returns whether an input is written as expected, wherever the first chunk ends.
@@ -284,11 +284,64 @@ fn push_times(byte: u8, count: usize, bytes: &mut Vec<u8>) -> Result<(), Fail> {
     Ok(())
 }
 
+// Returns whether a text without a width is laid out in pieces, and what is written after some bytes.
+fn ends_in_pieces(
+    rt: &HostRuntime,
+    bytes: &[u8],
+    at: usize,
+    expected: &[u8],
+) -> Result<bool, Fail> {
+    let mut engine = engine(rt.alloc(), 0)?;
+    let form = form(0, Escapes::Keep);
+    let mut reader = FromRead::new(bytes);
+    let mut page = Page::new(rt.alloc());
+    let result = run(rt.alloc(), &mut reader, &mut page, &mut engine, &form, true);
+    let written = page.bytes();
+    if result != Ok(true) || written.len() < at {
+        return Ok(false);
+    }
+    let (_, end) = written.split_at(at);
+    Ok(end == expected)
+}
+
 #[test]
-fn a_paragraph_over_the_limit_ends_the_run(rt: HostRuntime) -> Result<(), Fail> {
+fn a_paragraph_over_the_limit_is_laid_out_in_pieces(rt: HostRuntime) -> Result<(), Fail> {
+    let mut bytes = Vec::new(rt.alloc());
+    push_times(b'a', 1_048_576, &mut bytes)?;
+    bytes.extend_from_slice(b"b\nc\n")?;
+    assert!(rt; ends_in_pieces(&rt, &bytes, 1_048_575, b"a\nb\nc\n".as_slice())?);
+    Ok(())
+}
+
+#[test]
+fn later_pieces_have_the_direction_of_the_first(rt: HostRuntime) -> Result<(), Fail> {
+    let mut bytes = Vec::new(rt.alloc());
+    bytes.extend_from_slice("\u{5d0}".as_bytes())?;
+    push_times(b'-', 1_048_575, &mut bytes)?;
+    bytes.extend_from_slice(b"b!\nc\n")?;
+    assert!(rt; ends_in_pieces(&rt, &bytes, 1_048_577, b"\n!b\nc\n".as_slice())?);
+    Ok(())
+}
+
+#[test]
+fn a_paragraph_of_the_limit_is_one(rt: HostRuntime) -> Result<(), Fail> {
+    let mut engine = engine(rt.alloc(), 0)?;
+    let form = form(0, Escapes::Keep);
+    let mut bytes = Vec::new(rt.alloc());
+    push_times(b'a', 1_048_575, &mut bytes)?;
+    bytes.extend_from_slice(b"\nc\n")?;
+    let mut reader = FromRead::new(bytes.as_slice());
+    let mut page = Page::new(rt.alloc());
+    let result = run(rt.alloc(), &mut reader, &mut page, &mut engine, &form, true);
+    assert!(rt; result == Ok(false) && page.bytes() == bytes.as_slice());
+    Ok(())
+}
+
+#[test]
+fn a_paragraph_over_the_limit_ends_a_strict_run(rt: HostRuntime) -> Result<(), Fail> {
     let mut engine = engine(rt.alloc(), 0)?;
     let form = Form {
-        width: 20,
+        strict: true,
         ..form(20, Escapes::Keep)
     };
     let mut bytes = Vec::from_slice(rt.alloc(), b"a\n")?;
@@ -326,7 +379,7 @@ fn input_that_is_all_invalid_is_read_to_its_end(rt: HostRuntime) -> Result<(), F
         &form,
         false,
     );
-    assert!(rt; result == Ok(()) && page.bytes().len() == 200_000 * 3 + 10_000);
+    assert!(rt; result == Ok(false) && page.bytes().len() == 200_000 * 3 + 10_000);
     Ok(())
 }
 

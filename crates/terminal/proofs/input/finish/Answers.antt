@@ -6,7 +6,7 @@ use Rattle.terminal.proofs.input.finish.Goals as goal
 
 pub returns-in-Err-clause-ends : goal.returns-in-Err-clause-ends
 returns-in-Err-clause-ends g c =
-    finish_write (rules_of c.args.engine.now) c.args.form.now c.args.is_last c.args.held.now (g.W.Sink.state c.args.writer.now) (g.W.Sink.state c.write.new.writer) c.in-Err.fault
+    finish_write (rules_of c.args.engine.now) c.args.form.now c.args.is_last c.args.held.now c.write.new.self.over (g.W.Sink.state c.args.writer.now) (g.W.Sink.state c.write.new.writer) c.in-Err.fault
     c.gather_last.new.self.output c.in-Ok.is_long c.in-Ok.ensures.adds c.gather_last.ensures.written c.in-Err.ensures.err
 
 pub returns-then-is_long-clause-ends : goal.returns-then-is_long-clause-ends

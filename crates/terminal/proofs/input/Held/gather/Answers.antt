@@ -33,6 +33,7 @@ returns-clause-gathers c =
       takes = c.in_ok-stops.ensures.takes;
       parts = added.parts;
       front = subst (IsFront (cut_by rules) added.parts text) (sym c.remove_front.ensures) added.front;
+      permitted = added.permitted;
       adds = added.adds;
       is_long = left.is_long;
       leaves = subst (λ (t : List ℕ). Leaves rules c.args.form.now.strict left.is_long left.scanned t) (sym c.remove_front.ensures) added.leaves;

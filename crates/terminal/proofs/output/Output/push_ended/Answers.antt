@@ -1,6 +1,7 @@
 use Rattle.std.proofs.Common.{◌∙◌, length, ap, refl, arith, length-drop}
+use Rattle.std.proofs.lemmas.List.{length-take-le}
 use Rattle.lines.specs.Engine.{rules_of}
-use Rattle.terminal.proofs.PushLemmas.{added_one, ends_first, ends_held, ends_open, held_is, holding_more}
+use Rattle.terminal.proofs.PushLemmas.{added_one, ends_first, ends_held, ends_open, held_is, holding_more, permit_one, refuse_one}
 use Rattle.terminal.proofs.output.Output.push_ended.Goals as goal
 
 pub returns-in-After-clause-adds : goal.returns-in-After-clause-adds
@@ -14,7 +15,8 @@ pub returns-in-At-clause-adds : goal.returns-in-At-clause-adds
 returns-in-At-clause-adds c =
     let at = c.loop-k.invariant in
     ends_first (rules_of c.args.engine.now) (rules_of c.loop-k.engine) c.args.form.now c.args.text.now c.split_at.result.1.now c.args.self.now c.loop-k.self
-    c.loop-k.start c.in-At.k at.rules at.added c.split_at.ensures.back (c.first_end.ensures.at c.in-At.k c.in-At.is) c.if-k-gt-PARAGRAPH_LIMIT.true at.empty at.holding
+    c.loop-k.start c.in-At.k at.rules at.added c.split_at.ensures.back (c.first_end.ensures.at c.in-At.k c.in-At.is)
+    (refuse_one c.args.form.now c.in-At.k c.is_too_long.result c.is_too_long.ensures c.if-is_too_long.true) at.empty at.holding
 
 pub loop-k-preserved : goal.loop-k-preserved
 loop-k-preserved c =
@@ -28,7 +30,9 @@ loop-k-preserved c =
       holding = holding_more c.args.form.now.strict c.is_held.result c.args.text.now c.split_at.result.1.now c.loop-k.start c.in-At.k c.split_at.ensures.back c.is_held.ensures
           c.if-is_held.false first.within;
       added = added_one (rules_of c.args.engine.now) (rules_of c.loop-k.engine) c.args.form.now c.args.text.now c.split_at.result.1.now c.split_at-in-At-3.result.0.now
-          c.args.self.now c.loop-k.self c.push.new.self c.loop-k.start c.in-At.k at.rules at.added c.split_at.ensures.back first c.if-k-gt-PARAGRAPH_LIMIT.false
+          c.args.self.now c.loop-k.self c.push.new.self c.loop-k.start c.in-At.k at.rules at.added c.split_at.ensures.back first
+          (permit_one c.args.form.now c.split_at-in-At-3.result.0.now c.in-At.k c.is_too_long.result c.is_too_long.ensures c.if-is_too_long.false
+          (ap length c.split_at-in-At-3.ensures.front ∙ length-take-le c.in-At.k c.split_at.result.1.now first.within))
           c.split_at-in-At-3.ensures.front c.in_ok-push-in-At-3.ensures.adds;
     }
 
