@@ -4,7 +4,7 @@ use crate::end::End;
 use crate::reports::{report, report_error};
 use crate::watched::Watched;
 use device::{FromRead, ToWrite};
-use lines::{Engine, PARAGRAPH_LIMIT};
+use lines::Engine;
 use std::fs::File;
 use std::io;
 use std::io::{ErrorKind, Read, Stdout};
@@ -79,9 +79,7 @@ fn show<R: Read + Drop>(
     match result {
         Ok(false) => Ok(true),
         Ok(true) => {
-            let _ = eprintln!(rt;
-                "hordguli: {name}: a paragraph has more than {PARAGRAPH_LIMIT} characters, and is laid out in parts"
-            );
+            report(rt, name, "paragraph too long, laid out in parts");
             Ok(false)
         }
         Err(Fault::Memory) => Err(End::Memory),
@@ -95,7 +93,7 @@ fn show<R: Read + Drop>(
             Ok(false)
         }
         Err(Fault::ParagraphTooLong) => {
-            let _ = eprintln!(rt; "hordguli: {name}: paragraph too long");
+            report(rt, name, "paragraph too long");
             Ok(false)
         }
     }
@@ -108,7 +106,7 @@ fn run_input<R: Read + Drop>(
     last: bool,
     input: R,
     stdout: &mut Watched<Stdout>,
-) -> Result<(), Fault> {
+) -> Result<bool, Fault> {
     let mut reader = FromRead::new(input);
     let mut writer = ToWrite::new(&mut *stdout);
     run(rt.alloc(), &mut reader, &mut writer, engine, form, last)
@@ -122,7 +120,7 @@ fn run_by_file<R: Read + Drop>(
     last: bool,
     input: &mut Watched<R>,
     stdout: &mut Watched<Stdout>,
-) -> Result<Result<(), Fault>, End> {
+) -> Result<Result<bool, Fault>, End> {
     let start = read_start(rt, engine, form.escapes, &mut *input)?;
     let bytes = start.bytes.as_slice();
     if start.is_whole {
