@@ -49,7 +49,15 @@ fn show_file(
     stdout: &mut Watched<Stdout>,
 ) -> Result<bool, End> {
     if name == "-" {
-        return show(rt, engine, showing, "standard input", last, rt.stdin(), stdout);
+        return show(
+            rt,
+            engine,
+            showing,
+            "standard input",
+            last,
+            rt.stdin(),
+            stdout,
+        );
     }
     match File::open(rt, name) {
         Ok(file) => show(rt, engine, showing, name, last, file, stdout),
