@@ -4,7 +4,9 @@ import os, tempfile
 import command
 from command import Costs
 
-SECONDS, KILOBYTES = 10, 100 * 1024
+SECONDS = 10
+# A paragraph may need 40 bytes a character.
+KILOBYTES, KILOBYTES_OF_LONG_PARAGRAPHS = 100 * 1024, 10 * 1024 + 40 * 5_000_000 // 1024
 E = "\x1b"
 MILLION = 1_000_000
 WIDTH = 80
@@ -75,8 +77,9 @@ def checks(told):
             at = next((at for at, (a, b) in enumerate(zip(output, expected)) if a != b), min(len(output), len(expected)))
             told(f"the output for {name}", output == expected, f"{len(output)} bytes, {len(expected)} are expected; from byte {at} on {output[at : at + 60]!r} and not {expected[at : at + 60]!r}")
             told(f"the status for {name}", status == is_too_long and bool(message) == is_too_long, f"{status}", message[:300])
-            told(f"the costs of {name}", within(costs), f"{costs.seconds:.1f} s, {costs.kilobytes} KB")
+            most = KILOBYTES_OF_LONG_PARAGRAPHS if is_too_long else KILOBYTES
+            told(f"the costs of {name}", within(costs, most), f"{costs.seconds:.1f} s, {costs.kilobytes} KB")
 
 
-def within(costs: Costs):
-    return costs.seconds <= SECONDS and costs.kilobytes <= KILOBYTES
+def within(costs: Costs, kilobytes):
+    return costs.seconds <= SECONDS and costs.kilobytes <= kilobytes

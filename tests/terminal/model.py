@@ -26,6 +26,9 @@ MOST_IN_STRING = 4096
 MOST_OF_LINKS = 1_048_576
 WIDEST = 65_535
 LOOKED_AT_FOR_DIRECTION = 65_536
+# The mandatory breaks that end no paragraph, and what ends a line at the end of a paragraph.
+LINE_BREAKS = re.compile("[\v\f\u2028]")
+LINE_END = re.compile("(\r\n|[\n\v\f\r\x1c-\x1e\x85\u2028\u2029])\\Z")
 
 
 # ---- Options ----
@@ -305,9 +308,8 @@ class Layout:
         self.options = options
 
     def laid_out(self, text, styles, width):
-        """Returns the lines of a paragraph. A paragraph without characters, behind a prefix, is one empty line."""
-        if not text:
-            return [Line([], hordguli.base_level("", self.direction, tables=self.tables))]
+        """Returns the lines of a paragraph. Without characters, behind a prefix, it is as with a newline alone."""
+        text = text or "\n"
         with hordguli.Session(text, WIDEST if width is None else width, self.options, tables=self.tables) as session:
             return [self.line(line, styles, width) for line in session[:]]
 
@@ -324,16 +326,17 @@ class Layout:
 
     def columns(self, text):
         """Returns the columns of a prefix."""
-        count = 0
+        text, count = LINE_BREAKS.sub("", text), 0
         for c, found in zip(text, hordguli.properties(text, tables=self.tables)):
             count += self.its.tabs - count % self.its.tabs if c == "\t" and self.its.tabs else found.columns
         return count
 
     def prefix_length(self, text):
-        """Returns how many characters of a paragraph are its quote or prefix. Without either, it is 0."""
+        """Returns how many characters of a paragraph are its quote or prefix. Without either, it is 0. What has a line break before its
+        last character is none."""
         pattern = r"(?:> ?)+" if self.its.quotes else self.its.prefix
-        found = re.match(pattern, text.rstrip("\n\r\x1c\x1d\x1e\x85\u2029"))
-        length = len(found[0]) if found else 0
+        found = re.match(pattern, LINE_END.sub("", text))
+        length = len(found[0]) if found and not LINE_BREAKS.search(found[0][:-1]) else 0
         return length if self.its.width is None or self.columns(text[:length]) < self.its.width else 0
 
     def paragraph(self, text, styles):
@@ -357,7 +360,8 @@ class Layout:
         return line._replace(cells=line.cells + [*zip(mirrored, styles)][::-1])
 
     def prefix_cells(self, prefix, styles):
-        """Returns the characters of a prefix from left to right, as a left-to-right row."""
+        """Returns the characters of a prefix from left to right, as a left-to-right row. A line break at its end is not shown."""
+        prefix = LINE_BREAKS.sub("", prefix)
         levels = hordguli.levels(prefix, hordguli.Options.LTR, tables=self.tables)
         row = hordguli.row(prefix, levels, 0, MARKS[self.its.marks], tables=self.tables)
         cells = []

@@ -318,15 +318,15 @@ fn push_long_link(text: &mut Vec<char>) -> Result<(), AllocError> {
 #[test]
 fn links_past_one_megabyte_are_dropped(rt: HostRuntime) -> Result<(), Fail> {
     let mut text = Vec::new(rt.alloc());
-    for _ in 0..66 {
+    for _ in 0..263 {
         push_long_link(&mut text)?;
     }
     let mut scanner = Scanner::new(rt.alloc());
     scanner.push_text(&text)?;
     assert!(rt;
-        scanner.text.links.len() == 65 * 4_001 && scanner.text.links.len() <= MAX_LINKS_LEN
+        scanner.text.links.len() == 262 * 4_001 && scanner.text.links.len() <= MAX_LINKS_LEN
     );
-    assert!(rt; scanner.text.runs.len() == 66);
+    assert!(rt; scanner.text.runs.len() == 263);
     if let Some(run) = scanner.text.runs.last() {
         assert!(rt; run.link.len == 0);
     }
