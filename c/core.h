@@ -55,6 +55,7 @@ uint32_t hordguli_core_set_advances(hordguli_session *session, size_t pos, const
 
 uint32_t hordguli_core_session_counts(hordguli_session *session, hordguli_counts *counts);
 uint32_t hordguli_core_session_work(hordguli_session *session, hordguli_work *work);
+uint32_t hordguli_core_changed_lines(hordguli_session *session, hordguli_changed *changed);
 
 uint32_t hordguli_core_line_start(hordguli_session *session, size_t line, size_t *start);
 

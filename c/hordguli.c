@@ -241,6 +241,12 @@ PUBLIC hordguli_status hordguli_set_advances(hordguli_session *session, size_t p
     return (hordguli_status)hordguli_core_set_advances(session, pos, NUMBERS(advances), count, OR(damage, unused));
 }
 
+PUBLIC hordguli_status hordguli_changed_lines(hordguli_session *session, hordguli_changed *changed) {
+    if (session == NULL || changed == NULL) return HORDGULI_NULL;
+    if (OVERLAP_2(AT(session), AT(changed))) return HORDGULI_OVERLAP;
+    return (hordguli_status)hordguli_core_changed_lines(session, changed);
+}
+
 PUBLIC hordguli_status hordguli_session_counts(hordguli_session *session, hordguli_counts *counts) {
     if (session == NULL || counts == NULL) return HORDGULI_NULL;
     if (OVERLAP_2(AT(session), AT(counts))) return HORDGULI_OVERLAP;

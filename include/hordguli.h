@@ -429,8 +429,9 @@ hordguli_status hordguli_valid_utf8(const char *bytes, size_t length, size_t *va
 /* ---- Sessions and edits ---- */
 
 /* What an edit replaced: `old_lines` lines from `first_line` on became `new_lines` lines, and likewise for paragraphs.
- * All other lines are unchanged, except that the lines that follow are renumbered. An edit replaces all paragraphs that
- * contain or touch its range, even if it inserts and deletes nothing. A caller that draws everything anew may pass NULL
+ * All other lines are unchanged, except that the lines that follow are renumbered. Damage names whole paragraphs: all
+ * that contain or touch the edited range, even if nothing is inserted and deleted. For lines, see
+ * `hordguli_changed_lines`. A caller that draws everything anew may pass NULL
  * as `damage`. */
 typedef struct hordguli_damage {
     size_t first_line;
@@ -494,6 +495,24 @@ hordguli_status hordguli_set_width(hordguli_session *session, uint32_t width, ho
  * Cost: as `hordguli_set_width`.
  * Since: 0.6. */
 hordguli_status hordguli_set_measured_width(hordguli_session *session, uint32_t width, hordguli_damage *damage);
+
+/* Which lines a call changed: `old_lines` lines from `first_line` on became `new_lines` lines. All other lines are the
+ * same as before, except that the lines that follow are renumbered. */
+typedef struct hordguli_changed {
+    size_t first_line;
+    size_t old_lines;
+    size_t new_lines;
+} hordguli_changed;
+
+/* Stores in `*changed` which lines changed in the last successful call that edited the text, set the width or set
+ * advances. These are the lines of its damage, which names whole paragraphs, without as many as possible at the start,
+ * and then at the end, that are the same before and after the call: their characters, levels, maps, columns, advances,
+ * base level and length, and whether they are the first of their paragraph. After the session was opened, all lines
+ * have changed. A call that fails changes nothing.
+ * Errors: NULL, OVERLAP, CLOSED.
+ * Cost: O(1).
+ * Since: 0.6. */
+hordguli_status hordguli_changed_lines(hordguli_session *session, hordguli_changed *changed);
 
 /* Sets the advances of the `count` characters that start at `pos`, in a measured session, and rewraps the paragraphs that
  * have one of these characters. Stores in `*damage` which lines were replaced: none if `count` is 0.

@@ -5,9 +5,12 @@ use Rattle.lines.specs.Engine.{analysed_of, filled_of, rules_of, written_of}
 use Rattle.lines.specs.Layouts.{cut_by, unmeasured}
 use Rattle.lines.specs.declared.engine.Engine.{Engine}
 use Rattle.lines.specs.declared.options.Options.{Options}
+use Rattle.session.specs.Changes.{all_lines, AreChanged}
 use Rattle.session.specs.Edits.{Replacement}
+use Rattle.session.specs.Kept.{lines_in}
 use Rattle.session.specs.Measuring.{SetsAdvances, SetsAdvancesNot, SetsMeasuredWidth, SetsMeasuredWidthNot}
 use Rattle.session.specs.Sessions.{SessionState, IsAnswerFor, Opens, OpensMeasured, Edits, EditsNot, SetsWidth, SetsWidthNot, measured_refusal, opening_refusal, text_at}
+use Rattle.session.specs.declared.edits.ChangedLines.{ChangedLines}
 use Rattle.session.specs.declared.edits.Damage.{Damage}
 use Rattle.session.specs.declared.edits.AdvanceFault.{AdvanceFault}
 use Rattle.session.specs.declared.edits.AdvanceFault.TheVariants as measured
@@ -15,6 +18,7 @@ use Rattle.session.specs.declared.edits.EditFault.{EditFault}
 use Rattle.session.specs.declared.edits.EditFault.TheVariants as faults
 use Rattle.hordguli_c.specs.Calls.{OfText}
 use Rattle.hordguli_c.specs.Statuses.{advance_status, edit_status}
+use Rattle.hordguli_c.specs.declared.session_calls.ChangedOut.{ChangedOut}
 use Rattle.hordguli_c.specs.declared.session_calls.DamageOut.{DamageOut}
 use Rattle.hordguli_c.specs.declared.session_calls.OpenWidth.{OpenWidth}
 use Rattle.hordguli_c.specs.declared.session_calls.OpenWidth.TheVariants.{Columns, Units}
@@ -42,6 +46,7 @@ pub record IsOpened (tables : Tables) (options : Options) (text : List ℕ) (wid
   pub engine : Engine
   pub fresh : IsFresh tables options engine
   pub opens : OpensAt engine text width state
+  pub changed : state.changed ≡ all_lines state.kept
 
 -- a session was not opened, for the first reason that applies, or with `NoMemory` if none applies
 pub record IsRefused (tables : Tables) (options : Options) (text : List ℕ) (width : OpenWidth) (status : Status) : Type 0 where
@@ -72,13 +77,23 @@ damage_out damage = record {
   new_paragraphs = damage.new_pars;
 }
 
+abbrev pub changed_out : ChangedLines → ChangedOut
+changed_out changed = record { first_line = changed.first_line; old_lines = changed.old_lines; new_lines = changed.new_lines }
+
+-- a call changed lines of a session, or left those of the last successful call
+abbrev pub ChangesLines : SessionState → SessionState → Damage → Type 0
+ChangesLines before after damage = AreChanged (lines_in before.kept) (lines_in after.kept) damage after.changed
+
+abbrev pub KeepsLines : SessionState → SessionState → Type 0
+KeepsLines before after = after.changed ≡ before.changed
+
 -- Either an edit is executed and its damage is stored, or it fails and nothing is stored. It fails with
 -- `NoMemory` only if `may_want` holds.
 abbrev pub Tries : (SessionState → SessionState → Damage → Type 0) → (SessionState → SessionState → EditFault → Type 0) → Type 0
     → Status → SessionState → SessionState → DamageOut → DamageOut → Type 0
 Tries makes refuses may_want status before after old new =
-    ((damage : Damage) × (status ≡ is.Ok) × makes before after damage × (new ≡ damage_out damage))
-    ⊎ ((fault : EditFault) × (status ≡ edit_status fault) × refuses before after fault × (fault ≡ faults.NoMemory → may_want) × (new ≡ old))
+    ((damage : Damage) × (status ≡ is.Ok) × makes before after damage × ChangesLines before after damage × (new ≡ damage_out damage))
+    ⊎ ((fault : EditFault) × (status ≡ edit_status fault) × refuses before after fault × KeepsLines before after × (fault ≡ faults.NoMemory → may_want) × (new ≡ old))
 
 abbrev pub TriesEdit : Replacement → Status → SessionState → SessionState → DamageOut → DamageOut → Type 0
 TriesEdit edit status before = Tries (Edits edit) (EditsNot edit) (0 < length (text_at before) + length edit.piece) status before
@@ -90,8 +105,8 @@ TriesWidth width status before = Tries (SetsWidth width) (SetsWidthNot width) (0
 abbrev pub TriesMeasured : (SessionState → SessionState → Damage → Type 0) → (SessionState → SessionState → AdvanceFault → Type 0) → Type 0
     → Status → SessionState → SessionState → DamageOut → DamageOut → Type 0
 TriesMeasured makes refuses may_want status before after old new =
-    ((damage : Damage) × (status ≡ is.Ok) × makes before after damage × (new ≡ damage_out damage))
-    ⊎ ((fault : AdvanceFault) × (status ≡ advance_status fault) × refuses before after fault × (fault ≡ measured.NoMemory → may_want) × (new ≡ old))
+    ((damage : Damage) × (status ≡ is.Ok) × makes before after damage × ChangesLines before after damage × (new ≡ damage_out damage))
+    ⊎ ((fault : AdvanceFault) × (status ≡ advance_status fault) × refuses before after fault × KeepsLines before after × (fault ≡ measured.NoMemory → may_want) × (new ≡ old))
 
 abbrev pub TriesMeasuredWidth : ℕ → Status → SessionState → SessionState → DamageOut → DamageOut → Type 0
 TriesMeasuredWidth width status before = TriesMeasured (SetsMeasuredWidth width) (SetsMeasuredWidthNot width) (0 < length (text_at before)) status before

@@ -7,8 +7,8 @@ ghost use Rattle.session.specs.Sessions.{text_at};
 ghost use Rattle.hordguli_c.specs.Calls.{Asks, Changes, Gives, OfText};
 ghost use Rattle.hordguli_c.specs.Options.{options_of};
 ghost use Rattle.hordguli_c.specs.Sessions.{IsFresh, IsOpened, IsRefused, OpensOn, OpensSession};
-ghost use Rattle.hordguli_c.specs.Sessions.{damage_out, TriesAdvances, TriesEdit, TriesMeasuredWidth};
-ghost use Rattle.hordguli_c.specs.Sessions.{TriesWidth};
+ghost use Rattle.hordguli_c.specs.Sessions.{changed_out, damage_out, TriesAdvances, TriesEdit};
+ghost use Rattle.hordguli_c.specs.Sessions.{TriesMeasuredWidth, TriesWidth};
 ghost use Rattle.hordguli_c.specs.declared.session_calls.OpenWidth.TheVariants.{Columns, Units};
 ghost use Rattle.hordguli_c.specs.Statuses.{Returns};
 ghost use Rattle.hordguli_c.specs.declared.status.Status.TheVariants.{Ok};
@@ -455,6 +455,48 @@ pub extern "C" fn hordguli_core_session_work(
     match session.swap(alloc, None) {
         Some(object) => {
             *work = work_of(&object);
+            session.swap(alloc, Some(object));
+            number_of(Status::Ok)
+        }
+        None => number_of(Status::Closed),
+    }
+}
+
+/// Which lines a call changed (`hordguli_changed` in C).
+#[repr(C)]
+#[derive(Clone, Copy)]
+pub struct ChangedOut {
+    pub first_line: usize,
+    pub old_lines: usize,
+    pub new_lines: usize,
+}
+
+fn changed_of(session: &SessionObject) -> ChangedOut
+    ensures { result ≡ changed_out session.now.changed }
+{
+    let changed = session.changed_lines();
+    ChangedOut {
+        first_line: changed.first_line,
+        old_lines: changed.old_lines,
+        new_lines: changed.new_lines,
+    }
+}
+
+/// Stores which lines the last successful call changed.
+#[unsafe(no_mangle)]
+pub extern "C" fn hordguli_core_changed_lines(
+    alloc: Global,
+    session: &mut SessionHandle,
+    changed: &mut ChangedOut,
+) -> u32
+    ensures unchanged { session.new.held ≡ session.old.held }
+    ensures changed { Returns (λ status. Asks (λ status state.
+        Gives (Some (changed_out state.changed)) status)
+        status session.old.held changed.old changed.new) result }
+{
+    match session.swap(alloc, None) {
+        Some(object) => {
+            *changed = changed_of(&object);
             session.swap(alloc, Some(object));
             number_of(Status::Ok)
         }

@@ -19,6 +19,7 @@ pub mod KeptLemmas
 mod KnownWidthLemmas
 pub mod LayoutLemmas
 mod LengthLemmas
+pub mod MatchingLemmas
 mod MeasureLemmas
 mod OneLineLemmas
 mod OrderedLemmas
@@ -36,6 +37,7 @@ pub mod SkippedLemmas
 mod SpanLemmas
 mod SplitLemmas
 mod StayLemmas
+pub mod StayingLemmas
 mod StopLemmas
 mod TabLemmas
 pub mod VisualLemmas

@@ -20,6 +20,7 @@ pub mod KnownWidths
 pub mod LaidTexts
 pub mod Layouts
 pub mod OneLine
+pub mod Matching
 pub mod Measures
 pub mod Ordered
 pub mod Pages

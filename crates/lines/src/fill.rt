@@ -148,6 +148,13 @@ impl Fill {
         show_all(text, extents, levels, maps, &mut self.chars, written);
     }
 
+    /// Returns where each line starts and how much of it is shown.
+    pub(crate) fn extents(&self) -> &Extents
+        ensures { result.now ≡ extents_in self.now.lines }
+    {
+        &self.extents
+    }
+
     /// Returns where each line starts.
     pub(crate) fn starts(&self) -> &[u32]
         ensures { result.now ≡ map start_of self.now.lines }

@@ -40,6 +40,7 @@ mod filling;
 mod laid;
 mod laws;
 mod layout;
+mod matching;
 mod one_line;
 mod options;
 mod paragraph;

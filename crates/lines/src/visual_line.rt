@@ -8,6 +8,7 @@ ghost use Rattle.reorder.specs.Runs.{runs_of, AreRuns};
 ghost use Rattle.lines.specs.Bytes.{line_bytes, padding};
 ghost use Rattle.lines.specs.Columns.{columns_at, columns_between, columns_left};
 ghost use Rattle.lines.specs.Columns.{covering, padding_of, run_columns, widths};
+ghost use Rattle.lines.specs.Matching.{HaveSameForm};
 ghost use Rattle.lines.specs.Measures.{known_or};
 ghost use Rattle.lines.specs.Spans.{is_covered, spans_of, AreMaximal};
 ghost use Rattle.lines.specs.Visual.{is_measured};
@@ -143,6 +144,35 @@ impl<'a> VisualLine<'a> {
         ensures { result ≡ self.now.columns }
     {
         self.columns
+    }
+
+    /// Returns whether two lines are the same in all that their methods return: the characters, the levels,
+    /// the maps, the columns, the base level, the length, and whether they are the first of their paragraph.
+    /// In a measured paragraph, also the advances.
+    pub fn is_same(&self, other: &VisualLine<'_>) -> bool
+        ensures yes { result ≡ true → self.now ≡ other.now }
+        ensures no { self.now ≡ other.now → result ≡ true }
+    {
+        self.has_form_of(other)
+            && self.levels == other.levels
+            && self.chars == other.chars
+            && self.text == other.text
+            && self.ltov == other.ltov
+            && self.vtol == other.vtol
+            && (!self.is_measured || self.advances == other.advances)
+    }
+
+    // Returns whether two lines are the same but for their lists.
+    fn has_form_of(&self, other: &VisualLine<'_>) -> bool
+        ensures yes { result ≡ true → HaveSameForm self.now other.now }
+        ensures no { HaveSameForm self.now other.now → result ≡ true }
+    {
+        (self.is_first == other.is_first)
+            & (self.base == other.base)
+            & (self.tab_width == other.tab_width)
+            & (self.len == other.len)
+            & (self.columns == other.columns)
+            & (self.is_measured == other.is_measured)
     }
 
     /// Returns the number of columns to the left of a visual position, or the line's width past the last

@@ -16,6 +16,7 @@ use Rattle.lines.specs.Measures.{given_if}
 use Rattle.lines.specs.declared.engine.Engine.{Engine}
 use Rattle.session.specs.Sessions.{SessionState, IsWholeLayout, IsCountedFor, Edits, EditsNot, text_at, cuts_at, state_of}
 use Rattle.session.specs.Edits.{Replacement, advances_after, content_refusal, replaced, replacing, refusal, paragraphs_refusal, room_refusal, are_within, is_within_limit}
+use Rattle.session.specs.Changes.{no_lines}
 use Rattle.session.specs.Damage.{Replaces, IsDamage}
 use Rattle.session.specs.Borders.{IsBorder, IsFrontBorder, IsBackBorder, damage_between}
 use Rattle.lines.specs.Layouts.{visuals}
@@ -80,8 +81,8 @@ module _ (law : ParagraphsArePieces) (few : LinesAreFew) (rules : Rules) (width 
 
 -- `IsWholeLayout` still holds if the engine is replaced by one with the same rules
 pub IsWholeLayout-same : (old new : Engine) (width : ℕ) (advances : Option (List ℕ)) (kept : List Layout) → SameRules old new
-    → IsWholeLayout (record { engine = old; width = width; advances = advances; kept = kept })
-    → IsWholeLayout (record { engine = new; width = width; advances = advances; kept = kept })
+    → IsWholeLayout (record { engine = old; width = width; advances = advances; kept = kept; changed = no_lines })
+    → IsWholeLayout (record { engine = new; width = width; advances = advances; kept = kept; changed = no_lines })
 IsWholeLayout-same old new width advances kept same whole = record {
   kept = whole.kept ∙ ap (λ r. layouts_of (with_advances r advances) width (text_of kept)) (sym same);
   allowed = ap (λ r. content_refusal (cut_by r) advances (text_of kept)) same ∙ whole.allowed;

@@ -2,6 +2,7 @@ mod AdvanceLemmas
 mod BorderLemmas
 mod CaretEndLemmas
 mod CaretUnitLemmas
+mod ChangedLemmas
 mod ClusterLemmas
 mod ColumnEdgeLemmas
 mod CoveringLemmas
@@ -13,10 +14,12 @@ mod LaidLineLemmas
 mod LineClusterLemmas
 mod LineLemmas
 mod LineWidthLemmas
+mod MatchLemmas
 mod MeasuringLemmas
 mod NearestLemmas
 mod OffsetLemmas
 mod OpenLemmas
+mod PairLemmas
 mod PartLemmas
 mod PlaceLemmas
 mod PrintLemmas
@@ -32,8 +35,11 @@ mod ScanLemmas
 mod ScanningLemmas
 mod SettingLemmas
 mod SpliceLemmas
+mod StateLemmas
+mod StayLemmas
 mod StepLemmas
 mod TouchedLemmas
+mod TrimLemmas
 mod UnitEdgeLemmas
 mod UnitLemmas
 mod UnitTileLemmas

@@ -1,5 +1,6 @@
 pub mod Borders
 pub mod Carets
+pub mod Changes
 pub mod Clusters
 pub mod Damage
 pub mod Edges
@@ -7,6 +8,7 @@ pub mod Edits
 pub mod Hits
 pub mod Joined
 pub mod Kept
+pub mod Matching
 pub mod Measuring
 pub mod Offsets
 pub mod Places

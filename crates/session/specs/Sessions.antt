@@ -7,23 +7,31 @@ use Rattle.lines.specs.Pages.{layout_bytes}
 use Rattle.lines.specs.declared.engine.Engine.{Engine}
 use Rattle.lines.specs.declared.printing.print.Print.{Print}
 use Rattle.session.specs.Edits.{Replacement, Held, advances_after, content_refusal, replaced, refusal, text_refusal, width_refusal}
+use Rattle.session.specs.Changes.{no_lines}
 use Rattle.session.specs.Damage.{IsDamage, NamesAll}
 use Rattle.session.specs.Kept.{advances_in, changed, first_advances, pars_of, text_of, layouts_of, AreForEach}
 use Rattle.session.specs.Touched.{fresh}
+use Rattle.session.specs.declared.edits.ChangedLines.{ChangedLines}
 use Rattle.session.specs.declared.edits.Damage.{Damage}
 use Rattle.session.specs.declared.edits.EditFault.{EditFault}
 use Rattle.session.specs.declared.edits.EditFault.TheVariants.{WidthOutOfRange, NoMemory}
 
--- the state of a session: its engine, its width, the advances of its characters if it is measured, and the layout of each paragraph
+-- the state of a session: its engine, its width, the advances of its characters if it is measured, the layout of each paragraph, and which
+-- lines the last successful call changed
 pub record SessionState : Type 0 where
   pub engine : Engine
   pub width : ℕ
   pub advances : Option (List ℕ)
   pub kept : List Layout
+  pub changed : ChangedLines
 
--- the state of a session with these parts
+-- the state of a session with these parts, in which no lines have changed
 abbrev pub state_of : Engine → ℕ → Bool → List Layout → SessionState
-state_of engine width is_measured kept = record { engine = engine; width = width; advances = advances_in is_measured kept; kept = kept }
+state_of engine width is_measured kept = record { engine = engine; width = width; advances = advances_in is_measured kept; kept = kept; changed = no_lines }
+
+-- the same state with these changed lines
+abbrev pub with_changed : SessionState → ChangedLines → SessionState
+with_changed state changed = record state { changed = changed }
 
 -- the text of a session, and the paragraph boundaries of its engine
 abbrev pub text_at : SessionState → List ℕ

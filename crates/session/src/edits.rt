@@ -31,6 +31,15 @@ pub struct Damage {
     pub new_pars: usize,
 }
 
+/// Which lines a call changed. Starting at line `first_line`, `new_lines` lines replace `old_lines` lines.
+/// All others are the same as before, as `VisualLine::is_same` compares them.
+#[derive(Clone, Copy, Debug, PartialEq, Eq)]
+pub struct ChangedLines {
+    pub first_line: usize,
+    pub old_lines: usize,
+    pub new_lines: usize,
+}
+
 /// The maximum width of a measured session, in the caller's unit.
 pub const MEASURED_WIDTH_LIMIT: u32 = 2_147_483_647;
 

@@ -24,6 +24,7 @@
 
 mod borders;
 mod carets;
+mod changed;
 mod clusters;
 mod edges;
 mod edits;
@@ -49,7 +50,9 @@ mod words;
 pub use carets::Caret;
 pub use clusters::Cluster;
 pub use edges::{Direction, Edge, LineEdges, Side};
-pub use edits::{AdvanceFault, Damage, Edit, EditFault, MEASURED_WIDTH_LIMIT, TEXT_LIMIT};
+pub use edits::{
+    AdvanceFault, ChangedLines, Damage, Edit, EditFault, MEASURED_WIDTH_LIMIT, TEXT_LIMIT,
+};
 pub use hits::Hit;
 pub use kept::Kept;
 pub use laws::{

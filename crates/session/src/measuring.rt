@@ -1,10 +1,11 @@
 //! Sets the advances of characters of a measured text. Everything that can fail happens before the store is
 //! changed.
 ghost use Rattle.std.specs.Prelude.{◌≡◌, ◌+◌, ◌-◌, ◌^◌, ◌<◌, ◌≤◌, nat_lt, true, ℕ, List, Some, None};
-ghost use Rattle.std.specs.Prelude.{drop, length, slice_index, sum, take, IfErr, IfOk, IsErrOf};
+ghost use Rattle.std.specs.Prelude.{drop, length, slice_index, sum, take, IfErr, IfOk, IsErrOf, OnErr};
 ghost use Rattle.std.specs.List.{All, concat, slice_range};
 ghost use Rattle.lines.specs.Engine.{rules_of, FillsAtMost, SameRules};
 ghost use Rattle.lines.specs.Layouts.{with_advances};
+ghost use Rattle.session.specs.Changes.{AreFound};
 ghost use Rattle.session.specs.Edits.{have_room};
 ghost use Rattle.session.specs.Kept.{layouts_from, pars_of, text_of, IsFresh};
 ghost use Rattle.session.specs.Measuring.{spliced, SetsAdvances, SetsAdvancesNot};
@@ -12,7 +13,7 @@ ghost use Rattle.session.specs.Sessions.{state_of, IsWholeLayout};
 ghost use Rattle.session.specs.declared.edits.AdvanceFault.TheVariants.{NoMemory};
 
 use crate::borders::{Border, back_border, back_part, front_border, front_part};
-use crate::edits::{AdvanceFault, Damage};
+use crate::edits::{AdvanceFault, ChangedLines, Damage};
 use crate::joined::Form;
 use crate::kept::Kept;
 use crate::replace::put;
@@ -150,6 +151,7 @@ pub fn set_advances<S: ParagraphStore<Kept>>(
     alloc: Global,
     engine: &mut Engine,
     store: &mut S,
+    changed: &mut ChangedLines,
     form: Form,
     pos: usize,
     list: &[u32],
@@ -161,6 +163,9 @@ pub fn set_advances<S: ParagraphStore<Kept>>(
     ensures err { IfErr result (SetsAdvancesNot pos list.now
         (state_of engine.old form.width form.is_measured (S.items store.old))
         (state_of engine.new form.width form.is_measured (S.items store.new))) }
+    ensures changed { IfOk result (λ damage.
+        AreFound (S.items store.old) (S.items store.new) damage changed.new) }
+    ensures kept { OnErr result (changed.new ≡ changed.old) }
     ensures memory { IsErrOf result NoMemory → 0 < length (text_of (S.items store.old)) }
 {
     if !form.is_measured {
@@ -171,6 +176,11 @@ pub fn set_advances<S: ParagraphStore<Kept>>(
         return Err(AdvanceFault::OutOfRange);
     }
     if list.is_empty() {
+        *changed = ChangedLines {
+            first_line: 0,
+            old_lines: 0,
+            new_lines: 0,
+        };
         return Ok(Damage {
             first_line: 0,
             old_lines: 0,
@@ -206,7 +216,7 @@ pub fn set_advances<S: ParagraphStore<Kept>>(
     let Ok(new) = laid else {
         return Err(AdvanceFault::NoMemory);
     };
-    match put(engine, store, front, back, new) {
+    match put(engine, store, changed, front, back, new) {
         Ok(damage) => Ok(damage),
         Err(_) => Err(AdvanceFault::NoMemory),
     }

@@ -117,16 +117,32 @@ fn largest(text: &[char]) -> char
     largest
 }
 
+// Returns the number of UTF-8 bytes of a block of characters below U+0800.
+fn length_below_800(block: &[char]) -> u32
+    requires few { length block.now ≤ BLOCK }
+    requires small { (k : ℕ) → k < length block.now → slice_index block.now k < 2048 }
+    ensures { result ≡ length_in Utf8 block.now }
+{
+    let mut length = 0;
+    for c in block {
+        length += if *c < '\u{80}' { 1 } else { 2 };
+    }
+    length
+}
+
 /// Returns the numbers of UTF-8 bytes and of UTF-16 code units of characters.
 pub fn lengths(text: &[char]) -> (usize, usize)
     ensures bytes { result.0 ≡ length_in Utf8 text.now }
     ensures utf16 { result.1 ≡ length_in Utf16 text.now }
 {
-    // Fast paths: most texts have no characters of several units, and the largest character is found faster
-    // than the sums.
+    // Fast paths: most texts have no characters of several units, or of more than two bytes. The largest
+    // character is found faster than the sums.
     let largest = largest(text);
     if largest < '\u{80}' {
         return (text.len(), text.len());
+    }
+    if largest < '\u{800}' && text.len() <= BLOCK {
+        return (length_below_800(text) as usize, text.len());
     }
     let bytes = Encoding::Utf8.length(text);
     if largest < '\u{10000}' {

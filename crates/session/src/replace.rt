@@ -3,6 +3,7 @@ ghost use Rattle.std.specs.Prelude.{◌≡◌, ◌+◌, ◌-◌, ◌^◌, ◌<�
 ghost use Rattle.std.specs.Prelude.{IfOk, IfErr, IsErrOf, OnOk, OnErr};
 ghost use Rattle.std.specs.List.{splice};
 ghost use Rattle.std.specs.Str.{chars};
+ghost use Rattle.session.specs.Changes.{AreFound};
 ghost use Rattle.session.specs.Sessions.{state_of, Edits, EditsNot, IsWholeLayout};
 ghost use Rattle.session.specs.Edits.{replacing};
 ghost use Rattle.session.specs.Kept.{text_of};
@@ -12,7 +13,8 @@ ghost use Rattle.session.specs.Borders.{damage_between, IsBorder};
 ghost use Rattle.session.specs.declared.edits.EditFault.TheVariants.{NoMemory};
 
 use crate::borders::{Border, back_border, back_part, front_border, front_part};
-use crate::edits::{Damage, EditFault, TEXT_LIMIT};
+use crate::changed::{matching_at_end, matching_at_start, without_same};
+use crate::edits::{ChangedLines, Damage, EditFault, TEXT_LIMIT};
 use crate::joined::{Form, lay_out_joined};
 use crate::kept::Kept;
 use bidi::paragraphs_are_pieces;
@@ -30,8 +32,8 @@ fn recycle(engine: &mut Engine, old: Vec<Kept>)
     }
 }
 
-/// Replaces the paragraphs between two borders. Changes nothing if an allocation fails.
-pub fn put<S: ParagraphStore<Kept>>(
+// Replaces the paragraphs between two borders. Changes nothing if an allocation fails.
+fn put_in<S: ParagraphStore<Kept>>(
     engine: &mut Engine,
     store: &mut S,
     front: Border,
@@ -73,11 +75,51 @@ pub fn put<S: ParagraphStore<Kept>>(
     })
 }
 
+/// Replaces the paragraphs between two borders, and finds which lines change. Changes nothing if an
+/// allocation fails.
+pub fn put<S: ParagraphStore<Kept>>(
+    engine: &mut Engine,
+    store: &mut S,
+    changed: &mut ChangedLines,
+    front: Border,
+    back: Border,
+    new: Vec<Kept>,
+) -> Result<Damage, EditFault>
+    requires front { IsBorder (S.items store.old) front }
+    requires back { IsBorder (S.items store.old) back }
+    requires order { front.index ≤ back.index }
+    requires chars_fit { sum_by (λ l. length l.text)
+        (splice (S.items store.old) front.index back.index new.items) < 2 ^ 64 }
+    requires lines_fit { sum_by (λ l. length l.lines)
+        (splice (S.items store.old) front.index back.index new.items) < 2 ^ 64 }
+    requires bytes_fit { sum_by (λ l. length_in Utf8 l.text)
+        (splice (S.items store.old) front.index back.index new.items) < 2 ^ 64 }
+    requires utf16_fit { sum_by (λ l. length_in Utf16 l.text)
+        (splice (S.items store.old) front.index back.index new.items) < 2 ^ 64 }
+    ensures ok { OnOk result
+        (S.items store.new ≡ splice (S.items store.old) front.index back.index new.items) }
+    ensures damage { IfOk result (λ damage. damage ≡ damage_between front back new.items) }
+    ensures changed { IfOk result (λ damage.
+        AreFound (S.items store.old) (S.items store.new) damage changed.new) }
+    ensures err { OnErr result (S.items store.new ≡ S.items store.old) }
+    ensures kept { OnErr result (changed.new ≡ changed.old) }
+    ensures fault { IfErr result (λ fault. fault ≡ NoMemory) }
+    ensures memory { OnErr result (0 < back.index - front.index + length new.items) }
+    ensures engine { engine.new ≡ engine.old }
+{
+    let start = matching_at_start(store, front.index, back.index, &new);
+    let end = matching_at_end(store, front.index, back.index, &new);
+    let damage = put_in(engine, store, front, back, new)?;
+    *changed = without_same(damage, start, end);
+    Ok(damage)
+}
+
 /// Replaces `count` characters, starting at `pos`, with `piece`.
 pub fn replace<S: ParagraphStore<Kept>>(
     alloc: Global,
     engine: &mut Engine,
     store: &mut S,
+    changed: &mut ChangedLines,
     form: Form,
     pos: usize,
     count: usize,
@@ -90,6 +132,9 @@ pub fn replace<S: ParagraphStore<Kept>>(
     ensures err { IfErr result (EditsNot (replacing pos count (chars piece.now))
         (state_of engine.old form.width form.is_measured (S.items store.old))
         (state_of engine.new form.width form.is_measured (S.items store.new))) }
+    ensures changed { IfOk result (λ damage.
+        AreFound (S.items store.old) (S.items store.new) damage changed.new) }
+    ensures kept { OnErr result (changed.new ≡ changed.old) }
     ensures memory { IsErrOf result NoMemory
         → 0 < length (text_of (S.items store.old)) + length (chars piece.now) }
 {
@@ -111,5 +156,5 @@ pub fn replace<S: ParagraphStore<Kept>>(
         Ok(new) => new,
         Err(fault) => return Err(fault),
     };
-    put(engine, store, front, back, new)
+    put(engine, store, changed, front, back, new)
 }

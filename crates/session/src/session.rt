@@ -11,6 +11,7 @@ ghost use Rattle.lines.specs.Separators.{separator_len};
 ghost use Rattle.lines.specs.Writing.{PassedOn, StoppedIn};
 ghost use Rattle.lines.specs.declared.printing.print.Print.{Print};
 ghost use Rattle.session.specs.Carets.{caret_at};
+ghost use Rattle.session.specs.Changes.{all_lines, AreChanged};
 ghost use Rattle.session.specs.Edits.{after_all, replacing, deletion, insertion};
 ghost use Rattle.session.specs.Clusters.{cluster_at, line_clusters};
 ghost use Rattle.session.specs.Hits.{hit_at};
@@ -36,7 +37,9 @@ ghost use Rattle.session.specs.declared.offsets.Encoding.TheVariants.{Utf8, Utf1
 
 use crate::carets::{Caret, caret_in};
 use crate::clusters::{Cluster, cluster_of, line_clusters};
-use crate::edits::{AdvanceFault, Damage, Edit, EditFault, MEASURED_WIDTH_LIMIT, TEXT_LIMIT};
+use crate::edits::{
+    AdvanceFault, ChangedLines, Damage, Edit, EditFault, MEASURED_WIDTH_LIMIT, TEXT_LIMIT,
+};
 use crate::hits::{Hit, hit_in};
 use crate::joined::{Form, has_long_in_text};
 use crate::kept::Kept;
@@ -65,6 +68,7 @@ pub struct Session<S: ParagraphStore<Kept>> {
     engine: Engine,
     store: S,
     form: Form,
+    changed: ChangedLines,
     alloc: Global,
 }
 
@@ -74,17 +78,19 @@ impl<S: ParagraphStore<Kept> + Drop> Drop for Session<S> {
             engine: _,
             store: _,
             form: _,
+            changed: _,
             alloc: _,
         } = self;
     }
 }
 
 impl<S: ParagraphStore<Kept>> Model for Session<S> {
-    ghost use Rattle.session.specs.Sessions.{state_of, SessionState, IsWholeLayout};
+    ghost use Rattle.session.specs.Sessions.{state_of, with_changed, SessionState, IsWholeLayout};
 
     ghost Value = { SessionState };
 
-    ghost view = { λ s. state_of s.engine s.form.width s.form.is_measured (S.items s.store) };
+    ghost view = { λ s. with_changed
+        (state_of s.engine s.form.width s.form.is_measured (S.items s.store)) s.changed };
 
     ghost invariant = { λ s.
         IsWholeLayout (state_of s.engine s.form.width s.form.is_measured (S.items s.store)) };
@@ -95,6 +101,17 @@ fn is_no_width(width: u32) -> bool
     ensures { result ≡ is_no_width width }
 {
     width == 0 || width > MEASURED_WIDTH_LIMIT
+}
+
+// Returns all lines of a new session as changed.
+fn all_lines<S: ParagraphStore<Kept>>(store: &S) -> ChangedLines
+    ensures { result ≡ all_lines (S.items store.now) }
+{
+    ChangedLines {
+        first_line: 0,
+        old_lines: 0,
+        new_lines: store.total_lines(),
+    }
 }
 
 // Lays out the paragraphs of a text, and puts them into a new store.
@@ -142,6 +159,7 @@ impl<S: ParagraphStore<Kept> + Drop> Session<S> {
         width: u16,
     ) -> Result<Session<S>, (Engine, EditFault)>
         ensures ok { IfOk result (Opens engine (chars text.now) width) }
+        ensures changed { IfOk result (λ session. session.changed ≡ all_lines session.kept) }
         ensures err { IfErr result (OpensNot engine (chars text.now) width) }
         ensures memory { IfErr result (λ back. back.1 ≡ NoMemory → 0 < length (chars text.now)) }
     {
@@ -156,6 +174,7 @@ impl<S: ParagraphStore<Kept> + Drop> Session<S> {
         match fill_store(alloc, &mut engine, text, form) {
             Ok(store) => Ok(Session {
                 engine,
+                changed: all_lines(&store),
                 store,
                 form,
                 alloc,
@@ -175,6 +194,7 @@ impl<S: ParagraphStore<Kept> + Drop> Session<S> {
         width: u32,
     ) -> Result<Session<S>, (Engine, EditFault)>
         ensures ok { IfOk result (OpensMeasured engine (chars text.now) width) }
+        ensures changed { IfOk result (λ session. session.changed ≡ all_lines session.kept) }
         ensures err { IfErr result (OpensMeasuredNot engine (chars text.now) width) }
         ensures memory { IfErr result (λ back. back.1 ≡ NoMemory → 0 < length (chars text.now)) }
     {
@@ -189,6 +209,7 @@ impl<S: ParagraphStore<Kept> + Drop> Session<S> {
         match fill_store(alloc, &mut engine, text, form) {
             Ok(store) => Ok(Session {
                 engine,
+                changed: all_lines(&store),
                 store,
                 form,
                 alloc,
@@ -561,10 +582,22 @@ impl<S: ParagraphStore<Kept>> Session<S> {
         self.engine.written()
     }
 
+    /// Returns which lines the last successful call changed, of those that edit the text, set the width or set
+    /// advances: its damage without as many lines as possible at the start, and then at the end, that are the
+    /// same before and after the call. After opening, all lines have changed.
+    pub fn changed_lines(&self) -> ChangedLines
+        ensures { result ≡ self.now.changed }
+    {
+        self.changed
+    }
+
     /// Inserts text before the character at `pos`, or at the end.
     pub fn insert(&mut self, pos: usize, text: &str) -> Result<Damage, EditFault>
         ensures ok { IfOk result (Edits (insertion pos (chars text.now)) self.old self.new) }
         ensures err { IfErr result (EditsNot (insertion pos (chars text.now)) self.old self.new) }
+        ensures changed { IfOk result (λ damage.
+            AreChanged (lines_in self.old.kept) (lines_in self.new.kept) damage self.new.changed) }
+        ensures unchanged { OnErr result (self.new.changed ≡ self.old.changed) }
         ensures memory { IsErrOf result NoMemory
             → 0 < length (text_at self.old) + length (chars text.now) }
     {
@@ -575,6 +608,9 @@ impl<S: ParagraphStore<Kept>> Session<S> {
     pub fn delete(&mut self, pos: usize, count: usize) -> Result<Damage, EditFault>
         ensures ok { IfOk result (Edits (deletion pos count) self.old self.new) }
         ensures err { IfErr result (EditsNot (deletion pos count) self.old self.new) }
+        ensures changed { IfOk result (λ damage.
+            AreChanged (lines_in self.old.kept) (lines_in self.new.kept) damage self.new.changed) }
+        ensures unchanged { OnErr result (self.new.changed ≡ self.old.changed) }
         ensures memory { IsErrOf result NoMemory → 0 < length (text_at self.old) }
     {
         self.replace(pos, count, "")
@@ -585,13 +621,20 @@ impl<S: ParagraphStore<Kept>> Session<S> {
     pub fn replace(&mut self, pos: usize, count: usize, piece: &str) -> Result<Damage, EditFault>
         ensures ok { IfOk result (Edits (replacing pos count (chars piece.now)) self.old self.new) }
         ensures err { IfErr result (EditsNot (replacing pos count (chars piece.now)) self.old self.new) }
+        ensures changed { IfOk result (λ damage.
+            AreChanged (lines_in self.old.kept) (lines_in self.new.kept) damage self.new.changed) }
+        ensures unchanged { OnErr result (self.new.changed ≡ self.old.changed) }
         ensures memory { IsErrOf result NoMemory
             → 0 < length (text_at self.old) + length (chars piece.now) }
     {
+        // By these theorems, each paragraph has lines.
+        paragraphs_are_pieces();
+        Laid::lines_begin_in_order();
         replace(
             self.alloc,
             &mut self.engine,
             &mut self.store,
+            &mut self.changed,
             self.form,
             pos,
             count,
@@ -605,12 +648,19 @@ impl<S: ParagraphStore<Kept>> Session<S> {
     pub fn set_width(&mut self, width: u16) -> Result<Damage, EditFault>
         ensures ok { IfOk result (SetsWidth width self.old self.new) }
         ensures err { IfErr result (SetsWidthNot width self.old self.new) }
+        ensures changed { IfOk result (λ damage.
+            AreChanged (lines_in self.old.kept) (lines_in self.new.kept) damage self.new.changed) }
+        ensures unchanged { OnErr result (self.new.changed ≡ self.old.changed) }
         ensures memory { IsErrOf result NoMemory → 0 < length (text_at self.old) }
     {
+        // By these theorems, each paragraph has lines.
+        paragraphs_are_pieces();
+        Laid::lines_begin_in_order();
         set_width(
             self.alloc,
             &mut self.engine,
             &mut self.store,
+            &mut self.changed,
             &mut self.form,
             u32::from(width),
         )
@@ -621,6 +671,9 @@ impl<S: ParagraphStore<Kept>> Session<S> {
     pub fn set_measured_width(&mut self, width: u32) -> Result<Damage, AdvanceFault>
         ensures ok { IfOk result (SetsMeasuredWidth width self.old self.new) }
         ensures err { IfErr result (SetsMeasuredWidthNot width self.old self.new) }
+        ensures changed { IfOk result (λ damage.
+            AreChanged (lines_in self.old.kept) (lines_in self.new.kept) damage self.new.changed) }
+        ensures unchanged { OnErr result (self.new.changed ≡ self.old.changed) }
         ensures memory { IsErrOf result AdvanceFault.NoMemory → 0 < length (text_at self.old) }
     {
         if !self.form.is_measured {
@@ -629,10 +682,14 @@ impl<S: ParagraphStore<Kept>> Session<S> {
         if is_no_width(width) {
             return Err(AdvanceFault::WidthOutOfRange);
         }
+        // By these theorems, each paragraph has lines.
+        paragraphs_are_pieces();
+        Laid::lines_begin_in_order();
         match set_width(
             self.alloc,
             &mut self.engine,
             &mut self.store,
+            &mut self.changed,
             &mut self.form,
             width,
         ) {
@@ -648,12 +705,19 @@ impl<S: ParagraphStore<Kept>> Session<S> {
     pub fn set_advances(&mut self, pos: usize, advances: &[u32]) -> Result<Damage, AdvanceFault>
         ensures ok { IfOk result (SetsAdvances pos advances.now self.old self.new) }
         ensures err { IfErr result (SetsAdvancesNot pos advances.now self.old self.new) }
+        ensures changed { IfOk result (λ damage.
+            AreChanged (lines_in self.old.kept) (lines_in self.new.kept) damage self.new.changed) }
+        ensures unchanged { OnErr result (self.new.changed ≡ self.old.changed) }
         ensures memory { IsErrOf result AdvanceFault.NoMemory → 0 < length (text_at self.old) }
     {
+        // By these theorems, each paragraph has lines.
+        paragraphs_are_pieces();
+        Laid::lines_begin_in_order();
         set_advances(
             self.alloc,
             &mut self.engine,
             &mut self.store,
+            &mut self.changed,
             self.form,
             pos,
             advances,

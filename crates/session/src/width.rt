@@ -6,13 +6,15 @@ ghost use Rattle.std.specs.List.{All, AllZip};
 ghost use Rattle.lines.specs.Engine.{rules_of, FindsExtents, FindsExtentsAtMost, SameRules};
 ghost use Rattle.lines.specs.Engine.{Rewrites, RewritesAtMost};
 ghost use Rattle.lines.specs.Layouts.{keeps_lines};
+ghost use Rattle.session.specs.Changes.{AreFound};
 ghost use Rattle.session.specs.Sessions.{state_of, IsWholeLayout, SetsWidth, SetsWidthNot};
 ghost use Rattle.session.specs.Kept.{changed, changed_in, put_into, written_for};
 ghost use Rattle.session.specs.Kept.{BringsTo, CanBePut, IsFresh};
 ghost use Rattle.session.specs.declared.edits.EditFault.TheVariants.{NoMemory};
 ghost use Rattle.store.specs.Exchanging.{pairwise, total_cost};
 
-use crate::edits::{Damage, EditFault};
+use crate::changed::{staying_at_end, staying_at_start, without_same};
+use crate::edits::{ChangedLines, Damage, EditFault};
 use crate::joined::Form;
 use crate::kept::{Kept, Reflow};
 use bidi::paragraphs_are_pieces;
@@ -161,6 +163,7 @@ pub fn set_width<S: ParagraphStore<Kept>>(
     alloc: Global,
     engine: &mut Engine,
     store: &mut S,
+    changed: &mut ChangedLines,
     form: &mut Form,
     new_width: u32,
 ) -> Result<Damage, EditFault>
@@ -172,6 +175,9 @@ pub fn set_width<S: ParagraphStore<Kept>>(
     ensures err { IfErr result (SetsWidthNot new_width
         (state_of engine.old form.old.width form.old.is_measured (S.items store.old))
         (state_of engine.new form.new.width form.new.is_measured (S.items store.new))) }
+    ensures changed { IfOk result (λ damage.
+        AreFound (S.items store.old) (S.items store.new) damage changed.new) }
+    ensures kept { OnErr result (changed.new ≡ changed.old) }
     ensures measured { form.new.is_measured ≡ form.old.is_measured }
     ensures memory { IsErrOf result NoMemory → 0 < length (S.items store.old) }
 {
@@ -184,15 +190,19 @@ pub fn set_width<S: ParagraphStore<Kept>>(
     let Ok((mut parts, scratch)) = find_all(alloc, engine, store, new_width) else {
         return Err(EditFault::NoMemory);
     };
+    let start = staying_at_start(store, &parts);
+    let end = staying_at_end(store, &parts);
     let (count, old_lines) = (store.count(), store.total_lines());
     reflow_all(engine, store, &mut parts, scratch);
     form.width = new_width;
-    Ok(Damage {
+    let damage = Damage {
         first_line: 0,
         old_lines,
         new_lines: store.total_lines(),
         first_par: 0,
         old_pars: count,
         new_pars: count,
-    })
+    };
+    *changed = without_same(damage, start, end);
+    Ok(damage)
 }

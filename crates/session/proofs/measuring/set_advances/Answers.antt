@@ -16,6 +16,7 @@ use Rattle.session.proofs.BorderLemmas.{length-text}
 use Rattle.session.proofs.SettingLemmas.{chars_fit, lines_fit, range_of, mid_within, order, refusal-past, refusal_is, region, region_sizes, units_fit, Remains-unchanged, SetsAdvances-after, SetsAdvances-none, SetsAdvancesNot-after}
 use Rattle.session.proofs.UnitLemmas.{utf8_few, utf16_few}
 use Rattle.session.proofs.WidthLemmas.{all_each, each_laid_out}
+use Rattle.session.proofs.TrimLemmas.{AreFound-none}
 use Rattle.session.proofs.measuring.set_advances.Goals as goal
 use Rattle.session.proofs.measuring.set_advances.Goals.{then-pos-len-via-then-pos-len, then-pos-len-via-else-pos-len+then-list-len}
 
@@ -306,3 +307,6 @@ returns-in-Err-clause-err g c =
     (SetsAdvancesNot-after c.args.engine.now c.args.form.width kept whole range c.remeasure_each-laid.new.engine has c.remeasure_each-laid.ensures.rules c.remeasure_each-laid.ensures.counts) in
     rw c.put.ensures.engine (subst (λ ks. SetsAdvancesNot c.args.pos c.args.list.now (state_of c.args.engine.now c.args.form.width c.args.form.is_measured kept)
     (state_of c.remeasure_each-laid.new.engine c.args.form.width c.args.form.is_measured ks) NoMemory) (sym c.in-Err.ensures.err) worked)
+
+pub returns-then-is_empty-clause-changed : goal.returns-then-is_empty-clause-changed
+returns-then-is_empty-clause-changed g c = AreFound-none (g.S.ParagraphStore.items c.args.store.now) _ refl refl refl

@@ -1,0 +1,35 @@
+use Rattle.std.proofs.Common.{◌≡◌, ◌-◌, length, map, Some, ap, refl, sym, ◌∙◌, arith}
+use Rattle.std.specs.Borrow.{Bor}
+use Rattle.std.specs.Prelude.{option_map}
+use Rattle.lines.specs.Layouts.{Layout}
+use Rattle.session.specs.Matching.{at_width}
+use Rattle.session.proofs.ChangedLemmas.{start_begins, start_ends}
+use Rattle.session.proofs.PairLemmas.{all_parts, parts_number, stays_fit_start, stays_found_start, stays_goes_on_start}
+use Rattle.session.proofs.changed.staying_at_start.Goals as goal
+
+pub loop-i-init : goal.loop-i-init
+loop-i-init g c = λ rules width brought. start_begins _ _
+
+pub overflow_add-count : goal.overflow_add-count
+overflow_add-count g c =
+    let ks = g.S.ParagraphStore.items c.args.store.now in
+    let most = stays_fit_start c.requires.0 c.requires.1 ks c.args.parts.now c.requires.2 c.loop-i.i c.loop-i.i c.loop-i.count c.loop-i-test.true c.in-Some.kept.now c.index-parts-i.result c.staying_start-matching.result
+    (sym (ap (option_map (λ (k : Bor Layout). k.now)) c.in-Some.is) ∙ c.get.ensures) c.index-parts-i.is (c.loop-i.invariant c.requires.0 c.requires.1 c.requires.2) refl c.staying_start-matching.ensures in
+    omega (arith, most, c.total_lines-total.ensures)
+
+pub loop-i-preserved : goal.loop-i-preserved
+loop-i-preserved g c = λ rules width brought.
+    let ks = g.S.ParagraphStore.items c.args.store.now in
+    stays_goes_on_start rules width ks c.args.parts.now brought c.loop-i.i c.loop-i.i c.loop-i.count c.loop-i-test.true c.in-Some.kept.now c.index-parts-i.result c.staying_start-matching.result
+    (sym (ap (option_map (λ (k : Bor Layout). k.now)) c.in-Some.is) ∙ c.get.ensures) c.index-parts-i.is (c.loop-i.invariant rules width brought) refl c.staying_start-matching.ensures c.if-not-matching.false
+
+pub returns-then-not-matching : goal.returns-then-not-matching
+returns-then-not-matching g c = λ rules width brought.
+    let ks = g.S.ParagraphStore.items c.args.store.now in
+    stays_found_start rules width ks c.args.parts.now brought c.loop-i.i c.loop-i.i c.loop-i.count c.loop-i-test.true c.in-Some.kept.now c.index-parts-i.result c.staying_start-matching.result
+    (sym (ap (option_map (λ (k : Bor Layout). k.now)) c.in-Some.is) ∙ c.get.ensures) c.index-parts-i.is (c.loop-i.invariant rules width brought) refl c.staying_start-matching.ensures c.if-not-matching.true
+
+pub returns : goal.returns
+returns g c = λ rules width brought _ _.
+    let ks = g.S.ParagraphStore.items c.args.store.now in
+    start_ends ks (map (at_width rules width) ks) c.loop-i.i c.loop-i.count (all_parts rules width ks c.args.parts.now brought c.loop-i.i c.loop-i-test.false) (c.loop-i.invariant rules width brought)

@@ -1,0 +1,45 @@
+-- Which of the lines that a call's damage names are not the same as before.
+use Rattle.std.specs.Prelude.{◌≡◌, ◌≢◌, ℕ, ◌+◌, ◌-◌, ◌<◌, ◌≤◌, List, length, min, slice_get}
+use Rattle.std.specs.List.{All}
+use Rattle.lines.specs.Layouts.{Layout}
+use Rattle.lines.specs.Visual.{Visual}
+use Rattle.session.specs.Damage.{Replaces}
+use Rattle.session.specs.Kept.{lines_in}
+use Rattle.session.specs.declared.edits.ChangedLines.{ChangedLines}
+use Rattle.session.specs.declared.edits.Damage.{Damage}
+
+-- The damaged lines without as many lines as possible at their start, and then at their end, that are the same
+-- before and after the call: the next line at the start differs, and so does the next one at the end, unless
+-- the old lines or the new ones have no more.
+pub record AreChanged (old new : List Visual) (damage : Damage) (changed : ChangedLines) : Type 0 where
+  pub start : damage.first_line ≤ changed.first_line
+  pub end : changed.first_line + changed.old_lines ≤ damage.first_line + damage.old_lines
+  pub lines : Replaces old new changed.first_line changed.old_lines changed.new_lines
+  pub first_differs : changed.first_line < damage.first_line + damage.old_lines → changed.first_line < damage.first_line + damage.new_lines
+      → slice_get old changed.first_line ≢ slice_get new changed.first_line
+  pub last_differs : 0 < changed.old_lines → 0 < changed.new_lines
+      → slice_get old (changed.first_line + changed.old_lines - 1) ≢ slice_get new (changed.first_line + changed.new_lines - 1)
+
+-- no lines have changed
+abbrev pub no_lines : ChangedLines
+no_lines = record { first_line = 0; old_lines = 0; new_lines = 0 }
+
+-- all lines of a session that was opened have changed
+abbrev pub all_lines : List Layout → ChangedLines
+all_lines kept = record { first_line = 0; old_lines = 0; new_lines = length (lines_in kept) }
+
+-- whether each paragraph has a line
+abbrev pub HasLines : Layout → Type 0
+HasLines l = 0 < length l.lines
+
+-- the damaged lines without some at their start, and then some at their end
+abbrev pub without_same : Damage → ℕ → ℕ → ChangedLines
+without_same damage start end =
+    let most = min damage.old_lines damage.new_lines in
+    let front = min start most in
+    let back = min end (most - front) in
+    record { first_line = damage.first_line + front; old_lines = damage.old_lines - front - back; new_lines = damage.new_lines - front - back }
+
+-- if each paragraph has a line, the changed lines are those of two lists of paragraphs
+abbrev pub AreFound : List Layout → List Layout → Damage → ChangedLines → Type 0
+AreFound old new damage changed = All HasLines old → All HasLines new → AreChanged (lines_in old) (lines_in new) damage changed
