@@ -3,8 +3,8 @@
  *     cc -o editor examples/editor.c $(pkg-config --cflags --libs hordguli)
  *
  * It knows nothing about directions, line breaks or columns. A session as wide as the window holds the text. Keys edit
- * the session, and the damage says which lines to redraw. The session also moves the caret, and finds words, grapheme
- * clusters and the columns of a selection.
+ * the session, which says which lines to redraw. It also moves the caret, and finds words, grapheme clusters and the
+ * columns of a selection.
  *
  * Keys: arrows, Home and End, Page Up and Page Down, with Ctrl for words and with Shift to select; Backspace, Delete,
  * Ctrl-S (save) and Ctrl-Q (quit). */
@@ -129,15 +129,15 @@ static void shift(size_t row, size_t out, size_t in) {
 }
 
 /* Updates the screen after an edit: marks the changed rows as stale, and moves the rows below them. */
-static void damaged(const hordguli_damage *damage) {
-    size_t first = damage->first_line, end = first + damage->old_lines;
+static void show_changed(const hordguli_changed *changed) {
+    size_t first = changed->first_line, end = first + changed->old_lines;
     if (end <= top && first < top) {
-        top += damage->new_lines - damage->old_lines; /* all above the screen */
+        top += changed->new_lines - changed->old_lines; /* all above the screen */
     } else if (first < top) {
         top = first;
         memset(stale, 1, height);
     } else if (first < top + height) {
-        shift(first - top, damage->old_lines, damage->new_lines);
+        shift(first - top, changed->old_lines, changed->new_lines);
     }
 }
 
@@ -221,12 +221,13 @@ static void measure(void) {
 
 /* Replaces characters, and moves the caret after the new text, or before what follows it. */
 static void replace(hordguli_cluster old, const char *text, size_t length, uint32_t side) {
-    hordguli_damage damage;
+    hordguli_changed changed;
     size_t count;
     note = "";
     if (!succeeds(hordguli_count_utf8(text, length, &count))) return;
-    if (!succeeds(hordguli_replace(&session, old.start, old.end - old.start, text, length, &damage))) return;
-    damaged(&damage);
+    if (!succeeds(hordguli_replace(&session, old.start, old.end - old.start, text, length, NULL))) return;
+    check(hordguli_changed_lines(&session, &changed));
+    show_changed(&changed);
     caret = anchor = (hordguli_edge){old.start + count, side, 0};
 }
 

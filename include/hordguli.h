@@ -429,10 +429,9 @@ hordguli_status hordguli_valid_utf8(const char *bytes, size_t length, size_t *va
 /* ---- Sessions and edits ---- */
 
 /* What an edit replaced: `old_lines` lines from `first_line` on became `new_lines` lines, and likewise for paragraphs.
- * All other lines are unchanged, except that the lines that follow are renumbered. Damage names whole paragraphs: all
- * that contain or touch the edited range, even if nothing is inserted and deleted. For lines, see
- * `hordguli_changed_lines`. A caller that draws everything anew may pass NULL
- * as `damage`. */
+ * All other lines are unchanged, except that the lines that follow are renumbered. By design, damage names whole
+ * paragraphs: all that contain or touch the edited range, even if nothing is inserted and deleted. For the lines that
+ * changed, see `hordguli_changed_lines`. A caller that draws everything anew may pass NULL as `damage`. */
 typedef struct hordguli_damage {
     size_t first_line;
     size_t old_lines;

@@ -24,7 +24,8 @@ Classes (`help(hordguli.Session)` and so on):
 
 - `Session`; `Tables`, character properties
 - `Options` and `Print`, flags; `Break`, `Side`, `Direction`, `Cause`, enumerations
-- of a text and its lines: `Line`, `Piece`, `Paragraph`, `ParagraphText`, `Row`, `Run`, `Character`, `Counts`, `Damage`, `Work`
+- of a text and its lines: `Line`, `Piece`, `Paragraph`, `ParagraphText`, `Row`, `Run`, `Character`, `Counts`, `Damage`, `ChangedLines`,
+  `Work`
 - of an editor: `Caret`, `Edge`, `Hit`, `Place`, `Position`, `Span`, `Cluster`, `Word`
 - of `explain`: `Explanation`, `ExplainedCharacter`, `ExplainedParagraph`
 - exceptions: `ClosedError`, `NotMeasuredError`, `TableError`
@@ -58,6 +59,7 @@ from ._library import VERSION as __version__
 from ._records import (
     Break as Break,
     Caret as Caret,
+    ChangedLines as ChangedLines,
     Character as Character,
     Cluster as Cluster,
     Counts as Counts,

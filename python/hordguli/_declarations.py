@@ -107,6 +107,7 @@ FUNCTIONS: dict[str, tuple[Any, dict[str, Any]]] = {
                                   "damage": POINTER}),
     "hordguli_set_width": (STATUS, {"session": POINTER, "width": NUMBER, "damage": POINTER}),
     "hordguli_set_measured_width": (STATUS, {"session": POINTER, "width": NUMBER, "damage": POINTER}),
+    "hordguli_changed_lines": (STATUS, {"session": POINTER, "changed": POINTER}),
     "hordguli_set_advances": (STATUS, {"session": POINTER, "pos": SIZE, "count": SIZE, "advances": POINTER,
                                        "damage": POINTER}),
     "hordguli_session_counts": (STATUS, {"session": POINTER, "counts": POINTER}),

@@ -112,6 +112,15 @@ class Damage(NamedTuple):
     new_paragraphs: int
 
 
+class ChangedLines(NamedTuple):
+    """The lines that a call changed: `old_lines` lines from `first_line` on became `new_lines` lines."""
+
+    # from hordguli.h: hordguli_changed
+    first_line: int
+    old_lines: int
+    new_lines: int
+
+
 class Counts(NamedTuple):
     """The size of a session. `width` is in columns."""
 
@@ -424,6 +433,7 @@ class RawCharacter(NamedTuple):
 FORMATS: dict[Any, Struct] = {
     # from hordguli.h: the records
     Damage: Struct("6N"),
+    ChangedLines: Struct("3N"),
     Counts: Struct("4N"),
     Work: Struct("3Q"),
     Place: Struct("3N"),

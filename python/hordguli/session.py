@@ -37,6 +37,7 @@ from ._records import (
     BREAKS,
     FORMATS,
     Caret,
+    ChangedLines,
     Cluster,
     Counts,
     Damage,
@@ -217,14 +218,20 @@ class Session:
 
     def set_width(self, width: SupportsIndex) -> Damage:
         """Sets the width, in columns, and rewraps all paragraphs. Raises `ValueError` if it is not from 1 to 65,535."""
-        return get_record(Damage, self._call, library.hordguli_set_width, uint32(width, "width"))
+        return self._set_width(library.hordguli_set_width, width)
 
     def set_measured_width(self, width: SupportsIndex) -> Damage:
         """Sets the width of a measured session, and rewraps all paragraphs.
 
         Raises `ValueError` if it is not from 1 to 2,147,483,647, and `NotMeasuredError` if the session is not measured.
         """
-        return get_record(Damage, self._call, library.hordguli_set_measured_width, uint32(width, "width"))
+        return self._set_width(library.hordguli_set_measured_width, width)
+
+    def _set_width(self, function: Any, width: SupportsIndex) -> Damage:
+        with self._handle.lock:
+            damage = get_record(Damage, self._call, function, uint32(width, "width"))
+            self._keep_changed()
+        return damage
 
     def set_advances(self, pos: SupportsIndex, advances: Iterable[SupportsIndex]) -> Damage:
         """Sets the advances of the characters from `pos` on, in a measured session, one for each of `advances`.
@@ -241,6 +248,7 @@ class Session:
             damage = self._set_advances(size(pos), data)
             if data and self._measure is not None:
                 self._keep_advances(size(pos), data, damage.first_paragraph, damage.new_paragraphs)
+            self._keep_changed()
         return damage
 
     @property
@@ -274,6 +282,7 @@ class Session:
             found = [self._measured(paragraph) for paragraph in self._paragraph_texts(text, self.counts.paragraphs)]
             self._set_advances(0, b"".join(found))
             self._advances = found
+            self._changed = ChangedLines(0, 0, self.counts.lines)
 
     def _edit(self, text: str, pos: int, count: int, *call: Any) -> Damage:
         """Makes an edit by a call of the C library. In a session that measures, sets the advances too.
@@ -296,12 +305,16 @@ class Session:
             self._recent = None  # (in case of an exception)
             try:
                 damage = get_record(Damage, self._call, *call)
+                lines = self._last_changed()
                 if not _keeps(old, new, len(prefix), len(suffix)):
                     damage = damage._replace(new_lines=self._set_advances(start, b"".join(new)).new_lines)
+                    lines = _both(lines, self._last_changed())
                 elif text:
                     added = new[0][4 * len(prefix) : 4 * (len(prefix) + len(text))]
                     damage = damage._replace(new_lines=self._set_advances(pos, added).new_lines)
+                    lines = _both(lines, self._last_changed())
                 self._advances[first:end] = new
+                self._changed = lines
             except BaseException:
                 self._undo(pos, text, length, deleted, start, b"".join(old))
                 raise
@@ -390,6 +403,15 @@ class Session:
         assert self._measure is not None
         return self._handle.run_refusing(advances_of, self._measure, paragraph)
 
+    def _last_changed(self) -> ChangedLines:
+        """Returns which lines the last successful call of the C library changed."""
+        return get_record(ChangedLines, self._call, library.hordguli_changed_lines)
+
+    def _keep_changed(self) -> None:
+        """Keeps these lines in a session that measures. Its edits are two calls, so it keeps those of both."""
+        if self._measure is not None:
+            self._changed = self._last_changed()
+
     def _set_advances(self, pos: int, data: bytes) -> Damage:
         return get_record(Damage, self._call, library.hordguli_set_advances, pos, len(data) // 4, data)
 
@@ -427,6 +449,19 @@ class Session:
     def work(self) -> Work:
         """Work counters, for checking that edits stay incremental."""
         return get_record(Work, self._call, library.hordguli_session_work)
+
+    @property
+    def changed_lines(self) -> ChangedLines:
+        """The lines that the last edit, or call that set the width or advances, changed.
+
+        These are the lines of its damage, which names whole paragraphs, without those at its start and end that show the same as
+        before. After opening, all lines have changed. With a function `measure`, an edit may name more lines than changed.
+
+        >>> with hordguli.Session("one two three", width=5) as text:
+        ...     text.insert(7, "s").new_lines, text.changed_lines
+        (3, ChangedLines(first_line=1, old_lines=1, new_lines=1))
+        """
+        return self._last_changed() if self._measure is None else self._changed
 
     def __len__(self) -> int:
         return self.counts.lines
@@ -695,6 +730,15 @@ def _keeps(old: list[bytes], new: list[bytes], prefix: int, suffix: int) -> bool
         return False
     end = 4 * suffix
     return old[0][: 4 * prefix] == new[0][: 4 * prefix] and old[0][len(old[0]) - end :] == new[0][len(new[0]) - end :]
+
+
+def _both(first: ChangedLines, second: ChangedLines) -> ChangedLines:
+    """Returns the lines that two calls changed, the second after the first, and those between."""
+    if first.old_lines == first.new_lines == 0 or second.old_lines == second.new_lines == 0:
+        return max(first, second, key=lambda changed: changed.old_lines + changed.new_lines)
+    start = min(first.first_line, second.first_line)
+    end = max(first.first_line + first.new_lines, second.first_line + second.old_lines)
+    return ChangedLines(start, end - start - first.new_lines + first.old_lines, end - start - second.old_lines + second.new_lines)
 
 
 def _level_runs(levels: bytearray) -> tuple[Run, ...]:

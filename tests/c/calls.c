@@ -535,6 +535,42 @@ static void counts(void) {
     HOLDS(work.analysed == 18 && work.filled == 18 && work.written == 18);
 }
 
+static hordguli_session changing = HORDGULI_SESSION_INIT;
+
+static int has_changed(size_t first_line, size_t old_lines, size_t new_lines) {
+    hordguli_changed changed = {7, 7, 7};
+    OK(hordguli_changed_lines(&changing, &changed));
+    return changed.first_line == first_line && changed.old_lines == old_lines && changed.new_lines == new_lines;
+}
+
+static void changed_lines(void) {
+    hordguli_changed changed = {7, 7, 7};
+    IS(hordguli_changed_lines(NULL, &changed), NULL);
+    IS(hordguli_changed_lines(&session, NULL), NULL);
+    IS(hordguli_changed_lines(&session, (hordguli_changed *)&session), OVERLAP);
+    IS(hordguli_changed_lines(&no_session, &changed), CLOSED);
+    HOLDS(changed.first_line == 7 && changed.old_lines == 7 && changed.new_lines == 7);
+    OK(hordguli_session_open(&changing, &tables, 0, 3, "ab cd ef\nx", 10));
+    HOLDS(has_changed(0, 0, 4)); /* all lines */
+    OK(hordguli_insert(&changing, 4, "z", 1, NULL));
+    HOLDS(has_changed(1, 1, 1));
+    IS(hordguli_insert(&changing, 12, "z", 1, NULL), OUT_OF_RANGE);
+    IS(hordguli_set_width(&changing, 0, NULL), WIDTH_OUT_OF_RANGE);
+    IS(hordguli_set_advances(&changing, 0, 0, NULL, NULL), NOT_MEASURED);
+    HOLDS(has_changed(1, 1, 1)); /* a refused call changes nothing */
+    OK(hordguli_insert(&changing, 1, "", 0, NULL));
+    HOLDS(has_changed(3, 0, 0));
+    OK(hordguli_set_width(&changing, 3, NULL));
+    HOLDS(has_changed(4, 0, 0));
+    OK(hordguli_set_width(&changing, 80, NULL));
+    HOLDS(has_changed(0, 3, 1));
+    OK(hordguli_insert(&changing, 0, "\n", 1, NULL));
+    HOLDS(has_changed(0, 0, 1)); /* the old lines follow */
+    OK(hordguli_delete(&changing, 0, 12, NULL));
+    HOLDS(has_changed(0, 3, 0));
+    hordguli_session_close(&changing);
+}
+
 /* ---- Places ---- */
 
 static void places(void) {
@@ -1900,6 +1936,7 @@ int main(int count, char **words) {
     opened_by_version(words[1], words[2]);
     opened();
     counts();
+    changed_lines();
     changed();
     changed_without_damage();
     opened_measured();

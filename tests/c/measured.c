@@ -8,6 +8,7 @@
  *   measured returns. */
 #include "answers.h"
 #include "carets.h"
+#include "snapshot.h"
 
 #define OK(call) HOLDS((call) == HORDGULI_OK)
 #define IS(call, status) HOLDS((call) == HORDGULI_##status)
@@ -602,41 +603,6 @@ static void session_is_right(void) {
     print_is_right();
 }
 
-/* ---- What damage names ---- */
-
-/* The lines of the session, each by its numbers and by a hash of its characters and columns */
-typedef struct snapshot {
-    struct {
-        hordguli_line_info info;
-        uint64_t hash;
-    } lines[MOST];
-    size_t count;
-} snapshot;
-
-static void take(snapshot *into) {
-    hordguli_counts counts = {0, 0, 0, 0};
-    memset(into, 0, sizeof *into);
-    OK(hordguli_session_counts(&session, &counts));
-    into->count = counts.lines;
-    for (size_t line = 0; line < counts.lines; line++) {
-        uint32_t visual[MOST];
-        size_t widths[MOST];
-        uint64_t hash = 0xCBF29CE484222325;
-        hordguli_line_info *info = &into->lines[line].info;
-        OK(hordguli_line(&session, line, info, MOST, visual, NULL, NULL, NULL, widths));
-        for (size_t k = 0; k < info->shown; k++) hash = ((hash ^ visual[k]) * 0x100000001B3 ^ widths[k]) * 0x100000001B3;
-        into->lines[line].hash = hash;
-        info->start = 0;
-    }
-}
-
-/* From `first` on, `old` lines became `new` lines, and all others are as they were. */
-static void lines_were_replaced(const snapshot *then, const snapshot *now, size_t first, size_t old, size_t new) {
-    if (!HOLDS(first + old <= then->count && now->count == then->count - old + new)) return;
-    HOLDS(memcmp(then->lines, now->lines, first * sizeof *then->lines) == 0);
-    HOLDS(memcmp(then->lines + first + old, now->lines + first + new, (now->count - first - new) * sizeof *then->lines) == 0);
-}
-
 /* ---- Random changes ---- */
 
 static int are_too_wide(const uint32_t *own, size_t start, size_t end) {
@@ -715,16 +681,19 @@ static void find_new(hordguli_session *of, const hordguli_damage *damage, size_t
 
 /* Edits, and then measures the new paragraphs, or only a part of them. */
 static void edit_and_measure(const snapshot *then) {
-    static snapshot now;
+    static snapshot between, now;
     hordguli_damage edited = {7, 7, 7, 7, 7, 7}, measured = {7, 7, 7, 7, 7, 7};
     size_t start, count;
     if (!edit(&edited)) return;
-    take(&now);
+    take(&session, &now);
     lines_were_replaced(then, &now, edited.first_line, edited.old_lines, edited.new_lines);
+    changed_lines_are_right(&session, then, &now, &edited);
     if (below(4) == 0) session_is_right();
     find_new(&session, &edited, &start, &count);
+    between = now;
     if (!measure(start, count, &measured)) return;
-    take(&now);
+    take(&session, &now);
+    changed_lines_are_right(&session, &between, &now, &measured);
     HOLDS(count == 0 || (measured.first_line == edited.first_line && measured.old_lines == edited.new_lines));
     HOLDS(measured.old_paragraphs == edited.new_paragraphs && measured.new_paragraphs == edited.new_paragraphs);
     lines_were_replaced(then, &now, edited.first_line, edited.old_lines, measured.new_lines);
@@ -734,20 +703,22 @@ static void change(void) {
     static snapshot then, now;
     hordguli_damage damage = {7, 7, 7, 7, 7, 7};
     size_t pos = below(length + 1), count = below(length - pos + 1);
-    take(&then);
+    take(&session, &then);
     switch (below(6)) {
         case 0:
             width = random_width();
             if (width <= UINT16_MAX && below(2) == 0) OK(hordguli_set_width(&session, width, &damage));
             else OK(hordguli_set_measured_width(&session, width, &damage));
-            take(&now);
+            take(&session, &now);
             HOLDS(damage.first_line == 0 && damage.old_lines == then.count && damage.new_lines == now.count);
+            changed_lines_are_right(&session, &then, &now, &damage);
             break;
         case 1:
             if (!measure(pos, count, &damage)) break;
-            take(&now);
+            take(&session, &now);
             if (count > 0) lines_were_replaced(&then, &now, damage.first_line, damage.old_lines, damage.new_lines);
             else HOLDS(damage.old_lines == 0 && damage.new_lines == 0 && memcmp(&then, &now, sizeof now) == 0);
+            changed_lines_are_right(&session, &then, &now, &damage);
             break;
         default: edit_and_measure(&then);
     }

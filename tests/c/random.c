@@ -1,6 +1,7 @@
 /* Makes random edits in a session. After each edit, the session must equal a new session on the whole text. Usage:
  * random FOLDER CHANGES, where FOLDER has the table files. */
 #include "test.h"
+#include "snapshot.h"
 
 enum { MOST = 300, BYTES = 1 << 20 };
 
@@ -159,6 +160,7 @@ int main(int count, char **words) {
         uint32_t piece[64];
         size_t piece_length = 0;
         char piece_bytes[256];
+        static snapshot then, now;
         hordguli_status status;
         if (change % 500 == 0) { /* a session with other options */
             hordguli_session_close(&kept);
@@ -169,6 +171,7 @@ int main(int count, char **words) {
         OK(hordguli_session_counts(&kept, &counts));
         old_lines = counts.lines;
         old_paragraphs = counts.paragraphs;
+        take(&kept, &then);
         if (below(3) != 0 || length == 0) piece_length = decoded(text_pieces[below(TEXT_PIECES)], piece);
         if (length > 0 && (below(2) == 0 || length > MOST - 40)) taken = below(length - pos < 30 ? length - pos + 1 : 30);
         size = encoded(piece, piece_length, piece_bytes);
@@ -184,6 +187,9 @@ int main(int count, char **words) {
             status = hordguli_replace(&kept, pos, taken, piece_bytes, size, &damage);
         }
         OK(status);
+        take(&kept, &now);
+        lines_were_replaced(&then, &now, damage.first_line, damage.old_lines, damage.new_lines);
+        changed_lines_are_right(&kept, &then, &now, &damage);
         memmove(text + pos + piece_length, text + pos + taken, (length - pos - taken) * sizeof *text);
         memcpy(text + pos, piece, piece_length * sizeof *text);
         length += piece_length - taken;

@@ -256,6 +256,14 @@ static void is_damage(const hordguli_damage *damage, const size_t wanted[6]) {
     HOLDS(damage->new_paragraphs == wanted[5]);
 }
 
+static void has_changed(hordguli_session *session, const size_t wanted[3]) {
+    hordguli_changed changed = {77, 77, 77};
+    OK(hordguli_changed_lines(session, &changed));
+    HOLDS(changed.first_line == wanted[0]);
+    HOLDS(changed.old_lines == wanted[1]);
+    HOLDS(changed.new_lines == wanted[2]);
+}
+
 static void has_text(hordguli_session *session, const char *wanted) {
     char bytes[200];
     size_t length = 0;
@@ -265,24 +273,29 @@ static void has_text(hordguli_session *session, const char *wanted) {
     HOLDS(length == strlen(wanted) && memcmp(bytes, wanted, length) == 0);
 }
 
-static void damage_has_each_value_in_its_field(void) {
+static void damage_and_changed_lines_have_each_value_in_its_field(void) {
     hordguli_session session = HORDGULI_SESSION_INIT;
     hordguli_damage damage = {77, 77, 77, 77, 77, 77};
     reopen(&session, words, 4);
+    has_changed(&session, (const size_t[]){0, 0, 13});
     OK(hordguli_insert(&session, 24, "d\ne\nf\ng", 7, &damage));
     is_damage(&damage, (const size_t[]){5, 3, 6, 2, 1, 4});
+    has_changed(&session, (const size_t[]){6, 1, 4});
     has_text(&session, "aaa bbb ccc\naaa bbb\naaa d\ne\nf\ngbbb ccc\naaa bbb\naaa bbb\naaa");
     reopen(&session, words, 4);
     OK(hordguli_delete(&session, 31, 12, &damage));
     is_damage(&damage, (const size_t[]){5, 7, 4, 2, 3, 1});
+    has_changed(&session, (const size_t[]){7, 4, 1});
     has_text(&session, "aaa bbb ccc\naaa bbb\naaa bbb ccc bbb\naaa");
     reopen(&session, words, 4);
     OK(hordguli_replace(&session, 24, 20, "ddd ddd ", 8, &damage));
     is_damage(&damage, (const size_t[]){5, 7, 4, 2, 3, 1});
+    has_changed(&session, (const size_t[]){6, 5, 2});
     has_text(&session, "aaa bbb ccc\naaa bbb\naaa ddd ddd bbb\naaa");
     reopen(&session, words, 4);
     OK(hordguli_set_width(&session, 8, &damage));
     is_damage(&damage, (const size_t[]){0, 13, 8, 0, 6, 6});
+    has_changed(&session, (const size_t[]){0, 12, 7});
     hordguli_session_close(&session);
 }
 
@@ -296,10 +309,13 @@ static void damage_of_measured_text_has_each_value_in_its_field(void) {
     OK(hordguli_session_open_measured(&session, &tables, 0, 4, words, sizeof words - 1));
     OK(hordguli_set_advances(&session, 0, sizeof words - 1, ones, &damage));
     is_damage(&damage, (const size_t[]){0, 6, 13, 0, 6, 6});
+    has_changed(&session, (const size_t[]){0, 6, 13});
     OK(hordguli_set_advances(&session, 14, 10, twos, &damage)); /* in the second and third paragraphs */
     is_damage(&damage, (const size_t[]){3, 5, 7, 1, 2, 2});
+    has_changed(&session, (const size_t[]){3, 3, 5});
     OK(hordguli_set_measured_width(&session, 8, &damage));
     is_damage(&damage, (const size_t[]){0, 15, 9, 0, 6, 6});
+    has_changed(&session, (const size_t[]){0, 14, 8});
     hordguli_session_close(&session);
 }
 
@@ -1127,6 +1143,7 @@ MAKE(set_measured_width, a->session, a->width, a->out)
 MAKE(set_advances, a->session, a->at, a->count, a->characters, a->out)
 MAKE(session_counts, a->session, a->out)
 MAKE(session_work, a->session, a->out)
+MAKE(changed_lines, a->session, a->out)
 MAKE(line_start, a->session, a->at, a->out)
 MAKE(place_of, a->session, a->at, a->out)
 MAKE(caret_at, a->session, a->at, a->out)
@@ -1223,6 +1240,8 @@ static const call calls[] = {
          .out_size = sizeof(hordguli_counts)),
     CALL(session_work, "NULL, OVERLAP, CLOSED", .never = NOT_BOTH, .ways = {of_session},
          .out_size = sizeof(hordguli_work)),
+    CALL(changed_lines, "NULL, OVERLAP, CLOSED", .never = NOT_BOTH, .ways = {of_session},
+         .out_size = sizeof(hordguli_changed)),
     CALL(line_start, READING, .never = NOT_BOTH, .ways = {of_session, of_at}, .out_size = sizeof(size_t), .at = 2,
          .end = 3),
     CALL(place_of, READING, .never = NOT_BOTH, .ways = {of_session, of_at}, .out_size = sizeof(hordguli_place),
@@ -1625,7 +1644,7 @@ int main(int count, char **arguments) {
     OK(hordguli_tables_open_folder(&tables, arguments[1], NULL));
     table_fault_has_each_value_in_its_field();
     files_have_their_indexes();
-    damage_has_each_value_in_its_field();
+    damage_and_changed_lines_have_each_value_in_its_field();
     damage_of_measured_text_has_each_value_in_its_field();
     counts_and_work_have_each_value_in_their_field();
     places_have_each_value_in_its_field();

@@ -7,7 +7,7 @@ import threading
 import hordguli
 import pytest
 from conftest import state_of, tens
-from hordguli import Damage, Options, ParagraphText, Run, Session, _library
+from hordguli import ChangedLines, Damage, Options, ParagraphText, Run, Session, _library
 from hypothesis import given, settings
 from hypothesis import strategies as st
 from test_random import changed_texts, options, texts
@@ -147,6 +147,20 @@ def test_a_damage_has_the_lines_that_are_measured():
         assert text.delete(0, len(text.text())) == Damage(0, 4, 0, 0, 2, 0) and text.lines() == []
 
 
+def test_changed_lines_are_those_of_the_edit_and_its_advances():
+    with Session("one two six\nthree", 50, measure=tens) as text:
+        assert text.changed_lines == ChangedLines(0, 0, 4)
+        text.insert(5, "o")
+        assert text.changed_lines == ChangedLines(1, 1, 1)
+        with pytest.raises(IndexError):
+            text.insert(99, "x")
+        assert text.changed_lines == ChangedLines(1, 1, 1)
+        text.set_advances(15, [20])
+        assert text.changed_lines == ChangedLines(3, 1, 2)
+        text.width = 1000
+        assert text.changed_lines == ChangedLines(0, 5, 2)
+
+
 def test_the_advances_of_a_set_call_stay_until_the_paragraph_changes():
     with Session("ab\ncd\nef", 1000, measure=tens) as text:
         text.set_advances(1, [40, 0, 50, 60, 0, 70])
@@ -209,6 +223,10 @@ def test_measured_edits_equal_advances_that_are_set(version, start, width, optio
             after = list(text)
             assert same(after[: damage.first_line]) == same(before[: damage.first_line])
             assert same(after[damage.first_line + damage.new_lines :]) == same(before[damage.first_line + damage.old_lines :])
+            first, old_lines, new_lines = text.changed_lines
+            assert damage.first_line <= first and first + old_lines <= damage.first_line + damage.old_lines
+            assert same(after[:first]) == same(before[:first])
+            assert same(after[first + new_lines :]) == same(before[first + old_lines :])
 
 
 # ---- Errors ----

@@ -5,7 +5,7 @@ import itertools
 import hordguli
 import pytest
 from conftest import measured
-from hordguli import Caret, Damage, Direction, Edge, Options, Print, Session, Side
+from hordguli import Caret, ChangedLines, Damage, Direction, Edge, Options, Print, Session, Side
 
 HEBREW = "\u05d0\u05d1\u05d2"
 CLEF = "\U0001d11e"
@@ -17,6 +17,18 @@ def test_lines_of_a_damage_are_those_that_changed():
         damage = text.insert(4, "and ")
         assert damage == hordguli.Damage(0, 2, 3, 0, 1, 1)
         assert text.lines(damage.first_line, damage.new_lines) == ["one", "and", "two"]
+
+
+def test_changed_lines_are_those_of_the_damage_that_differ():
+    with Session("one two six\nthree", width=5) as text:
+        assert text.changed_lines == ChangedLines(0, 0, 4)
+        assert text.insert(7, "s") == Damage(0, 3, 3, 0, 1, 1)
+        assert text.changed_lines == ChangedLines(1, 1, 1)
+        with pytest.raises(ValueError):
+            text.set_width(0)
+        assert text.changed_lines == ChangedLines(1, 1, 1)
+        text.width = 80
+        assert text.changed_lines == ChangedLines(0, 3, 1)
 
 
 def test_edits_equal_those_of_a_str():

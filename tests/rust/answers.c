@@ -292,6 +292,7 @@ static void edit(void) {
 
 static void sizes(void) {
     hordguli_work work;
+    hordguli_changed changed;
     tell("characters", counts.characters);
     tell("lines", counts.lines);
     tell("paragraphs", counts.paragraphs);
@@ -300,6 +301,11 @@ static void sizes(void) {
         tell("analysed", work.analysed);
         tell("filled", work.filled);
         tell("written", work.written);
+    }
+    if (succeeds("changed", hordguli_changed_lines(&session, &changed))) {
+        tell("first_line", changed.first_line);
+        tell("old_lines", changed.old_lines);
+        tell("new_lines", changed.new_lines);
     }
 }
 

@@ -1,7 +1,7 @@
 //! A text editor for the terminal: `bidi_pad [--log FILE] TEXT`.
 //!
-//! A session as wide as the window holds the text, and knows all about directions, line breaks and columns. Keys edit it, and the
-//! damage says which lines to draw again. It also moves the caret, and finds words, grapheme clusters and the columns of a selection.
+//! A session as wide as the window holds the text, and knows all about directions, line breaks and columns. Keys edit it, and it says
+//! which lines to draw again. It also moves the caret, and finds words, grapheme clusters and the columns of a selection.
 //!
 //! Keys: arrows, Home, End, Page Up and Page Down, with Ctrl for words and with Shift to select; Backspace, Delete, Ctrl-S (save),
 //! Ctrl-Q (quit).
@@ -173,20 +173,21 @@ impl Pad {
     /// Replaces characters. Moves the caret after the new text, or before what follows it.
     fn replace(&mut self, old: Range<CharPos>, text: &str) {
         let end = old.start + text.chars().count();
-        let damage = match self.session.replace(old, text) {
-            Err(error) => return self.note = error.to_string(),
-            Ok(damage) => damage,
-        };
+        let is_selected = !self.selected().is_empty();
+        if let Err(error) = self.session.replace(old, text) {
+            return self.note = error.to_string();
+        }
         self.note.clear();
         self.caret = match text {
             "" | "\n" => Edge::before(end),
             _ => Edge::after(end),
         };
         self.anchor = self.caret;
-        let is_moved = damage.old_lines.len() != damage.new_lines.len();
+        let changed = self.session.changed_lines();
+        let is_moved = changed.old_lines.len() != changed.new_lines.len();
         for (line, stale) in (self.top..).zip(&mut self.stale) {
-            let is_below = is_moved && line >= damage.new_lines.start;
-            *stale |= is_below || damage.new_lines.contains(&line);
+            let is_below = is_moved && line >= changed.new_lines.start;
+            *stale |= is_selected || is_below || changed.new_lines.contains(&line);
         }
     }
 

@@ -215,9 +215,9 @@ pub struct hordguli_table_fault {
 }
 
 /// What an edit replaced: `old_lines` lines from `first_line` on became `new_lines` lines, and likewise for paragraphs.
-/// All other lines are unchanged, except that the lines that follow are renumbered. An edit replaces all paragraphs that
-/// contain or touch its range, even if it inserts and deletes nothing. A caller that draws everything anew may pass NULL
-/// as `damage`.
+/// All other lines are unchanged, except that the lines that follow are renumbered. By design, damage names whole
+/// paragraphs: all that contain or touch the edited range, even if nothing is inserted and deleted. For the lines that
+/// changed, see `hordguli_changed_lines`. A caller that draws everything anew may pass NULL as `damage`.
 #[derive(Clone, Copy, Debug, Default, PartialEq, Eq)]
 #[repr(C)]
 pub struct hordguli_damage {
@@ -227,6 +227,16 @@ pub struct hordguli_damage {
     pub first_paragraph: usize,
     pub old_paragraphs: usize,
     pub new_paragraphs: usize,
+}
+
+/// Which lines a call changed: `old_lines` lines from `first_line` on became `new_lines` lines. All other lines are the
+/// same as before, except that the lines that follow are renumbered.
+#[derive(Clone, Copy, Debug, Default, PartialEq, Eq)]
+#[repr(C)]
+pub struct hordguli_changed {
+    pub first_line: usize,
+    pub old_lines: usize,
+    pub new_lines: usize,
 }
 
 #[derive(Clone, Copy, Debug, Default, PartialEq, Eq)]
@@ -661,6 +671,21 @@ extern "C" {
         session: *mut hordguli_session,
         width: u32,
         damage: *mut hordguli_damage,
+    ) -> hordguli_status;
+    /// Stores in `*changed` which lines changed in the last successful call that edited the text, set the width or set
+    /// advances. These are the lines of its damage, which names whole paragraphs, without as many as possible at the start,
+    /// and then at the end, that are the same before and after the call: their characters, levels, maps, columns, advances,
+    /// base level and length, and whether they are the first of their paragraph. After the session was opened, all lines
+    /// have changed. A call that fails changes nothing.
+    ///
+    /// Errors: NULL, OVERLAP, CLOSED.
+    ///
+    /// Cost: O(1).
+    ///
+    /// Since: 0.6.
+    pub fn hordguli_changed_lines(
+        session: *mut hordguli_session,
+        changed: *mut hordguli_changed,
     ) -> hordguli_status;
     /// Sets the advances of the `count` characters that start at `pos`, in a measured session, and rewraps the paragraphs that
     /// have one of these characters. Stores in `*damage` which lines were replaced: none if `count` is 0.

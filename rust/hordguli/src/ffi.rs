@@ -515,6 +515,11 @@ impl SessionHandle {
         stored(|work| unsafe { hordguli_session_work(self.at(), work) })
     }
 
+    pub fn changed_lines(&self) -> Result<hordguli_changed, Error> {
+        // SAFETY: *handle*; the lines are an output.
+        stored(|changed| unsafe { hordguli_changed_lines(self.at(), changed) })
+    }
+
     // ---- Lines and text ----
 
     pub fn line_start(&self, line: usize) -> Result<usize, Error> {

@@ -193,7 +193,7 @@ pub use numbers::{BidiClass, Cause, LineClass, UnicodeVersion, TABLE_FILES};
 pub use options::{BaseDirection, Options, Print};
 pub use position::{BytePos, CharPos, Position, TextRange, Utf16Pos};
 pub use records::{
-    Bracket, Break, Caret, Character, Counts, Damage, Direction, Edge, Hit, Level, Place, Row, Run,
+    Bracket, Break, Caret, ChangedLines, Character, Counts, Damage, Direction, Edge, Hit, Level, Place, Row, Run,
     Side, Span, Word, Work,
 };
 pub use session::Session;

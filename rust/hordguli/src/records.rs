@@ -110,6 +110,25 @@ impl Damage {
     }
 }
 
+/// The lines that a call changed. All other lines are the same as before, except that those that follow are renumbered.
+#[derive(Clone, Debug, PartialEq, Eq, Hash)]
+pub struct ChangedLines {
+    /// The lines before the call that are not the same after it.
+    pub old_lines: Range<usize>,
+    /// The lines that replace them. They start at the same line.
+    pub new_lines: Range<usize>,
+}
+
+impl ChangedLines {
+    pub(crate) fn new(it: hordguli_changed) -> Self {
+        let from = |count| it.first_line..it.first_line + count;
+        ChangedLines {
+            old_lines: from(it.old_lines),
+            new_lines: from(it.new_lines),
+        }
+    }
+}
+
 /// The size of a session.
 #[derive(Clone, Copy, Debug, Default, PartialEq, Eq, Hash)]
 pub struct Counts {

@@ -5,7 +5,7 @@ use hordguli_sys::hordguli_position;
 
 use crate::ffi::SessionHandle;
 use crate::{
-    BytePos, Caret, CharPos, Counts, Damage, Direction, Edge, Error, Hit, Line, Lines, Options,
+    BytePos, Caret, ChangedLines, CharPos, Counts, Damage, Direction, Edge, Error, Hit, Line, Lines, Options,
     Paragraph, Place, Position, Print, Tables, TextRange, Utf16Pos, Word, Work,
 };
 
@@ -248,6 +248,27 @@ impl Session {
             filled: it.filled,
             written: it.written,
         }
+    }
+
+    /// Returns which lines changed in the last successful call that edited the text, set the width or set advances.
+    ///
+    /// These are the lines of its [`Damage`], which names whole paragraphs, without those at its start and end that show the
+    /// same as before: characters, levels, maps, columns, advances and base level. After opening, all lines have changed. The
+    /// padding depends on the width and is not compared.
+    ///
+    /// Costs O(1).
+    ///
+    /// ```
+    /// # use hordguli::{CharPos, Options, Session, Tables};
+    /// let mut session = Session::new(&Tables::builtin()?, "one two three", 5, Options::new())?;
+    /// let damage = session.insert(CharPos(7), "s")?;
+    /// assert_eq!(damage.new_lines, 0..3);
+    /// assert_eq!(session.changed_lines().new_lines, 1..2);
+    /// # Ok::<(), hordguli::Error>(())
+    /// ```
+    #[must_use]
+    pub fn changed_lines(&self) -> ChangedLines {
+        ChangedLines::new(self.handle.changed_lines().unwrap_or_default())
     }
 
     // ---- Text ----

@@ -65,6 +65,22 @@ fn edits_return_what_they_replaced() {
 }
 
 #[test]
+fn changed_lines_are_those_of_the_damage_that_differ() {
+    let mut text = session("one two six\nthree", 5);
+    let changed = |text: &Session| {
+        let lines = text.changed_lines();
+        (lines.old_lines, lines.new_lines)
+    };
+    assert_eq!(changed(&text), (0..0, 0..4));
+    assert_eq!(text.insert(CharPos(7), "s").unwrap().new_lines, 0..3);
+    assert_eq!(changed(&text), (1..2, 1..2));
+    assert_eq!(text.set_width(0), Err(Error::WidthOutOfRange));
+    assert_eq!(changed(&text), (1..2, 1..2));
+    text.set_width(80).unwrap();
+    assert_eq!(changed(&text), (0..3, 0..1));
+}
+
+#[test]
 fn edits_take_bytes_and_utf16_units() {
     let mut text = session("a\u{1d11e}b", 80);
     text.insert(BytePos(5), "x").unwrap();

@@ -519,6 +519,11 @@ impl Run<'_> {
         self.tell("analysed", work.analysed);
         self.tell("filled", work.filled);
         self.tell("written", work.written);
+        let changed = session.changed_lines();
+        self.tell("changed", 0_u8);
+        self.tell("first_line", changed.new_lines.start);
+        self.tell("old_lines", changed.old_lines.len());
+        self.tell("new_lines", changed.new_lines.len());
     }
 
     fn session(&self) {

@@ -1,0 +1,64 @@
+/* The lines of a session before and after a call, for tests of which lines changed. Include it after test.h. */
+#ifndef SNAPSHOT_H
+#define SNAPSHOT_H
+
+enum { SNAPSHOT_LINES = 1600, SNAPSHOT_CHARACTERS = 1600 };
+
+/* Each line has its numbers, without its position and padding, and a hash of its characters, levels, maps and columns. */
+typedef struct snapshot {
+    struct {
+        hordguli_line_info info;
+        uint64_t hash;
+    } lines[SNAPSHOT_LINES];
+    size_t count;
+} snapshot;
+
+static uint64_t hashed(uint64_t hash, uint64_t number) { return (hash ^ number) * 0x100000001B3; }
+
+static void take(hordguli_session *of, snapshot *into) {
+    static uint32_t characters[SNAPSHOT_CHARACTERS], ltov[SNAPSHOT_CHARACTERS], vtol[SNAPSHOT_CHARACTERS];
+    static uint8_t levels[SNAPSHOT_CHARACTERS];
+    static size_t columns[SNAPSHOT_CHARACTERS];
+    hordguli_counts counts = {0, 0, 0, 0};
+    memset(into, 0, sizeof *into);
+    HOLDS(hordguli_session_counts(of, &counts) == HORDGULI_OK && counts.lines <= SNAPSHOT_LINES);
+    into->count = counts.lines;
+    for (size_t line = 0; line < counts.lines; line++) {
+        uint64_t hash = 0xCBF29CE484222325;
+        hordguli_line_info *info = &into->lines[line].info;
+        HOLDS(hordguli_line(of, line, info, SNAPSHOT_CHARACTERS, characters, levels, ltov, vtol, columns) == HORDGULI_OK);
+        for (size_t k = 0; k < info->shown; k++) {
+            hash = hashed(hashed(hash, characters[k]), levels[k]);
+            hash = hashed(hashed(hashed(hash, ltov[k]), vtol[k]), columns[k]);
+        }
+        into->lines[line].hash = hash;
+        info->start = info->padding = 0;
+    }
+}
+
+static int is_same_line(const snapshot *then, size_t old, const snapshot *now, size_t new) {
+    return memcmp(&then->lines[old], &now->lines[new], sizeof then->lines[old]) == 0;
+}
+
+/* From `first` on, `old` lines became `new` lines, and all others are as they were. */
+static void lines_were_replaced(const snapshot *then, const snapshot *now, size_t first, size_t old, size_t new) {
+    if (!HOLDS(first + old <= then->count && now->count == then->count - old + new)) return;
+    HOLDS(memcmp(then->lines, now->lines, first * sizeof *then->lines) == 0);
+    HOLDS(memcmp(then->lines + first + old, now->lines + first + new, (now->count - first - new) * sizeof *then->lines) == 0);
+}
+
+/* The changed lines are those of the damage, without as many as possible at its start, and then at its end, that are the
+ * same before and after the call. */
+static void changed_lines_are_right(hordguli_session *of, const snapshot *then, const snapshot *now, const hordguli_damage *damage) {
+    hordguli_changed changed = {7, 7, 7};
+    size_t before = 0, after = 0, first = damage->first_line, old = damage->old_lines, new = damage->new_lines;
+    while (before < old && before < new && is_same_line(then, first + before, now, first + before)) before++;
+    while (before + after < old && before + after < new
+           && is_same_line(then, first + old - after - 1, now, first + new - after - 1))
+        after++;
+    HOLDS(hordguli_changed_lines(of, &changed) == HORDGULI_OK);
+    HOLDS(changed.first_line == first + before && changed.old_lines == old - before - after
+          && changed.new_lines == new - before - after);
+}
+
+#endif
