@@ -4,6 +4,8 @@ ghost use Rattle.lines.specs.Engine.{analysed_of, filled_of, written_of};
 ghost use Rattle.session.specs.Edits.{deletion, insertion, replacing};
 ghost use Rattle.session.specs.Kept.{lines_in};
 ghost use Rattle.session.specs.Sessions.{text_at};
+ghost use Rattle.ucd.specs.declared.tables.Tables.{Tables};
+ghost use Rattle.lines.specs.declared.options.Options.{Options};
 ghost use Rattle.hordguli_c.specs.Calls.{Asks, Changes, Gives, OfText};
 ghost use Rattle.hordguli_c.specs.Options.{options_of};
 ghost use Rattle.hordguli_c.specs.Sessions.{IsFresh, IsOpened, IsRefused, OpensOn, OpensSession};
@@ -18,11 +20,11 @@ use crate::options::options_of;
 use crate::session_handle::{SessionHandle, SessionObject};
 use crate::status::{Status, advance_status, edit_status, number_of};
 use crate::tables_handle::TablesHandle;
+use crate::tables_object::TablesObject;
 use lines::{Engine, Options};
 use session::{Damage, Session};
 use simdutf8::compat::from_utf8;
 use std::alloc::Global;
-use ucd::Tables;
 
 /// The width at which a session is opened: in columns, or in the caller's unit if it is measured.
 #[derive(Clone, Copy)]
@@ -34,15 +36,14 @@ pub enum OpenWidth {
 // Opens a session with a new engine. After an error, returns the status of the fault.
 fn open_by(
     alloc: Global,
-    tables: Tables,
-    options: Options,
+    engine: Engine,
     text: &str,
     width: OpenWidth,
 ) -> Result<SessionObject, Status>
-    ensures { MatchResult result (IsOpened tables options (chars text.now) width)
+    ensures { (tables : Tables) (options : Options) → IsFresh tables options engine
+        → MatchResult result (IsOpened tables options (chars text.now) width)
         (IsRefused tables options (chars text.now) width) }
 {
-    let engine = Engine::new(tables, options);
     match width {
         OpenWidth::Columns(width) => match Session::open(alloc, engine, text, width) {
             Ok(session) => Ok(session),
@@ -55,31 +56,34 @@ fn open_by(
     }
 }
 
-// Opens a session, and stores it in a closed handle.
+// Opens a session, and stores it in a closed handle. The tables lend it the buffers that they keep.
 fn open_at(
     alloc: Global,
     session: &mut SessionHandle,
-    tables: &Tables,
+    tables: &mut TablesObject,
     options: Options,
     text: &str,
     width: OpenWidth,
 ) -> Status
     requires { session.old.held ≡ None }
-    ensures { OpensOn options (chars text.now) width result (Some tables.now)
+    ensures tables { tables.new ≡ tables.old }
+    ensures opens { OpensOn options (chars text.now) width result (Some tables.old)
         session.old.held session.new.held }
 {
-    let Ok(copy) = tables.copy(alloc) else {
+    let Ok(engine) = tables.lend_engine(alloc, options) else {
         return Status::NoMemory;
     };
-    match open_by(alloc, copy, options, text, width) {
-        Ok(opened) => match Box::new(alloc, opened) {
-            Ok(object) => {
-                session.swap(alloc, Some(object));
-                Status::Ok
-            }
-            Err(_) => Status::NoMemory,
-        },
-        Err(status) => status,
+    let mut opened = match open_by(alloc, engine, text, width) {
+        Ok(opened) => opened,
+        Err(status) => return status,
+    };
+    tables.take_buffers(alloc, &mut opened, text.len());
+    match Box::new(alloc, opened) {
+        Ok(object) => {
+            session.swap(alloc, Some(object));
+            Status::Ok
+        }
+        Err(_) => Status::NoMemory,
     }
 }
 
@@ -157,8 +161,8 @@ fn open_session(
     with_object!(
         tables,
         alloc,
-        object,
-        open_at(alloc, session, object.tables(), options, text, width)
+        mut object,
+        open_at(alloc, session, &mut object, options, text, width)
     )
 }
 

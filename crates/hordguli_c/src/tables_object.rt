@@ -1,9 +1,11 @@
-//! Tables, with the buffers that the layout of a text without a session reuses.
+//! Tables, with the buffers that the layout of a text without a session, or opening a session, reuses.
 ghost use Rattle.std.specs.Prelude.{◌≡◌, chars, IfOk};
+ghost use Rattle.hordguli_c.specs.Sessions.{IsFresh};
 ghost use Rattle.hordguli_c.specs.Texts.{PutsPage};
 
 use crate::arrays::put_bytes;
 use crate::options::PageForm;
+use crate::session_handle::SessionObject;
 use crate::status::{Status, edit_status};
 use lines::{Engine, Options};
 use session::opening_refusal;
@@ -105,6 +107,26 @@ impl TablesObject {
         };
         self.free_large(alloc, text.len());
         status
+    }
+
+    /// Returns a new engine on the tables, and lends it the buffers.
+    pub fn lend_engine(&mut self, alloc: Global, options: Options) -> Result<Engine, AllocError>
+        ensures unchanged { self.new ≡ self.old }
+        ensures fresh { IfOk result (IsFresh self.old options) }
+    {
+        let copy = self.tables.copy(alloc)?;
+        let mut engine = Engine::new(copy, options);
+        engine.swap_buffers(&mut self.engine);
+        Ok(engine)
+    }
+
+    /// Takes back the buffers that were lent to open a session on a text of `len` bytes.
+    pub fn take_buffers(&mut self, alloc: Global, session: &mut SessionObject, len: usize)
+        ensures unchanged { self.new ≡ self.old }
+        ensures session { session.new ≡ session.old }
+    {
+        session.swap_buffers(&mut self.engine);
+        self.free_large(alloc, len);
     }
 
     // Frees the buffers if they may be large, given the number of bytes of the text.

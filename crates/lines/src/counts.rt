@@ -101,6 +101,18 @@ impl Counts {
         Counted { len }
     }
 
+    /// Counts `len` characters as analysed and filled, although there was no memory to do so.
+    pub(crate) fn count_refused(&mut self, len: usize)
+        ensures analysed { self.new.analysed ≡ counted self.old.analysed len }
+        ensures filled { self.new.filled ≡ counted self.old.filled len }
+        ensures written { self.new.written ≡ self.old.written }
+        ensures least_analysed { self.old.analysed ≤ self.new.analysed }
+        ensures least_filled { self.old.filled ≤ self.new.filled }
+    {
+        self.analysed.raise(len);
+        self.filled.raise(len);
+    }
+
     /// Drops the counts together with the tables used for the work. There is no other way to drop a count.
     pub(crate) fn end(self, _tables: Tables) {
         let Counts {

@@ -24,7 +24,7 @@ use crate::printing::print::{Print, PrintFault};
 use crate::printing::writing::Form;
 use crate::reflow::ReflowScratch;
 use crate::separators::ends_line;
-use crate::workspace::Workspace;
+use crate::workspace::{Workspace, workspace};
 use bidi::{base_level, base_level_in_text, first_cut, first_cut_in_text, is_cut};
 use breaks::{Mark, marks_are_as_many, paragraphs_end_at_must};
 use device::Sink;
@@ -32,6 +32,7 @@ use std::alloc::{AllocError, Global};
 use std::fmt;
 use std::fmt::{Debug, Formatter};
 use std::marker::Model;
+use std::mem::swap;
 use ucd::Tables;
 
 /// The maximum number of characters in a paragraph.
@@ -47,7 +48,7 @@ pub struct Engine {
     options: Options,
     counts: Counts,
     // Allocated for the first paragraph, and reused for the next ones.
-    work: Option<Workspace>,
+    work: Option<Box<Workspace>>,
 }
 
 impl Debug for Engine {
@@ -145,6 +146,14 @@ impl Engine {
         ensures { self.new ≡ self.old }
     {
         self.work = None;
+    }
+
+    /// Exchanges the buffers of two engines.
+    pub fn swap_buffers(&mut self, other: &mut Engine)
+        ensures self_stays { self.new ≡ self.old }
+        ensures other_stays { other.new ≡ other.old }
+    {
+        swap(&mut self.work, &mut other.work);
     }
 
     /// Keeps the lists of a layout that is no longer needed, and uses them for the next paragraph that is
@@ -352,7 +361,10 @@ impl Engine {
         ensures filled { filled_of self.new ≡ counted (filled_of self.old) (length laid.now.text) }
         ensures rules { SameRules self.old self.new }
     {
-        let work = self.work.get_or_insert_with(|| Workspace::new(alloc));
+        let Ok(work) = workspace(&mut self.work, alloc) else {
+            self.counts.filled.raise(laid.text.len());
+            return Err(AllocError);
+        };
         let rules = LentRules {
             tables: &self.tables,
             options: self.options,
@@ -387,7 +399,7 @@ impl Engine {
         ensures at_most { FillsAtMost (length laid.now.text) self.old self.new }
         ensures rules { SameRules self.old self.new }
     {
-        let work = self.work.get_or_insert_with(|| Workspace::new(alloc));
+        let work = workspace(&mut self.work, alloc)?;
         let rules = LentRules {
             tables: &self.tables,
             options: self.options,
@@ -443,7 +455,10 @@ impl Engine {
             marks_are_as_many(&self.tables, text, whole_numbers);
             return self.write_base(text, print, writer);
         }
-        let work = self.work.get_or_insert_with(|| Workspace::new(alloc));
+        let Ok(work) = workspace(&mut self.work, alloc) else {
+            self.counts.count_refused(text.len());
+            return Err(PrintFault::Memory);
+        };
         let rules = LentRules {
             tables: &self.tables,
             options: self.options,
@@ -501,7 +516,10 @@ impl Engine {
         ensures filled { filled_of self.new ≡ counted (filled_of self.old) (length laid.now.text) }
         ensures rules { SameRules self.old self.new }
     {
-        let work = self.work.get_or_insert_with(|| Workspace::new(alloc));
+        let Ok(work) = workspace(&mut self.work, alloc) else {
+            self.counts.filled.raise(laid.text.len());
+            return Err(AllocError);
+        };
         let rules = LentRules {
             tables: &self.tables,
             options: self.options,
@@ -634,7 +652,10 @@ impl Engine {
         ensures filled { filled_of self.new ≡ counted (filled_of self.old) (length text.now) }
         ensures rules { SameRules self.old self.new }
     {
-        let work = self.work.get_or_insert_with(|| Workspace::new(alloc));
+        let Ok(work) = workspace(&mut self.work, alloc) else {
+            self.counts.count_refused(text.len());
+            return Err(AllocError);
+        };
         let mut kept = work.take_lists(alloc, text.len());
         let counts = &mut self.counts;
         let rules = LentRules {

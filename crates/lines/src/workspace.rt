@@ -29,8 +29,10 @@ pub(crate) struct Workspace {
     pub(crate) analysis: Analysis,
     pub(crate) infos: InfoBuffers,
     pub(crate) clusters: ClusterBuffers,
-    // For paragraphs that are printed and not kept, and after `recycle` for the next one that is kept.
+    // For paragraphs that are printed and not kept.
     pub(crate) lists: LayoutBuffers,
+    // For the next paragraph that is kept.
+    recycled: LayoutBuffers,
     // For the text of the next paragraph that is kept.
     text: Vec<char>,
 }
@@ -42,6 +44,7 @@ impl Drop for Workspace {
             infos: _,
             clusters: _,
             lists: _,
+            recycled: _,
             text: _,
         } = self;
     }
@@ -58,13 +61,14 @@ impl Workspace {
             infos: InfoBuffers::new(alloc),
             clusters: ClusterBuffers::new(alloc),
             lists: LayoutBuffers::new(alloc),
+            recycled: LayoutBuffers::new(alloc),
             text: Vec::new(alloc),
         }
     }
 
     /// Keeps the lists of a layout that is no longer needed.
     pub(crate) fn recycle(&mut self, laid: Laid) {
-        (self.text, self.lists) = laid.into_lists();
+        (self.text, self.recycled) = laid.into_lists();
     }
 
     /// Returns an empty list, with the capacity of a recycled text if that is about `len`.
@@ -82,8 +86,8 @@ impl Workspace {
     /// Returns lists for a paragraph of `len` characters that is kept: recycled ones if they have about this
     /// capacity, and otherwise empty ones.
     pub(crate) fn take_lists(&mut self, alloc: Global, len: usize) -> LayoutBuffers {
-        if fits(self.lists.levels.capacity(), len) {
-            mem::replace(&mut self.lists, LayoutBuffers::new(alloc))
+        if fits(self.recycled.levels.capacity(), len) {
+            mem::replace(&mut self.recycled, LayoutBuffers::new(alloc))
         } else {
             LayoutBuffers::new(alloc)
         }
@@ -94,6 +98,20 @@ impl Workspace {
 // 16 items may stay unused.
 fn fits(capacity: usize, len: usize) -> bool {
     capacity >= len && capacity - len <= len / 8 + 16
+}
+
+/// Returns an engine's workspace, which is made for its first paragraph.
+pub(crate) fn workspace(
+    work: &mut Option<Box<Workspace>>,
+    alloc: Global,
+) -> Result<&mut Workspace, AllocError> {
+    if work.is_none() {
+        *work = Some(Box::new(alloc, Workspace::new(alloc))?);
+    }
+    match work {
+        Some(work) => Ok(work),
+        None => unreachable!(),
+    }
 }
 
 /// Finds the levels of paragraphs, and keeps the properties of the last paragraph's characters at the front

@@ -582,6 +582,15 @@ impl<S: ParagraphStore<Kept>> Session<S> {
         self.engine.written()
     }
 
+    /// Exchanges the buffers of this session's engine with those of another engine. After opening a session,
+    /// it has the buffers of its engine, which are as large as the longest paragraph needed.
+    pub fn swap_buffers(&mut self, engine: &mut Engine)
+        ensures session { self.new ≡ self.old }
+        ensures engine { engine.new ≡ engine.old }
+    {
+        self.engine.swap_buffers(engine);
+    }
+
     /// Returns which lines the last successful call changed, of those that edit the text, set the width or set
     /// advances: its damage without as many lines as possible at the start, and then at the end, that are the
     /// same before and after the call. After opening, all lines have changed.
