@@ -18,6 +18,13 @@ pub enum Edit<'a> {
     SetWidth(u16),
 }
 
+/// The `count` characters from `pos` on.
+#[derive(Clone, Copy, Debug)]
+pub struct TextRange {
+    pub pos: usize,
+    pub count: usize,
+}
+
 /// What an edit replaced. Starting at line `first_line`, `new_lines` lines replace `old_lines` lines.
 /// Starting at paragraph `first_par`, `new_pars` paragraphs replace `old_pars` paragraphs. Lines and
 /// paragraphs are numbered from 0.

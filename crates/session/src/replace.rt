@@ -14,7 +14,7 @@ ghost use Rattle.session.specs.declared.edits.EditFault.TheVariants.{NoMemory};
 
 use crate::borders::{Border, back_border, back_part, front_border, front_part};
 use crate::changed::{matching_at_end, matching_at_start, without_same};
-use crate::edits::{ChangedLines, Damage, EditFault, TEXT_LIMIT};
+use crate::edits::{ChangedLines, Damage, EditFault, TEXT_LIMIT, TextRange};
 use crate::joined::{Form, lay_out_joined};
 use crate::kept::Kept;
 use bidi::paragraphs_are_pieces;
@@ -114,22 +114,21 @@ pub fn put<S: ParagraphStore<Kept>>(
     Ok(damage)
 }
 
-/// Replaces `count` characters, starting at `pos`, with `piece`.
+/// Replaces the characters of a range with `piece`.
 pub fn replace<S: ParagraphStore<Kept>>(
     alloc: Global,
     engine: &mut Engine,
     store: &mut S,
     changed: &mut ChangedLines,
     form: Form,
-    pos: usize,
-    count: usize,
+    range: TextRange,
     piece: &str,
 ) -> Result<Damage, EditFault>
     requires { IsWholeLayout (state_of engine.old form.width form.is_measured (S.items store.old)) }
-    ensures ok { IfOk result (Edits (replacing pos count (chars piece.now))
+    ensures ok { IfOk result (Edits (replacing range.pos range.count (chars piece.now))
         (state_of engine.old form.width form.is_measured (S.items store.old))
         (state_of engine.new form.width form.is_measured (S.items store.new))) }
-    ensures err { IfErr result (EditsNot (replacing pos count (chars piece.now))
+    ensures err { IfErr result (EditsNot (replacing range.pos range.count (chars piece.now))
         (state_of engine.old form.width form.is_measured (S.items store.old))
         (state_of engine.new form.width form.is_measured (S.items store.new))) }
     ensures changed { IfOk result (λ damage.
@@ -138,6 +137,7 @@ pub fn replace<S: ParagraphStore<Kept>>(
     ensures memory { IsErrOf result NoMemory
         → 0 < length (text_of (S.items store.old)) + length (chars piece.now) }
 {
+    let TextRange { pos, count } = range;
     let len = store.total_chars();
     if pos > len || count > len - pos {
         return Err(EditFault::OutOfRange);

@@ -39,6 +39,7 @@ use crate::carets::{Caret, caret_in};
 use crate::clusters::{Cluster, cluster_of, line_clusters};
 use crate::edits::{
     AdvanceFault, ChangedLines, Damage, Edit, EditFault, MEASURED_WIDTH_LIMIT, TEXT_LIMIT,
+    TextRange,
 };
 use crate::hits::{Hit, hit_in};
 use crate::joined::{Form, has_long_in_text};
@@ -645,8 +646,7 @@ impl<S: ParagraphStore<Kept>> Session<S> {
             &mut self.store,
             &mut self.changed,
             self.form,
-            pos,
-            count,
+            TextRange { pos, count },
             piece,
         )
     }

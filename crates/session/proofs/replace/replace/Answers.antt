@@ -27,13 +27,13 @@ returns-then-pos-len-clause-err g c =
     let kept = g.S.ParagraphStore.items c.args.store.now in
     let piece = chars c.args.piece.now in
     let size : c.total_chars-len.result ≡ length (text_of kept) = c.total_chars-len.ensures ∙ sym (length-text kept) in
-    let past : length (text_of kept) < c.args.pos + c.args.count = elim c.then-pos-len.branch [
+    let past : length (text_of kept) < c.args.range.pos + c.args.range.count = elim c.then-pos-len.branch [
       | then-pos-len-via-then-pos-len w ↦ omega (arith, size, w.if-pos-len.true)
       | then-pos-len-via-else-pos-len+then-count-len w ↦ omega (arith, size, w.if-pos-len.false, w.if-count-len.true)
     ] in
     let state : SessionState = state_of c.args.engine.now c.args.form.width c.args.form.is_measured kept in
-    EditsNot-unchanged (replacing c.args.pos c.args.count piece) state OutOfRange c.requires
-    (refusal-past (cut_by (rules_of c.args.engine.now)) (advances_in c.args.form.is_measured kept) (text_of kept) (replacing c.args.pos c.args.count piece) past) refl
+    EditsNot-unchanged (replacing c.args.range.pos c.args.range.count piece) state OutOfRange c.requires
+    (refusal-past (cut_by (rules_of c.args.engine.now)) (advances_in c.args.form.is_measured kept) (text_of kept) (replacing c.args.range.pos c.args.range.count piece) past) refl
 
 pub overflow_add-len : goal.overflow_add-len
 overflow_add-len g c =
@@ -48,11 +48,11 @@ returns-then-len-count-gt-TEXT_LIMIT-clause-err g c =
     let kept = g.S.ParagraphStore.items c.args.store.now in
     let piece = chars c.args.piece.now in
     let size : c.total_chars-len.result ≡ length (text_of kept) = c.total_chars-len.ensures ∙ sym (length-text kept) in
-    let within : c.args.pos + c.args.count ≤ length (text_of kept) = omega (arith, size) in
+    let within : c.args.range.pos + c.args.range.count ≤ length (text_of kept) = omega (arith, size) in
     let n : c.count.result ≡ length piece = count_from_yields_List c.chars.result c.count.result c.count.ensures.ran (YieldsList-from_chars c.args.piece.now c.utf8.piece cc) in
     let state : SessionState = state_of c.args.engine.now c.args.form.width c.args.form.is_measured kept in
-    EditsNot-unchanged (replacing c.args.pos c.args.count piece) state TextTooLong c.requires
-    (refusal-too_long (cut_by (rules_of c.args.engine.now)) (advances_in c.args.form.is_measured kept) (text_of kept) piece c.args.pos c.args.count within (omega (arith, size, n))) refl
+    EditsNot-unchanged (replacing c.args.range.pos c.args.range.count piece) state TextTooLong c.requires
+    (refusal-too_long (cut_by (rules_of c.args.engine.now)) (advances_in c.args.form.is_measured kept) (text_of kept) piece c.args.range.pos c.args.range.count within (omega (arith, size, n))) refl
 
 pub front_border-front-requires : goal.front_border-front-requires
 front_border-front-requires g c =
@@ -66,7 +66,7 @@ back_border-back-requires g c =
     let kept = g.S.ParagraphStore.items c.args.store.now in
     let piece = chars c.args.piece.now in
     let size : c.total_chars-len.result ≡ length (text_of kept) = c.total_chars-len.ensures ∙ sym (length-text kept) in
-    let within : c.args.pos + c.args.count ≤ length (text_of kept) = omega (arith, size) in
+    let within : c.args.range.pos + c.args.range.count ≤ length (text_of kept) = omega (arith, size) in
     within
 
 pub lay_out_joined-requires-clause-front : goal.lay_out_joined-requires-clause-front
@@ -74,33 +74,33 @@ lay_out_joined-requires-clause-front g c =
     let kept = g.S.ParagraphStore.items c.args.store.now in
     let piece = chars c.args.piece.now in
     let size : c.total_chars-len.result ≡ length (text_of kept) = c.total_chars-len.ensures ∙ sym (length-text kept) in
-    let within : c.args.pos + c.args.count ≤ length (text_of kept) = omega (arith, size) in
+    let within : c.args.range.pos + c.args.range.count ≤ length (text_of kept) = omega (arith, size) in
     let each = front_each c.paragraphs_are_pieces.ensures c.lines_are_few.ensures c.args.engine.now c.args.form.width c.args.form.is_measured kept c.requires
-    c.args.pos c.args.count piece within c.front_border-front.result c.back_border-back.result
+    c.args.range.pos c.args.range.count piece within c.front_border-front.result c.back_border-back.result
     c.front_border-front.ensures c.back_border-back.ensures in
     subst (λ (t : List ℕ). AreForEach (given_if c.args.form.is_measured c.front_part-before.result.advances.now) t) (sym c.front_part-before.ensures.text)
-    (subst (λ (l : List ℕ). AreForEach (given_if c.args.form.is_measured l) (front_of (pars_of kept) c.front_border-front.result c.args.pos)) (sym c.front_part-before.ensures.advances) each)
+    (subst (λ (l : List ℕ). AreForEach (given_if c.args.form.is_measured l) (front_of (pars_of kept) c.front_border-front.result c.args.range.pos)) (sym c.front_part-before.ensures.advances) each)
 
 pub lay_out_joined-requires-clause-back : goal.lay_out_joined-requires-clause-back
 lay_out_joined-requires-clause-back g c =
     let kept = g.S.ParagraphStore.items c.args.store.now in
     let piece = chars c.args.piece.now in
     let size : c.total_chars-len.result ≡ length (text_of kept) = c.total_chars-len.ensures ∙ sym (length-text kept) in
-    let within : c.args.pos + c.args.count ≤ length (text_of kept) = omega (arith, size) in
+    let within : c.args.range.pos + c.args.range.count ≤ length (text_of kept) = omega (arith, size) in
     let each = back_each c.paragraphs_are_pieces.ensures c.lines_are_few.ensures c.args.engine.now c.args.form.width c.args.form.is_measured kept c.requires
-    c.args.pos c.args.count piece within c.front_border-front.result c.back_border-back.result
+    c.args.range.pos c.args.range.count piece within c.front_border-front.result c.back_border-back.result
     c.front_border-front.ensures c.back_border-back.ensures in
     subst (λ (t : List ℕ). AreForEach (given_if c.args.form.is_measured c.back_part-after.result.advances.now) t) (sym (c.back_part-after.ensures.text _ refl))
-    (subst (λ (l : List ℕ). AreForEach (given_if c.args.form.is_measured l) (back_of (pars_of kept) c.back_border-back.result (c.args.pos + c.args.count))) (sym (c.back_part-after.ensures.advances _ refl)) each)
+    (subst (λ (l : List ℕ). AreForEach (given_if c.args.form.is_measured l) (back_of (pars_of kept) c.back_border-back.result (c.args.range.pos + c.args.range.count))) (sym (c.back_part-after.ensures.advances _ refl)) each)
 
 pub returns-in-Err-clause-err : goal.returns-in-Err-clause-err
 returns-in-Err-clause-err g c =
     let kept = g.S.ParagraphStore.items c.args.store.now in
     let piece = chars c.args.piece.now in
     let size : c.total_chars-len.result ≡ length (text_of kept) = c.total_chars-len.ensures ∙ sym (length-text kept) in
-    let within : c.args.pos + c.args.count ≤ length (text_of kept) = omega (arith, size) in
+    let within : c.args.range.pos + c.args.range.count ≤ length (text_of kept) = omega (arith, size) in
     let n : c.count.result ≡ length piece = count_from_yields_List c.chars.result c.count.result c.count.ensures.ran (YieldsList-from_chars c.args.piece.now c.utf8.piece cc) in
-    let short : length (text_of kept) - c.args.count + length piece ≤ TEXT_LIMIT = omega (arith, size, n) in
+    let short : length (text_of kept) - c.args.range.count + length piece ≤ TEXT_LIMIT = omega (arith, size, n) in
     let parts = ap₂ (λ xs ys. xs ++ (piece ++ ys)) c.front_part-before.ensures.text (c.back_part-after.ensures.text _ refl) in
     let given = ap₂ (λ xs ys. given_if c.args.form.is_measured (xs ++ (replicate (length piece) 0 ++ ys))) c.front_part-before.ensures.advances (c.back_part-after.ensures.advances _ refl) in
     let f = c.front_border-front.ensures in
@@ -110,7 +110,7 @@ returns-in-Err-clause-err g c =
     let by = rules_of c.args.engine.now in
     let answer = subst (λ o. IsAnswerFor o c.in-Err.fault) (ap₂ (λ (a : Option (List ℕ)) (t : List ℕ). paragraphs_refusal (cut_by by) a t) given parts) c.in-Err.ensures.err in
     let counts = subst (λ t. IsCountedFor c.in-Err.fault (LaysOutAtMost (length t)) c.args.engine.now c.lay_out_joined.new.engine) parts c.in-Err.ensures.refused in
-    EditsNot-by_region law few c.args.engine.now c.args.form.width c.args.form.is_measured kept c.requires c.args.pos c.args.count piece within
+    EditsNot-by_region law few c.args.engine.now c.args.form.width c.args.form.is_measured kept c.requires c.args.range.pos c.args.range.count piece within
     c.front_border-front.result c.back_border-back.result f b c.lay_out_joined.new.engine c.in-Err.fault short answer
     c.lay_out_joined.ensures.rules counts
 
@@ -119,9 +119,9 @@ put-requires-clause-order g c =
     let kept = g.S.ParagraphStore.items c.args.store.now in
     let piece = chars c.args.piece.now in
     let size : c.total_chars-len.result ≡ length (text_of kept) = c.total_chars-len.ensures ∙ sym (length-text kept) in
-    let within : c.args.pos + c.args.count ≤ length (text_of kept) = omega (arith, size) in
+    let within : c.args.range.pos + c.args.range.count ≤ length (text_of kept) = omega (arith, size) in
     rise c.paragraphs_are_pieces.ensures c.lines_are_few.ensures c.args.engine.now c.args.form.width c.args.form.is_measured kept c.requires
-    c.args.pos c.args.count piece within c.front_border-front.result c.back_border-back.result
+    c.args.range.pos c.args.range.count piece within c.front_border-front.result c.back_border-back.result
     c.front_border-front.ensures c.back_border-back.ensures
 
 pub put-requires-clause-chars_fit : goal.put-requires-clause-chars_fit
@@ -129,9 +129,9 @@ put-requires-clause-chars_fit g c =
     let kept = g.S.ParagraphStore.items c.args.store.now in
     let piece = chars c.args.piece.now in
     let size : c.total_chars-len.result ≡ length (text_of kept) = c.total_chars-len.ensures ∙ sym (length-text kept) in
-    let within : c.args.pos + c.args.count ≤ length (text_of kept) = omega (arith, size) in
+    let within : c.args.range.pos + c.args.range.count ≤ length (text_of kept) = omega (arith, size) in
     let n : c.count.result ≡ length piece = count_from_yields_List c.chars.result c.count.result c.count.ensures.ran (YieldsList-from_chars c.args.piece.now c.utf8.piece cc) in
-    let short : length (text_of kept) - c.args.count + length piece ≤ TEXT_LIMIT = omega (arith, size, n) in
+    let short : length (text_of kept) - c.args.range.count + length piece ≤ TEXT_LIMIT = omega (arith, size, n) in
     let parts = ap₂ (λ xs ys. xs ++ (piece ++ ys)) c.front_part-before.ensures.text (c.back_part-after.ensures.text _ refl) in
     let given = ap₂ (λ xs ys. given_if c.args.form.is_measured (xs ++ (replicate (length piece) 0 ++ ys))) c.front_part-before.ensures.advances (c.back_part-after.ensures.advances _ refl) in
     let f = c.front_border-front.ensures in
@@ -139,16 +139,16 @@ put-requires-clause-chars_fit g c =
     let law = c.paragraphs_are_pieces.ensures in
     let few = c.lines_are_few.ensures in
     let laid = c.in-Ok.ensures.ok ∙ ap₂ (λ (a : Option (List ℕ)) (t : List ℕ). layouts_of (with_advances (rules_of c.args.engine.now) a) c.args.form.width t) given parts in
-    chars_fit law few c.args.engine.now c.args.form.width c.args.form.is_measured kept c.requires c.args.pos c.args.count piece within c.front_border-front.result c.back_border-back.result f b c.in-Ok.new.items laid short
+    chars_fit law few c.args.engine.now c.args.form.width c.args.form.is_measured kept c.requires c.args.range.pos c.args.range.count piece within c.front_border-front.result c.back_border-back.result f b c.in-Ok.new.items laid short
 
 pub put-requires-clause-bytes_fit : goal.put-requires-clause-bytes_fit
 put-requires-clause-bytes_fit g c =
     let kept = g.S.ParagraphStore.items c.args.store.now in
     let piece = chars c.args.piece.now in
     let size : c.total_chars-len.result ≡ length (text_of kept) = c.total_chars-len.ensures ∙ sym (length-text kept) in
-    let within : c.args.pos + c.args.count ≤ length (text_of kept) = omega (arith, size) in
+    let within : c.args.range.pos + c.args.range.count ≤ length (text_of kept) = omega (arith, size) in
     let n : c.count.result ≡ length piece = count_from_yields_List c.chars.result c.count.result c.count.ensures.ran (YieldsList-from_chars c.args.piece.now c.utf8.piece cc) in
-    let short : length (text_of kept) - c.args.count + length piece ≤ TEXT_LIMIT = omega (arith, size, n) in
+    let short : length (text_of kept) - c.args.range.count + length piece ≤ TEXT_LIMIT = omega (arith, size, n) in
     let parts = ap₂ (λ xs ys. xs ++ (piece ++ ys)) c.front_part-before.ensures.text (c.back_part-after.ensures.text _ refl) in
     let given = ap₂ (λ xs ys. given_if c.args.form.is_measured (xs ++ (replicate (length piece) 0 ++ ys))) c.front_part-before.ensures.advances (c.back_part-after.ensures.advances _ refl) in
     let f = c.front_border-front.ensures in
@@ -156,16 +156,16 @@ put-requires-clause-bytes_fit g c =
     let law = c.paragraphs_are_pieces.ensures in
     let few = c.lines_are_few.ensures in
     let laid = c.in-Ok.ensures.ok ∙ ap₂ (λ (a : Option (List ℕ)) (t : List ℕ). layouts_of (with_advances (rules_of c.args.engine.now) a) c.args.form.width t) given parts in
-    units_fit law few c.args.engine.now c.args.form.width c.args.form.is_measured kept c.requires c.args.pos c.args.count piece within c.front_border-front.result c.back_border-back.result f b c.in-Ok.new.items laid short len_utf8 utf8_few
+    units_fit law few c.args.engine.now c.args.form.width c.args.form.is_measured kept c.requires c.args.range.pos c.args.range.count piece within c.front_border-front.result c.back_border-back.result f b c.in-Ok.new.items laid short len_utf8 utf8_few
 
 pub put-requires-clause-utf16_fit : goal.put-requires-clause-utf16_fit
 put-requires-clause-utf16_fit g c =
     let kept = g.S.ParagraphStore.items c.args.store.now in
     let piece = chars c.args.piece.now in
     let size : c.total_chars-len.result ≡ length (text_of kept) = c.total_chars-len.ensures ∙ sym (length-text kept) in
-    let within : c.args.pos + c.args.count ≤ length (text_of kept) = omega (arith, size) in
+    let within : c.args.range.pos + c.args.range.count ≤ length (text_of kept) = omega (arith, size) in
     let n : c.count.result ≡ length piece = count_from_yields_List c.chars.result c.count.result c.count.ensures.ran (YieldsList-from_chars c.args.piece.now c.utf8.piece cc) in
-    let short : length (text_of kept) - c.args.count + length piece ≤ TEXT_LIMIT = omega (arith, size, n) in
+    let short : length (text_of kept) - c.args.range.count + length piece ≤ TEXT_LIMIT = omega (arith, size, n) in
     let parts = ap₂ (λ xs ys. xs ++ (piece ++ ys)) c.front_part-before.ensures.text (c.back_part-after.ensures.text _ refl) in
     let given = ap₂ (λ xs ys. given_if c.args.form.is_measured (xs ++ (replicate (length piece) 0 ++ ys))) c.front_part-before.ensures.advances (c.back_part-after.ensures.advances _ refl) in
     let f = c.front_border-front.ensures in
@@ -173,16 +173,16 @@ put-requires-clause-utf16_fit g c =
     let law = c.paragraphs_are_pieces.ensures in
     let few = c.lines_are_few.ensures in
     let laid = c.in-Ok.ensures.ok ∙ ap₂ (λ (a : Option (List ℕ)) (t : List ℕ). layouts_of (with_advances (rules_of c.args.engine.now) a) c.args.form.width t) given parts in
-    units_fit law few c.args.engine.now c.args.form.width c.args.form.is_measured kept c.requires c.args.pos c.args.count piece within c.front_border-front.result c.back_border-back.result f b c.in-Ok.new.items laid short len_utf16 utf16_few
+    units_fit law few c.args.engine.now c.args.form.width c.args.form.is_measured kept c.requires c.args.range.pos c.args.range.count piece within c.front_border-front.result c.back_border-back.result f b c.in-Ok.new.items laid short len_utf16 utf16_few
 
 pub put-requires-clause-lines_fit : goal.put-requires-clause-lines_fit
 put-requires-clause-lines_fit g c =
     let kept = g.S.ParagraphStore.items c.args.store.now in
     let piece = chars c.args.piece.now in
     let size : c.total_chars-len.result ≡ length (text_of kept) = c.total_chars-len.ensures ∙ sym (length-text kept) in
-    let within : c.args.pos + c.args.count ≤ length (text_of kept) = omega (arith, size) in
+    let within : c.args.range.pos + c.args.range.count ≤ length (text_of kept) = omega (arith, size) in
     let n : c.count.result ≡ length piece = count_from_yields_List c.chars.result c.count.result c.count.ensures.ran (YieldsList-from_chars c.args.piece.now c.utf8.piece cc) in
-    let short : length (text_of kept) - c.args.count + length piece ≤ TEXT_LIMIT = omega (arith, size, n) in
+    let short : length (text_of kept) - c.args.range.count + length piece ≤ TEXT_LIMIT = omega (arith, size, n) in
     let parts = ap₂ (λ xs ys. xs ++ (piece ++ ys)) c.front_part-before.ensures.text (c.back_part-after.ensures.text _ refl) in
     let given = ap₂ (λ xs ys. given_if c.args.form.is_measured (xs ++ (replicate (length piece) 0 ++ ys))) c.front_part-before.ensures.advances (c.back_part-after.ensures.advances _ refl) in
     let f = c.front_border-front.ensures in
@@ -190,16 +190,16 @@ put-requires-clause-lines_fit g c =
     let law = c.paragraphs_are_pieces.ensures in
     let few = c.lines_are_few.ensures in
     let laid = c.in-Ok.ensures.ok ∙ ap₂ (λ (a : Option (List ℕ)) (t : List ℕ). layouts_of (with_advances (rules_of c.args.engine.now) a) c.args.form.width t) given parts in
-    lines_fit law few c.args.engine.now c.args.form.width c.args.form.is_measured kept c.requires c.args.pos c.args.count piece within c.front_border-front.result c.back_border-back.result f b c.in-Ok.new.items laid short
+    lines_fit law few c.args.engine.now c.args.form.width c.args.form.is_measured kept c.requires c.args.range.pos c.args.range.count piece within c.front_border-front.result c.back_border-back.result f b c.in-Ok.new.items laid short
 
 pub returns-clause-ok : goal.returns-clause-ok
 returns-clause-ok g c =
     let kept = g.S.ParagraphStore.items c.args.store.now in
     let piece = chars c.args.piece.now in
     let size : c.total_chars-len.result ≡ length (text_of kept) = c.total_chars-len.ensures ∙ sym (length-text kept) in
-    let within : c.args.pos + c.args.count ≤ length (text_of kept) = omega (arith, size) in
+    let within : c.args.range.pos + c.args.range.count ≤ length (text_of kept) = omega (arith, size) in
     let n : c.count.result ≡ length piece = count_from_yields_List c.chars.result c.count.result c.count.ensures.ran (YieldsList-from_chars c.args.piece.now c.utf8.piece cc) in
-    let short : length (text_of kept) - c.args.count + length piece ≤ TEXT_LIMIT = omega (arith, size, n) in
+    let short : length (text_of kept) - c.args.range.count + length piece ≤ TEXT_LIMIT = omega (arith, size, n) in
     let parts = ap₂ (λ xs ys. xs ++ (piece ++ ys)) c.front_part-before.ensures.text (c.back_part-after.ensures.text _ refl) in
     let given = ap₂ (λ xs ys. given_if c.args.form.is_measured (xs ++ (replicate (length piece) 0 ++ ys))) c.front_part-before.ensures.advances (c.back_part-after.ensures.advances _ refl) in
     let f = c.front_border-front.ensures in
@@ -211,10 +211,10 @@ returns-clause-ok g c =
     let laid = c.in-Ok.ensures.ok ∙ ap₂ (λ (a : Option (List ℕ)) (t : List ℕ). layouts_of (with_advances by a) c.args.form.width t) given parts in
     let allowed = sym (ap₂ (λ (a : Option (List ℕ)) (t : List ℕ). paragraphs_refusal (cut_by by) a t) given parts) ∙ c.in-Ok.ensures.allowed in
     let counts = subst (λ t. LaysOutAtMost (length t) c.args.engine.now c.lay_out_joined.new.engine) parts c.lay_out_joined.ensures.counts in
-    rw c.put.ensures.engine (ends_ok (λ ks. Edits (replacing c.args.pos c.args.count piece) old
+    rw c.put.ensures.engine (ends_ok (λ ks. Edits (replacing c.args.range.pos c.args.range.count piece) old
     (state_of c.lay_out_joined.new.engine c.args.form.width c.args.form.is_measured ks)) c.put.result _ _ _
     c.put.ensures.ok c.put.ensures.damage
-    (Edits-after law few c.args.engine.now c.args.form.width c.args.form.is_measured kept c.requires c.args.pos c.args.count piece within
+    (Edits-after law few c.args.engine.now c.args.form.width c.args.form.is_measured kept c.requires c.args.range.pos c.args.range.count piece within
     c.front_border-front.result c.back_border-back.result f b c.in-Ok.new.items laid short c.lay_out_joined.new.engine
     allowed c.lay_out_joined.ensures.rules counts))
 
@@ -223,9 +223,9 @@ returns-clause-err g c =
     let kept = g.S.ParagraphStore.items c.args.store.now in
     let piece = chars c.args.piece.now in
     let size : c.total_chars-len.result ≡ length (text_of kept) = c.total_chars-len.ensures ∙ sym (length-text kept) in
-    let within : c.args.pos + c.args.count ≤ length (text_of kept) = omega (arith, size) in
+    let within : c.args.range.pos + c.args.range.count ≤ length (text_of kept) = omega (arith, size) in
     let n : c.count.result ≡ length piece = count_from_yields_List c.chars.result c.count.result c.count.ensures.ran (YieldsList-from_chars c.args.piece.now c.utf8.piece cc) in
-    let short : length (text_of kept) - c.args.count + length piece ≤ TEXT_LIMIT = omega (arith, size, n) in
+    let short : length (text_of kept) - c.args.range.count + length piece ≤ TEXT_LIMIT = omega (arith, size, n) in
     let parts = ap₂ (λ xs ys. xs ++ (piece ++ ys)) c.front_part-before.ensures.text (c.back_part-after.ensures.text _ refl) in
     let given = ap₂ (λ xs ys. given_if c.args.form.is_measured (xs ++ (replicate (length piece) 0 ++ ys))) c.front_part-before.ensures.advances (c.back_part-after.ensures.advances _ refl) in
     let f = c.front_border-front.ensures in
@@ -236,10 +236,10 @@ returns-clause-err g c =
     let old : SessionState = state_of c.args.engine.now c.args.form.width c.args.form.is_measured kept in
     let allowed = sym (ap₂ (λ (a : Option (List ℕ)) (t : List ℕ). paragraphs_refusal (cut_by by) a t) given parts) ∙ c.in-Ok.ensures.allowed in
     let counts = subst (λ t. LaysOutAtMost (length t) c.args.engine.now c.lay_out_joined.new.engine) parts c.lay_out_joined.ensures.counts in
-    rw c.put.ensures.engine (ends_err (λ ks. EditsNot (replacing c.args.pos c.args.count piece) old
+    rw c.put.ensures.engine (ends_err (λ ks. EditsNot (replacing c.args.range.pos c.args.range.count piece) old
     (state_of c.lay_out_joined.new.engine c.args.form.width c.args.form.is_measured ks)) c.put.result _ _
     c.put.ensures.err c.put.ensures.fault
-    (EditsNot-by_region law few c.args.engine.now c.args.form.width c.args.form.is_measured kept c.requires c.args.pos c.args.count piece within
+    (EditsNot-by_region law few c.args.engine.now c.args.form.width c.args.form.is_measured kept c.requires c.args.range.pos c.args.range.count piece within
     c.front_border-front.result c.back_border-back.result f b c.lay_out_joined.new.engine NoMemory short
     allowed c.lay_out_joined.ensures.rules counts))
 
