@@ -24,7 +24,7 @@ use crate::printing::print::{Print, PrintFault};
 use crate::printing::writing::Form;
 use crate::reflow::ReflowScratch;
 use crate::separators::ends_line;
-use crate::workspace::{Workspace, workspace};
+use crate::workspace::{Workspace, ready};
 use bidi::{base_level, base_level_in_text, first_cut, first_cut_in_text, is_cut};
 use breaks::{Mark, marks_are_as_many, paragraphs_end_at_must};
 use device::Sink;
@@ -361,7 +361,7 @@ impl Engine {
         ensures filled { filled_of self.new ≡ counted (filled_of self.old) (length laid.now.text) }
         ensures rules { SameRules self.old self.new }
     {
-        let Ok(work) = workspace(&mut self.work, alloc) else {
+        let Ok(work) = ready(&mut self.work, alloc) else {
             self.counts.filled.raise(laid.text.len());
             return Err(AllocError);
         };
@@ -399,7 +399,7 @@ impl Engine {
         ensures at_most { FillsAtMost (length laid.now.text) self.old self.new }
         ensures rules { SameRules self.old self.new }
     {
-        let work = workspace(&mut self.work, alloc)?;
+        let work = ready(&mut self.work, alloc)?;
         let rules = LentRules {
             tables: &self.tables,
             options: self.options,
@@ -455,7 +455,7 @@ impl Engine {
             marks_are_as_many(&self.tables, text, whole_numbers);
             return self.write_base(text, print, writer);
         }
-        let Ok(work) = workspace(&mut self.work, alloc) else {
+        let Ok(work) = ready(&mut self.work, alloc) else {
             self.counts.count_refused(text.len());
             return Err(PrintFault::Memory);
         };
@@ -516,7 +516,7 @@ impl Engine {
         ensures filled { filled_of self.new ≡ counted (filled_of self.old) (length laid.now.text) }
         ensures rules { SameRules self.old self.new }
     {
-        let Ok(work) = workspace(&mut self.work, alloc) else {
+        let Ok(work) = ready(&mut self.work, alloc) else {
             self.counts.filled.raise(laid.text.len());
             return Err(AllocError);
         };
@@ -652,7 +652,7 @@ impl Engine {
         ensures filled { filled_of self.new ≡ counted (filled_of self.old) (length text.now) }
         ensures rules { SameRules self.old self.new }
     {
-        let Ok(work) = workspace(&mut self.work, alloc) else {
+        let Ok(work) = ready(&mut self.work, alloc) else {
             self.counts.count_refused(text.len());
             return Err(AllocError);
         };

@@ -101,7 +101,7 @@ fn fits(capacity: usize, len: usize) -> bool {
 }
 
 /// Returns an engine's workspace, which is made for its first paragraph.
-pub(crate) fn workspace(
+pub(crate) fn ready(
     work: &mut Option<Box<Workspace>>,
     alloc: Global,
 ) -> Result<&mut Workspace, AllocError> {
