@@ -1,5 +1,5 @@
 -- Positions of a text, and numbers of UTF-8 bytes or UTF-16 code units before them.
-use Rattle.std.proofs.Common.{◌≡◌, ℕ, ◌+◌, ◌-◌, ◌<◌, ◌≤◌, nat_le, nat_lt, Bool, true, false, if◌then◌else◌, List, [], ◌∷◌, ◌++◌, length, take, drop, get_or, sum_by, encode_utf8, encode_utf8_all, Option, Some, None, is_none, unwrap_or, inl, inr, zero, suc, add-one, refl, sym, ap, ap₂, ◌∙◌, arith, append_assoc, length-append}
+use Rattle.std.proofs.Common.{◌≡◌, ℕ, ◌+◌, ◌-◌, ◌<◌, ◌≤◌, nat_le, nat_lt, Bool, true, false, if◌then◌else◌, List, [], ◌∷◌, ◌++◌, length, take, drop, get_or, sum_by, encode_utf8, encode_utf8_all, Option, Some, None, is_none, unwrap_or, inl, inr, zero, suc, add-one, refl, sym, ap, ap₂, ◌∙◌, arith, append_assoc, length-append, cond}
 use Rattle.std.specs.Char.{len_utf8}
 use Rattle.std.specs.List.{slice_get, slice_range}
 use Rattle.std.specs.Option.{option_map}
@@ -255,3 +255,8 @@ all_ascii text most low small = sym (one_each Utf8 text (λ k less. len_utf8_asc
 pub all_basic : (text : List ℕ) (most : ℕ) → ((k : ℕ) → k < length text → get_or text k 0 ≤ most) → most < 0x1_0000 → length text ≡ length_in Utf16 text
 all_basic text most low small =
     sym (one_each Utf16 text (λ k less. cond-true (nat_lt (get_or text k 0) 0x1_0000) 1 2 (lt-ltb (get_or text k 0) 0x1_0000 (omega (arith, low k less, small)))))
+
+-- a character below U+0800 has one byte or two
+pub two_bytes : (c : ℕ) → c < 0x800 → len_utf8 c ≡ cond (nat_lt c 0x80) 1 2
+two_bytes c small =
+    ap (λ n. cond (nat_lt c 0x80) 1 n) (cond-true (nat_lt c 0x800) 2 (cond (nat_lt c 0x1_0000) 3 4) (lt-ltb c 0x800 small))

@@ -117,6 +117,15 @@ fn largest(text: &[char]) -> char
     largest
 }
 
+// Returns the number of UTF-8 bytes of a character below U+0800.
+fn size_below_800(c: char) -> u32
+    requires { c < 2048 }
+    ensures size { result ≡ size_in Utf8 c }
+    ensures few { result ≤ 2 }
+{
+    if c < '\u{80}' { 1 } else { 2 }
+}
+
 // Returns the number of UTF-8 bytes of a block of characters below U+0800.
 fn length_below_800(block: &[char]) -> u32
     requires few { length block.now ≤ BLOCK }
@@ -125,7 +134,7 @@ fn length_below_800(block: &[char]) -> u32
 {
     let mut length = 0;
     for c in block {
-        length += if *c < '\u{80}' { 1 } else { 2 };
+        length += size_below_800(*c);
     }
     length
 }

@@ -1,6 +1,7 @@
-use Rattle.std.proofs.Common.{◌≡◌, ◌-◌, length, map, Some, ap, refl, sym, ◌∙◌, arith}
+use Rattle.std.proofs.Common.{◌≡◌, ◌-◌, length, map, Some, ap, refl, sym, ◌∙◌, arith, inl, inr}
 use Rattle.std.specs.Borrow.{Bor}
 use Rattle.std.specs.Prelude.{option_map}
+use Rattle.std.proofs.lemmas.Option.{slice_get_cases}
 use Rattle.lines.specs.Layouts.{Layout}
 use Rattle.session.specs.Matching.{at_width}
 use Rattle.session.proofs.ChangedLemmas.{start_begins, start_ends}
@@ -33,3 +34,13 @@ pub returns : goal.returns
 returns g c = λ rules width brought _ _.
     let ks = g.S.ParagraphStore.items c.args.store.now in
     start_ends ks (map (at_width rules width) ks) c.loop-i.i c.loop-i.count (all_parts rules width ks c.args.parts.now brought c.loop-i.i c.loop-i-test.false) (c.loop-i.invariant rules width brought)
+
+pub unreachable-requires : goal.unreachable-requires
+unreachable-requires g c =
+    let ks = g.S.ParagraphStore.items c.args.store.now in
+    let size = parts_number c.requires.0 c.requires.1 ks c.args.parts.now c.requires.2 in
+    let none = sym (ap (option_map (λ (k : Bor Layout). k.now)) c.in_default.is) ∙ c.get.ensures in
+    elim (slice_get_cases ks c.loop-i.i).1 [
+      | inl found ↦ absurd (cc (none ∙ found.2))
+      | inr past ↦ absurd (omega (arith, past.0, size, c.loop-i-test.true))
+    ]

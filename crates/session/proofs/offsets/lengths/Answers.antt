@@ -11,3 +11,7 @@ returns-then-largest-lt128-clause-utf16 c =
 
 pub returns-then-largest-lt65536-clause-utf16 : goal.returns-then-largest-lt65536-clause-utf16
 returns-then-largest-lt65536-clause-utf16 c = all_basic c.args.text.now c.largest-largest.result c.largest-largest.ensures c.if-largest-lt65536.true
+
+pub returns-then-text-le-BLOCK-clause-utf16 : goal.returns-then-text-le-BLOCK-clause-utf16
+returns-then-text-le-BLOCK-clause-utf16 c =
+    all_basic c.args.text.now c.largest-largest.result c.largest-largest.ensures (omega (arith, c.if-largest-lt2048.true))

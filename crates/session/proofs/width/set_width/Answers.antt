@@ -8,6 +8,7 @@ use Rattle.session.specs.Changes.{AreFound, HasLines}
 use Rattle.session.specs.Kept.{lines_in, text_of, IsFresh}
 use Rattle.session.specs.Matching.{at_width, AreBrought}
 use Rattle.session.specs.declared.edits.ChangedLines.{ChangedLines}
+use Rattle.session.specs.declared.edits.Damage.{Damage}
 use Rattle.session.proofs.BorderLemmas.{length-lines}
 use Rattle.session.proofs.TrimLemmas.{AreFound-all}
 use Rattle.session.proofs.WidthLemmas.{all_brought, all_each, all_fit, changed-le, each_laid_out, refilled_fit, written_is_changed, Fills-written, FillsAtMost-written, SetsWidth-after}
@@ -41,8 +42,8 @@ returns-clause-ok g c =
     (Fills-written _ _ c.args.engine.now c.find_all.new.engine c.reflow_all.new.engine c.in-Ok.ensures.exact same c.reflow_all.ensures.counts)
     _ _ _ _ made c.count-count.ensures c.total_lines-old_lines.ensures c.total_lines.ensures
 
-pub staying_at_start-requires : goal.staying_at_start-requires
-staying_at_start-requires g c =
+pub staying_at_start-start-requires : goal.staying_at_start-start-requires
+staying_at_start-start-requires g c =
     let kept = g.S.ParagraphStore.items c.args.store.now in
     let laid = each_laid_out c.paragraphs_are_pieces.ensures c.args.engine.now c.args.form.now.width c.args.form.now.is_measured kept c.requires in (
       rules_of c.args.engine.now,
@@ -51,8 +52,8 @@ staying_at_start-requires g c =
           (record { laid = all_each (IsFresh (rules_of c.args.engine.now)) kept laid; brought = c.in-Ok.ensures.ok }),
     )
 
-pub staying_at_end-requires : goal.staying_at_end-requires
-staying_at_end-requires g c =
+pub staying_at_end-end-requires : goal.staying_at_end-end-requires
+staying_at_end-end-requires g c =
     let kept = g.S.ParagraphStore.items c.args.store.now in
     let laid = each_laid_out c.paragraphs_are_pieces.ensures c.args.engine.now c.args.form.now.width c.args.form.now.is_measured kept c.requires in (
       rules_of c.args.engine.now,
@@ -74,7 +75,15 @@ returns-clause-changed g c =
     let after = g.S.ParagraphStore.items c.reflow_all.new.store in
     let s = c.staying_at_start-start.result in
     let e = c.staying_at_end-end.result in
-    subst (λ (x : ChangedLines). AreFound kept after _ x) (sym c.without_same.ensures)
-    (AreFound-all kept after _ s e refl (c.total_lines-old_lines.ensures ∙ sym (length-lines kept)) (c.total_lines.ensures ∙ sym (length-lines after))
+    let damage : Damage = record {
+      first_line = 0;
+      old_lines = c.total_lines-old_lines.result;
+      new_lines = c.total_lines.result;
+      first_par = 0;
+      old_pars = c.count-count.result;
+      new_pars = c.count-count.result;
+    } in
+    subst (λ (x : ChangedLines). AreFound kept after damage x) (sym c.without_same.ensures)
+    (AreFound-all kept after damage s e refl (c.total_lines-old_lines.ensures ∙ sym (length-lines kept)) (c.total_lines.ensures ∙ sym (length-lines after))
     (subst (λ (ms : List Layout). All HasLines kept → All HasLines ms → MatchAtStart (lines_in kept) (lines_in ms) s) (sym made) start)
     (subst (λ (ms : List Layout). All HasLines kept → All HasLines ms → MatchAtEnd (lines_in kept) (lines_in ms) e) (sym made) end))

@@ -1,24 +1,27 @@
 use Rattle.std.proofs.Common.{refl, sym, ap, ◌∙◌, arith}
 use Rattle.std.proofs.lemmas.List.{take_all}
 use Rattle.session.specs.Edits.{after_all}
-use Rattle.session.specs.Sessions.{cuts_at, held_at}
+use Rattle.session.specs.Sessions.{cuts_at, held_at, state_of}
 use Rattle.session.proofs.RunLemmas.{HasRun-next, HasRun-rules, HasRun-stops, edited, refilled_to, stays, edit_works, width_works, next_works, whole_works, lacks_memory, has_memory}
+use Rattle.session.proofs.StateLemmas.{whole_with}
 use Rattle.session.proofs.session.Session.run.Goals as goal
 use Rattle.session.proofs.session.Session.run.Goals.{in-Insert, in-Delete, in-SetWidth}
 
 pub loop-edit-init : goal.loop-edit-init
-loop-edit-init g c = record {
-  held = refl;
-  laid_out = rw (← c.self.view_is) c.self.invariant;
-  rules = refl;
-  works = record {
-    analysed = record { least = omega arith; most = omega arith };
-    filled =
-        record { least = omega arith; most = omega arith };
-    written =
-        record { least = omega arith; most = omega arith };
-  };
-}
+loop-edit-init g c =
+    let it = c.self.inside in
+    let old = state_of it.engine it.form.width it.form.is_measured (g.S.ParagraphStore.items it.store) in record {
+      held = refl;
+      laid_out = rw (← c.self.view_is) (whole_with old old c.self.inside.changed c.self.inside.changed c.self.invariant);
+      rules = refl;
+      works = record {
+        analysed = record { least = omega arith; most = omega arith };
+        filled =
+            record { least = omega arith; most = omega arith };
+        written =
+            record { least = omega arith; most = omega arith };
+      };
+    }
 
 pub returns-then-eq-clause-err : goal.returns-then-eq-clause-err
 returns-then-eq-clause-err g c =
