@@ -8,7 +8,7 @@ pub enum ImageFault {
     /// There are fewer bytes than the header has, or than its counts say.
     #[error("the image is truncated")]
     Truncated,
-    /// The first bytes are not `hordguli-ucd`.
+    /// The image does not begin with `hordguli-ucd`.
     #[error("not an image of tables")]
     Magic,
     /// The format has another version.
