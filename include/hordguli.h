@@ -2,7 +2,18 @@
  *
  * Lays out bidirectional text in lines of a given width (UAX #9, UAX #14). A session holds a text and its layout, and
  * keeps the layout up to date when the text is edited or the width changes. Each edit reports which lines it replaced.
- * The exact rules and limits are in share/doc/hordguli/reference.md, below the installation prefix.
+ * The exact rules and limits are in share/doc/hordguli/reference.md, below the installation prefix. guide.md beside it
+ * explains the terms, and has programs.
+ *
+ * ROUTES
+ *
+ * Each route starts with tables (`hordguli_tables_open_builtin`). Its first calls are, for
+ *   - one string: `hordguli_layout`
+ *   - a text that is edited or resized: `hordguli_session_open`, `hordguli_insert`, `hordguli_lines_utf8`
+ *   - an editor: the same, and those that `Carets and edges` lists
+ *   - text in any font: `hordguli_session_open_measured`, `hordguli_set_advances`
+ *   - rows that the caller breaks, as in a terminal: `hordguli_base`, `hordguli_levels`, `hordguli_row`
+ *   - levels, break marks or character properties: `hordguli_levels`, `hordguli_marks`, `hordguli_properties`
  *
  * UNITS
  *
@@ -24,10 +35,10 @@
  *
  * COLUMNS
  *
- * A column is a terminal cell. The width of a line, in columns, is the sum of the widths of its shown characters.
- * Widths are those of the Unicode version that `hordguli_width_unicode_version` returns. Control characters have width
- * 0 and are written unchanged, also tabs without HORDGULI_TAB_WIDTH. A program that writes to a terminal must remove or
- * replace them.
+ * A column is a terminal cell. The width of a line, in columns, is the sum of the widths of its shown characters. Some
+ * terminals draw a grapheme cluster, such as an emoji family, narrower than this sum. Widths follow Unicode 18.0.
+ * Characters of ambiguous East Asian width have width 1. Control characters have width 0 and are written unchanged, also
+ * tabs without HORDGULI_TAB_WIDTH. A program that writes to a terminal must remove or replace them.
  *
  * MEASURED TEXT
  *
@@ -690,8 +701,8 @@ hordguli_status hordguli_paragraph(hordguli_session *session, size_t paragraph, 
  * caret; an edit goes to `pos` either way. For example, in `abc `, three Hebrew letters and ` def`, before 4 is at
  * column 7, right of the first letter, and after 4 at column 4, right of the space.
  *
- * A caret moves over one grapheme cluster at a time, or over the part of it that is in one level run if the cluster
- * has several: over one caret unit. A boundary is a column where a caret unit begins or ends.
+ * A caret moves over one caret unit: a grapheme cluster, or its part in one level run if its characters are in several. A
+ * boundary is a column where a caret unit begins or ends.
  *
  * New programs keep an edge, and call these:
  *   - `hordguli_edge_caret` to draw the caret
@@ -835,8 +846,8 @@ typedef struct hordguli_edge {
     uint32_t zero;  /* always 0 in results, and ignored in arguments */
 } hordguli_edge;
 
-/* Stores in `*caret` where to draw the caret at an edge. The edge before a position is on the line of the character at
- * it, and the edge after a position on the line of the character before it:
+/* Stores in `*caret` where to draw the caret at an edge: on the line of the character whose edge it is. This is the
+ * character at `pos` for HORDGULI_BEFORE, and the one before `pos` for HORDGULI_AFTER.
  *   - If a caret unit begins (or ends) with that character: at the start (or end) of the unit.
  *   - At another shown character: at its leading edge, which is the left one if its level is even, or its trailing edge.
  *   - At a character that is not shown, and before the end of the text: as in `hordguli_caret_at`.
@@ -850,11 +861,20 @@ typedef struct hordguli_edge {
 hordguli_status hordguli_edge_caret(hordguli_session *session, hordguli_edge edge, hordguli_caret *caret);
 
 /* Moves a caret to the nearest boundary to the left or right on its line. Stores the edge there in `*next`, and 1 in
- * `*moved`. The stored edge is one of the caret unit that was passed. At the end of the line, stores 0 in `*moved`, and
- * leaves `*next` unchanged; `hordguli_edge_at` then gives the end of the next line. For the key Right:
+ * `*moved`. The stored edge is an edge of the caret unit that was passed. At the end of the line, stores 0 in `*moved`, and
+ * leaves `*next` unchanged. The caller then chooses the next line, of which column 0 is the left end and SIZE_MAX the
+ * right end. In a left-to-right document, the key Right leads to the left end of the line below, and Left to the right
+ * end of the line above:
  *
+ *     // Right
  *     status = hordguli_step(&session, caret, HORDGULI_RIGHT, &caret, &moved);
- *     if (!status && !moved && line + 1 < lines) status = hordguli_edge_at(&session, line + 1, 0, &caret);
+ *     if (!status && !moved) status = hordguli_edge_at(&session, line + 1, 0, &caret);
+ *     // Left
+ *     status = hordguli_step(&session, caret, HORDGULI_LEFT, &caret, &moved);
+ *     if (!status && !moved && line > 0) status = hordguli_edge_at(&session, line - 1, SIZE_MAX, &caret);
+ *
+ * In a right-to-left document, Left leads to the right end of the line below (SIZE_MAX), and Right to the left end of the
+ * line above (0). Past the last line, `hordguli_edge_at` returns OUT_OF_RANGE.
  *
  * Each step changes the column. Repeated, steps meet every boundary in their direction. With HORDGULI_REORDER_NSM and
  * without HORDGULI_REORDER_CLUSTERS, this holds if the marks of the text have no columns. Of the nonspacing marks of

@@ -1012,8 +1012,8 @@ extern "C" {
         spans: *mut hordguli_span,
         count: *mut usize,
     ) -> hordguli_status;
-    /// Stores in `*caret` where to draw the caret at an edge. The edge before a position is on the line of the character at
-    /// it, and the edge after a position on the line of the character before it:
+    /// Stores in `*caret` where to draw the caret at an edge: on the line of the character whose edge it is. This is the
+    /// character at `pos` for HORDGULI_BEFORE, and the one before `pos` for HORDGULI_AFTER.
     ///   - If a caret unit begins (or ends) with that character: at the start (or end) of the unit.
     ///   - At another shown character: at its leading edge, which is the left one if its level is even, or its trailing edge.
     ///   - At a character that is not shown, and before the end of the text: as in `hordguli_caret_at`.
@@ -1032,13 +1032,22 @@ extern "C" {
         caret: *mut hordguli_caret,
     ) -> hordguli_status;
     /// Moves a caret to the nearest boundary to the left or right on its line. Stores the edge there in `*next`, and 1 in
-    /// `*moved`. The stored edge is one of the caret unit that was passed. At the end of the line, stores 0 in `*moved`, and
-    /// leaves `*next` unchanged; `hordguli_edge_at` then gives the end of the next line. For the key Right:
+    /// `*moved`. The stored edge is an edge of the caret unit that was passed. At the end of the line, stores 0 in `*moved`, and
+    /// leaves `*next` unchanged. The caller then chooses the next line, of which column 0 is the left end and SIZE_MAX the
+    /// right end. In a left-to-right document, the key Right leads to the left end of the line below, and Left to the right
+    /// end of the line above:
     ///
     /// ```c
+    /// // Right
     /// status = hordguli_step(&session, caret, HORDGULI_RIGHT, &caret, &moved);
-    /// if (!status && !moved && line + 1 < lines) status = hordguli_edge_at(&session, line + 1, 0, &caret);
+    /// if (!status && !moved) status = hordguli_edge_at(&session, line + 1, 0, &caret);
+    /// // Left
+    /// status = hordguli_step(&session, caret, HORDGULI_LEFT, &caret, &moved);
+    /// if (!status && !moved && line > 0) status = hordguli_edge_at(&session, line - 1, SIZE_MAX, &caret);
     /// ```
+    ///
+    /// In a right-to-left document, Left leads to the right end of the line below (SIZE_MAX), and Right to the left end of the
+    /// line above (0). Past the last line, `hordguli_edge_at` returns OUT_OF_RANGE.
     ///
     /// Each step changes the column. Repeated, steps meet every boundary in their direction. With HORDGULI_REORDER_NSM and
     /// without HORDGULI_REORDER_CLUSTERS, this holds if the marks of the text have no columns. Of the nonspacing marks of
