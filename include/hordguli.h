@@ -45,7 +45,7 @@
  * A measured session (`hordguli_session_open_measured`) lays out text in any font. Each character has an advance, in a
  * unit that the caller chooses, such as 1/64 pixel. The width of the session, and all columns, spans and widths of its
  * lines, are in this unit. It differs from other sessions as follows:
- *   - A character that is inserted has advance 0. All others keep theirs, also if paragraphs are joined or split.
+ *   - A character that is inserted has advance 0. All others keep theirs, even if paragraphs are joined or split.
  *     `hordguli_set_advances` sets them.
  *   - The advances of a paragraph add up to at most 4,294,967,295. An edit that would exceed this returns
  *     PARAGRAPH_TOO_LONG.
@@ -229,7 +229,7 @@ const char *hordguli_width_unicode_version(void);
 #define HORDGULI_REORDER_CLUSTERS UINT32_C(32)
 /* Shows the spaces with which the tail of a line begins, as many as fit in the width. So they have carets, hits and
  * spans. Lines end where they end without this option. A line that is wider than the width shows none of these spaces,
- * also with HORDGULI_NOBREAK. In RTL paragraphs, they are to the left of the text. Since 0.6. */
+ * even with HORDGULI_NOBREAK. In RTL paragraphs, they are to the left of the text. Since 0.6. */
 #define HORDGULI_SHOW_SPACES UINT32_C(64)
 /* Sets a tab stop every `n` columns, from 1 to 255. Columns are counted along each line in logical order. A tab (U+0009 of
  * bidi class S) moves to the next stop, so it has 1 to `n` columns, and is written as spaces. In an RTL paragraph, stops are
@@ -384,7 +384,7 @@ hordguli_status hordguli_tables_read_version(hordguli_tables *tables, uint32_t v
  * Cost: as `hordguli_tables_read`. */
 hordguli_status hordguli_tables_open_folder(hordguli_tables *tables, const char *folder, hordguli_table_fault *fault);
 
-/* As `hordguli_tables_open_folder`, with the files of `version`, also in setting `errno`.
+/* As `hordguli_tables_open_folder`, with the files of `version`. Sets `errno` likewise.
  * Errors: NULL, OVERLAP, UNKNOWN_OPTION (another version), ALREADY_OPEN, UNREAD_FILE, TABLE_FAULT, NO_MEMORY.
  * Cost: as `hordguli_tables_read`.
  * Since: 0.6. */
@@ -926,7 +926,7 @@ hordguli_status hordguli_line_edges(hordguli_session *session, size_t line, hord
 
 /* Stores where the grapheme clusters of a line end, counted from the start of the line, in an array of `capacity`
  * elements, and their number in `*count`. NULL with capacity 0 is NO_ROOM (see BUFFERS). The last one is the length of
- * the line, also where a cluster goes on in the next line. Fails with OUT_OF_RANGE if the line does not exist.
+ * the line, even if a cluster goes on in the next line. Fails with OUT_OF_RANGE if the line does not exist.
  *
  * NO_MEMORY comes before NO_ROOM.
  * Errors: NULL, OVERLAP, CLOSED, OUT_OF_RANGE, NO_MEMORY, NO_ROOM.

@@ -479,7 +479,7 @@ extern "C" {
         folder: *const c_char,
         fault: *mut hordguli_table_fault,
     ) -> hordguli_status;
-    /// As `hordguli_tables_open_folder`, with the files of `version`, also in setting `errno`.
+    /// As `hordguli_tables_open_folder`, with the files of `version`. Sets `errno` likewise.
     ///
     /// Errors: NULL, OVERLAP, UNKNOWN_OPTION (another version), ALREADY_OPEN, UNREAD_FILE, TABLE_FAULT, NO_MEMORY.
     ///
@@ -1126,7 +1126,7 @@ extern "C" {
     ) -> hordguli_status;
     /// Stores where the grapheme clusters of a line end, counted from the start of the line, in an array of `capacity`
     /// elements, and their number in `*count`. NULL with capacity 0 is NO_ROOM (see BUFFERS). The last one is the length of
-    /// the line, also where a cluster goes on in the next line. Fails with OUT_OF_RANGE if the line does not exist.
+    /// the line, even if a cluster goes on in the next line. Fails with OUT_OF_RANGE if the line does not exist.
     ///
     /// NO_MEMORY comes before NO_ROOM.
     ///
