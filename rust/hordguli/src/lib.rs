@@ -94,7 +94,7 @@
 //! | an arrow key, a click, Home or End | what [`Session::step`], [`Session::edge_at`], [`Session::nearest_edge`] or [`Line::edges`] returned |
 //!
 //! ```
-//! use hordguli::{BytePos, CharPos, Direction, Edge, Error, Options, Session, Tables};
+//! use hordguli::{CharPos, Direction, Edge, Error, Options, Session, Tables};
 //!
 //! struct Editor {
 //!     session: Session,
