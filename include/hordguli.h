@@ -84,8 +84,8 @@
  *     last parameter. If the array is too small, they return NO_ROOM, leave it unchanged, and store the required size.
  *     So NULL with capacity 0 is not skipped: it asks for the size.
  *   - `hordguli_line`, `hordguli_paragraph` and `hordguli_row` have several arrays. They skip those that are NULL. If
- *     another one is too small, they return NO_ROOM. If all are NULL, nothing needs room, and the call succeeds with any
- *     capacity. In both cases, `hordguli_line` and `hordguli_paragraph` store the size in `*info`.
+ *     another one is too small, they return NO_ROOM. If all are NULL, any capacity is enough.
+ *     In both cases, `hordguli_line` and `hordguli_paragraph` store the size in `*info`.
  *   - `hordguli_levels` and `hordguli_marks` need `count` elements. NULL is not skipped.
  *
  * Call a function of the first kind in a loop, until the buffer is large enough. Keep the buffer, which is NULL at first,
@@ -319,8 +319,8 @@ typedef struct hordguli_bytes {
 #define HORDGULI_CAUSE_VALUE 5         /* a value that the file does not allow */
 #define HORDGULI_CAUSE_NAMED_BEFORE 6  /* an earlier line names one of its characters */
 
-/* Why bytes are not an image. If several causes apply, the first in this order is reported, except that an image that
- * lacks bytes after its header is TRUNCATED after VERSION. */
+/* Why bytes are not an image. If several causes apply, the first in this order is reported, but TRUNCATED comes after
+ * VERSION if the image has a whole header. */
 #define HORDGULI_CAUSE_TRUNCATED 8     /* fewer bytes than the header has or its counts say */
 #define HORDGULI_CAUSE_MAGIC 9         /* other first bytes than those of an image */
 #define HORDGULI_CAUSE_FORMAT 10       /* another version of the format */
@@ -441,8 +441,8 @@ hordguli_status hordguli_valid_utf8(const char *bytes, size_t length, size_t *va
 
 /* What an edit replaced: `old_lines` lines from `first_line` on became `new_lines` lines, and likewise for paragraphs.
  * All other lines are unchanged, except that the lines that follow are renumbered. An edit replaces all paragraphs that
- * contain or touch its range, even if it inserts and deletes nothing. A caller that draws everything anew may pass NULL
- * as `damage`. */
+ * contain or touch its range, even if it inserts and deletes nothing. A caller that redraws everything may pass NULL as
+ * `damage`. */
 typedef struct hordguli_damage {
     size_t first_line;
     size_t old_lines;
@@ -567,7 +567,7 @@ typedef struct hordguli_line_info {
 } hordguli_line_info;
 
 /* Stores information about a line in `*info`, and `info->shown` elements in each array. Each array has `capacity`
- * elements. NULL arrays are skipped, so with all arrays NULL nothing needs room (see BUFFERS). Positions count from the
+ * elements. NULL arrays are skipped, so with all arrays NULL any capacity is enough (see BUFFERS). Positions count from the
  * start of the line.
  *   characters  characters in visual order, mirrored
  *   levels      level of each character after L1, in logical order
@@ -684,7 +684,7 @@ typedef struct hordguli_paragraph_info {
 } hordguli_paragraph_info;
 
 /* Stores information about a paragraph in `*info`, and `info->length` elements in each array, in logical order. Each
- * array has `capacity` elements. NULL arrays are skipped, so with both NULL nothing needs room (see BUFFERS).
+ * array has `capacity` elements. NULL arrays are skipped, so with both NULL any capacity is enough (see BUFFERS).
  *   levels      level of each character before L1
  *   marks       break mark after each character
  *
@@ -724,7 +724,7 @@ typedef struct hordguli_place {
  * does not exist yet. Then `paragraph` and `line` are the numbers of paragraphs and lines in the text.
  *
  * U+2028, U+000B and U+000C end a line, but not its paragraph. At the end of a text that ends with one, the place and
- * the caret stay on that line. Each line of a paragraph has a character, and here none follows.
+ * the caret stay on that line. Each line has a character, and here none follows.
  * Errors: NULL, OVERLAP, CLOSED, OUT_OF_RANGE.
  * Cost: O(log n + log m) in a paragraph of m lines. */
 hordguli_status hordguli_place_of(hordguli_session *session, size_t pos, hordguli_place *place);
@@ -941,7 +941,7 @@ hordguli_status hordguli_line_clusters(hordguli_session *session, size_t line, s
  * base level of its paragraph (`hordguli_base`), and `levels` are the levels of the row's characters in the whole
  * paragraph (`hordguli_levels`). `options` can have HORDGULI_REORDER_NSM and HORDGULI_REORDER_CLUSTERS. The clusters
  * are those of these characters alone. Stores `count` elements in each array. Each array has `capacity` elements. NULL
- * arrays are skipped, so with all arrays NULL nothing needs room (see BUFFERS). Positions count from the start of the
+ * arrays are skipped, so with all arrays NULL any capacity is enough (see BUFFERS). Positions count from the start of the
  * row.
  *   visual      characters in visual order, mirrored (UAX #9, L4)
  *   row_levels  level of each character after L1, in logical order

@@ -216,8 +216,8 @@ pub struct hordguli_table_fault {
 
 /// What an edit replaced: `old_lines` lines from `first_line` on became `new_lines` lines, and likewise for paragraphs.
 /// All other lines are unchanged, except that the lines that follow are renumbered. An edit replaces all paragraphs that
-/// contain or touch its range, even if it inserts and deletes nothing. A caller that draws everything anew may pass NULL
-/// as `damage`.
+/// contain or touch its range, even if it inserts and deletes nothing. A caller that redraws everything may pass NULL as
+/// `damage`.
 #[derive(Clone, Copy, Debug, Default, PartialEq, Eq)]
 #[repr(C)]
 pub struct hordguli_damage {
@@ -717,7 +717,7 @@ extern "C" {
         start: *mut usize,
     ) -> hordguli_status;
     /// Stores information about a line in `*info`, and `info->shown` elements in each array. Each array has `capacity`
-    /// elements. NULL arrays are skipped, so with all arrays NULL nothing needs room (see BUFFERS). Positions count from the
+    /// elements. NULL arrays are skipped, so with all arrays NULL any capacity is enough (see BUFFERS). Positions count from the
     /// start of the line.
     /// - `characters`: characters in visual order, mirrored
     /// - `levels`: level of each character after L1, in logical order
@@ -882,7 +882,7 @@ extern "C" {
         position: *mut hordguli_position,
     ) -> hordguli_status;
     /// Stores information about a paragraph in `*info`, and `info->length` elements in each array, in logical order. Each
-    /// array has `capacity` elements. NULL arrays are skipped, so with both NULL nothing needs room (see BUFFERS).
+    /// array has `capacity` elements. NULL arrays are skipped, so with both NULL any capacity is enough (see BUFFERS).
     /// - `levels`: level of each character before L1
     /// - `marks`: break mark after each character
     ///
@@ -904,7 +904,7 @@ extern "C" {
     /// does not exist yet. Then `paragraph` and `line` are the numbers of paragraphs and lines in the text.
     ///
     /// U+2028, U+000B and U+000C end a line, but not its paragraph. At the end of a text that ends with one, the place and
-    /// the caret stay on that line. Each line of a paragraph has a character, and here none follows.
+    /// the caret stay on that line. Each line has a character, and here none follows.
     ///
     /// Errors: NULL, OVERLAP, CLOSED, OUT_OF_RANGE.
     ///
@@ -1146,7 +1146,7 @@ extern "C" {
     /// base level of its paragraph (`hordguli_base`), and `levels` are the levels of the row's characters in the whole
     /// paragraph (`hordguli_levels`). `options` can have HORDGULI_REORDER_NSM and HORDGULI_REORDER_CLUSTERS. The clusters
     /// are those of these characters alone. Stores `count` elements in each array. Each array has `capacity` elements. NULL
-    /// arrays are skipped, so with all arrays NULL nothing needs room (see BUFFERS). Positions count from the start of the
+    /// arrays are skipped, so with all arrays NULL any capacity is enough (see BUFFERS). Positions count from the start of the
     /// row.
     /// - `visual`: characters in visual order, mirrored (UAX #9, L4)
     /// - `row_levels`: level of each character after L1, in logical order
