@@ -30,8 +30,8 @@ pub enum Side {
     After,
 }
 
-/// One of the two edges of a position, between which the direction or the line may change. A text is edited
-/// at `pos` either way.
+/// One of the two edges of a position. They are apart where the direction changes or a line wraps. An edit
+/// goes to `pos` either way.
 #[derive(Clone, Copy, Debug, PartialEq, Eq)]
 pub struct Edge {
     pub pos: usize,

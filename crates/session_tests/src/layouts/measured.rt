@@ -260,7 +260,7 @@ fn lay_out(
     }
 }
 
-// Whether the characters of a line have these left edges, and the line the last one as its right edge.
+// Whether these are the left edges of a line's characters, followed by the right edge of the line.
 fn has_edges(line: &VisualLine<'_>, edges: &[usize]) -> bool {
     let mut all_right = line.vtol().len() + 1 == edges.len();
     for (place, left) in edges.iter().enumerate() {
