@@ -84,8 +84,8 @@
  *     last parameter. If the array is too small, they return NO_ROOM, leave it unchanged, and store the required size.
  *     So NULL with capacity 0 is not skipped: it asks for the size.
  *   - `hordguli_line`, `hordguli_paragraph` and `hordguli_row` have several arrays. They skip those that are NULL. If
- *     another one is too small, they return NO_ROOM. If all are NULL, any capacity is enough.
- *     In both cases, `hordguli_line` and `hordguli_paragraph` store the size in `*info`.
+ *     another one is too small, they return NO_ROOM. If all are NULL, nothing needs room, and the call succeeds with any
+ *     capacity. In both cases, `hordguli_line` and `hordguli_paragraph` store the size in `*info`.
  *   - `hordguli_levels` and `hordguli_marks` need `count` elements. NULL is not skipped.
  *
  * Call a function of the first kind in a loop, until the buffer is large enough. Keep the buffer, which is NULL at first,
@@ -441,8 +441,8 @@ hordguli_status hordguli_valid_utf8(const char *bytes, size_t length, size_t *va
 
 /* What an edit replaced: `old_lines` lines from `first_line` on became `new_lines` lines, and likewise for paragraphs.
  * All other lines are unchanged, except that the lines that follow are renumbered. An edit replaces all paragraphs that
- * contain or touch its range, even if it inserts and deletes nothing. A caller that redraws everything may pass NULL as
- * `damage`. */
+ * contain or touch its range, even if it inserts and deletes nothing. A caller that draws everything anew may pass NULL
+ * as `damage`. */
 typedef struct hordguli_damage {
     size_t first_line;
     size_t old_lines;

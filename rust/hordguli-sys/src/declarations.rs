@@ -216,8 +216,8 @@ pub struct hordguli_table_fault {
 
 /// What an edit replaced: `old_lines` lines from `first_line` on became `new_lines` lines, and likewise for paragraphs.
 /// All other lines are unchanged, except that the lines that follow are renumbered. An edit replaces all paragraphs that
-/// contain or touch its range, even if it inserts and deletes nothing. A caller that redraws everything may pass NULL as
-/// `damage`.
+/// contain or touch its range, even if it inserts and deletes nothing. A caller that draws everything anew may pass NULL
+/// as `damage`.
 #[derive(Clone, Copy, Debug, Default, PartialEq, Eq)]
 #[repr(C)]
 pub struct hordguli_damage {
