@@ -30,7 +30,7 @@ same_byte l a n m i an lt =
     get_or-take (m - n) (drop (n - a) (drop a (take m l))) i 0 lt ∙ byte_at l a (n - a) m i (omega arith) ∙ ap (λ k. get_or l k 0) place
     ∙ sym (get_or-drop n l i 0) ∙ sym (get_or-take (m - n) (drop n l) i 0 lt)
 
--- the bytes from one index to another, in a list without what comes before and after them
+-- the bytes n to m of a list are the same bytes of its part from a to m
 part_of_part : (l : List ℕ) (a n m : ℕ) → a ≤ n → n ≤ m → m ≤ length l → take (m - n) (drop (n - a) (drop a (take m l))) ≡ take (m - n) (drop n l)
 part_of_part l a n m an nm within =
     let long : length (take m l) ≡ m = length-take-le m l within in
