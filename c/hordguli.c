@@ -70,7 +70,7 @@ PUBLIC const char *hordguli_status_text(hordguli_status status) {
         [HORDGULI_CLOSED] = "closed",
         [HORDGULI_ALREADY_OPEN] = "already open",
         [HORDGULI_UNKNOWN_OPTION] = "unknown option",
-        [HORDGULI_NO_ROOM] = "too little room",
+        [HORDGULI_NO_ROOM] = "buffer too small",
         [HORDGULI_NULL] = "null pointer",
         [HORDGULI_OVERLAP] = "arrays overlap",
         [HORDGULI_UNREAD_FILE] = "cannot read a table file",

@@ -2,7 +2,18 @@
  *
  * Lays out bidirectional text in lines of a given width (UAX #9, UAX #14). A session holds a text and its layout, and
  * keeps the layout up to date when the text is edited or the width changes. Each edit reports which lines it replaced.
- * The exact rules and limits are in share/doc/hordguli/reference.md, below the installation prefix.
+ * The exact rules and limits are in share/doc/hordguli/reference.md, below the installation prefix. guide.md beside it
+ * explains the terms, and has programs.
+ *
+ * ROUTES
+ *
+ * Each route starts with tables (`hordguli_tables_open_builtin`). Its first calls are, for
+ *   - one string: `hordguli_layout`
+ *   - a text that is edited or resized: `hordguli_session_open`, `hordguli_insert`, `hordguli_lines_utf8`
+ *   - an editor: the same, and those that `Carets and edges` lists
+ *   - text in any font: `hordguli_session_open_measured`, `hordguli_set_advances`
+ *   - rows that the caller breaks, as in a terminal: `hordguli_base`, `hordguli_levels`, `hordguli_row`
+ *   - levels, break marks or character properties: `hordguli_levels`, `hordguli_marks`, `hordguli_properties`
  *
  * UNITS
  *
@@ -24,17 +35,17 @@
  *
  * COLUMNS
  *
- * A column is a terminal cell. The width of a line, in columns, is the sum of the widths of its shown characters.
- * Widths are those of the Unicode version that `hordguli_width_unicode_version` returns. Control characters have width
- * 0 and are written unchanged, also tabs without HORDGULI_TAB_WIDTH. A program that writes to a terminal must remove or
- * replace them.
+ * A column is a terminal cell. The width of a line, in columns, is the sum of the widths of its shown characters. Some
+ * terminals draw a grapheme cluster, such as an emoji family, narrower than this sum. Widths follow Unicode 18.0.
+ * Characters of ambiguous East Asian width have width 1. Control characters have width 0 and are written unchanged, also
+ * tabs without HORDGULI_TAB_WIDTH. A program that writes to a terminal must remove or replace them.
  *
  * MEASURED TEXT
  *
  * A measured session (`hordguli_session_open_measured`) lays out text in any font. Each character has an advance, in a
  * unit that the caller chooses, such as 1/64 pixel. The width of the session, and all columns, spans and widths of its
  * lines, are in this unit. It differs from other sessions as follows:
- *   - A character that is inserted has advance 0. All others keep theirs, also if paragraphs are joined or split.
+ *   - A character that is inserted has advance 0. All others keep theirs, even if paragraphs are joined or split.
  *     `hordguli_set_advances` sets them.
  *   - The advances of a paragraph add up to at most 4,294,967,295. An edit that would exceed this returns
  *     PARAGRAPH_TOO_LONG.
@@ -218,7 +229,7 @@ const char *hordguli_width_unicode_version(void);
 #define HORDGULI_REORDER_CLUSTERS UINT32_C(32)
 /* Shows the spaces with which the tail of a line begins, as many as fit in the width. So they have carets, hits and
  * spans. Lines end where they end without this option. A line that is wider than the width shows none of these spaces,
- * also with HORDGULI_NOBREAK. In RTL paragraphs, they are to the left of the text. Since 0.6. */
+ * even with HORDGULI_NOBREAK. In RTL paragraphs, they are to the left of the text. Since 0.6. */
 #define HORDGULI_SHOW_SPACES UINT32_C(64)
 /* Sets a tab stop every `n` columns, from 1 to 255. Columns are counted along each line in logical order. A tab (U+0009 of
  * bidi class S) moves to the next stop, so it has 1 to `n` columns, and is written as spaces. In an RTL paragraph, stops are
@@ -308,8 +319,8 @@ typedef struct hordguli_bytes {
 #define HORDGULI_CAUSE_VALUE 5         /* a value that the file does not allow */
 #define HORDGULI_CAUSE_NAMED_BEFORE 6  /* an earlier line names one of its characters */
 
-/* Why bytes are not an image. If several causes apply, the first in this order is reported, except that an image that
- * lacks bytes after its header is TRUNCATED after VERSION. */
+/* Why bytes are not an image. If several causes apply, the first in this order is reported, but TRUNCATED comes after
+ * VERSION if the image has a whole header. */
 #define HORDGULI_CAUSE_TRUNCATED 8     /* fewer bytes than the header has or its counts say */
 #define HORDGULI_CAUSE_MAGIC 9         /* other first bytes than those of an image */
 #define HORDGULI_CAUSE_FORMAT 10       /* another version of the format */
@@ -373,7 +384,7 @@ hordguli_status hordguli_tables_read_version(hordguli_tables *tables, uint32_t v
  * Cost: as `hordguli_tables_read`. */
 hordguli_status hordguli_tables_open_folder(hordguli_tables *tables, const char *folder, hordguli_table_fault *fault);
 
-/* As `hordguli_tables_open_folder`, with the files of `version`, also in setting `errno`.
+/* As `hordguli_tables_open_folder`, with the files of `version`. Sets `errno` likewise.
  * Errors: NULL, OVERLAP, UNKNOWN_OPTION (another version), ALREADY_OPEN, UNREAD_FILE, TABLE_FAULT, NO_MEMORY.
  * Cost: as `hordguli_tables_read`.
  * Since: 0.6. */
@@ -574,7 +585,7 @@ typedef struct hordguli_line_info {
 } hordguli_line_info;
 
 /* Stores information about a line in `*info`, and `info->shown` elements in each array. Each array has `capacity`
- * elements. NULL arrays are skipped, so with all arrays NULL nothing needs room (see BUFFERS). Positions count from the
+ * elements. NULL arrays are skipped, so with all arrays NULL any capacity is enough (see BUFFERS). Positions count from the
  * start of the line.
  *   characters  characters in visual order, mirrored
  *   levels      level of each character after L1, in logical order
@@ -691,7 +702,7 @@ typedef struct hordguli_paragraph_info {
 } hordguli_paragraph_info;
 
 /* Stores information about a paragraph in `*info`, and `info->length` elements in each array, in logical order. Each
- * array has `capacity` elements. NULL arrays are skipped, so with both NULL nothing needs room (see BUFFERS).
+ * array has `capacity` elements. NULL arrays are skipped, so with both NULL any capacity is enough (see BUFFERS).
  *   levels      level of each character before L1
  *   marks       break mark after each character
  *
@@ -708,8 +719,8 @@ hordguli_status hordguli_paragraph(hordguli_session *session, size_t paragraph, 
  * caret; an edit goes to `pos` either way. For example, in `abc `, three Hebrew letters and ` def`, before 4 is at
  * column 7, right of the first letter, and after 4 at column 4, right of the space.
  *
- * A caret moves over one grapheme cluster at a time, or over the part of it that is in one level run if the cluster
- * has several: over one caret unit. A boundary is a column where a caret unit begins or ends.
+ * A caret moves over one caret unit: a grapheme cluster, or its part in one level run if its characters are in several. A
+ * boundary is a column where a caret unit begins or ends.
  *
  * New programs keep an edge, and call these:
  *   - `hordguli_edge_caret` to draw the caret
@@ -731,7 +742,7 @@ typedef struct hordguli_place {
  * does not exist yet. Then `paragraph` and `line` are the numbers of paragraphs and lines in the text.
  *
  * U+2028, U+000B and U+000C end a line, but not its paragraph. At the end of a text that ends with one, the place and
- * the caret stay on that line. Each line of a paragraph has a character, and here none follows.
+ * the caret stay on that line. Each line has a character, and here none follows.
  * Errors: NULL, OVERLAP, CLOSED, OUT_OF_RANGE.
  * Cost: O(log n + log m) in a paragraph of m lines. */
 hordguli_status hordguli_place_of(hordguli_session *session, size_t pos, hordguli_place *place);
@@ -853,8 +864,8 @@ typedef struct hordguli_edge {
     uint32_t zero;  /* always 0 in results, and ignored in arguments */
 } hordguli_edge;
 
-/* Stores in `*caret` where to draw the caret at an edge. The edge before a position is on the line of the character at
- * it, and the edge after a position on the line of the character before it:
+/* Stores in `*caret` where to draw the caret at an edge: on the line of the character whose edge it is. This is the
+ * character at `pos` for HORDGULI_BEFORE, and the one before `pos` for HORDGULI_AFTER.
  *   - If a caret unit begins (or ends) with that character: at the start (or end) of the unit.
  *   - At another shown character: at its leading edge, which is the left one if its level is even, or its trailing edge.
  *   - At a character that is not shown, and before the end of the text: as in `hordguli_caret_at`.
@@ -868,11 +879,20 @@ typedef struct hordguli_edge {
 hordguli_status hordguli_edge_caret(hordguli_session *session, hordguli_edge edge, hordguli_caret *caret);
 
 /* Moves a caret to the nearest boundary to the left or right on its line. Stores the edge there in `*next`, and 1 in
- * `*moved`. The stored edge is one of the caret unit that was passed. At the end of the line, stores 0 in `*moved`, and
- * leaves `*next` unchanged; `hordguli_edge_at` then gives the end of the next line. For the key Right:
+ * `*moved`. The stored edge is an edge of the caret unit that was passed. At the end of the line, stores 0 in `*moved`, and
+ * leaves `*next` unchanged. The caller then chooses the next line, of which column 0 is the left end and SIZE_MAX the
+ * right end. In a left-to-right document, the key Right leads to the left end of the line below, and Left to the right
+ * end of the line above:
  *
+ *     // Right
  *     status = hordguli_step(&session, caret, HORDGULI_RIGHT, &caret, &moved);
- *     if (!status && !moved && line + 1 < lines) status = hordguli_edge_at(&session, line + 1, 0, &caret);
+ *     if (!status && !moved) status = hordguli_edge_at(&session, line + 1, 0, &caret);
+ *     // Left
+ *     status = hordguli_step(&session, caret, HORDGULI_LEFT, &caret, &moved);
+ *     if (!status && !moved && line > 0) status = hordguli_edge_at(&session, line - 1, SIZE_MAX, &caret);
+ *
+ * In a right-to-left document, Left leads to the right end of the line below (SIZE_MAX), and Right to the left end of the
+ * line above (0). Past the last line, `hordguli_edge_at` returns OUT_OF_RANGE.
  *
  * Each step changes the column. Repeated, steps meet every boundary in their direction. With HORDGULI_REORDER_NSM and
  * without HORDGULI_REORDER_CLUSTERS, this holds if the marks of the text have no columns. Of the nonspacing marks of
@@ -924,7 +944,7 @@ hordguli_status hordguli_line_edges(hordguli_session *session, size_t line, hord
 
 /* Stores where the grapheme clusters of a line end, counted from the start of the line, in an array of `capacity`
  * elements, and their number in `*count`. NULL with capacity 0 is NO_ROOM (see BUFFERS). The last one is the length of
- * the line, also where a cluster goes on in the next line. Fails with OUT_OF_RANGE if the line does not exist.
+ * the line, even if a cluster goes on in the next line. Fails with OUT_OF_RANGE if the line does not exist.
  *
  * NO_MEMORY comes before NO_ROOM.
  * Errors: NULL, OVERLAP, CLOSED, OUT_OF_RANGE, NO_MEMORY, NO_ROOM.
@@ -939,7 +959,7 @@ hordguli_status hordguli_line_clusters(hordguli_session *session, size_t line, s
  * base level of its paragraph (`hordguli_base`), and `levels` are the levels of the row's characters in the whole
  * paragraph (`hordguli_levels`). `options` can have HORDGULI_REORDER_NSM and HORDGULI_REORDER_CLUSTERS. The clusters
  * are those of these characters alone. Stores `count` elements in each array. Each array has `capacity` elements. NULL
- * arrays are skipped, so with all arrays NULL nothing needs room (see BUFFERS). Positions count from the start of the
+ * arrays are skipped, so with all arrays NULL any capacity is enough (see BUFFERS). Positions count from the start of the
  * row.
  *   visual      characters in visual order, mirrored (UAX #9, L4)
  *   row_levels  level of each character after L1, in logical order

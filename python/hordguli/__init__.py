@@ -19,6 +19,7 @@ What to know before the first line:
 - Columns, as in carets, hits and spans, start at the left edge of a line's shown part. Add `Line.padding` to draw a right-to-left
   line at the right. The lines of `wrap` and `Session.lines` are padded with spaces.
 - Positions are indexes into a `str`. Positions, lines and columns are counted from 0.
+- A caret moves over one caret unit: a grapheme cluster, or its part in one level run if its characters are in several.
 
 Classes (`help(hordguli.Session)` and so on):
 

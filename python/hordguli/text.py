@@ -66,16 +66,16 @@ def display(
 
     What differs from python-bidi 0.4.2 (Debian 12):
 
-    - It has the parameters `upper_is_rtl` and `debug`, and its exception for a wrong `base_dir` is no `ValueError`.
-    - Its classes and mirrors are those of Python's `unicodedata` and of an older table.
+    - python-bidi has the parameters `upper_is_rtl` and `debug`, and its exception for a wrong `base_dir` is no `ValueError`.
+    - It takes classes from Python's `unicodedata`, and mirrors from an older table.
     - It raises `AssertionError` for isolates and for unassigned characters, and removes embeddings, overrides and BN.
-    - It does not apply N0 (brackets). All paragraphs have one direction, and rules W1 to N2 go on from one to the next.
+    - It does not pair brackets (N0). It gives all paragraphs one direction, and its rules W1 to N2 do not stop at a paragraph's end.
 
     What differs from pyfribidi 0.12.0 (Debian 12):
 
-    - Its base direction is RTL by default, and it puts marks after their base by default.
-    - Its classes and mirrors are those of Unicode 10.0, and it joins Arabic letters.
-    - The whole text is one row, in which separators are ordered like other characters. Isolates are ordered as FriBidi does.
+    - By default, pyfribidi makes the text RTL, and puts marks after their base.
+    - It uses the classes and mirrors of Unicode 10.0, and joins Arabic letters.
+    - It reorders the whole text as one row, with its separators. For isolates, it uses FriBidi's rules.
 
     >>> hordguli.display("\\u05d0\\u05d1 (abc)") == "(abc) \\u05d1\\u05d0"
     True

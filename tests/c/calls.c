@@ -1903,7 +1903,7 @@ static void null_array_is_too_small(void) {
     OK(hordguli_marks(&tables, 0, NULL, 0, 0, NULL));
 }
 
-/* A function with several arrays skips those that are NULL: with none, nothing needs room. */
+/* A function with several arrays skips those that are NULL. If all are, any capacity is enough. */
 static void null_arrays_are_skipped(void) {
     static const uint32_t characters[] = {'a', 0x5D0};
     static const uint8_t levels[] = {0, 1};

@@ -38,7 +38,7 @@ static const struct {
     STATUS(CLOSED, "closed"),
     STATUS(ALREADY_OPEN, "already open"),
     STATUS(UNKNOWN_OPTION, "unknown option"),
-    STATUS(NO_ROOM, "too little room"),
+    STATUS(NO_ROOM, "buffer too small"),
     STATUS(NULL, "null pointer"),
     STATUS(OVERLAP, "arrays overlap"),
     STATUS(UNREAD_FILE, "cannot read a table file"),

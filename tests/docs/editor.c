@@ -1,4 +1,4 @@
-/* Tests the snippets of "Writing an editor" in docs/reference.md, which tests/docs/run writes to snippets.h. Usage:
+/* Tests the snippets of "Writing an editor" in docs/guide.md, which tests/docs/run writes to snippets.h. Usage:
  * editor FOLDER, where FOLDER has the table files. */
 #include <hordguli.h>
 #include <stdio.h>

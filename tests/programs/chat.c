@@ -50,7 +50,7 @@ static void add(const char *text, size_t length) {
 static char *buffer;
 static size_t room, written;
 
-/* Returns whether a call had too little room, after growing the buffer. */
+/* Grows the buffer if a call found it too small, and returns whether it did. */
 static int grows(hordguli_status status) {
     if (status != HORDGULI_NO_ROOM) {
         check(status);

@@ -251,7 +251,7 @@ kept_sided marks d types p m sided within here =
       | inr free ↦ ap is_other (set_with-kept marks d types p m ON within free) ∙ here
     ]
 
--- `Changed` still holds after one bracket of a pair has been set whose opener is before k
+-- `Changed` still holds after a bracket has been set, if the opener of its pair is before k
 pub Changed-set : (marks : List Bool) (closers : List ℕ) (old current : List BidiClass) (k opener p : ℕ) (d : BidiClass) → Changed closers old current k
     → length marks ≡ length old → opener < k → slice_index closers opener < length closers → (p ≡ opener) ⊎ (p ≡ slice_index closers opener) → is_other d ≡ false
     → Changed closers old (set_with marks d current p) k

@@ -58,7 +58,7 @@ module _ {X : Type 0} (p : X → Bool) (xs : List X) (at last : ℕ) (order : la
 pub all_by : {X : Type 0} (p : X → Bool) (xs : List X) (at last : ℕ) → last ≤ at → list_all p (take at xs) ≡ true → list_all p xs ≡ list_all p (drop last xs)
 all_by p xs at last order before = all_overlap p xs at last order ∙ ap (λ b. b && list_all p (drop last xs)) before
 
--- the items before an index among those before a later index
+-- the first n items are also the first n of the first m items, for n up to m
 pub take_in_take : {X : Type 0} (n m : ℕ) (xs : List X) → n ≤ m → n ≤ length xs → take n (take m xs) ≡ take n xs
 take_in_take n m xs order within =
     let sum : m ≡ n + (m - n) = omega arith in

@@ -55,7 +55,7 @@ module _ (row : ℕ) (class : BidiClass) (within : row ≤ LAST_ROW) (starts : r
       ∙ ap (λ k. value_by (row / 32) (bidi_class_at k)) symbol
       ∙ ap (value_by (row / 32)) (class-is class)
 
--- the state of a run and a strong type has them
+-- the state of a run and a strong type has this run and this strong type
 strong_in : (n : ℕ) → is_strong (get_or (L ∷ R ∷ AL ∷ []) n R) ≡ true
 strong_in zero = refl
 strong_in (suc zero) = refl

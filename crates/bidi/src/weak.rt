@@ -123,7 +123,7 @@ fn are_simple(types: &[BidiClass]) -> bool
     all
 }
 
-// This compares, and does not match, for the same reason.
+// Compares numbers instead of using `match`, for the same reason.
 fn is_simple(class: BidiClass) -> bool
     ensures { result ≡ is_simple class }
 {

@@ -1,6 +1,6 @@
-//! The tables of the pass for the weak rules (UAX #9, W1 to W7). Each has a row of 32 entries for each state,
-//! and an entry of a row for each bidi class. The state says what the rules need to know about the types
-//! before an index: which run ends there, and the last strong type. Each entry is proved right.
+//! The tables of the pass for the weak rules (UAX #9, W1 to W7). Each table has a row of 32 entries for each
+//! state, with one entry for each bidi class. The state is what the rules need to know about the types before
+//! an index: the last strong type, and which run ends at the index. Each entry is proved right.
 ghost use Rattle.std.specs.Prelude.{◌≡◌, ◌+◌, ◌≤◌, slice_index, slice_index_or};
 ghost use Rattle.ucd.specs.Answers.{bidi_tag};
 ghost use Rattle.ucd.specs.declared.bidi_class.BidiClass.TheVariants.{ON};
@@ -36,8 +36,8 @@ pub const BEGINS: u16 = 1;
 /// The type turns the pending types into numbers (W4 and W5).
 pub const COMPLETES: u16 = 2;
 
-/// The divisor of an entry of `NEXT`: the quotient is the start of the next state's row, and the remainder is
-/// what the type does to pending types.
+/// The divisor of an entry of `NEXT`. The quotient is the index at which the next state's row starts, and the
+/// remainder is what the type does to pending types.
 pub const PARTS: u16 = 4;
 
 /// The number of states: one for each run and each of the strong types L, R and AL.
@@ -46,18 +46,18 @@ pub const STATE_COUNT: usize = 21;
 /// The number of entries of a row. There are fewer classes, so the last entries are not used.
 pub const ROW_LEN: usize = 32;
 
-/// The number of entries of the rows of a run. The states with no run come first.
+/// The number of entries of a run's rows, one for each strong type. The states without a run come first.
 pub const RUN_LEN: usize = 3 * ROW_LEN;
 
-/// The start of the last state's row.
+/// The index at which the last state's row starts.
 pub const LAST_ROW: usize = (STATE_COUNT - 1) * ROW_LEN;
 
-/// The starts of the rows with no run and the last strong type L or R.
+/// The indices at which the rows for the last strong type L or R, without a run, start.
 pub const LEFT: usize = 0;
 
 pub const RIGHT: usize = ROW_LEN;
 
-// The differences between the starts of rows, in entries of `NEXT`.
+// The summands of an entry of `NEXT` that select the next state: its last strong type, and its run.
 const L: u16 = 0;
 
 const R: u16 = ROW_LEN as u16 * PARTS;
@@ -66,14 +66,15 @@ const AL: u16 = 2 * R;
 
 const RUN: u16 = 3 * R;
 
-// Short names for the rows.
+// Short names, for the rows below.
 const K: u16 = KEEPS;
 
 const B: u16 = BEGINS;
 
 const C: u16 = COMPLETES;
 
-// The rows of `NEXT`: after the names of the state, the next run and what is done for EN, ES, ET, AN and CS.
+// The rows of `NEXT`: the state's run and strong type; then, for EN, ES, ET, AN and CS, the next run and what
+// the type does to pending types.
 macro_rules! next_rows {
     ($(
         $Row:ident $strong:ident:
@@ -94,7 +95,7 @@ macro_rules! next_rows {
     };
 }
 
-// The rows of `VALUES`: after the names of the state, the types to write for EN and ET.
+// The rows of `VALUES`: the state's run and strong type; then the types to write for EN and ET.
 macro_rules! value_rows {
     ($($Row:ident $strong:ident: $EN:ident $ET:ident;)*) => {
         [$(
@@ -108,7 +109,7 @@ macro_rules! value_rows {
     };
 }
 
-/// The next state, and what each class does to pending types.
+/// For each state and class: the next state, and what the class does to pending types.
 pub static NEXT: [u16; STATE_COUNT * ROW_LEN] = next_rows! {
     Nothing L: European K Nothing K Terminators B Arabic K Nothing K;
     Nothing R: European K Nothing K Terminators B Arabic K Nothing K;
@@ -133,7 +134,7 @@ pub static NEXT: [u16; STATE_COUNT * ROW_LEN] = next_rows! {
     Terminators AL: Arabic K Nothing K Terminators K Arabic K Nothing K;
 };
 
-/// The type to write for each class, which is ON for a pending type.
+/// For each state and class: the type to write, which is ON for a pending type.
 pub static VALUES: [BidiClass; STATE_COUNT * ROW_LEN] = value_rows! {
     Nothing L: L ON;
     Nothing R: EN ON;

@@ -97,8 +97,8 @@ impl Walk<Rules15> for Walk15 {
     }
 }
 
-/// The state of the walk over ordinary characters, between which the table decides alone. These are neither a
-/// ZWJ nor a future pictograph.
+/// The state of the walk over ordinary characters, which are neither a ZWJ nor a future pictograph. Between
+/// these, the table alone decides.
 #[derive(Clone, Copy)]
 pub struct OrdinaryWalk15 {
     row: usize,
@@ -163,7 +163,8 @@ static MARKS: [Mark; 8] = [
     Mark::Never,
 ];
 
-// The mark for each outcome, with whole numbers. The last one, `WAITS`, has that before another base than NU.
+// The mark for each outcome, with whole numbers. For the last one, `WAITS`, this is the mark if the next base
+// is not NU.
 static WHOLE_MARKS: [Mark; 8] = [
     Mark::Never,
     Mark::Never,

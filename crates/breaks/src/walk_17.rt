@@ -26,7 +26,7 @@ pub struct Rules17;
 impl Rules for Rules17 {
     ghost version = { V17_0 };
 
-    // Both are the same.
+    // With and without whole numbers, the rules of 17.0 are the same.
     ghost whole_numbers = { λ _. false };
 
     ghost outcome_count = { DECIDED_COUNT };

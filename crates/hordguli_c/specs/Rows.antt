@@ -39,7 +39,7 @@ pub record Row : Type 0 where
 abbrev pub row_in_line : Line → Row
 row_in_line line = record { levels = line.levels; ltov = line.ltov; vtol = line.vtol; chars = line.chars }
 
--- L1, as if the row were a line, so that also the white space at its end is reset
+-- L1, as if the row were a line: the white space at its end is reset too
 unfoldable pub row_levels : Tables → ℕ → List ℕ → List ℕ → List ℕ
 row_levels tables base text levels = line_levels base (map (class_of tables) text) levels
 

@@ -91,8 +91,7 @@ pub fn put_marks(marks: &[Mark], array: &mut [u8])
     put_each_mark(marks, &mut array[..marks.len()]);
 }
 
-/// Returns whether `len` elements fit in a capacity of `room`. Always returns `true` if the array is not
-/// `wanted`.
+/// Returns whether the array is not `wanted` (it is NULL), or `len` elements fit in a capacity of `room`.
 pub fn has_room(wanted: bool, len: usize, room: usize) -> bool
     ensures { result ≡ has_room wanted len room }
 {

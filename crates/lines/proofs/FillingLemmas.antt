@@ -230,7 +230,7 @@ fits_more width rest n sum next within read e most fit must =
       ];
     })
 
--- a line fits up to a character if it has enough room for all columns up to a later one
+-- a line fits up to a character if it fits up to a later one
 fits_before : (width : ℕ) (rest : List CharInfo) (k m : ℕ) → k < m → m ≤ length rest → columns (take m rest) ≤ width → fits_to width rest k ≡ true
 fits_before width rest k m below within narrow =
     let part : take (suc k) (take m rest) ≡ take (suc k) rest = take-take (suc k) m rest (omega (arith, below)) in

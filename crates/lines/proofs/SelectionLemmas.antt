@@ -91,7 +91,7 @@ module _ (s : Selection) where
       → covered column ≡ is_selected line s.start s.end k
   covered_by column k within from to = ap (λ o. option_map_or (is_selected line s.start s.end) o false) (covering_is line column k within from to)
 
-  -- the columns that are passed over are covered or not, as told
+  -- the columns that are passed over are covered if and only if `inside` holds
   covered_in : (inside : Bool) (i j column : ℕ) → Passes s inside i j → j ≤ length s.vtol.now → columns_left line i ≤ column → column < columns_left line j
       → covered column ≡ inside
   covered_in inside i j column p within from to =

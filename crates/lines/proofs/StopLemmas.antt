@@ -97,7 +97,7 @@ module _ (f : ℕ → ℕ) (i : ℕ) where
         kept levels (suc low) count xs (omega (arith, below)),
       )
 
-  -- ---- reversing intervals, each with the item after it, that do not have i
+  -- ---- reversing intervals that do not have i, each with the item after it
 
   module _ (test : ℕ → Bool) (fails : test i ≡ false) where
     -- whether the item before i fails the test; `after` says whether the item before the list passes

@@ -40,7 +40,7 @@ abbrev pub cluster_end : List Bool → ℕ → ℕ
 cluster_end ends k = after (least (ends_at ends) k (length ends - k)) (length ends)
 
 -- Where the clusters of a part of a text end, from its start. The part has `len` characters from `start` on. Its end is the last of
--- these ends, also where it parts a cluster.
+-- these ends, even if it splits a cluster.
 abbrev pub ends_in : List Bool → ℕ → ℕ → List ℕ
 ends_in ends start len = filter (λ k. k == len || ends_at ends (start + k - 1)) (range_with_len 1 len)
 

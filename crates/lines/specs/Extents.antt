@@ -14,7 +14,7 @@ pub record LineExtents : Type 0 where
   pub starts : List ℕ
   pub shown : List Shown
 
--- the length and the columns of each shown part, and the shown parts with these
+-- a list with the length and the columns of each shown part, and the shown parts that such a list describes
 abbrev pub in_pairs : List Shown → List ℕ
 in_pairs [] = []
 in_pairs (part ∷ parts) = part.len ∷ part.columns ∷ in_pairs parts

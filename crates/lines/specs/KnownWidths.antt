@@ -13,7 +13,7 @@ narrow_ranges = (0xAE, 0x2FF) ∷ (0x370, 0x482) ∷ (0x5D0, 0x5DB) ∷ (0x5DD, 
 abbrev pub is_narrow : ℕ → Bool
 is_narrow c = lies_in_any narrow_ranges c
 
--- printable ASCII, and the same with the ranges above and U+05DC
+-- `is_printable`: printable ASCII; `is_common`: also the ranges above and U+05DC
 abbrev pub is_printable : ℕ → Bool
 is_printable c = lies_in 0x20 0x7E c
 

@@ -38,7 +38,7 @@ pub record RunsAdjoin (line : Visual) : Type 0 where
   pub odd : (j k : ℕ) → AreInRun line j k → is_odd (slice_index line.levels j) ≡ true
       → columns_left line (slice_index line.ltov k + 1) + columns_between line j k ≡ columns_left line (slice_index line.ltov j + 1)
 
--- Whether the characters of each level run at an even level are next to each other from left to right, and so are those of each part of a
+-- Whether the characters of each level run at an even level are next to each other in logical order, and so are those of each part of a
 -- cluster in a level run at an odd level. `ends` says where the clusters of the line's paragraph end. The line starts at `start`.
 pub record ClustersAdjoin (line : Visual) (ends : List Bool) (start : ℕ) : Type 0 where
   pub even : (j k : ℕ) → AreInRun line j k → is_odd (slice_index line.levels j) ≡ false

@@ -23,8 +23,8 @@ use std::alloc::{AllocError, Global};
 use std::marker::Model;
 use ucd::{Properties, Tables};
 
-/// The layout of a paragraph: its text, base level, levels, break marks and lines. If its lines are ordered
-/// by clusters, also where these end.
+/// The layout of a paragraph: its text, base level, levels, break marks and lines, and where its clusters
+/// end if lines are ordered by clusters.
 #[derive(Debug)]
 pub struct Laid {
     pub(crate) text: Vec<char>,

@@ -7,7 +7,7 @@ use Rattle.std.specs.Simd.Lanes.{mask_l}
 abbrev pub AreAll : List ℕ → ℕ → ℕ → ℕ → Type 0
 AreAll levels start end level = (k : ℕ) → start ≤ k → k < end → slice_index levels k ≡ level
 
--- a bit for each of 16 levels, which is set if the level is another one
+-- one bit for each of 16 levels, which is set if the level differs from the given one
 abbrev pub others : List ℕ → ℕ → ℕ → ℕ
 others levels start level = mask_l (map (λ x. not (x == level)) (take 16 (drop start levels)))
 

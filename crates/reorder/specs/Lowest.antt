@@ -77,7 +77,7 @@ module _ (levels : List ℕ) where
     pub above_back : (k : ℕ) → k < place → AreAbove level k place → start ≤ k
     pub above_on : (k : ℕ) → place < k → k < length levels → AreAbove level place k → k < end
 
-  -- the characters before `end` that are at the level or higher, back to the last one that is not, start at `start`
+  -- `start` is where the longest range of characters up to `end` starts that are all at the level or higher
   pub record IsExtentBack (level end start : ℕ) : Type 0 where
     pub back : start ≤ end
     pub high : (k : ℕ) → start ≤ k → k < end → level ≤ slice_index levels k

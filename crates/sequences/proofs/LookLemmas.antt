@@ -13,7 +13,7 @@ skip_parameter (suc skip) look text rest more some e =
     ap (λ n. applied_after n look (parameters_after rest)) (sub-one (suc skip)) ∙ ap (λ t. applied_after skip look (parameters_after t)) e
     ∙ ap (applied_after (suc skip) look) (sym (parameters-first text some))
 
--- a parameter of its own
+-- a parameter that is not a value of an earlier one
 pub apply_parameter : (skip : ℕ) (look : Look) (text first rest : List ℕ) → skip ≤ 0 → 0 < length text
     → first ≡ take (first_len 0x3B text) text → rest ≡ drop (first_len 0x3B text) text
     → applied_after (taken (fields_after first) (parameters_after rest)) (changed look (fields_after first) (parameters_after rest)) (parameters_after rest)

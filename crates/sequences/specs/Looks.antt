@@ -34,7 +34,7 @@ end_attribute n look =
     else look
 
 -- 30 to 37, 90 to 97 and 39 are foregrounds, and 40 to 47, 100 to 107 and 49 are backgrounds. 53 and 55 set and end an
--- overline, and 59 is the default colour of underlines.
+-- overline, and 59 is the default color of underlines.
 abbrev pub set_basic : ℕ → Look → Look
 set_basic n look =
     if nat_lt n 38 then record look { foreground = Some (Basic (n - 30)) }
@@ -67,7 +67,7 @@ with_underline k look =
     else if k == 5 then record look { underline = Some Dashed }
     else look
 
--- 38, 48 and 58 set the foreground, the background and the colour of underlines
+-- 38, 48 and 58 set the foreground, the background and the color of underlines
 abbrev pub is_color : ℕ → Bool
 is_color n = n == 38 || (n == 48 || n == 58)
 
@@ -79,7 +79,7 @@ with_color n (Some color) look =
     else if n == 48 then record look { background = Some color }
     else record look { underline_color = Some color }
 
--- colours, if all values are at most 255
+-- colors, if all values are at most 255
 abbrev pub indexed : ℕ → Option Color
 indexed n = if nat_lt n 256 then Some (Indexed n) else None
 
@@ -90,18 +90,18 @@ rgb r g b = if nat_lt r 256 && (nat_lt g 256 && nat_lt b 256) then Some (Rgb r g
 abbrev pub value : List ℕ → ℕ → ℕ
 value values k = slice_index_or values k 256
 
--- the kinds of colours: indexed, and red, green and blue
+-- the kinds of colors: indexed, and red, green and blue
 abbrev pub is_kind : ℕ → Bool
 is_kind kind = kind == 5 || kind == 2
 
--- the colour that values begin: the kind 5 and an index, or the kind 2 and red, green and blue
+-- the color that values begin: the kind 5 and an index, or the kind 2 and red, green and blue
 abbrev pub color_of : List ℕ → Option Color
 color_of values =
     if value values 0 == 5 then indexed (value values 1)
     else if value values 0 == 2 then rgb (value values 1) (value values 2) (value values 3)
     else None
 
--- the colour of `38:5:n`, `38:2:r:g:b` or `38:2:space:r:g:b`, given the fields after 38
+-- the color of `38:5:n`, `38:2:r:g:b` or `38:2:space:r:g:b`, given the fields after 38
 abbrev pub field_color : List ℕ → Option Color
 field_color fields =
     if value fields 0 == 5 && length fields == 2 then color_of fields
@@ -121,7 +121,7 @@ abbrev pub single : List ℕ → ℕ
 single (n ∷ []) = n
 single fields = 256
 
--- What a parameter does, given those that follow it. For `38;5;n` and `38;2;r;g;b`, those are values of the colour.
+-- What a parameter does, given those that follow it. For `38;5;n` and `38;2;r;g;b`, those are values of the color.
 abbrev pub changed : Look → List ℕ → List (List ℕ) → Look
 changed look [] following = look
 changed look (n ∷ []) following =

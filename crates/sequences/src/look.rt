@@ -1,12 +1,12 @@
 //! The attributes of a character that SGR sets (ECMA-48, 8.3.117).
 
-/// A colour other than the default one.
+/// A color other than the default one.
 #[derive(Clone, Copy, Debug, PartialEq, Eq)]
 pub enum Color {
-    /// One of the 16 colours that have parameters of their own: 30 to 37 are 0 to 7, and 90 to 97 are 8 to
+    /// One of the 16 colors that have parameters of their own: 30 to 37 are 0 to 7, and 90 to 97 are 8 to
     /// 15.
     Basic(u8),
-    /// One of 256 colours, as by `38;5;n`. A terminal may show it differently from the basic colour n.
+    /// One of 256 colors, as by `38;5;n`. A terminal may show it differently from the basic color n.
     Indexed(u8),
     /// Red, green and blue.
     Rgb(u8, u8, u8),

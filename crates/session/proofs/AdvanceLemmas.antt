@@ -97,9 +97,9 @@ module _ (rules : Rules) (width : ℕ) where
   advances-layouts false list ps each = refl
   advances-layouts true list ps each = ap Some (listed list ps each)
 
--- ---- room
+-- ---- the limit: paragraphs have room if the advances of each add up to less than 2^32
 
--- whether all advances together have room
+-- the paragraphs have room if all advances together are below the limit
 pub sum_fits : (list : List ℕ) (ps : List (List ℕ)) → sum list < 2 ^ 32 → have_room list ps ≡ true
 sum_fits list [] few = refl
 sum_fits list (p ∷ ps) few =

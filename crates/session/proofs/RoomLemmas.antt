@@ -38,7 +38,7 @@ last_le [] = omega arith
 last_le (p ∷ []) = omega (arith, ap length (append-nil p))
 last_le (p ∷ q ∷ ps) = omega (arith, last_le (q ∷ ps), length-append p (concat (q ∷ ps)))
 
--- after one more character
+-- the advances of the last paragraph, after one more character
 sum_last-push : (starts : Bool) (c a : ℕ) (ps : List (List ℕ)) (list : List ℕ) → length list ≡ length (concat ps)
     → sum_last (list ++ a ∷ []) (push starts c ps) ≡ (if starts then 0 else sum_last list ps) + a
 sum_last-push true c a ps list each =

@@ -50,7 +50,7 @@ range_of kept total pos new front back law few size some within front_is back_is
   back_is = back_is;
 }
 
--- a call that failed for want of memory changed nothing but the counters
+-- a call that ran out of memory changed nothing but the counters
 pub Remains-worked : (engine next : Engine) (width : ℕ) (is_measured : Bool) (kept : List Layout) (pos : ℕ) (new : List ℕ) → IsWholeLayout (state_of engine width is_measured kept)
     → advances_refusal (cut_by (rules_of engine)) (advances_in is_measured kept) (text_of kept) pos new ≡ None → SameRules engine next → FillsAtMost (length (text_of kept)) engine next
     → SetsAdvancesNot pos new (state_of engine width is_measured kept) (state_of next width is_measured kept) NoMemory

@@ -57,7 +57,7 @@ module _ (line : Visual) (start : ℕ) (cluster : Cluster) where
   abbrev pub unit_end : ℕ → ℕ
   unit_end k = unwrap_or (least (takes_columns line) (run_end line k) (shown_end - run_end line k)) shown_end
 
-  -- the unit, and the columns of its two ends, which are apart by the columns of its characters
+  -- the unit with the columns of its two ends, which differ by the columns of its characters
   abbrev pub unit_of : ℕ → CaretUnit
   unit_of k =
       let first = unit_start k in

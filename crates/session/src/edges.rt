@@ -30,8 +30,8 @@ pub enum Side {
     After,
 }
 
-/// One of the two edges of a position, between which the direction or the line may change. A text is edited
-/// at `pos` either way.
+/// One of the two edges of a position. They are apart where the direction changes or a line wraps. An edit
+/// goes to `pos` either way.
 #[derive(Clone, Copy, Debug, PartialEq, Eq)]
 pub struct Edge {
     pub pos: usize,
@@ -209,11 +209,13 @@ impl<S: ParagraphStore<Kept>> Session<S> {
     /// Returns where to draw a caret at an edge, or `None` past the end of the text and for the edge after
     /// position 0.
     ///
-    /// The edge `Before` a position is on the line of the character there, and the edge `After` it on the
-    /// line of the character before the position. If a caret unit (see `step`) begins or ends with this
-    /// character, the caret is at this end of the unit. Else it is at the character's own edge, and at a
-    /// character that is not shown, at the end of the line in the base direction. The level is that of the
-    /// character whose edge it is. At the end of the text, the edge `Before` is that of `caret`.
+    /// `Before` is an edge of the character at the position, and `After` one of the character before it. The
+    /// caret is on this character's line, and has its level:
+    /// - If a caret unit (see `step`) begins or ends with the character: at this end of the unit.
+    /// - Otherwise, at the character's own edge.
+    /// - If the character is not shown: at the end of the line in the base direction.
+    ///
+    /// At the end of the text, the edge `Before` is that of `caret`.
     ///
     /// Fails if memory runs out, but only at an edge of a character. Costs the length of the line and of the
     /// character's cluster (see `cluster`).
@@ -243,8 +245,8 @@ impl<S: ParagraphStore<Kept>> Session<S> {
     /// Moves a caret by one step on its line. Returns the edge where the caret stops, or `None` at the end of
     /// the line in that direction, and where `edge_caret` is `None`.
     ///
-    /// A step leads over one caret unit: a grapheme cluster, or the part of one that is in one level run if
-    /// the cluster has several. The returned edge is one of this unit.
+    /// A step moves over one caret unit: a grapheme cluster, or its part in one level run if its characters
+    /// are in several. The returned edge is the unit's far edge.
     ///
     /// Fails if memory runs out, but only from an edge of a text that is not empty. Costs as `edge_caret`.
     pub fn step(&self, edge: Edge, direction: Direction) -> Result<Option<Edge>, AllocError>
@@ -363,9 +365,9 @@ impl<S: ParagraphStore<Kept>> Session<S> {
         after(end)
     }
 
-    /// Returns the edge at a column of line `n`: the left end of the caret unit that covers the column, or to
-    /// the right of the text its right end. So columns 0 and `usize::MAX` are the ends of the line on the
-    /// screen. Returns `None` past the line of the end of the text.
+    /// Returns the edge at a column of line `n`: the left end of the caret unit that covers the column. Right
+    /// of the text, it is the right end of the text. So columns 0 and `usize::MAX` are the ends of the line
+    /// on the screen. Returns `None` past the line of the end of the text.
     ///
     /// Fails if memory runs out, but only on a line that exists. Costs as `edge_caret`.
     pub fn edge_at(&self, n: usize, column: usize) -> Result<Option<Edge>, AllocError>
@@ -383,8 +385,8 @@ impl<S: ParagraphStore<Kept>> Session<S> {
     }
 
     /// Returns the nearest edge to a column of line `n`: the nearer end of the caret unit that covers the
-    /// column, and from the unit's middle the right one. Elsewhere it is that of `edge_at`, and so it is in a
-    /// unit of one column.
+    /// column, and at the unit's middle the right one. In a unit of one column, and outside the text, it is
+    /// the edge that `edge_at` returns.
     ///
     /// Fails if memory runs out, but only on a line that exists. Costs as `edge_caret`.
     pub fn nearest_edge(&self, n: usize, column: usize) -> Result<Option<Edge>, AllocError>

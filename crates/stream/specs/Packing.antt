@@ -13,7 +13,7 @@ kept low high = if high == 0 then (if low == 0 then 1 else 2) else (if low == 0 
 abbrev pub bytes_of : ℕ → List ℕ
 bytes_of word = (word % 256) ∷ (word / 256 % 256) ∷ (word / 65536 % 256) ∷ (word / 16777216 % 256) ∷ []
 
--- the first bytes of each lane, as many as its bits of the two masks say
+-- the bytes of each lane's character, as many as the lane's bits in the two masks say
 abbrev pub packed : List ℕ → ℕ → ℕ → List ℕ
 packed [] low high = []
 packed (word ∷ words) low high = take (kept (low % 2) (high % 2)) (bytes_of word) ++ packed words (low / 2) (high / 2)

@@ -10,9 +10,9 @@ use std::simd::prelude::*;
 /// The number of characters that are encoded at a time.
 pub const LANES: usize = 4;
 
-// For each combination of the lengths of four lanes, the indices of the bytes to keep, then zeros. Bits k
-// and k + 4 of a row's index give the length of lane k: neither for one byte, the first for two, both for
-// three, and the second for four. Each row is proved right.
+// The indices of the bytes to keep, then zeros: one row for each combination of lengths of four lanes. Bits k
+// and k + 4 of the row's index encode the length of lane k: bit k alone is two bytes, both are three, bit
+// k + 4 alone is four, and neither is one. Each row is proved right.
 static SHUFFLES: [[u8; 16]; 256] = [
     [0, 4, 8, 12, 0, 0, 0, 0, 0, 0, 0, 0, 0, 0, 0, 0],
     [0, 1, 4, 8, 12, 0, 0, 0, 0, 0, 0, 0, 0, 0, 0, 0],
@@ -354,8 +354,8 @@ pub fn pack_any(codes: u32x4, buffer: &mut [u8], at: usize) -> usize
     pack(words, low, from_three.to_bitmask() as usize, buffer, at)
 }
 
-// Writes the first bytes of each lane at an index of a buffer, and returns the index after them. Bit k of
-// `low` and of `high` give the length of lane k, as in `SHUFFLES`. Always writes 16 bytes.
+// Writes the bytes of each lane's character at an index of a buffer, and returns the index after them. Bit k
+// of `low` and bit k of `high` encode the length of lane k, as in `SHUFFLES`. Always writes 16 bytes.
 #[inline(always)]
 fn pack(words: u32x4, low: usize, high: usize, buffer: &mut [u8], at: usize) -> usize
     requires low { low < 16 }

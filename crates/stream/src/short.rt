@@ -11,8 +11,8 @@ use std::simd::prelude::*;
 /// The number of bytes that are decoded together.
 pub const LANES: usize = 16;
 
-// The bytes that a shuffle moves, a row for each mask of four bytes. Each marked byte and the byte after it
-// go to the two low bytes of a lane of four. 128 stands for a byte that is 0.
+// The indices of the bytes that a shuffle reads: one row for each mask of four bytes. Each marked byte and
+// the byte after it become the two low bytes of a lane of four bytes. The index 128 yields the byte 0.
 static PAIRS: [[u8; 16]; 16] = [
     [
         128, 128, 128, 128, 128, 128, 128, 128, 128, 128, 128, 128, 128, 128, 128, 128,
@@ -80,7 +80,7 @@ pub fn is_short(bytes: u8x16) -> bool
     bytes.simd_ge(u8x16::splat(0xe0)).to_bitmask() == 0
 }
 
-/// Marks the bytes with which a character begins, the first byte by the lowest bit.
+/// Returns a mask of the bytes at which a character begins. Bit 0 is for the first byte.
 #[inline(always)]
 pub fn marks(bytes: u8x16) -> usize
     ensures { result ≡ mask_l (map begins bytes) }

@@ -75,7 +75,7 @@ permit_one form block k long e free len is =
     let short : nat_lt 1048576 k ≡ false = ap (λ (b : Bool). b && nat_lt 1048576 k) (sym is) ∙ sym e ∙ free in
     ap (λ (b : Bool). b && true) (short_is block (omega (arith, len, at_most k short)))
 
--- one that does
+-- a block that ends the run
 pub refuse_one : (form : Form) (k : ℕ) (long : Bool) → long ≡ (form.strict && nat_lt 1048576 k) → long ≡ true → (form.strict ≡ true) × (1048576 < k)
 refuse_one form k long e holds =
     let both = and_parts form.strict (nat_lt 1048576 k) (sym e ∙ holds) in

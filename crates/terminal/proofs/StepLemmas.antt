@@ -91,7 +91,7 @@ module _ (rules : Rules) (form : Form) (is_last : Bool) (reader_old writer_old r
         ap (λ (t : List ℕ). length (blocks (cut_by rules) (t ++ []))) (sym (nil_from_length g.text whole)) ∙ ap length (g.front.cuts []) ∙ length-append g.parts (blocks (cut_by rules) (new.text.items ++ [])) in
         omega (arith, s.holds is old, cuts, length-append s.is_at.sent g.parts)
 
-    -- whether the run stops, by the bytes of the chunk and by all
+    -- whether the run stops is the same for the bytes of the chunk and for all bytes
     stops_same : (form.strict && is_bad (s.is_at.bytes ++ take n r.read.buffer)) ≡ (form.strict && is_bad (take (decoder.waiting + n) decoder.chunk.items))
     stops_same =
         same_bad form.strict form.escapes s.is_at.bytes (take n r.read.buffer) (take held.decoder.waiting held.decoder.chunk.items) (concat s.is_at.sent ++ held.text.items) held.decoder.started

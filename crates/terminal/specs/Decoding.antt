@@ -60,7 +60,7 @@ pub record Decodes (strict : Bool) (bytes : List ℕ) (n : ℕ) (stops : Bool) (
   pub within : n ≤ length bytes
   pub valid : strict ≡ true → (n ≡ utf8_valid_len bytes) × (after ≡ before ++ chars (take n bytes))
 
--- n bytes were read, and are after the waiting ones
+-- n bytes were read, and appended to the waiting ones
 pub record IsRead (n : ℕ) (old new : Decoder) (reader_old reader_new : Device) : Type 0 where
   pub read : IsReadTo old.waiting n old.chunk.items new.chunk.items reader_old reader_new
   pub small : old.waiting + n ≤ vec_len old.chunk

@@ -19,5 +19,5 @@ pub record ShowsWhole : Type 0 where
   -- Their paragraphs are those of the characters that it shows as a whole.
   pub cuts : (rules : Rules) (pen : Pen) (text : List ℕ)
       → flat_map (λ shown. paragraphs (cut_by rules) (characters_of shown)) (shown_blocks pen (blocks (cut_by rules) text)) ≡ paragraphs (cut_by rules) (shown_text text)
-  -- Cut into paragraphs, what a block shows loses nothing.
+  -- The paragraphs of a block have all that it shows.
   pub groups : (is_cut : ℕ → ℕ → Bool) (shown : List (ℕ × Style)) → joined (styled_paragraphs is_cut shown) ≡ shown

@@ -20,7 +20,7 @@ options_for (Pattern text) = (false, Some text.now)
 abbrev pub has_prefix : List Row → Bool
 has_prefix rows = is_given (codes "quotes") rows || is_some (first_of (codes "prefix") rows)
 
--- if the arguments have one of both options, those of the environment do not count
+-- if the arguments have either option, those of the environment do not count
 abbrev pub prefix_rows : Rows → List Row
 prefix_rows rows = if has_prefix rows.line then rows.line else rows.environment
 

@@ -114,17 +114,17 @@ fn quote_keeps_its_styles(rt: HostRuntime) -> Result<(), Fail> {
     let mut engine = engine(rt.alloc(), 0)?;
     let form = quotes(6);
     for (text, expected) in [
-        // A colour that ends inside the quote
+        // A color that ends inside the quote
         (
             "\u{1b}[31m>\u{1b}[m one two\n",
             "\u{1b}[31m>\u{1b}[m one\n\u{1b}[31m>\u{1b}[m two\n",
         ),
-        // A colour of all characters
+        // A color of all characters
         (
             "\u{1b}[31m> one two\u{1b}[m\n",
             "\u{1b}[31m> one\u{1b}[m\n\u{1b}[31m> two\u{1b}[m\n",
         ),
-        // A colour of what follows
+        // A color of what follows
         ("> \u{1b}[31mone\u{1b}[m\n", "> \u{1b}[31mone\u{1b}[m\n"),
         // Padding has the default style.
         ("\u{1b}[31m> אב\u{1b}[m\n", "  \u{1b}[31mבא <\u{1b}[m\n"),

@@ -30,7 +30,7 @@ same_byte l a n m i an lt =
     get_or-take (m - n) (drop (n - a) (drop a (take m l))) i 0 lt ∙ byte_at l a (n - a) m i (omega arith) ∙ ap (λ k. get_or l k 0) place
     ∙ sym (get_or-drop n l i 0) ∙ sym (get_or-take (m - n) (drop n l) i 0 lt)
 
--- the bytes from one index to another, in a list without what comes before and after them
+-- the bytes n to m of a list are the same bytes of its part from a to m
 part_of_part : (l : List ℕ) (a n m : ℕ) → a ≤ n → n ≤ m → m ≤ length l → take (m - n) (drop (n - a) (drop a (take m l))) ≡ take (m - n) (drop n l)
 part_of_part l a n m an nm within =
     let long : length (take m l) ≡ m = length-take-le m l within in
@@ -203,7 +203,7 @@ no_dot b is dot = grind arith
 dot_word : (b : ℕ) → b ≡ 46 → IsWordByte b
 dot_word b is = record { above = omega (arith, is); ascii = omega (arith, is); no_comment = λ o. omega (arith, is, o); no_separator = λ o. omega (arith, is, o) }
 
--- a code point without more
+-- a code point that begins no range
 pub single_points : (x : List ℕ) (v : ℕ) → code_point x ≡ Some v → points_of true x ≡ Some (v, v)
 single_points x v is = ap (points_by true) (parts_one 46 x (λ k lt. no_dot _ (digit_at x v k is lt))) ∙ rw is refl
 

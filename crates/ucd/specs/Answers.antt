@@ -101,7 +101,7 @@ abbrev pub line_index : PropertyAnswers → ℕ
 line_index a =
     line_number a.line_class a.line_detail * 8 + (if a.is_wide then 4 else 0) + (if a.is_mark then 2 else 0) + (if a.is_future_pictograph then 1 else 0)
 
--- the properties that line breaking needs, and those that such a number encodes
+-- the properties that such a number encodes
 pub record LineAnswers : Type 0 where
   pub line_class : LineClass
   pub line_detail : LineDetail

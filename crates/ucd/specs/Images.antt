@@ -1,6 +1,6 @@
 -- A compiled image of the tables: bytes that hold the properties of all code points.
 --
--- All numbers are unsigned and little-endian. The parts of an image are, by their first byte:
+-- All numbers are unsigned and little-endian. The parts of an image, with the offset of each:
 --      0   the 12 bytes `hordguli-ucd`
 --     12   u32: the version of the format, which is 1
 --     16   u32: the version of Unicode, 65536 times the first number plus 256 times the second: 15.0 or 17.0

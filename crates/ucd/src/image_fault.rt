@@ -1,14 +1,14 @@
 //! Why bytes are not an image of the tables.
 use thiserror::Error;
 
-/// What is wrong with an image. The first fault in this order is reported, except that an image that lacks
-/// bytes after its header is `Truncated` after `Version`.
+/// What is wrong with an image. The first fault in this order is reported, but `Truncated` comes after
+/// `Version` if the image has a whole header.
 #[derive(Clone, Copy, Debug, PartialEq, Eq, Error)]
 pub enum ImageFault {
     /// There are fewer bytes than the header has, or than its counts say.
     #[error("the image is truncated")]
     Truncated,
-    /// The first bytes are not `hordguli-ucd`.
+    /// The image does not begin with `hordguli-ucd`.
     #[error("not an image of tables")]
     Magic,
     /// The format has another version.

@@ -8,16 +8,16 @@ use crate::image_bytes::{checksum, u32_at, u64_at};
 use crate::image_fault::ImageFault;
 use crate::version::Version;
 
-/// The first bytes of an image.
+/// The bytes with which every image begins.
 pub const MAGIC: &[u8] = b"hordguli-ucd";
 
 /// The version of the format.
 pub const FORMAT: u32 = 1;
 
-/// The number of bytes of the header.
+/// The length of the header, in bytes.
 pub const HEADER: usize = 32;
 
-/// The first byte of the pages.
+/// The offset of the pages.
 pub const PAGES_AT: usize = 8736;
 
 /// Returns the version of Unicode, if the number in the header is that of a version.
@@ -59,7 +59,7 @@ pub fn mirror_count(bytes: &[u8]) -> usize
     u32_at(bytes, 28) as usize
 }
 
-/// Returns the first byte of the brackets.
+/// Returns the offset of the brackets.
 pub fn brackets_at(bytes: &[u8]) -> usize
     requires { 32 ≤ length bytes.now }
     ensures value { result ≡ brackets_at bytes.now }
@@ -68,7 +68,7 @@ pub fn brackets_at(bytes: &[u8]) -> usize
     PAGES_AT + 512 * page_count(bytes)
 }
 
-/// Returns the first byte of the mirrors.
+/// Returns the offset of the mirrors.
 pub fn mirrors_at(bytes: &[u8]) -> usize
     requires { 32 ≤ length bytes.now }
     ensures value { result ≡ mirrors_at bytes.now }
@@ -77,7 +77,7 @@ pub fn mirrors_at(bytes: &[u8]) -> usize
     brackets_at(bytes) + 8 * bracket_count(bytes)
 }
 
-/// Returns the first byte of the checksum.
+/// Returns the offset of the checksum.
 pub fn checksum_at(bytes: &[u8]) -> usize
     requires { 32 ≤ length bytes.now }
     ensures value { result ≡ checksum_at bytes.now }

@@ -233,7 +233,7 @@ impl<'a> Runs<'a> {
         }
     }
 
-    /// Returns the run that contains or follows the code points before `point`.
+    /// Returns the current run, which is empty before the first `move_to`.
     pub fn run(&self) -> Run
         ensures { result ≡ self.now.run }
     {

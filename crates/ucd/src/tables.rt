@@ -68,8 +68,8 @@ impl Tables {
         Tables::read_as(alloc, Version::V15_0, files)
     }
 
-    /// Reads tables of a version from its files, as `read`. In tables of 17.0, characters that the first file
-    /// does not list have the bidi classes of its `@missing` lines.
+    /// Reads tables of a version from its files, like `read`. In tables of 17.0, characters that the first
+    /// file does not list have the bidi classes of its `@missing` lines.
     pub fn read_as(
         alloc: Global,
         version: Version,

@@ -489,7 +489,7 @@ extern "C" {
         folder: *const c_char,
         fault: *mut hordguli_table_fault,
     ) -> hordguli_status;
-    /// As `hordguli_tables_open_folder`, with the files of `version`, also in setting `errno`.
+    /// As `hordguli_tables_open_folder`, with the files of `version`. Sets `errno` likewise.
     ///
     /// Errors: NULL, OVERLAP, UNKNOWN_OPTION (another version), ALREADY_OPEN, UNREAD_FILE, TABLE_FAULT, NO_MEMORY.
     ///
@@ -742,7 +742,7 @@ extern "C" {
         start: *mut usize,
     ) -> hordguli_status;
     /// Stores information about a line in `*info`, and `info->shown` elements in each array. Each array has `capacity`
-    /// elements. NULL arrays are skipped, so with all arrays NULL nothing needs room (see BUFFERS). Positions count from the
+    /// elements. NULL arrays are skipped, so with all arrays NULL any capacity is enough (see BUFFERS). Positions count from the
     /// start of the line.
     /// - `characters`: characters in visual order, mirrored
     /// - `levels`: level of each character after L1, in logical order
@@ -907,7 +907,7 @@ extern "C" {
         position: *mut hordguli_position,
     ) -> hordguli_status;
     /// Stores information about a paragraph in `*info`, and `info->length` elements in each array, in logical order. Each
-    /// array has `capacity` elements. NULL arrays are skipped, so with both NULL nothing needs room (see BUFFERS).
+    /// array has `capacity` elements. NULL arrays are skipped, so with both NULL any capacity is enough (see BUFFERS).
     /// - `levels`: level of each character before L1
     /// - `marks`: break mark after each character
     ///
@@ -929,7 +929,7 @@ extern "C" {
     /// does not exist yet. Then `paragraph` and `line` are the numbers of paragraphs and lines in the text.
     ///
     /// U+2028, U+000B and U+000C end a line, but not its paragraph. At the end of a text that ends with one, the place and
-    /// the caret stay on that line. Each line of a paragraph has a character, and here none follows.
+    /// the caret stay on that line. Each line has a character, and here none follows.
     ///
     /// Errors: NULL, OVERLAP, CLOSED, OUT_OF_RANGE.
     ///
@@ -1037,8 +1037,8 @@ extern "C" {
         spans: *mut hordguli_span,
         count: *mut usize,
     ) -> hordguli_status;
-    /// Stores in `*caret` where to draw the caret at an edge. The edge before a position is on the line of the character at
-    /// it, and the edge after a position on the line of the character before it:
+    /// Stores in `*caret` where to draw the caret at an edge: on the line of the character whose edge it is. This is the
+    /// character at `pos` for HORDGULI_BEFORE, and the one before `pos` for HORDGULI_AFTER.
     ///   - If a caret unit begins (or ends) with that character: at the start (or end) of the unit.
     ///   - At another shown character: at its leading edge, which is the left one if its level is even, or its trailing edge.
     ///   - At a character that is not shown, and before the end of the text: as in `hordguli_caret_at`.
@@ -1057,13 +1057,22 @@ extern "C" {
         caret: *mut hordguli_caret,
     ) -> hordguli_status;
     /// Moves a caret to the nearest boundary to the left or right on its line. Stores the edge there in `*next`, and 1 in
-    /// `*moved`. The stored edge is one of the caret unit that was passed. At the end of the line, stores 0 in `*moved`, and
-    /// leaves `*next` unchanged; `hordguli_edge_at` then gives the end of the next line. For the key Right:
+    /// `*moved`. The stored edge is an edge of the caret unit that was passed. At the end of the line, stores 0 in `*moved`, and
+    /// leaves `*next` unchanged. The caller then chooses the next line, of which column 0 is the left end and SIZE_MAX the
+    /// right end. In a left-to-right document, the key Right leads to the left end of the line below, and Left to the right
+    /// end of the line above:
     ///
     /// ```c
+    /// // Right
     /// status = hordguli_step(&session, caret, HORDGULI_RIGHT, &caret, &moved);
-    /// if (!status && !moved && line + 1 < lines) status = hordguli_edge_at(&session, line + 1, 0, &caret);
+    /// if (!status && !moved) status = hordguli_edge_at(&session, line + 1, 0, &caret);
+    /// // Left
+    /// status = hordguli_step(&session, caret, HORDGULI_LEFT, &caret, &moved);
+    /// if (!status && !moved && line > 0) status = hordguli_edge_at(&session, line - 1, SIZE_MAX, &caret);
     /// ```
+    ///
+    /// In a right-to-left document, Left leads to the right end of the line below (SIZE_MAX), and Right to the left end of the
+    /// line above (0). Past the last line, `hordguli_edge_at` returns OUT_OF_RANGE.
     ///
     /// Each step changes the column. Repeated, steps meet every boundary in their direction. With HORDGULI_REORDER_NSM and
     /// without HORDGULI_REORDER_CLUSTERS, this holds if the marks of the text have no columns. Of the nonspacing marks of
@@ -1142,7 +1151,7 @@ extern "C" {
     ) -> hordguli_status;
     /// Stores where the grapheme clusters of a line end, counted from the start of the line, in an array of `capacity`
     /// elements, and their number in `*count`. NULL with capacity 0 is NO_ROOM (see BUFFERS). The last one is the length of
-    /// the line, also where a cluster goes on in the next line. Fails with OUT_OF_RANGE if the line does not exist.
+    /// the line, even if a cluster goes on in the next line. Fails with OUT_OF_RANGE if the line does not exist.
     ///
     /// NO_MEMORY comes before NO_ROOM.
     ///
@@ -1162,7 +1171,7 @@ extern "C" {
     /// base level of its paragraph (`hordguli_base`), and `levels` are the levels of the row's characters in the whole
     /// paragraph (`hordguli_levels`). `options` can have HORDGULI_REORDER_NSM and HORDGULI_REORDER_CLUSTERS. The clusters
     /// are those of these characters alone. Stores `count` elements in each array. Each array has `capacity` elements. NULL
-    /// arrays are skipped, so with all arrays NULL nothing needs room (see BUFFERS). Positions count from the start of the
+    /// arrays are skipped, so with all arrays NULL any capacity is enough (see BUFFERS). Positions count from the start of the
     /// row.
     /// - `visual`: characters in visual order, mirrored (UAX #9, L4)
     /// - `row_levels`: level of each character after L1, in logical order

@@ -94,7 +94,7 @@
 //! | an arrow key, a click, Home or End | what [`Session::step`], [`Session::edge_at`], [`Session::nearest_edge`] or [`Line::edges`] returned |
 //!
 //! ```
-//! use hordguli::{BytePos, Direction, Edge, Error, Options, Session, Tables};
+//! use hordguli::{CharPos, Direction, Edge, Error, Options, Session, Tables};
 //!
 //! struct Editor {
 //!     session: Session,
@@ -116,7 +116,7 @@
 //!         let line = self.session.edge_caret(self.caret)?.line;
 //!         if let Some(edge) = self.session.step(self.caret, Direction::Right)? {
 //!             self.caret = edge;
-//!         } else if line + 1 < self.session.counts().lines {
+//!         } else if line < self.session.place(CharPos(self.session.counts().characters))?.line {
 //!             self.caret = self.session.edge_at(line + 1, 0)?;
 //!         }
 //!         Ok(())

@@ -629,11 +629,10 @@ impl Session {
 
     // ---- Edges ----
 
-    /// Returns where to draw the caret at an edge. The edge before a position is on the line of the character at it, and the edge
-    /// after a position on the line of the character before it.
+    /// Returns where to draw the caret at an edge: on the line of the character whose edge it is. This is the character at the position
+    /// for [`Edge::before`], and the one before it for [`Edge::after`].
     ///
-    /// A caret moves over one grapheme cluster at a time, or over the part of it that is in one level run if the cluster has several:
-    /// over one caret unit.
+    /// A caret moves over one caret unit: a grapheme cluster, or its part in one level run if its characters are in several.
     ///
     /// - If a caret unit begins (or ends) with that character: at the start (or end) of the unit.
     /// - At another shown character: at its leading edge, which is the left one if its level is even, or its trailing edge.

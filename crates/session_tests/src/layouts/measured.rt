@@ -260,7 +260,7 @@ fn lay_out(
     }
 }
 
-// Whether the characters of a line have these left edges, and the line the last one as its right edge.
+// Whether these are the left edges of a line's characters, followed by the right edge of the line.
 fn has_edges(line: &VisualLine<'_>, edges: &[usize]) -> bool {
     let mut all_right = line.vtol().len() + 1 == edges.len();
     for (place, left) in edges.iter().enumerate() {
@@ -408,7 +408,7 @@ fn measured_tabs_have_their_widths_on_the_lines_at_another_width(
 // A paragraph, the columns of its characters, and a width.
 type ColumnRow = (&'static str, &'static [u32], u16);
 
-// With tab stops at each 8 columns.
+// With tab stops every 8 columns.
 static COLUMNS: [ColumnRow; 7] = [
     ("abc   def", &[1, 1, 1, 1, 1, 1, 1, 1, 1], 3),
     ("ab cd ef", &[1, 1, 1, 1, 1, 1, 1, 1], 5),

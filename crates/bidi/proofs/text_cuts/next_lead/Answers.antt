@@ -17,7 +17,7 @@ returns-then-first-lt-AT_ONCE-clause-here c = λ within.
     let n = at + 34 - at in
     lead_at c.args.bytes.now at n c.first_lead-first.result (omega arith) (c.first_lead-first.ensures.here c.if-first-lt-AT_ONCE.true)
 
--- none of the positions that are tested together has a lead
+-- none of the positions that one pass tests has a byte that may begin a separator
 pub loop-at-preserved : goal.loop-at-preserved
 loop-at-preserved c =
     let at = c.loop-at.at in
