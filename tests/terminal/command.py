@@ -45,18 +45,19 @@ def run_on(texts, words):
 
 class Costs(NamedTuple):
     seconds: float
+    processor_seconds: float
     kilobytes: int
 
 
 def measured(words, path, output_path, seconds):
-    """Runs the command on a file. Returns its status, its message, the time and the greatest resident set."""
+    """Runs the command on a file. Returns its status, its message, the time that passes and that of the processor, and the greatest resident set."""
     begun = time.monotonic()
     with open(path, "rb") as source, open(output_path, "wb") as sink, tempfile.TemporaryFile() as messages:
         child = subprocess.Popen([*PROGRAM, *TABLES, *words], stdin=source, stdout=sink, stderr=messages, env=environment(), preexec_fn=lambda: limit(seconds))
         _, status, usage = os.wait4(child.pid, 0)
         child.returncode = os.waitstatus_to_exitcode(status)
         messages.seek(0)
-        return child.returncode, messages.read().decode(errors="replace"), Costs(time.monotonic() - begun, usage.ru_maxrss)
+        return child.returncode, messages.read().decode(errors="replace"), Costs(time.monotonic() - begun, usage.ru_utime + usage.ru_stime, usage.ru_maxrss)
 
 
 def limit(seconds):

@@ -56,6 +56,37 @@ CASES = [
     ("a million tabs", lambda: "\t" * MILLION + "\n", lambda: (" " * 80 + "\n") * (MILLION // 10), False),
 ]
 
+# Each has a name, and a text with n characters between a CR and its LF, which is read in many chunks before the LF.
+AFTER_CR = [
+    ("a string", lambda n: f"\r{E}]0;" + "u" * n + f"{E}\\\n"),
+    ("a string with many ESC", lambda n: f"\r{E}P" + "u" * 5000 + f"{E}u" * (n // 2) + f"{E}\\\n"),
+    ("parameters", lambda n: f"\r{E}[" + "1" * n + "m\n"),
+    ("intermediates", lambda n: f"\r{E}" + " " * n + "0\n"),
+    ("sequences", lambda n: "\r" + f"{E}[m" * (n // 3) + "\n"),
+    ("short strings", lambda n: "\r" + f"{E}]0;u\a" * (n // 6) + "\n"),
+    ("dropped controls", lambda n: "\r" + "\0" * n + "\n"),
+]
+# Arguments, and whether they allow a paragraph of so many characters.
+WORDS = [([], True), (["-d", "file"], True), (["--strict"], False)]
+
+
+def proportional(folder, told):
+    """Twice the characters must not take much more than twice the processor's time."""
+    for name, text in AFTER_CR:
+        for words, is_allowed in WORDS:
+            seconds = []
+            for n in (10 * MILLION, 20 * MILLION):
+                with open(f"{folder}/input", "w", newline="") as file:
+                    file.write(text(n))
+                status, message, costs = command.measured(words, f"{folder}/input", f"{folder}/output", SECONDS)
+                with open(f"{folder}/output", "rb") as file:
+                    output = file.read()
+                shown = f"{n} characters of {name} after CR, {' '.join(words)}"
+                told(f"the output for {shown}", output == (b"\n" if is_allowed else b""), output[:60])
+                told(f"the status for {shown}", status == (not is_allowed), message[:300])
+                seconds.append(costs.processor_seconds)
+            told(f"time in proportion for {name} after CR, {' '.join(words)}", seconds[1] <= 2.5 * seconds[0] + 0.3, f"{seconds[0]:.2f} s, {seconds[1]:.2f} s")
+
 
 def checks(told):
     """Runs all cases. `told` takes a name, whether it holds, and what to show if it does not."""
@@ -79,6 +110,7 @@ def checks(told):
             told(f"the status for {name}", status == is_too_long and bool(message) == is_too_long, f"{status}", message[:300])
             most = KILOBYTES_OF_LONG_PARAGRAPHS if is_too_long else KILOBYTES
             told(f"the costs of {name}", within(costs, most), f"{costs.seconds:.1f} s, {costs.kilobytes} KB")
+        proportional(folder, told)
 
 
 def within(costs: Costs, kilobytes):

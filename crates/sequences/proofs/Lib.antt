@@ -6,6 +6,7 @@ pub mod PartLemmas
 pub mod SameLookLemmas
 pub mod PieceLemmas
 pub mod PlainLemmas
+pub mod ProgressLemmas
 pub mod ScannerLemmas
 pub mod ShownLemmas
 pub mod StepLemmas

@@ -2,6 +2,7 @@ pub mod Characters
 pub mod Classes
 pub mod Sequences
 pub mod Known
+pub mod Progress
 pub mod Looks
 pub mod Parameters
 pub mod Parts

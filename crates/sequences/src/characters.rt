@@ -55,7 +55,7 @@ pub(crate) fn is_c1_introducer(c: char) -> bool
 }
 
 #[inline(always)] // so that each loop over a class tests for this class alone
-fn is_in(class: Class, c: char) -> bool
+pub(crate) fn is_in(class: Class, c: char) -> bool
     ensures { result ≡ is_in class c }
 {
     match class {

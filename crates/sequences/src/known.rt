@@ -1,71 +1,166 @@
 //! Whether more text can change where a sequence ends.
-ghost use Rattle.std.specs.Prelude.{◌≡◌, ◌∷◌};
-ghost use Rattle.sequences.specs.Known.{knows_after_escape, knows_long, knows_sequence, knows_string};
+ghost use Rattle.std.specs.Prelude.{◌≡◌};
+ghost use Rattle.sequences.specs.Known.{knows_sequence};
+ghost use Rattle.sequences.specs.Progress.{advanced, after_all, after_code, after_intermediate, after_long};
+ghost use Rattle.sequences.specs.Progress.{after_parameter, after_start, after_string, is_known};
+ghost use Rattle.sequences.specs.Progress.{after_long_escape};
 
-use crate::characters::{Class, char_at, ends_piece, is_c1_introducer, prefix_len};
-use crate::lengths::{
-    ESC, LONGEST_STRING, csi_end, is_intermediate, opens_string, string_end, terminator_len,
-};
+use crate::characters::{Class, ends_piece, is_c1_introducer, is_in, is_inline};
+use crate::lengths::{ESC, LONGEST_STRING, is_intermediate, opens_string};
+
+/// What the first characters of a text tell about the sequence that it begins with.
+#[derive(Clone, Copy)]
+pub enum Progress {
+    /// There are no characters yet.
+    Start,
+    /// The only one is ESC.
+    Escape,
+    /// The last one introduces a control sequence or is a parameter of it.
+    Parameters,
+    /// The last one is an intermediate.
+    Intermediates,
+    /// The last ones are this number of characters of a string, or its introducer. Tells whether it is OSC.
+    InString(bool, usize),
+    /// The last one is an ESC after a string.
+    AfterString,
+    /// The last one is in a string that is too long. Tells whether it is OSC.
+    InLong(bool),
+    /// The last one is an ESC in such a string.
+    AfterLong(bool),
+    /// Whatever follows, the sequence ends where it ends without that, or there is none.
+    Known,
+}
+
+impl Progress {
+    /// Returns what a text tells after some more characters.
+    pub fn scan(self, text: &[char]) -> Progress
+        ensures { result ≡ after_all self text.now }
+    {
+        let mut progress = self;
+        let mut at = 0;
+        while at < text.len() && !progress.is_known() {
+            progress = progress.advance(text[at]);
+            at += 1;
+        }
+        progress
+    }
+
+    /// Returns whether it is known where the sequence ends, or that there is none.
+    pub fn is_known(self) -> bool
+        ensures { result ≡ is_known self }
+    {
+        match self {
+            Progress::Known => true,
+            _ => false,
+        }
+    }
+
+    fn advance(self, c: char) -> Progress
+        ensures { result ≡ advanced self c }
+    {
+        match self {
+            Progress::Start => after_start(c),
+            Progress::Escape => after_code(c as u32),
+            Progress::Parameters => after_parameter(c),
+            Progress::Intermediates => after_intermediate(c),
+            Progress::InString(is_osc, len) => after_string(is_osc, len, c),
+            Progress::AfterString => Progress::Known,
+            Progress::InLong(is_osc) => after_long(is_osc, c),
+            Progress::AfterLong(is_osc) => after_long_escape(is_osc, c),
+            Progress::Known => Progress::Known,
+        }
+    }
+}
 
 /// Returns whether `sequence_len` returns the same for a text whatever follows it.
 pub fn is_sequence_known(text: &[char]) -> bool
     ensures { result ≡ knows_sequence text.now }
 {
-    let Some((first, rest)) = text.split_first() else {
-        return false;
-    };
-    if *first == ESC {
-        match rest.split_first() {
-            Some((second, rest)) => is_known_after(*second as u32, rest),
-            None => false,
-        }
-    } else if is_c1_introducer(*first) {
-        is_known_after(*first as u32 - 0x40, rest)
+    Progress::Start.scan(text).is_known()
+}
+
+fn after_start(c: char) -> Progress
+    ensures { result ≡ after_start c }
+{
+    if c == ESC {
+        Progress::Escape
+    } else if is_c1_introducer(c) {
+        after_code(c as u32 - 0x40)
     } else {
-        true
+        Progress::Known
     }
 }
 
-// Returns whether a sequence is known, given the code after ESC and the text after that.
-fn is_known_after(code: u32, rest: &[char]) -> bool
-    ensures { result ≡ knows_after_escape (code ∷ rest.now) }
+// Returns what a text tells whose last character is this one after ESC.
+fn after_code(code: u32) -> Progress
+    ensures { result ≡ after_code code }
 {
     if code == 0x5b {
-        csi_end(rest) < rest.len()
+        Progress::Parameters
     } else if opens_string(code) {
-        is_string_known(code == 0x5d, rest)
+        Progress::InString(code == 0x5d, 0)
     } else if is_intermediate(code) {
-        prefix_len(Class::Intermediate, rest) < rest.len()
+        Progress::Intermediates
     } else {
-        true
+        Progress::Known
     }
 }
 
-fn is_string_known(is_osc: bool, text: &[char]) -> bool
-    ensures { result ≡ knows_string is_osc text.now }
+fn after_parameter(c: char) -> Progress
+    ensures { result ≡ after_parameter c }
 {
-    let end = string_end(text);
-    if end > LONGEST_STRING {
-        return is_long_known(is_osc, text.split_at(end).1);
-    }
-    if char_at(text, end) == ESC {
-        end + 1 < text.len()
+    if is_in(Class::Parameter, c) {
+        Progress::Parameters
     } else {
-        end < text.len()
+        after_intermediate(c)
     }
 }
 
-// Returns whether a string that is too long has ended, given the text after its first characters.
-fn is_long_known(is_osc: bool, text: &[char]) -> bool
-    ensures { result ≡ knows_long is_osc text.now }
+fn after_intermediate(c: char) -> Progress
+    ensures { result ≡ after_intermediate c }
 {
-    let mut at = 0;
-    while at < text.len() {
-        let (_, rest) = text.split_at(at);
-        if ends_piece(text[at]) || terminator_len(is_osc, rest) > 0 {
-            return true;
+    if is_in(Class::Intermediate, c) {
+        Progress::Intermediates
+    } else {
+        Progress::Known
+    }
+}
+
+// Returns what a text tells whose last character follows this number of characters of a string.
+fn after_string(is_osc: bool, len: usize, c: char) -> Progress
+    ensures { result ≡ after_string is_osc len c }
+{
+    if !is_inline(c) {
+        if c == ESC {
+            Progress::AfterString
+        } else {
+            Progress::Known
         }
-        at += 1;
+    } else if len < LONGEST_STRING {
+        Progress::InString(is_osc, len + 1)
+    } else {
+        Progress::InLong(is_osc)
     }
-    false
+}
+
+fn after_long(is_osc: bool, c: char) -> Progress
+    ensures { result ≡ after_long is_osc c }
+{
+    if c == ESC {
+        Progress::AfterLong(is_osc)
+    } else if ends_piece(c) || c == '\u{9c}' || (is_osc && c == '\u{7}') {
+        Progress::Known
+    } else {
+        Progress::InLong(is_osc)
+    }
+}
+
+fn after_long_escape(is_osc: bool, c: char) -> Progress
+    ensures { result ≡ after_long_escape is_osc c }
+{
+    if c == '\\' {
+        Progress::Known
+    } else {
+        after_long(is_osc, c)
+    }
 }

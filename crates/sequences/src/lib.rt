@@ -26,7 +26,7 @@ mod scanner;
 mod sgr;
 mod style;
 
-pub use known::is_sequence_known;
+pub use known::{Progress, is_sequence_known};
 pub use laws::{
     shows_itself, shows_no_controls, shows_pieces, shows_plain_text, shows_the_same,
     writes_plain_text,

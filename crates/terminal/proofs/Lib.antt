@@ -11,6 +11,7 @@ pub mod NewlineLemmas
 pub mod NumberLemmas
 pub mod OutputLemmas
 pub mod ParagraphLemmas
+pub mod PassedLemmas
 pub mod PieceLemmas
 pub mod PlainLemmas
 pub mod PushLemmas

@@ -15,6 +15,7 @@ use Rattle.sequences.specs.Styled.{Pen, START}
 use Rattle.stream.specs.declared.reading.TheConstants.{CHUNK}
 use Rattle.terminal.specs.Decoding.{IsBeginning, IsValidText, good_part, pictures, text_after}
 use Rattle.terminal.specs.Newlines.{output_page, text_output}
+use Rattle.terminal.specs.Passed.{HasPassed}
 use Rattle.terminal.specs.Run.{ArePermitted, BeginsWith, EndsTooLong, HasRead, IsRun, IsTooLong, WritesFirst, are_within, blocks_page, have_over}
 use Rattle.terminal.specs.RunState.{AddsLast, Finishes, IsAt, IsFed, IsFront, IsValidSoFar, Stands, Steps, last_characters, pages, pen_after_blocks}
 use Rattle.sequences.specs.StyledTexts.{styled_of}
@@ -577,9 +578,9 @@ ends_at_once rules form is_last reader writer = (
 )
 
 pub stands_at_start : (rules : Rules) (form : Form) (reader writer : Device) (held : Held) → held.decoder.waiting ≡ 0 → held.decoder.started ≡ false → held.text.items ≡ [] → held.scanned ≡ 0
-    → pen_of held.output.scanner ≡ START → styled_of held.output.scanner.text ≡ [] → held.output.page.bytes.items ≡ [] → held.output.written ≡ 0 → vec_len held.decoder.chunk ≡ CHUNK
+    → HasPassed held.passed (drop 1 held.text.items) → pen_of held.output.scanner ≡ START → styled_of held.output.scanner.text ≡ [] → held.output.page.bytes.items ≡ [] → held.output.written ≡ 0 → vec_len held.decoder.chunk ≡ CHUNK
     → held.decoder.decoded ≡ 0 → held.output.over ≡ false → Stands rules form reader writer reader writer held
-stands_at_start rules form reader writer held w b t c p empty page n room d o =
+stands_at_start rules form reader writer held w b t c passed p empty page n room d o =
     let waiting = take held.decoder.waiting held.decoder.chunk.items in
     let nothing : waiting ≡ [] = ap (λ k. take k held.decoder.chunk.items) w in
     let fed_w = subst (λ (x : List ℕ). IsFed rules form [] [] x [] false) (sym nothing) (fed_none rules form) in
@@ -597,6 +598,7 @@ stands_at_start rules form reader writer held w b t c p empty page n room d o =
         over_is = o;
       };
       is_left = inl (subst (λ (x : List ℕ). IsOpen (cut_by rules) held.scanned x) (sym t) (subst (λ (x : ℕ). IsOpen (cut_by rules) x []) (sym c) (open_none rules)));
+      passed = subst (λ (n : ℕ). HasPassed held.passed (drop (n + 1) held.text.items)) (sym c) passed;
       holds = λ is none. refl;
       empty = empty;
       lines = page;

@@ -1,5 +1,5 @@
 -- What a step of `run` does, as it follows from what was read, decoded and written.
-use Rattle.std.proofs.Common.{◌≡◌, ◌⊎◌, ℕ, ◌+◌, ◌-◌, ◌^◌, ◌≤◌, Bool, true, false, ◌&&◌, ◌||◌, List, [], ◌∷◌, ◌++◌, length, take, Option, Some, None, Ok, Err, refl, sym, subst, ap, ap₂, inl, inr, ◌∙◌, append_assoc, arith}
+use Rattle.std.proofs.Common.{◌≡◌, ◌⊎◌, ℕ, ◌+◌, ◌-◌, ◌^◌, ◌≤◌, Bool, true, false, ◌&&◌, ◌||◌, List, [], ◌∷◌, ◌++◌, length, take, drop, Option, Some, None, Ok, Err, refl, sym, subst, ap, ap₂, inl, inr, ◌∙◌, append_assoc, arith}
 use Rattle.std.specs.List.{concat}
 use Rattle.std.specs.Str.Lossy.{utf8_valid_len}
 use Rattle.std.specs.Io.KnownBytes.{Consumes, IsAtEnd}
@@ -14,6 +14,7 @@ use Rattle.stream.specs.Utf8.{is_bad}
 use Rattle.stream.proofs.Utf8Lemmas.{utf8_valid_len-after}
 use Rattle.terminal.specs.Decoding.{IsRead, IsValidText, good_part, text_after}
 use Rattle.terminal.specs.Newlines.{text_output}
+use Rattle.terminal.specs.Passed.{HasPassed}
 use Rattle.terminal.specs.Run.{IsRun, have_over}
 use Rattle.terminal.specs.RunState.{AddsLast, Finishes, Gathers, IsFed, Leaves, Stands, fault_after, last_characters, pages}
 use Rattle.sequences.specs.StyledTexts.{styled_of}
@@ -161,8 +162,8 @@ module _ (rules : Rules) (form : Form) (is_last : Bool) (reader_old writer_old r
 
     pub step_on : (writer_new : Device) (output : Output) → Wrote new.output.page.bytes.items writer writer_new → output.page.bytes.items ≡ []
         → output.written ≡ new.output.written + length new.output.page.bytes.items → output.scanner ≡ new.output.scanner → output.over ≡ new.output.over → fault ≡ None
-        → Stands rules form reader_old writer_old reader_new writer_new (record new { output = output })
-    step_on writer_new output wrote empty written scanner over goes_on =
+        → HasPassed new.passed (drop (new.scanned + 1) new.text.items) → Stands rules form reader_old writer_old reader_new writer_new (record new { output = output })
+    step_on writer_new output wrote empty written scanner over goes_on scanned =
         let bytes = take (decoder.waiting + n) decoder.chunk.items in
         let cases = none_is g.is_long (form.strict && is_bad bytes) new.decoder.decoded (sym goes_on ∙ g.fault_is) in
         let is = cases.0 in
@@ -174,6 +175,7 @@ module _ (rules : Rules) (form : Form) (is_last : Bool) (reader_old writer_old r
         record {
           is_at = both.0;
           is_left = subst (λ (b : Bool). Leaves rules form.strict b new.scanned new.text.items) is g.leaves;
+          passed = scanned;
           holds = λ strict none. both.1 ∙ holds_new strict none;
           empty = ap (λ sc. styled_of sc.text) scanner ∙ g.adds.empty;
           lines = empty;

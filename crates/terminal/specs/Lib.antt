@@ -8,6 +8,7 @@ pub mod Newlines
 pub mod Numbers
 pub mod Paragraphs
 pub mod Parts
+pub mod Passed
 pub mod Pieces
 pub mod Plain
 pub mod Run

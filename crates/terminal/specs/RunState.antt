@@ -12,6 +12,7 @@ use Rattle.stream.specs.declared.reading.TheConstants.{CHUNK}
 use Rattle.terminal.specs.Decoding.{IsBeginning, Takes, good_part, text_after}
 use Rattle.terminal.specs.Ends.{IsLeft}
 use Rattle.terminal.specs.Newlines.{text_output}
+use Rattle.terminal.specs.Passed.{HasPassed}
 use Rattle.terminal.specs.Run.{are_within, blocks_page, have_over, ArePermitted, HasRead, IsRun, IsTooLong}
 use Rattle.terminal.specs.Texts.{block_page, blocks, input_text, shown_blocks}
 use Rattle.terminal.specs.declared.faults.Fault.{Fault}
@@ -126,6 +127,7 @@ pub record Stands (rules : Rules) (form : Form) (reader_old writer_old reader wr
   pub is_at : IsAt rules form reader_old reader writer_old writer (take held.decoder.waiting held.decoder.chunk.items) held.text.items held.decoder.started
       (pen_of held.output.scanner) held.output.written held.output.over
   pub is_left : IsLeft (cut_by rules) form.strict held.scanned held.text.items
+  pub passed : HasPassed held.passed (drop (held.scanned + 1) held.text.items)
   pub holds : form.strict ≡ true → length held.text.items ≡ 0 → length is_at.sent ≡ 0
   pub empty : styled_of held.output.scanner.text ≡ []
   pub lines : held.output.page.bytes.items ≡ []

@@ -12,6 +12,7 @@ use crate::decoder::{push_end, show_pictures, start};
 use crate::decoding::decode_lossy;
 use crate::form::Escapes;
 use crate::known_ends::{FirstEnd, first_end};
+use crate::passed::Passed;
 use bidi::{Base, paragraphs_are_pieces};
 use lines::{Engine, Options};
 use sequences::Scanner;
@@ -95,7 +96,7 @@ fn known_level(alloc: Global, engine: &mut Engine, text: &[char]) -> Result<Opti
     paragraphs_are_pieces();
     let mut rest = text;
     loop {
-        let FirstEnd::At(len) = first_end(engine, rest, 0) else {
+        let FirstEnd::At(len) = first_end(engine, rest, 0, Passed::nothing()) else {
             return Ok(None);
         };
         let (block, after) = rest.split_at(len);

@@ -1,11 +1,12 @@
 //! Where the blocks of a text end.
-ghost use Rattle.std.specs.Prelude.{◌≡◌, ◌≤◌, ◌<◌, ◌∷◌, ◌&&◌, None, true, drop, length, slice_index, take};
+ghost use Rattle.std.specs.Prelude.{◌≡◌, ◌≤◌, ◌<◌, ◌∷◌, None, true, drop, length, slice_index, take};
 ghost use Rattle.std.specs.Prelude.{IfSome};
 ghost use Rattle.lines.specs.Engine.{rules_of};
 ghost use Rattle.lines.specs.Layouts.{cut_by};
 ghost use Rattle.sequences.specs.Characters.{is_dropped};
 ghost use Rattle.sequences.specs.Known.{knows_sequence};
 ghost use Rattle.terminal.specs.Ends.{knows_next};
+ghost use Rattle.terminal.specs.Passed.{Skips};
 ghost use Rattle.terminal.specs.Texts.{blocks, ends_block, is_apart, next_character};
 
 use lines::Engine;
@@ -37,8 +38,7 @@ pub(crate) fn skipped_len(text: &[char]) -> Option<usize>
     ensures within { IfSome result (λ n. (0 < n) × (n ≤ length text.now)) }
     ensures some { IfSome result (λ n. next_character text.now ≡ next_character (drop n text.now)) }
     ensures none { result ≡ None → next_character text.now ≡ slice_index text.now 0 }
-    ensures known { IfSome result (λ n. knows_next text.now
-        ≡ (knows_sequence text.now && knows_next (drop n text.now))) }
+    ensures skips { IfSome result (λ n. knows_sequence text.now ≡ true → Skips n text.now) }
     ensures alone { result ≡ None → knows_next text.now ≡ true }
 {
     if let Some(len) = sequence_len(text) {

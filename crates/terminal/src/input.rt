@@ -10,6 +10,7 @@ ghost use Rattle.sequences.specs.Styled.{START};
 ghost use Rattle.sequences.specs.StyledTexts.{styled_of};
 ghost use Rattle.stream.specs.declared.reading.TheConstants.{CHUNK};
 ghost use Rattle.terminal.specs.Ends.{AreNoEnds};
+ghost use Rattle.terminal.specs.Passed.{HasPassed};
 ghost use Rattle.terminal.specs.Run.{IsRun};
 ghost use Rattle.terminal.specs.RunState.{fault_after, last_characters};
 ghost use Rattle.terminal.specs.RunState.{AddsLast, Finishes, Gathers, Stands, Steps};
@@ -18,6 +19,7 @@ use crate::decoder::Decoder;
 use crate::faults::Fault;
 use crate::form::Form;
 use crate::output::Output;
+use crate::passed::Passed;
 use device::{Sink, Source};
 use lines::Engine;
 use std::alloc::{AllocError, Global};
@@ -26,9 +28,10 @@ use std::alloc::{AllocError, Global};
 struct Held {
     decoder: Decoder,
     // The characters of the block that has not ended. No block ends before the index `scanned`, whatever
-    // follows.
+    // follows. If the character at this index is a CR, `passed` is how far the text after it was scanned.
     text: Vec<char>,
     scanned: usize,
+    passed: Passed,
     output: Output,
 }
 
@@ -38,6 +41,7 @@ impl Drop for Held {
             decoder: _,
             text: _,
             scanned: _,
+            passed: _,
             output: _,
         } = self;
     }
@@ -51,6 +55,7 @@ impl Held {
         ensures started { IfOk result (λ held. held.decoder.started ≡ false) }
         ensures text { IfOk result (λ held. held.text.items ≡ []) }
         ensures scanned { IfOk result (λ held. held.scanned ≡ 0) }
+        ensures passed { IfOk result (λ held. HasPassed held.passed (drop 1 held.text.items)) }
         ensures pen { IfOk result (λ held. pen_of held.output.scanner ≡ START) }
         ensures empty { IfOk result (λ held. styled_of held.output.scanner.text ≡ []) }
         ensures page { IfOk result (λ held. held.output.page.bytes.items ≡ []) }
@@ -61,6 +66,7 @@ impl Held {
             decoder: Decoder::new(alloc)?,
             text: Vec::new(alloc),
             scanned: 0,
+            passed: Passed::nothing(),
             output: Output::new(alloc),
         })
     }
@@ -78,17 +84,21 @@ impl Held {
         requires counted { self.old.decoder.decoded + (self.old.decoder.waiting + len) ≤ 2 ^ 64 - 1 }
         requires within { self.old.scanned ≤ length self.old.text.items }
         requires none { AreNoEnds (cut_by (rules_of engine.old)) self.old.scanned self.old.text.items }
+        requires passed { HasPassed self.old.passed (drop (self.old.scanned + 1) self.old.text.items) }
         requires empty { styled_of self.old.output.scanner.text ≡ [] }
         ensures gathers { IfOk result (Gathers (rules_of engine.old) form.now
             (take (self.old.decoder.waiting + len) self.old.decoder.chunk.items) self.old self.new) }
+        ensures passed { IfOk result (λ fault.
+            HasPassed self.new.passed (drop (self.new.scanned + 1) self.new.text.items)) }
         ensures rules { SameRules engine.old engine.new }
     {
         let stops = self.decoder.decode(form, len, &mut self.text)?;
         let left = self
             .output
-            .push_ended(alloc, engine, form, &self.text, self.scanned)?;
+            .push_ended(alloc, engine, form, &self.text, self.scanned, self.passed)?;
         remove_front(&mut self.text, left.start);
         self.scanned = left.scanned;
+        self.passed = left.passed;
         Ok(fault_of(left.is_long, stops, self.decoder.decoded))
     }
 

@@ -1,83 +1,68 @@
 //! Finds the ends of blocks that are known before a text is complete.
-ghost use Rattle.std.specs.Prelude.{◌≡◌, ◌≤◌, None, ℕ, false, true, drop, length, IfSome};
+ghost use Rattle.std.specs.Prelude.{◌≡◌, ◌+◌, ◌≤◌, ℕ, false, true, drop, length, IfErr, IfOk};
 ghost use Rattle.lines.specs.Engine.{rules_of};
 ghost use Rattle.lines.specs.Layouts.{cut_by};
-ghost use Rattle.sequences.specs.Known.{knows_sequence};
 ghost use Rattle.terminal.specs.Ends.{knows_next, AreNoEnds, IsFirst, IsOpen};
-ghost use Rattle.terminal.specs.Texts.{ends_block, next_character};
+ghost use Rattle.terminal.specs.Passed.{HasPassed};
+ghost use Rattle.terminal.specs.Texts.{ends_block};
 
-use crate::ends::{is_apart, skipped_len};
+use crate::ends::is_apart;
+use crate::passed::{Passed, known_next};
 use lines::Engine;
-use sequences::is_sequence_known;
 
 /// The first end of a block.
 #[derive(Clone, Copy)]
 pub(crate) enum FirstEnd {
     /// The block has this number of characters.
     At(usize),
-    /// It is not known. No block ends before this index, which is that of a CR or the length of the text.
-    After(usize),
+    /// It is not known. No block ends before this index, which is the length of the text or that of a CR. The
+    /// text after the CR was scanned this far.
+    After(usize, Passed),
 }
 
-// Returns the first character of a text that is neither in a sequence nor dropped, or `None` if it depends on
-// what follows the text.
-fn known_next(text: &[char]) -> Option<char>
-    ensures some { IfSome result (λ c. c ≡ next_character text.now) }
-    ensures known { IfSome result (λ c. knows_next text.now ≡ true) }
-    ensures none { result ≡ None → knows_next text.now ≡ false }
-{
-    let mut at = 0;
-    while at < text.len() {
-        let (_, rest) = text.split_at(at);
-        match skipped_len(rest) {
-            None => return Some(text[at]),
-            Some(len) => {
-                if !is_sequence_known(rest) {
-                    return None;
-                }
-                at += len;
-            }
-        }
-    }
-    None
-}
-
-// Returns whether a block ends after a character, given the text after it, or `None` if that depends on what
-// follows the text.
-fn ends_known(engine: &Engine, c: char, text: &[char]) -> Option<bool>
-    ensures some { IfSome result (λ ends. ends ≡ ends_block (cut_by (rules_of engine.now)) c text.now) }
-    ensures known { IfSome result (λ ends. c ≡ 0x0D → knows_next text.now ≡ true) }
-    ensures none { result ≡ None → (c ≡ 0x0D) × (knows_next text.now ≡ false) }
+// Returns whether a block ends after a character, given the text after it. If that depends on what follows
+// the text, returns how far the text is scanned now.
+fn ends_known(engine: &Engine, c: char, text: &[char], passed: Passed) -> Result<bool, Passed>
+    requires { HasPassed passed text.now }
+    ensures ends { IfOk result (λ ends. ends ≡ ends_block (cut_by (rules_of engine.now)) c text.now) }
+    ensures known { IfOk result (λ ends. c ≡ 0x0D → knows_next text.now ≡ true) }
+    ensures unknown { IfErr result (λ now. (c ≡ 0x0D) × (knows_next text.now ≡ false)) }
+    ensures passed { IfErr result (λ now. HasPassed now text.now) }
 {
     if !is_apart(c) {
-        return Some(false);
+        return Ok(false);
     }
     // Only after CR does the next character matter.
     if c == '\r' {
-        match known_next(text) {
-            Some(next) => Some(engine.is_cut(c, next)),
-            None => None,
+        match known_next(text, passed) {
+            Ok(next) => Ok(engine.is_cut(c, next)),
+            Err(passed) => Err(passed),
         }
     } else {
-        Some(engine.is_cut(c, '\0'))
+        Ok(engine.is_cut(c, '\0'))
     }
 }
 
 /// Finds the first end of a block in a text, given an index before which none ends, whatever follows the
-/// text.
-pub(crate) fn first_end(engine: &Engine, text: &[char], from: usize) -> FirstEnd
+/// text, and how far the text after the character at this index was scanned.
+pub(crate) fn first_end(engine: &Engine, text: &[char], from: usize, passed: Passed) -> FirstEnd
     requires within { from ≤ length text.now }
     requires none { AreNoEnds (cut_by (rules_of engine.now)) from text.now }
+    requires passed { HasPassed passed (drop (from + 1) text.now) }
     ensures at { (n : ℕ) → result ≡ FirstEnd.At n → IsFirst (cut_by (rules_of engine.now)) n text.now }
-    ensures open { (n : ℕ) → result ≡ FirstEnd.After n → IsOpen (cut_by (rules_of engine.now)) n text.now }
+    ensures open { (n : ℕ) (now : Passed) → result ≡ FirstEnd.After n now
+        → IsOpen (cut_by (rules_of engine.now)) n text.now }
+    ensures passed { (n : ℕ) (now : Passed) → result ≡ FirstEnd.After n now
+        → HasPassed now (drop (n + 1) text.now) }
 {
+    let mut passed = passed;
     for k in from..text.len() {
         let (front, rest) = text.split_at(k + 1);
-        match ends_known(engine, front[k], rest) {
-            Some(true) => return FirstEnd::At(k + 1),
-            Some(false) => (),
-            None => return FirstEnd::After(k),
+        match ends_known(engine, front[k], rest, passed) {
+            Ok(true) => return FirstEnd::At(k + 1),
+            Ok(false) => passed = Passed::nothing(),
+            Err(passed) => return FirstEnd::After(k, passed),
         }
     }
-    FirstEnd::After(text.len())
+    FirstEnd::After(text.len(), Passed::nothing())
 }

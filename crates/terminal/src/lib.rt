@@ -19,6 +19,7 @@ mod line_form;
 mod numbers;
 mod output;
 mod paragraph;
+mod passed;
 mod pieces;
 mod prefix;
 mod text;

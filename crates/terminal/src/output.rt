@@ -1,5 +1,5 @@
 //! Collects the lines of blocks, and writes them.
-ghost use Rattle.std.specs.Prelude.{◌≡◌, ◌+◌, ◌≤◌, ◌<◌, ◌==◌, ◌&&◌, ◌∷◌, [], ℕ, false, nat_lt, length};
+ghost use Rattle.std.specs.Prelude.{◌≡◌, ◌+◌, ◌≤◌, ◌<◌, ◌==◌, ◌&&◌, ◌∷◌, [], ℕ, drop, false, nat_lt, length};
 ghost use Rattle.std.specs.Prelude.{IfErr, IfOk, OnOk};
 ghost use Rattle.device.specs.Device.{StoppedAt, Wrote};
 ghost use Rattle.lines.specs.Engine.{rules_of, SameRules};
@@ -11,6 +11,7 @@ ghost use Rattle.sequences.specs.Styled.{styled, START};
 ghost use Rattle.sequences.specs.StyledTexts.{styled_of};
 ghost use Rattle.terminal.specs.Ends.{AreNoEnds};
 ghost use Rattle.terminal.specs.Newlines.{ended_page, is_ended, last_of};
+ghost use Rattle.terminal.specs.Passed.{HasPassed};
 ghost use Rattle.terminal.specs.RunState.{is_left_long, Adds, AddsEnded, AddsLast};
 ghost use Rattle.terminal.specs.declared.faults.Fault.TheVariants.{Write as WriteFault};
 
@@ -19,6 +20,7 @@ use crate::ends::block_len;
 use crate::faults::Fault;
 use crate::form::Form;
 use crate::known_ends::{FirstEnd, first_end};
+use crate::passed::Passed;
 use device::{Sink, write_all};
 use lines::{Engine, PARAGRAPH_LIMIT};
 use sequences::Scanner;
@@ -55,6 +57,8 @@ pub(crate) struct Left {
     pub(crate) start: usize,
     /// The number of its characters after which no block ends, whatever follows the text.
     pub(crate) scanned: usize,
+    /// If a CR is next, how far the text after it was scanned.
+    pub(crate) passed: Passed,
     /// Whether its first block is too long. In that case, `scanned` does not matter.
     pub(crate) is_long: bool,
 }
@@ -107,7 +111,8 @@ impl Output {
 
     /// Adds the lines of the blocks of a text that have ended, whatever follows it, up to one that is too
     /// long. If the form is strict, holds back a block that nothing follows yet. No block ends before the
-    /// index `scanned`, whatever follows the text.
+    /// index `scanned`, whatever follows the text. If the character there is a CR, the text after it was
+    /// scanned as far as `passed`.
     pub(crate) fn push_ended(
         &mut self,
         alloc: Global,
@@ -115,24 +120,32 @@ impl Output {
         form: &Form,
         text: &[char],
         scanned: usize,
+        passed: Passed,
     ) -> Result<Left, AllocError>
         requires within { scanned ≤ length text.now }
         requires none { AreNoEnds (cut_by (rules_of engine.old)) scanned text.now }
+        requires passed { HasPassed passed (drop (scanned + 1) text.now) }
         requires empty { styled_of self.old.scanner.text ≡ [] }
         ensures adds { IfOk result (λ left. AddsEnded (rules_of engine.old) form.now text.now
             self.old self.new left.start left.scanned left.is_long) }
+        ensures passed { IfOk result (λ left.
+            HasPassed left.passed (drop (left.scanned + 1) (drop left.start text.now))) }
         ensures rules { SameRules engine.old engine.new }
     {
         let mut start = 0;
         let mut from = scanned;
+        let mut passed = passed;
         loop {
             let (_, rest) = text.split_at(start);
-            match first_end(engine, rest, from) {
-                FirstEnd::After(k) => return Ok(left_open(form, start, k, rest.len())),
+            match first_end(engine, rest, from, passed) {
+                FirstEnd::After(k, passed) => {
+                    return Ok(left_open(form, start, k, passed, rest.len()));
+                }
                 FirstEnd::At(k) if is_too_long(form, k) => {
                     return Ok(Left {
                         start,
                         scanned: 0,
+                        passed: Passed::nothing(),
                         is_long: true,
                     });
                 }
@@ -141,6 +154,7 @@ impl Output {
                     return Ok(Left {
                         start,
                         scanned: k - 1,
+                        passed: Passed::nothing(),
                         is_long: false,
                     });
                 }
@@ -149,6 +163,7 @@ impl Output {
                     self.push(alloc, engine, form, block)?;
                     start += k;
                     from = 0;
+                    passed = Passed::nothing();
                 }
             }
         }
@@ -250,9 +265,10 @@ fn is_too_long(form: &Form, len: usize) -> bool
 // Returns what is left of a text, which begins at `start`, has `len` characters, and has no known end. If the
 // form is strict, it is too long if its first block is, or if the sequence after its CR is longer than
 // another block may be.
-fn left_open(form: &Form, start: usize, scanned: usize, len: usize) -> Left
+fn left_open(form: &Form, start: usize, scanned: usize, passed: Passed, len: usize) -> Left
     ensures start { result.start ≡ start }
     ensures scanned { result.scanned ≡ scanned }
+    ensures passed { result.passed ≡ passed }
     ensures short { result.is_long ≡ (form.now.strict && is_left_long scanned len) }
 {
     let is_long = form.strict
@@ -261,6 +277,7 @@ fn left_open(form: &Form, start: usize, scanned: usize, len: usize) -> Left
     Left {
         start,
         scanned,
+        passed,
         is_long,
     }
 }

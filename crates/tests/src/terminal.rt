@@ -1,8 +1,8 @@
 //! Tests what texts for a terminal show and how it is written: each row is a text and what it is written as.
 use sequences::{
-    Link, MAX_LINKS_LEN, NO_LINK, PLAIN, Scanner, StyleRef, StyledText, is_sequence_known,
-    push_between, sequence_len, shows_itself, shows_no_controls, shows_pieces, shows_plain_text,
-    shows_the_same, writes_plain_text,
+    Link, MAX_LINKS_LEN, NO_LINK, PLAIN, Progress, Scanner, StyleRef, StyledText,
+    is_sequence_known, push_between, sequence_len, shows_itself, shows_no_controls, shows_pieces,
+    shows_plain_text, shows_the_same, writes_plain_text,
 };
 use std::alloc::{AllocError, Global};
 use std::test::Fail;
@@ -350,6 +350,23 @@ fn sequences_are_known_once_they_cannot_go_on(rt: HostRuntime) {
         ([].as_slice(), false),
     ] {
         assert!(rt; is_sequence_known(text) == known);
+    }
+}
+
+#[test]
+fn sequences_can_be_scanned_in_pieces(rt: HostRuntime) {
+    for (text, known) in [
+        (['\u{1b}', '[', '3', ' ', 'q'].as_slice(), true),
+        (['\u{1b}', '[', '3', ' ', ' '].as_slice(), false),
+        (['\u{1b}', 'P', 'a', '\u{1b}', '\\'].as_slice(), true),
+        (['\u{1b}', 'P', 'a', '\u{7}'].as_slice(), true),
+        (['\u{9d}', 'a', 'b'].as_slice(), false),
+    ] {
+        for len in 0..text.len() {
+            let (front, rest) = text.split_at(len);
+            let progress = Progress::Start.scan(front);
+            assert!(rt; !progress.is_known() && progress.scan(rest).is_known() == known);
+        }
     }
 }
 

@@ -12,7 +12,7 @@ loop-held-init g c =
     record {
       kept = refl;
       stands = stands_at_start (rules_of c.args.engine.now) c.args.form.now (g.R.Source.state c.args.reader.now) (g.W.Sink.state c.args.writer.now) c.in-Ok.held
-          start.waiting start.started start.text start.scanned start.pen start.empty start.page start.written start.room start.decoded start.over;
+          start.waiting start.started start.text start.scanned start.passed start.pen start.empty start.page start.written start.room start.decoded start.over;
     }
 
 pub loop-held-preserved : goal.loop-held-preserved

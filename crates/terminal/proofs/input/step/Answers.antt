@@ -42,4 +42,4 @@ returns-in-None-clause-steps g c = λ reader_start writer_start stands.
     step_on (rules_of c.args.engine.now) c.args.form.now c.args.is_last reader_start writer_start (g.R.Source.state c.args.reader.now) (g.W.Sink.state c.args.writer.now)
     c.args.held.now stands (g.R.Source.state c.read.new.reader) c.in-Ok.len c.read.new.self c.in-Ok.ensures.ok
     c.gather.new.self c.in-Ok-gather.fault c.in-Ok-gather.ensures.gathers (g.W.Sink.state c.write.new.writer) c.write.new.self c.in_default-write.ensures.ok
-    c.in_default-write.ensures.empty c.in_default-write.ensures.written c.write.ensures.scanner c.write.ensures.over c.in-None.is
+    c.in_default-write.ensures.empty c.in_default-write.ensures.written c.write.ensures.scanner c.write.ensures.over c.in-None.is c.in-Ok-gather.ensures.passed

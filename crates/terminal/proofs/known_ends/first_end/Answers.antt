@@ -12,8 +12,8 @@ use Rattle.terminal.proofs.known_ends.first_end.Goals as goal
 at_same : (k n : ℕ) → At k ≡ At n → k ≡ n
 at_same k n e = cc
 
-pub returns-in-Some-true-clause-at : goal.returns-in-Some-true-clause-at
-returns-in-Some-true-clause-at c = λ n e.
+pub returns-in-Ok-true-clause-at : goal.returns-in-Ok-true-clause-at
+returns-in-Ok-true-clause-at c = λ n e.
     let rules = rules_of c.args.engine.now in
     let text = c.args.text.now in
     let k = c.loop-k.k in
@@ -22,9 +22,9 @@ returns-in-Some-true-clause-at c = λ n e.
     let same : ends_block (cut_by rules) c.index-front-k.result c.split_at.result.1.now ≡ ends_block (cut_by rules) (get_or text k 0) (drop (k + 1) text) =
     ap₂ (ends_block (cut_by rules)) read c.split_at.ensures.back in
     subst (λ m. IsFirst (cut_by rules) m text) (at_same (k + 1) n e)
-    (first_is rules text k within c.loop-k.invariant
-    (λ cr. subst (λ t. knows_next t ≡ true) c.split_at.ensures.back (c.in-Some-true.ensures.known (read ∙ cr)))
-    (sym same ∙ sym c.in-Some-true.ensures.some ∙ c.in-Some-true.field-0-test))
+    (first_is rules text k within c.loop-k.invariant.none
+    (λ cr. subst (λ t. knows_next t ≡ true) c.split_at.ensures.back (c.in-Ok-true.ensures.known (read ∙ cr)))
+    (sym same ∙ sym c.in-Ok-true.ensures.ends ∙ c.in-Ok-true.field-0-test))
 
 pub loop-k-preserved : goal.loop-k-preserved
 loop-k-preserved c =
@@ -35,6 +35,9 @@ loop-k-preserved c =
     let read : c.index-front-k.result ≡ get_or text k 0 = read_front text _ k c.index-front-k.result c.split_at.ensures.front within c.index-front-k.is in
     let same : ends_block (cut_by rules) c.index-front-k.result c.split_at.result.1.now ≡ ends_block (cut_by rules) (get_or text k 0) (drop (k + 1) text) =
     ap₂ (ends_block (cut_by rules)) read c.split_at.ensures.back in
-    no_end_more rules text k c.loop-k.invariant
-    (λ cr. subst (λ t. knows_next t ≡ true) c.split_at.ensures.back (c.in-Some-false.ensures.known (read ∙ cr)))
-    (sym same ∙ sym c.in-Some-false.ensures.some ∙ c.in-Some-false.field-0-test)
+    record {
+      none = no_end_more rules text k c.loop-k.invariant.none
+          (λ cr. subst (λ t. knows_next t ≡ true) c.split_at.ensures.back (c.in-Ok-false.ensures.known (read ∙ cr)))
+          (sym same ∙ sym c.in-Ok-false.ensures.ends ∙ c.in-Ok-false.field-0-test);
+      passed = c.nothing-passed.ensures (drop (k + 1 + 1) text);
+    }

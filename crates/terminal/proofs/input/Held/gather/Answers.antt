@@ -1,10 +1,12 @@
-use Rattle.std.proofs.Common.{Bool, ◌∙◌, List, ℕ, sym, subst, ap, length, arith}
+use Rattle.std.proofs.Common.{Bool, ◌∙◌, ◌+◌, List, ℕ, drop, sym, subst, ap, length, arith}
 use Rattle.lines.specs.Engine.{rules_of}
 use Rattle.lines.specs.Layouts.{cut_by}
 use Rattle.std.proofs.lemmas.List.{length-append}
 use Rattle.terminal.specs.Ends.{AreNoEnds}
+use Rattle.terminal.specs.Passed.{HasPassed}
 use Rattle.terminal.specs.RunState.{AddsEnded, IsFront, Leaves, fault_after}
 use Rattle.terminal.proofs.KnownEndLemmas.{no_ends_append}
+use Rattle.terminal.proofs.PassedLemmas.{held_passed}
 use Rattle.terminal.proofs.input.Held.gather.Goals as goal
 
 pub push_ended-requires-clause-within : goal.push_ended-requires-clause-within
@@ -20,6 +22,20 @@ push_ended-requires-clause-none c =
     let scanned = c.args.self.now.scanned in
     subst (AreNoEnds is_cut scanned) (sym c.deref.ensures.value)
     (subst (AreNoEnds is_cut scanned) (sym takes.added) (no_ends_append is_cut scanned c.args.self.now.text.items takes.characters c.requires.within c.requires.none))
+
+pub push_ended-requires-clause-passed : goal.push_ended-requires-clause-passed
+push_ended-requires-clause-passed c =
+    let takes = c.in_ok-stops.ensures.takes in
+    let held = c.args.self.now in
+    let passes : List ℕ → Type 0 = λ text. HasPassed held.passed (drop (held.scanned + 1) text) in
+    subst passes (sym c.deref.ensures.value)
+    (subst passes (sym takes.added) (held_passed held.passed held.scanned held.text.items takes.characters c.requires.within c.requires.passed))
+
+pub returns-clause-passed : goal.returns-clause-passed
+returns-clause-passed c =
+    let left = c.in_ok-left.left in
+    let passes : List ℕ → Type 0 = λ text. HasPassed left.passed (drop (left.scanned + 1) text) in
+    subst passes (sym c.remove_front.ensures) (subst (λ (t : List ℕ). passes (drop left.start t)) c.deref.ensures.value c.in_ok-left.ensures.passed)
 
 pub returns-clause-gathers : goal.returns-clause-gathers
 returns-clause-gathers c =
