@@ -69,12 +69,13 @@
  * A function with a parameter `capacity` writes to arrays of the caller. What it does with NULL depends on the
  * function:
  *   - `hordguli_layout`, `hordguli_lines_utf8`, `hordguli_text`, `hordguli_text_utf32`, `hordguli_runs`,
- *     `hordguli_row_runs`, `hordguli_spans` and `hordguli_line_clusters` have one array, and store its size in their
- *     last parameter. If the array is too small, they return NO_ROOM, leave it unchanged, and store the required size.
- *     So NULL with capacity 0 is not skipped: it asks for the size.
- *   - `hordguli_line`, `hordguli_paragraph` and `hordguli_row` have several arrays. They skip those that are NULL. If
- *     another one is too small, they return NO_ROOM. If all are NULL, nothing needs room, and the call succeeds with any
- *     capacity. In both cases, `hordguli_line` and `hordguli_paragraph` store the size in `*info`.
+ *     `hordguli_row_runs`, `hordguli_spans`, `hordguli_line_clusters` and `hordguli_clusters` have one array, and store
+ *     its size in their last parameter. If the array is too small, they return NO_ROOM, leave it unchanged, and store the
+ *     required size. So NULL with capacity 0 is not skipped: it asks for the size.
+ *   - `hordguli_line`, `hordguli_paragraph`, `hordguli_row` and `hordguli_decode` have several arrays. They skip those
+ *     that are NULL. If another one is too small, they return NO_ROOM. If all are NULL, nothing needs room, and the call
+ *     succeeds with any capacity. In both cases, `hordguli_line` and `hordguli_paragraph` store the size in `*info`, and
+ *     `hordguli_decode` in `*count`.
  *   - `hordguli_levels` and `hordguli_marks` need `count` elements. NULL is not skipped.
  *
  * Call a function of the first kind in a loop, until the buffer is large enough. Keep the buffer, which is NULL at first,
@@ -425,6 +426,20 @@ hordguli_status hordguli_count_utf8(const char *bytes, size_t length, size_t *co
  * Cost: O(length).
  * Since: 0.6. */
 hordguli_status hordguli_valid_utf8(const char *bytes, size_t length, size_t *valid);
+
+/* Decodes UTF-8 text of `length` bytes. Stores the number of its characters in `*count`, and this many elements in each
+ * array. Each array has `capacity` elements. NULL arrays are skipped, so with both NULL nothing needs room (see BUFFERS).
+ *   characters  characters, for the functions below `Clusters`, `Rows` and `Levels and properties`
+ *   offsets     byte offset of each character
+ *
+ * On NO_ROOM, `*count` is set and the arrays are unchanged. Text that is not UTF-8 is refused, as in all functions, so a
+ * position always means the same character. On NOT_UTF8, `hordguli_valid_utf8` says where. To replace invalid bytes by
+ * U+FFFD, decode the text before them, and go on after them.
+ * Errors: NULL, OVERLAP, NOT_UTF8, NO_ROOM.
+ * Cost: O(length).
+ * Since: 0.6. */
+hordguli_status hordguli_decode(const char *bytes, size_t length, size_t capacity, uint32_t *characters,
+                                size_t *offsets, size_t *count);
 
 /* ---- Sessions and edits ---- */
 
@@ -914,6 +929,19 @@ hordguli_status hordguli_line_edges(hordguli_session *session, size_t line, hord
  * Since: 0.6. */
 hordguli_status hordguli_line_clusters(hordguli_session *session, size_t line, size_t capacity, size_t *ends,
                                        size_t *count);
+
+/* ---- Clusters ---- */
+
+/* Stores where the grapheme clusters of a text of `count` characters end, in an array of `capacity` elements, and their
+ * number in `*cluster_count`. NULL with capacity 0 is NO_ROOM, unless `count` is 0 (see BUFFERS). The first cluster starts
+ * at 0, each other one where the one before it ends, and the last one ends at `count`. No cluster continues after a
+ * separator, so the clusters are those of a session with this text (`hordguli_cluster_at`), also of a text of several
+ * paragraphs. NO_MEMORY comes before NO_ROOM.
+ * Errors: NULL, OVERLAP, NOT_A_CHARACTER, NO_MEMORY, NO_ROOM.
+ * Cost: time and memory proportional to `count`.
+ * Since: 0.6. */
+hordguli_status hordguli_clusters(size_t count, const uint32_t *characters, size_t capacity, size_t *ends,
+                                  size_t *cluster_count);
 
 /* ---- Rows ---- */
 

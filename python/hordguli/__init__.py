@@ -7,7 +7,7 @@
 - `display` returns one visual string, as `get_display` of python-bidi does. `wrap` returns visual lines.
 - `Session` keeps a text and its lines under edits, and has what an editor needs: carets, hits, selections. Its columns are
   those of a terminal, or with a function `measure` those of any font. `hordguli.harfbuzz.Measure` measures by font files.
-- `levels`, `base_level`, `breaks`, `row`, `row_runs` and `properties` are for programs that lay out lines themselves.
+- `levels`, `base_level`, `breaks`, `clusters`, `row`, `row_runs` and `properties` are for programs that lay out lines themselves.
 - `explain` returns what decides a layout. `python3 -m hordguli explain TEXT` prints it, or writes a page.
 
 What to know before the first line:
@@ -86,7 +86,7 @@ from ._records import (
 from .session import Session as Session
 from .tables import TABLE_FILES, default_tables
 from .tables import Tables as Tables
-from .text import base_level, breaks, count_utf8, display, levels, properties, row, row_runs, valid_utf8, wrap
+from .text import base_level, breaks, clusters, count_utf8, display, levels, properties, row, row_runs, valid_utf8, wrap
 
 # The functions and constants, and not the classes: so help(hordguli) shows the functions, and names the classes.
 __all__ = [
@@ -96,6 +96,7 @@ __all__ = [
     "__version__",
     "base_level",
     "breaks",
+    "clusters",
     "count_utf8",
     "default_tables",
     "display",

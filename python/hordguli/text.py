@@ -4,6 +4,7 @@ import re
 from codecs import utf_32_le_decode, utf_32_le_encode
 from collections.abc import Iterable
 from ctypes import byref, c_size_t, c_uint32
+from struct import calcsize
 from typing import Literal, Optional, SupportsIndex, Union, overload
 
 from ._calls import Call, Measure, address, flags, get_array, get_records, get_size, make_call, numbers, text_of, uint32, utf32
@@ -248,6 +249,16 @@ def properties(text: str, *, tables: Optional[Tables] = None) -> list[Character]
             _properties(tables or default_tables(), utf32(text))
         )
     ]
+
+
+def clusters(text: str) -> list[int]:
+    """Returns where the grapheme clusters of a text end (UAX #29). They are those of a `Session`.
+
+    >>> hordguli.clusters("e\\u0301a")
+    [2, 3]
+    """
+    ends = get_array(calcsize("N"), library.hordguli_clusters, len(text), utf32(text))
+    return list(numbers(ends, "N"))
 
 
 def count_utf8(data: bytes) -> int:

@@ -106,7 +106,7 @@ static hordguli_line_info found_info;
 
 enum {
     BUILTIN, OPEN_17, OPEN_TABLES, OPEN, OPEN_MEASURED, ADVANCES, JOIN, MEASURED_WIDTH, INSERT, REPLACE, WIDTH, CLUSTER, WORD, CARET, STEP, EDGE, NEAREST, CLUSTERS, DELETE, BASE, LEVELS,
-    MARKS, ROW, ROW_RUNS, LAYOUT, LINES, TEXT, PAGE, STEPS
+    MARKS, ROW, ROW_RUNS, TEXT_CLUSTERS, LAYOUT, LINES, TEXT, PAGE, STEPS
 };
 
 static const char start[] = "ab \u05d0\u05d1 12\nx\n";
@@ -158,6 +158,7 @@ static hordguli_status step(int k) {
             return hordguli_row(&tables, 0, 1, 9, characters, levels_before, 9, found_visual, found_row, NULL, NULL);
         case ROW_RUNS:
             return hordguli_row_runs(&tables, 1, 9, characters, levels_before, 9, found_runs, &found_length);
+        case TEXT_CLUSTERS: return hordguli_clusters(9, characters, 100, found_ends, &found_length);
         case LAYOUT:
             return hordguli_layout(&tables, 0, 4, 127, start, sizeof start - 1, BYTES, found_bytes, &found_length);
         case LINES: return hordguli_lines_utf8(&session, 0, 2, 127, BYTES, found_bytes, &found_length);

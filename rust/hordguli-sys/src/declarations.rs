@@ -564,6 +564,28 @@ extern "C" {
         length: usize,
         valid: *mut usize,
     ) -> hordguli_status;
+    /// Decodes UTF-8 text of `length` bytes. Stores the number of its characters in `*count`, and this many elements in each
+    /// array. Each array has `capacity` elements. NULL arrays are skipped, so with both NULL nothing needs room (see BUFFERS).
+    /// - `characters`: characters, for the functions below `Clusters`, `Rows` and `Levels and properties`
+    /// - `offsets`: byte offset of each character
+    ///
+    /// On NO_ROOM, `*count` is set and the arrays are unchanged. Text that is not UTF-8 is refused, as in all functions, so a
+    /// position always means the same character. On NOT_UTF8, `hordguli_valid_utf8` says where. To replace invalid bytes by
+    /// U+FFFD, decode the text before them, and go on after them.
+    ///
+    /// Errors: NULL, OVERLAP, NOT_UTF8, NO_ROOM.
+    ///
+    /// Cost: O(length).
+    ///
+    /// Since: 0.6.
+    pub fn hordguli_decode(
+        bytes: *const c_char,
+        length: usize,
+        capacity: usize,
+        characters: *mut u32,
+        offsets: *mut usize,
+        count: *mut usize,
+    ) -> hordguli_status;
     /// Opens a session on a text. `width` is in columns. The session shares the tables, so their handle may be closed
     /// before the session. On NOT_UTF8, `hordguli_valid_utf8` says where. NO_MEMORY comes directly after CLOSED if 2^63
     /// sessions share the tables.
@@ -1132,6 +1154,24 @@ extern "C" {
         capacity: usize,
         ends: *mut usize,
         count: *mut usize,
+    ) -> hordguli_status;
+    /// Stores where the grapheme clusters of a text of `count` characters end, in an array of `capacity` elements, and their
+    /// number in `*cluster_count`. NULL with capacity 0 is NO_ROOM, unless `count` is 0 (see BUFFERS). The first cluster starts
+    /// at 0, each other one where the one before it ends, and the last one ends at `count`. No cluster continues after a
+    /// separator, so the clusters are those of a session with this text (`hordguli_cluster_at`), also of a text of several
+    /// paragraphs. NO_MEMORY comes before NO_ROOM.
+    ///
+    /// Errors: NULL, OVERLAP, NOT_A_CHARACTER, NO_MEMORY, NO_ROOM.
+    ///
+    /// Cost: time and memory proportional to `count`.
+    ///
+    /// Since: 0.6.
+    pub fn hordguli_clusters(
+        count: usize,
+        characters: *const u32,
+        capacity: usize,
+        ends: *mut usize,
+        cluster_count: *mut usize,
     ) -> hordguli_status;
     /// Puts a row of `count` characters into visual order. The caller chose where the row starts and ends. `base` is the
     /// base level of its paragraph (`hordguli_base`), and `levels` are the levels of the row's characters in the whole

@@ -7,7 +7,7 @@
 //! | Task | Calls |
 //! |---|---|
 //! | [One string](#one-string) | [`wrap`], [`layout`], [`layout_into`] |
-//! | [A terminal row](#a-terminal-row) | [`base_level`], [`levels`], [`row`], [`row_runs`], [`breaks`], [`properties`] |
+//! | [A terminal row](#a-terminal-row) | [`base_level`], [`levels`], [`row`], [`row_runs`], [`breaks`], [`clusters`], [`properties`] |
 //! | [A document](#a-document) | [`Session`], [`Line`], [`Paragraph`] |
 //! | Text in any font | [`Session::open_measured`], [`Session::set_advances`] |
 //! | [An editor](#an-editor) | [`Session::insert`], [`Damage`], [`Edge`], [`Line::spans`] |
@@ -199,8 +199,8 @@ pub use records::{
 pub use session::Session;
 pub use tables::Tables;
 pub use text::{
-    base_level, breaks, count_utf8, layout, layout_into, levels, properties, row, row_runs,
-    valid_utf8, wrap,
+    base_level, breaks, clusters, count_utf8, decode, layout, layout_into, levels, properties, row,
+    row_runs, valid_utf8, wrap,
 };
 
 /// Returns the version of the C library, such as `0.5.0`.

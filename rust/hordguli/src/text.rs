@@ -294,3 +294,42 @@ pub fn valid_utf8(bytes: &[u8]) -> usize {
     // (it fails for NULL and overlapping parameters only)
     ffi::valid_utf8(bytes).unwrap_or_default()
 }
+
+/// Returns the characters of UTF-8 text, and the offset of each, in bytes.
+///
+/// A program that has a `&str` can iterate over its [`char_indices`](str::char_indices) instead.
+///
+/// ```
+/// let (chars, offsets) = hordguli::decode("\u{5d0}b".as_bytes())?;
+/// assert_eq!((chars, offsets), (vec!['\u{5d0}', 'b'], vec![0, 2]));
+/// # Ok::<(), hordguli::Error>(())
+/// ```
+///
+/// # Errors
+///
+/// [`Error::NotUtf8`], in which case [`valid_utf8`] says where; [`Error::OutOfMemory`].
+///
+/// # Cost
+///
+/// Time and memory proportional to the number of bytes.
+pub fn decode(bytes: &[u8]) -> Result<(Vec<char>, Vec<usize>), Error> {
+    ffi::decode(bytes)
+}
+
+/// Returns where the grapheme clusters of a text end. They are those of a session with this text, and the last one ends at its end.
+///
+/// ```
+/// assert_eq!(hordguli::clusters(&['e', '\u{301}', 'a'])?, [2, 3]);
+/// # Ok::<(), hordguli::Error>(())
+/// ```
+///
+/// # Errors
+///
+/// [`Error::OutOfMemory`].
+///
+/// # Cost
+///
+/// Time and memory proportional to the number of characters.
+pub fn clusters(chars: &[char]) -> Result<Vec<usize>, Error> {
+    ffi::clusters(chars)
+}
