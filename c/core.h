@@ -114,6 +114,8 @@ uint32_t hordguli_core_line_clusters(hordguli_session *session, size_t n, size_t
 
 uint32_t hordguli_core_clusters(const uint32_t *characters, size_t characters_length, size_t *array,
                                 size_t array_length, size_t *count);
+uint32_t hordguli_core_script_runs(hordguli_tables *tables, const uint32_t *characters, size_t characters_length,
+                                   hordguli_script_run *array, size_t array_length, size_t *count);
 
 /* Bits of `wanted`, as above. `levels` has as many elements as `characters`. */
 #define HORDGULI_CORE_ROW_VISUAL UINT32_C(1)

@@ -452,7 +452,7 @@ PUBLIC hordguli_status hordguli_line_clusters(hordguli_session *session, size_t 
     return (hordguli_status)hordguli_core_line_clusters(session, line, ROOM(size_t, ends, none), capacity, count);
 }
 
-/* ---- Clusters ---- */
+/* ---- Clusters and scripts ---- */
 
 PUBLIC hordguli_status hordguli_clusters(size_t count, const uint32_t *characters, size_t capacity, size_t *ends,
                                          size_t *cluster_count) {
@@ -461,6 +461,15 @@ PUBLIC hordguli_status hordguli_clusters(size_t count, const uint32_t *character
     if (OVERLAP_3(AT(cluster_count), ARRAY(ends, capacity), ARRAY(characters, count))) return HORDGULI_OVERLAP;
     return (hordguli_status)hordguli_core_clusters(NUMBERS(characters), count, ROOM(size_t, ends, none), capacity,
                                                    cluster_count);
+}
+
+PUBLIC hordguli_status hordguli_script_runs(hordguli_tables *tables, size_t count, const uint32_t *characters,
+                                            size_t capacity, hordguli_script_run *runs, size_t *run_count) {
+    hordguli_script_run none[1];
+    if (tables == NULL || run_count == NULL || LACKS(characters, count) || LACKS(runs, capacity)) return HORDGULI_NULL;
+    if (OVERLAP(AT(tables), AT(run_count), ARRAY(runs, capacity), ARRAY(characters, count))) return HORDGULI_OVERLAP;
+    return (hordguli_status)hordguli_core_script_runs(tables, NUMBERS(characters), count,
+                                                      ROOM(hordguli_script_run, runs, none), capacity, run_count);
 }
 
 /* ---- Rows ---- */

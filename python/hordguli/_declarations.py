@@ -148,6 +148,8 @@ FUNCTIONS: dict[str, tuple[Any, dict[str, Any]]] = {
                                         "count": POINTER}),
     "hordguli_clusters": (STATUS, {"count": SIZE, "characters": POINTER, "capacity": SIZE, "ends": POINTER,
                                    "cluster_count": POINTER}),
+    "hordguli_script_runs": (STATUS, {"tables": POINTER, "count": SIZE, "characters": POINTER, "capacity": SIZE,
+                                      "runs": POINTER, "run_count": POINTER}),
     "hordguli_row": (STATUS, {"tables": POINTER, "options": NUMBER, "base": NUMBER, "count": SIZE,
                               "characters": POINTER, "levels": POINTER, "capacity": SIZE, "visual": POINTER,
                               "row_levels": POINTER, "ltov": POINTER, "vtol": POINTER}),

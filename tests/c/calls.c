@@ -1489,6 +1489,62 @@ static void decoded_text(void) {
     HOLDS(count == 0);
 }
 
+#define CODE(letters) \
+    ((uint32_t)(letters)[0] << 24 | (uint32_t)(letters)[1] << 16 | (uint32_t)(letters)[2] << 8 | (uint32_t)(letters)[3])
+
+/* Compares the script runs of a text with a string such as `3 Latn 2 Hebr `. */
+static void runs_are(const char *bytes, const char *wanted) {
+    uint32_t characters[300];
+    hordguli_script_run runs[100];
+    char found[1000] = "";
+    size_t count = 0, run_count = 0, at = 0;
+    OK(hordguli_decode(bytes, strlen(bytes), 300, characters, NULL, &count));
+    OK(hordguli_script_runs(&tables, count, characters, 100, runs, &run_count));
+    for (size_t k = 0; k < run_count; at += runs[k++].length) {
+        uint32_t code = runs[k].script;
+        size_t length = strlen(found);
+        HOLDS(runs[k].start == at && runs[k].length > 0 && runs[k].zero == 0);
+        snprintf(found + length, sizeof found - length, "%zu %c%c%c%c ", runs[k].length, (char)(code >> 24),
+                 (char)(code >> 16 & 255), (char)(code >> 8 & 255), (char)(code & 255));
+    }
+    holds(at == count && strcmp(found, wanted) == 0, __FILE__, __LINE__, bytes);
+}
+
+static void script_runs(void) {
+    static const uint32_t characters[] = {'a', 0x5D0, ' '}, no_character[] = {'a', 0xD800, ' '};
+    hordguli_script_run runs[3] = {{7, 7, 7, 7}, {7, 7, 7, 7}, {7, 7, 7, 7}};
+    uint32_t both[12] = {'a'};
+    size_t count = 77;
+    runs_are("", "");
+    runs_are("abc, \u05d0\u05d1.", "5 Latn 3 Hebr ");
+    runs_are("a (\u05d0) b", "3 Latn 1 Hebr 3 Latn ");             /* the brackets are those of `a` */
+    runs_are("(\u05d0) abc", "4 Hebr 3 Latn ");                    /* what comes first belongs to what follows */
+    runs_are("a[\u05d0(\u05d1]c", "2 Latn 3 Hebr 2 Latn ");        /* an outer bracket closes an inner one */
+    runs_are("a)\u05d0)", "2 Latn 2 Hebr ");                       /* closing brackets without an opening one */
+    runs_are("a(\u05d0))", "2 Latn 1 Hebr 2 Latn ");               /* a pair matches once */
+    runs_are("12 + 3", "6 Zyyy ");                                 /* no character has a script */
+    runs_are("\u0301a\u0301\u05d0\u0301", "3 Latn 2 Hebr ");      /* marks */
+    runs_are("\u0e01\u0628\u3042\u30a2\u4e00\U00010E80", "1 Thai 1 Arab 1 Hira 1 Kana 1 Hani 1 Yezi ");
+    runs_are("\ue000 \u0378", "3 Zzzz ");                         /* a private-use character and an unassigned one */
+    runs_are("a\u0f3a\u05d0\u0f3b", "1 Latn 1 Tibt 1 Hebr 1 Tibt "); /* brackets of a script */
+    IS(hordguli_script_runs(NULL, 3, characters, 3, runs, &count), NULL);
+    IS(hordguli_script_runs(&tables, 3, NULL, 3, runs, &count), NULL);
+    IS(hordguli_script_runs(&tables, 3, characters, 3, NULL, &count), NULL);
+    IS(hordguli_script_runs(&tables, 3, characters, 3, runs, NULL), NULL);
+    IS(hordguli_script_runs(&tables, 3, characters, 3, runs, (size_t *)runs), OVERLAP);
+    IS(hordguli_script_runs(&tables, 12, both, 1, (hordguli_script_run *)both, &count), OVERLAP);
+    IS(hordguli_script_runs(&no_tables, 3, characters, 3, runs, &count), CLOSED);
+    IS(hordguli_script_runs(&tables, 3, no_character, 3, runs, &count), NOT_A_CHARACTER);
+    HOLDS(count == 77 && runs[0].start == 7);
+    IS(hordguli_script_runs(&tables, 3, characters, 1, runs, &count), NO_ROOM);
+    HOLDS(count == 2 && runs[0].start == 7);
+    OK(hordguli_script_runs(&tables, 3, characters, 2, runs, &count)); /* exactly large enough */
+    HOLDS(count == 2 && runs[0].start == 0 && runs[0].length == 1 && runs[0].script == CODE("Latn") && runs[0].zero == 0);
+    HOLDS(runs[1].start == 1 && runs[1].length == 2 && runs[1].script == CODE("Hebr") && runs[2].start == 7);
+    OK(hordguli_script_runs(&tables, 0, NULL, 0, NULL, &count));
+    HOLDS(count == 0);
+}
+
 static void clusters_of_text(void) {
     /* a letter with a mark, CR LF, a Devanagari conjunct, a flag, an emoji family */
     static const uint32_t characters[] = {'e', 0x301, '\r', '\n', 0x915, 0x94D, 0x937, 0x1F1F3, 0x1F1F1, 0x1F468, 0x200D, 0x1F469, 'a'};
@@ -1908,6 +1964,7 @@ static void null_array_is_too_small(void) {
     SIZE_IS(hordguli_line_clusters(&session, 0, 0, NULL, &size), 8);
     SIZE_IS(hordguli_row_runs(&tables, 0, 2, characters, levels, 0, NULL, &size), 2);
     SIZE_IS(hordguli_clusters(2, characters, 0, NULL, &size), 2);
+    SIZE_IS(hordguli_script_runs(&tables, 2, characters, 0, NULL, &size), 2);
 #undef SIZE_IS
 #define NOTHING(call) OK(call), HOLDS(size == 0), size = 77
     NOTHING(hordguli_layout(&tables, 0, 80, HORDGULI_PRINT_VISUAL, NULL, 0, 0, NULL, &size));
@@ -1917,6 +1974,7 @@ static void null_array_is_too_small(void) {
     NOTHING(hordguli_spans(&session, 0, 3, 3, 0, NULL, &size));
     NOTHING(hordguli_row_runs(&tables, 0, 0, NULL, NULL, 0, NULL, &size));
     NOTHING(hordguli_clusters(0, NULL, 0, NULL, &size));
+    NOTHING(hordguli_script_runs(&tables, 0, NULL, 0, NULL, &size));
 #undef NOTHING
     IS(hordguli_levels(&tables, 0, characters, 2, 0, NULL), NO_ROOM);
     IS(hordguli_marks(&tables, 0, characters, 2, 0, NULL), NO_ROOM);
@@ -1981,6 +2039,7 @@ int main(int count, char **words) {
     text_of_ranges();
     decoded_text();
     clusters_of_text();
+    script_runs();
     characters_of_ranges();
     paragraphs();
     directions_are_one_or_refused();

@@ -139,6 +139,11 @@ FIELD(run, length, WORDS(1), size_t);
 FIELD(run, level, WORDS(2), uint32_t);
 FIELD(run, zero, WORDS(2) + 4, uint32_t);
 SIZE(run, WORDS(2) + 8);
+FIELD(script_run, start, WORDS(0), size_t);
+FIELD(script_run, length, WORDS(1), size_t);
+FIELD(script_run, script, WORDS(2), uint32_t);
+FIELD(script_run, zero, WORDS(2) + 4, uint32_t);
+SIZE(script_run, WORDS(2) + 8);
 FIELD(word, start, WORDS(0), size_t);
 FIELD(word, end, WORDS(1), size_t);
 FIELD(word, kind, WORDS(2), uint32_t);
@@ -471,6 +476,7 @@ static void parameters_are_not_exchanged(void) {
     uint8_t found[4] = {77, 77, 77, 77};
     uint32_t both[4] = {77, 77, 77, 77}, maps[2][4] = {{77, 77, 77, 77}, {77, 77, 77, 77}};
     hordguli_run runs[4] = {{77, 77, 77, 77}};
+    hordguli_script_run scripts[4] = {{77, 77, 77, 77}};
     static const uint32_t characters[] = {'a', ' ', 0x5D0, 'b'}, row[] = {'(', 0x5D0, '1', ' '};
     static const uint8_t row_levels[] = {1, 1, 2, 1};
     static const char printed[] = "12 \u05d5\u05b0\u05d4\u05b0\u05d3\nlast\n";
@@ -493,6 +499,9 @@ static void parameters_are_not_exchanged(void) {
     HOLDS(offsets[0] == 0 && offsets[1] == 2 && offsets[2] == 77);
     OK(hordguli_clusters(3, (const uint32_t[]){'a', 0x301, 'b', 'c'}, 4, offsets, &length));
     HOLDS(length == 2 && offsets[0] == 2 && offsets[1] == 3 && offsets[2] == 77);
+    OK(hordguli_script_runs(&tables, 3, characters, 4, scripts, &length));
+    HOLDS(length == 2 && scripts[0].start == 0 && scripts[0].length == 2 && scripts[0].script == 0x4C61746E);
+    HOLDS(scripts[1].start == 2 && scripts[1].length == 1 && scripts[1].script == 0x48656272 && scripts[1].zero == 0);
     OK(hordguli_base(&tables, 0, characters + 1, 2, &base));
     HOLDS(base == 1);
     OK(hordguli_levels(&tables, 3, characters, 3, 4, found));
@@ -1200,6 +1209,7 @@ MAKE(base, a->tables, a->flags, a->characters, a->count, a->out)
 MAKE(levels, a->tables, a->flags, a->characters, a->count, a->capacity, a->arrays[0])
 MAKE(marks, a->tables, a->flags, a->characters, a->count, a->capacity, a->arrays[0])
 MAKE(clusters, a->count, a->characters, a->capacity, a->arrays[0], a->out)
+MAKE(script_runs, a->tables, a->count, a->characters, a->capacity, a->arrays[0], a->out)
 MAKE(row, a->tables, a->flags, a->base, a->count, a->characters, a->levels, a->capacity, a->arrays[0], a->arrays[1],
      a->arrays[2], a->arrays[3])
 MAKE(row_runs, a->tables, a->base, a->count, a->characters, a->levels, a->capacity, a->arrays[0], a->out)
@@ -1319,6 +1329,8 @@ static const call calls[] = {
          .needed = 2),
     CALL(clusters, "NULL, OVERLAP, NOT_A_CHARACTER, NO_MEMORY, NO_ROOM", .ways = {of_clusters, of_ends},
          .out_size = sizeof(size_t), .count = 5, .needed = 5),
+    CALL(script_runs, "NULL, OVERLAP, CLOSED, NOT_A_CHARACTER, NO_MEMORY, NO_ROOM",
+         .ways = {of_characters, of_base, of_elements}, .out_size = sizeof(size_t), .count = 5, .needed = 3),
     CALL(paragraph, READING ", NO_ROOM", .ways = {of_session, of_at, of_paragraph},
          .out_size = sizeof(hordguli_paragraph_info), .at = 1, .end = 3, .needed = 7),
     /* NO_ROOM does not allocate: the handle of the tables keeps the memory of the first call. */
@@ -1489,7 +1501,7 @@ static int is_set_as_promised(const call *c, hordguli_status status) {
 static int allocates_first(const call *c, hordguli_status error) {
     if (error == HORDGULI_NO_ROOM)
         return c->make == make_lines_utf8 || c->make == make_text || c->make == make_row_runs || c->make == make_line_clusters
-               || c->make == make_clusters;
+               || c->make == make_clusters || c->make == make_script_runs;
     return (error == HORDGULI_TABLE_FAULT && c->make != make_tables_open_image) || error == HORDGULI_UNREAD_FILE;
 }
 #endif

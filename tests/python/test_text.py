@@ -132,6 +132,15 @@ def test_clusters_of_a_text():
     assert hordguli.clusters("a" * 100) == list(range(1, 101)) and hordguli.clusters("") == []
 
 
+def test_script_runs_follow_brackets():
+    def scripts(text):
+        return [(run.length, run.script) for run in hordguli.script_runs(text)]
+
+    assert hordguli.script_runs("a (\u05d0) 1") == [(0, 3, "Latn"), (3, 1, "Hebr"), (4, 3, "Latn")]
+    assert (scripts("1 \u05d0!"), scripts("12"), scripts("")) == ([(4, "Hebr")], [(2, "Zyyy")], [])
+    assert len(scripts("a\u05d0" * 50)) == 100
+
+
 def test_properties_of_characters():
     bracket, letter, mark, wide, clef = hordguli.properties(f"[\u05d0\u0300\u4e00{CLEF}")
     assert bracket == hordguli.Character("]", "]", False, False, "ON", "OP", 1, "open")

@@ -309,6 +309,7 @@ static void session_answers(uint64_t number) {
     static char text[4 * MOST], page[BYTES];
     static uint32_t characters[MOST];
     static size_t offsets[MOST];
+    static hordguli_script_run script_runs[MOST];
     size_t version, direction, length, all, written, damaged;
     uint32_t options, tab, width, print;
     int is_measured;
@@ -350,6 +351,12 @@ static void session_answers(uint64_t number) {
     hordguli_text_utf32(&session, 0, counts.characters, MOST, characters, &written);
     row_answers(&tables[version], options, directions[direction], characters, counts.characters);
     if (succeeds("text_clusters", hordguli_clusters(counts.characters, characters, MOST, offsets, &all))) TELL_ARRAY("end", offsets, all);
+    if (succeeds("script_runs", hordguli_script_runs(&tables[version], counts.characters, characters, MOST, script_runs, &all)))
+        for (size_t k = 0; k < all; k++) {
+            tell("run.start", script_runs[k].start);
+            tell("run.length", script_runs[k].length);
+            tell("run.script", script_runs[k].script);
+        }
     hordguli_text(&session, 0, counts.characters, BYTES, page, &written);
     damaged = below(written + 1);
     if (damaged < written) page[damaged] = (char)(page[damaged] ^ 0x80);

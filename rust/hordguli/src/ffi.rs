@@ -377,6 +377,22 @@ impl TablesHandle {
         }
     }
 
+    pub fn script_runs(&self, chars: &[char]) -> Result<Vec<hordguli_script_run>, Error> {
+        // SAFETY: *handle*; `chars` is an input, and the runs and their number are outputs.
+        unsafe {
+            array(USUAL_COUNT, |capacity, runs, count| {
+                hordguli_script_runs(
+                    self.at(),
+                    chars.len(),
+                    chars.as_ptr().cast(),
+                    capacity,
+                    runs,
+                    count,
+                )
+            })
+        }
+    }
+
     pub fn properties(&self, chars: &[char]) -> Result<Vec<hordguli_character>, Error> {
         let mut records = defaults(chars.len())?;
         // SAFETY: *handle*; `chars` is an input, and `records` an output of the same length.

@@ -7,7 +7,7 @@
 //! | Task | Calls |
 //! |---|---|
 //! | [One string](#one-string) | [`wrap`], [`layout`], [`layout_into`] |
-//! | [A terminal row](#a-terminal-row) | [`base_level`], [`levels`], [`row`], [`row_runs`], [`breaks`], [`clusters`], [`properties`] |
+//! | [A terminal row](#a-terminal-row) | [`base_level`], [`levels`], [`row`], [`row_runs`], [`script_runs`], [`breaks`], [`clusters`], [`properties`] |
 //! | [A document](#a-document) | [`Session`], [`Line`], [`Paragraph`] |
 //! | Text in any font | [`Session::open_measured`], [`Session::set_advances`] |
 //! | [An editor](#an-editor) | [`Session::insert`], [`Damage`], [`Edge`], [`Line::spans`] |
@@ -194,13 +194,13 @@ pub use options::{BaseDirection, Options, Print};
 pub use position::{BytePos, CharPos, Position, TextRange, Utf16Pos};
 pub use records::{
     Bracket, Break, Caret, Character, Counts, Damage, Direction, Edge, Hit, Level, Place, Row, Run,
-    Side, Span, Word, Work,
+    ScriptRun, Side, Span, Word, Work,
 };
 pub use session::Session;
 pub use tables::Tables;
 pub use text::{
     base_level, breaks, clusters, count_utf8, decode, layout, layout_into, levels, properties, row,
-    row_runs, valid_utf8, wrap,
+    row_runs, script_runs, valid_utf8, wrap,
 };
 
 /// Returns the version of the C library, such as `0.5.0`.

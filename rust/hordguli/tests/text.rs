@@ -1,8 +1,8 @@
 //! The functions that need no session.
 use hordguli::{
     base_level, breaks, clusters, count_utf8, decode, layout, layout_into, levels, properties, row,
-    row_runs, valid_utf8, wrap, BaseDirection, BidiClass, Bracket, Break, Error, Level, LineClass,
-    Options, Print, Run, Tables, UnicodeVersion,
+    row_runs, script_runs, valid_utf8, wrap, BaseDirection, BidiClass, Bracket, Break, Error,
+    Level, LineClass, Options, Print, Run, ScriptRun, Tables, UnicodeVersion,
 };
 
 const HEBREW: &str = "\u{5d0}\u{5d1}\u{5d2}";
@@ -315,6 +315,28 @@ fn decode_is_that_of_str() {
     assert_eq!(decode(text.as_bytes()), Ok((chars, offsets)));
     assert_eq!(decode(b"a\xff"), Err(Error::NotUtf8));
     assert_eq!(decode(b""), Ok((vec![], vec![])));
+}
+
+fn scripts_of(text: &str) -> Vec<(usize, [u8; 4])> {
+    let chars: Vec<_> = text.chars().collect();
+    let runs: Vec<ScriptRun> = script_runs(&tables(), &chars).unwrap().collect();
+    assert!(runs
+        .windows(2)
+        .all(|two| two[0].range.end == two[1].range.start));
+    runs.into_iter()
+        .map(|run| (run.range.len(), run.script))
+        .collect()
+}
+
+#[test]
+fn script_runs_follow_brackets() {
+    assert_eq!(
+        scripts_of("a (\u{5d0}) 1"),
+        [(3, *b"Latn"), (1, *b"Hebr"), (3, *b"Latn")]
+    );
+    assert_eq!(scripts_of("1 \u{5d0}!"), [(4, *b"Hebr")]);
+    assert_eq!(scripts_of("12"), [(2, *b"Zyyy")]);
+    assert_eq!(scripts_of(""), []);
 }
 
 #[test]
