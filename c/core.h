@@ -37,6 +37,12 @@ uint32_t hordguli_core_layout(hordguli_tables *tables, uint32_t options, uint16_
 uint32_t hordguli_core_count_utf8(const uint8_t *bytes, size_t bytes_length, size_t *count);
 uint32_t hordguli_core_valid_utf8(const uint8_t *bytes, size_t bytes_length, size_t *valid);
 
+/* Bits of `wanted`, which select the requested arrays. The other arrays have length 0 and are ignored. */
+#define HORDGULI_CORE_DECODED_CHARACTERS UINT32_C(1)
+#define HORDGULI_CORE_DECODED_OFFSETS UINT32_C(2)
+uint32_t hordguli_core_decode(const uint8_t *bytes, size_t bytes_length, uint32_t wanted, uint32_t *characters,
+                              size_t characters_length, size_t *offsets, size_t offsets_length, size_t *count);
+
 uint32_t hordguli_core_session_open(hordguli_session *session, hordguli_tables *tables, uint32_t options,
                                     uint16_t width, const uint8_t *text, size_t text_length);
 uint32_t hordguli_core_session_open_measured(hordguli_session *session, hordguli_tables *tables, uint32_t options,
@@ -59,7 +65,7 @@ uint32_t hordguli_core_changed_lines(hordguli_session *session, hordguli_changed
 
 uint32_t hordguli_core_line_start(hordguli_session *session, size_t line, size_t *start);
 
-/* Bits of `wanted`, which select the requested arrays. The other arrays have length 0 and are ignored. */
+/* Bits of `wanted`, as above. */
 #define HORDGULI_CORE_CHARACTERS UINT32_C(1)
 #define HORDGULI_CORE_LEVELS UINT32_C(2)
 #define HORDGULI_CORE_LTOV UINT32_C(4)
@@ -106,6 +112,11 @@ uint32_t hordguli_core_nearest_edge(hordguli_session *session, size_t n, size_t 
 uint32_t hordguli_core_line_edges(hordguli_session *session, size_t n, hordguli_edge *first, hordguli_edge *last);
 uint32_t hordguli_core_line_clusters(hordguli_session *session, size_t n, size_t *array, size_t array_length,
                                      size_t *count);
+
+uint32_t hordguli_core_clusters(const uint32_t *characters, size_t characters_length, size_t *array,
+                                size_t array_length, size_t *count);
+uint32_t hordguli_core_script_runs(hordguli_tables *tables, const uint32_t *characters, size_t characters_length,
+                                   hordguli_script_run *array, size_t array_length, size_t *count);
 
 /* Bits of `wanted`, as above. `levels` has as many elements as `characters`. */
 #define HORDGULI_CORE_ROW_VISUAL UINT32_C(1)

@@ -173,6 +173,20 @@ PUBLIC hordguli_status hordguli_valid_utf8(const char *bytes, size_t length, siz
     return (hordguli_status)hordguli_core_valid_utf8(BYTES(bytes), length, valid);
 }
 
+PUBLIC hordguli_status hordguli_decode(const char *bytes, size_t length, size_t capacity, uint32_t *characters,
+                                       size_t *offsets, size_t *count) {
+    uint32_t no_characters[1];
+    size_t no_offsets[1];
+    uint32_t wanted = (characters != NULL ? HORDGULI_CORE_DECODED_CHARACTERS : 0)
+                      | (offsets != NULL ? HORDGULI_CORE_DECODED_OFFSETS : 0);
+    if (count == NULL || LACKS(bytes, length)) return HORDGULI_NULL;
+    if (OVERLAP(AT(count), ARRAY(characters, capacity), ARRAY(offsets, capacity), ARRAY(bytes, length)))
+        return HORDGULI_OVERLAP;
+    return (hordguli_status)hordguli_core_decode(
+        BYTES(bytes), length, wanted, ROOM(uint32_t, characters, no_characters), LENGTH(characters, capacity),
+        ROOM(size_t, offsets, no_offsets), LENGTH(offsets, capacity), count);
+}
+
 /* ---- Sessions and edits ---- */
 
 PUBLIC hordguli_status hordguli_session_open(hordguli_session *session, hordguli_tables *tables, uint32_t options,
@@ -442,6 +456,26 @@ PUBLIC hordguli_status hordguli_line_clusters(hordguli_session *session, size_t 
     if (session == NULL || count == NULL || LACKS(ends, capacity)) return HORDGULI_NULL;
     if (OVERLAP_3(AT(session), AT(count), ARRAY(ends, capacity))) return HORDGULI_OVERLAP;
     return (hordguli_status)hordguli_core_line_clusters(session, line, ROOM(size_t, ends, none), capacity, count);
+}
+
+/* ---- Clusters and scripts ---- */
+
+PUBLIC hordguli_status hordguli_clusters(size_t count, const uint32_t *characters, size_t capacity, size_t *ends,
+                                         size_t *cluster_count) {
+    size_t none[1];
+    if (cluster_count == NULL || LACKS(characters, count) || LACKS(ends, capacity)) return HORDGULI_NULL;
+    if (OVERLAP_3(AT(cluster_count), ARRAY(ends, capacity), ARRAY(characters, count))) return HORDGULI_OVERLAP;
+    return (hordguli_status)hordguli_core_clusters(NUMBERS(characters), count, ROOM(size_t, ends, none), capacity,
+                                                   cluster_count);
+}
+
+PUBLIC hordguli_status hordguli_script_runs(hordguli_tables *tables, size_t count, const uint32_t *characters,
+                                            size_t capacity, hordguli_script_run *runs, size_t *run_count) {
+    hordguli_script_run none[1];
+    if (tables == NULL || run_count == NULL || LACKS(characters, count) || LACKS(runs, capacity)) return HORDGULI_NULL;
+    if (OVERLAP(AT(tables), AT(run_count), ARRAY(runs, capacity), ARRAY(characters, count))) return HORDGULI_OVERLAP;
+    return (hordguli_status)hordguli_core_script_runs(tables, NUMBERS(characters), count,
+                                                      ROOM(hordguli_script_run, runs, none), capacity, run_count);
 }
 
 /* ---- Rows ---- */

@@ -80,12 +80,13 @@
  * A function with a parameter `capacity` writes to arrays of the caller. What it does with NULL depends on the
  * function:
  *   - `hordguli_layout`, `hordguli_lines_utf8`, `hordguli_text`, `hordguli_text_utf32`, `hordguli_runs`,
- *     `hordguli_row_runs`, `hordguli_spans` and `hordguli_line_clusters` have one array, and store its size in their
- *     last parameter. If the array is too small, they return NO_ROOM, leave it unchanged, and store the required size.
- *     So NULL with capacity 0 is not skipped: it asks for the size.
- *   - `hordguli_line`, `hordguli_paragraph` and `hordguli_row` have several arrays. They skip those that are NULL. If
- *     another one is too small, they return NO_ROOM. If all are NULL, nothing needs room, and the call succeeds with any
- *     capacity. In both cases, `hordguli_line` and `hordguli_paragraph` store the size in `*info`.
+ *     `hordguli_row_runs`, `hordguli_spans`, `hordguli_line_clusters`, `hordguli_clusters` and `hordguli_script_runs`
+ *     have one array, and store its size in their last parameter. If the array is too small, they return NO_ROOM, leave
+ *     it unchanged, and store the required size. So NULL with capacity 0 is not skipped: it asks for the size.
+ *   - `hordguli_line`, `hordguli_paragraph`, `hordguli_row` and `hordguli_decode` have several arrays. They skip those
+ *     that are NULL. If another one is too small, they return NO_ROOM. If all are NULL, nothing needs room, and the call
+ *     succeeds with any capacity. In both cases, `hordguli_line` and `hordguli_paragraph` store the size in `*info`, and
+ *     `hordguli_decode` in `*count`.
  *   - `hordguli_levels` and `hordguli_marks` need `count` elements. NULL is not skipped.
  *
  * Call a function of the first kind in a loop, until the buffer is large enough. Keep the buffer, which is NULL at first,
@@ -191,8 +192,8 @@ const char *hordguli_version(void);
  * `hordguli_tables_read` open. */
 const char *hordguli_unicode_version(void);
 
-/* Returns the Unicode version of column widths and grapheme clusters, such as "18.0". It is that of the library, and
- * does not depend on the tables.
+/* Returns the Unicode version of column widths, grapheme clusters and scripts, such as "18.0". It is that of the library,
+ * and does not depend on the tables.
  * Since: 0.6. */
 const char *hordguli_width_unicode_version(void);
 
@@ -436,6 +437,20 @@ hordguli_status hordguli_count_utf8(const char *bytes, size_t length, size_t *co
  * Cost: O(length).
  * Since: 0.6. */
 hordguli_status hordguli_valid_utf8(const char *bytes, size_t length, size_t *valid);
+
+/* Decodes UTF-8 text of `length` bytes. Stores the number of its characters in `*count`, and this many elements in each
+ * array. Each array has `capacity` elements. NULL arrays are skipped, so with both NULL nothing needs room (see BUFFERS).
+ *   characters  characters, for the functions below `Clusters and scripts`, `Rows` and `Levels and properties`
+ *   offsets     byte offset of each character
+ *
+ * On NO_ROOM, `*count` is set and the arrays are unchanged. Text that is not UTF-8 is refused, as in all functions, so a
+ * position always means the same character. On NOT_UTF8, `hordguli_valid_utf8` says where. To replace invalid bytes by
+ * U+FFFD, decode the text before them, and go on after them.
+ * Errors: NULL, OVERLAP, NOT_UTF8, NO_ROOM.
+ * Cost: O(length).
+ * Since: 0.6. */
+hordguli_status hordguli_decode(const char *bytes, size_t length, size_t capacity, uint32_t *characters,
+                                size_t *offsets, size_t *count);
 
 /* ---- Sessions and edits ---- */
 
@@ -952,6 +967,46 @@ hordguli_status hordguli_line_edges(hordguli_session *session, size_t line, hord
  * Since: 0.6. */
 hordguli_status hordguli_line_clusters(hordguli_session *session, size_t line, size_t capacity, size_t *ends,
                                        size_t *count);
+
+/* ---- Clusters and scripts ---- */
+
+/* Stores where the grapheme clusters of a text of `count` characters end, in an array of `capacity` elements, and their
+ * number in `*cluster_count`. NULL with capacity 0 is NO_ROOM, unless `count` is 0 (see BUFFERS). The first cluster starts
+ * at 0, each other one where the one before it ends, and the last one ends at `count`. No cluster continues after a
+ * separator, so the clusters are those of a session with this text (`hordguli_cluster_at`), also of a text of several
+ * paragraphs. NO_MEMORY comes before NO_ROOM.
+ * Errors: NULL, OVERLAP, NOT_A_CHARACTER, NO_MEMORY, NO_ROOM.
+ * Cost: time and memory proportional to `count`.
+ * Since: 0.6. */
+hordguli_status hordguli_clusters(size_t count, const uint32_t *characters, size_t capacity, size_t *ends,
+                                  size_t *cluster_count);
+
+/* The `length` characters of a text from position `start` on, all of one script. `script` has the four letters of its
+ * code (ISO 15924), the first one in the highest byte, such as 0x4C61746E for `Latn`. So it is an `hb_script_t` of
+ * HarfBuzz. */
+typedef struct hordguli_script_run {
+    size_t start;
+    size_t length;
+    uint32_t script;
+    uint32_t zero;  /* always 0 */
+} hordguli_script_run;
+
+/* Stores the script runs of a text of `count` characters (UAX #24), for fonts and shapers: the longest ranges of
+ * characters of one script. A shaper takes the parts of a directional run (`hordguli_row_runs`) that they make.
+ *   - A character has the script of its property Script. It is that of the Unicode version that
+ *     `hordguli_width_unicode_version` returns. A private-use or unassigned character has the script Unknown (`Zzzz`).
+ *   - If the property is Common or Inherited, as of a space, a digit or a mark, the character has the script of the one
+ *     before it. At the start of the text, it has the first script that follows, or Common (`Zyyy`) if none does.
+ *   - But a closing bracket whose property is Common has the script of its opening bracket. Brackets are those of the
+ *     tables. Of brackets that are nested more than 63 deep, only the innermost 63 are matched.
+ *
+ * The property Script_Extensions is not used. The number of runs is stored in `*run_count`, and the runs in an array of
+ * `capacity` elements. NULL with capacity 0 is NO_ROOM, unless `count` is 0 (see BUFFERS). NO_MEMORY comes before NO_ROOM.
+ * Errors: NULL, OVERLAP, CLOSED, NOT_A_CHARACTER, NO_MEMORY, NO_ROOM.
+ * Cost: time and memory proportional to `count`.
+ * Since: 0.6. */
+hordguli_status hordguli_script_runs(hordguli_tables *tables, size_t count, const uint32_t *characters,
+                                     size_t capacity, hordguli_script_run *runs, size_t *run_count);
 
 /* ---- Rows ---- */
 

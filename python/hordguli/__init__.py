@@ -7,7 +7,8 @@
 - `display` returns one visual string, as `get_display` of python-bidi does. `wrap` returns visual lines.
 - `Session` keeps a text and its lines under edits, and has what an editor needs: carets, hits, selections. Its columns are
   those of a terminal, or with a function `measure` those of any font. `hordguli.harfbuzz.Measure` measures by font files.
-- `levels`, `base_level`, `breaks`, `row`, `row_runs` and `properties` are for programs that lay out lines themselves.
+- `levels`, `base_level`, `breaks`, `clusters`, `row`, `row_runs`, `script_runs` and `properties` are for programs that lay out
+  lines themselves.
 - `explain` returns what decides a layout. `python3 -m hordguli explain TEXT` prints it, or writes a page.
 
 What to know before the first line:
@@ -25,8 +26,8 @@ Classes (`help(hordguli.Session)` and so on):
 
 - `Session`; `Tables`, character properties
 - `Options` and `Print`, flags; `Break`, `Side`, `Direction`, `Cause`, enumerations
-- of a text and its lines: `Line`, `Piece`, `Paragraph`, `ParagraphText`, `Row`, `Run`, `Character`, `Counts`, `Damage`, `ChangedLines`,
-  `Work`
+- of a text and its lines: `Line`, `Piece`, `Paragraph`, `ParagraphText`, `Row`, `Run`, `ScriptRun`, `Character`, `Counts`, `Damage`,
+  `ChangedLines`, `Work`
 - of an editor: `Caret`, `Edge`, `Hit`, `Place`, `Position`, `Span`, `Cluster`, `Word`
 - of `explain`: `Explanation`, `ExplainedCharacter`, `ExplainedParagraph`
 - exceptions: `ClosedError`, `NotMeasuredError`, `TableError`
@@ -47,7 +48,7 @@ Threads may share sessions and tables: a lock keeps each of them in one call at 
 has its own copies. What another thread was using during the fork is closed in the child.
 
 `__version__` is the version of the C library, `UNICODE_VERSION` the default Unicode version of tables, and
-`WIDTH_UNICODE_VERSION` that of columns and grapheme clusters, which does not depend on the tables.
+`WIDTH_UNICODE_VERSION` that of columns, grapheme clusters and scripts, which does not depend on the tables.
 """
 
 from ._errors import Cause as Cause
@@ -81,6 +82,7 @@ from ._records import (
     Print as Print,
     Row as Row,
     Run as Run,
+    ScriptRun as ScriptRun,
     Side as Side,
     Span as Span,
     Word as Word,
@@ -89,7 +91,7 @@ from ._records import (
 from .session import Session as Session
 from .tables import TABLE_FILES, default_tables
 from .tables import Tables as Tables
-from .text import base_level, breaks, count_utf8, display, levels, properties, row, row_runs, valid_utf8, wrap
+from .text import base_level, breaks, clusters, count_utf8, display, levels, properties, row, row_runs, script_runs, valid_utf8, wrap
 
 # The functions and constants, and not the classes: so help(hordguli) shows the functions, and names the classes.
 __all__ = [
@@ -99,6 +101,7 @@ __all__ = [
     "__version__",
     "base_level",
     "breaks",
+    "clusters",
     "count_utf8",
     "default_tables",
     "display",
@@ -107,6 +110,7 @@ __all__ = [
     "properties",
     "row",
     "row_runs",
+    "script_runs",
     "valid_utf8",
     "wrap",
 ]

@@ -208,6 +208,14 @@ class Run(NamedTuple):
     level: int
 
 
+class ScriptRun(NamedTuple):
+    """The `length` characters of a text from `start` on, all of one script: its code (ISO 15924), such as `"Latn"`."""
+
+    start: int
+    length: int
+    script: str
+
+
 class Edge(NamedTuple):
     """One of the two edges of a position. They are apart where the direction changes or a line wraps."""
 
@@ -418,6 +426,13 @@ class ParagraphInfo(NamedTuple):
     first_line: int
 
 
+class RawScriptRun(NamedTuple):
+    # from hordguli.h: hordguli_script_run
+    start: int
+    length: int
+    script: int
+
+
 class RawCharacter(NamedTuple):
     # from hordguli.h: hordguli_character
     mirror: int
@@ -448,5 +463,6 @@ FORMATS: dict[Any, Struct] = {
     TableFault: Struct("3N"),
     LineInfo: Struct("5N2I"),
     ParagraphInfo: Struct("2NI4x2N"),
+    RawScriptRun: Struct("2NI4x"),
     RawCharacter: Struct("3I4B"),
 }

@@ -4,13 +4,14 @@ import re
 from codecs import utf_32_le_decode, utf_32_le_encode
 from collections.abc import Iterable
 from ctypes import byref, c_size_t, c_uint32
+from struct import calcsize
 from typing import Literal, Optional, SupportsIndex, Union, overload
 
 from ._calls import Call, Measure, address, flags, get_array, get_records, get_size, make_call, numbers, text_of, uint32, utf32
 from ._declarations import BIDI_CLASSES, LINE_CLASSES, MARK, WIDE
 from ._errors import check
 from ._library import library, quick_base, quick_levels, quick_row
-from ._records import BRACKETS, BREAKS, FORMATS, Break, Character, Options, Print, RawCharacter, Row, Run
+from ._records import BRACKETS, BREAKS, FORMATS, Break, Character, Options, Print, RawCharacter, RawScriptRun, Row, Run, ScriptRun
 from .session import Session
 from .tables import Buffers, Tables, default_tables
 
@@ -248,6 +249,30 @@ def properties(text: str, *, tables: Optional[Tables] = None) -> list[Character]
             _properties(tables or default_tables(), utf32(text))
         )
     ]
+
+
+def clusters(text: str) -> list[int]:
+    """Returns where the grapheme clusters of a text end (UAX #29). They are those of a `Session`.
+
+    >>> hordguli.clusters("e\\u0301a")
+    [2, 3]
+    """
+    ends = get_array(calcsize("N"), library.hordguli_clusters, len(text), utf32(text))
+    return list(numbers(ends, "N"))
+
+
+def script_runs(text: str, *, tables: Optional[Tables] = None) -> list[ScriptRun]:
+    """Returns the longest ranges of characters of one script (UAX #24), for fonts and shapers.
+
+    Spaces, digits, marks and other Common or Inherited characters have the script before them, at the start that after them. A
+    closing bracket has that of its opening one. `"Zyyy"` is Common, `"Zzzz"` Unknown.
+
+    >>> [run.script for run in hordguli.script_runs("ab (\\u05d0) c")]
+    ['Latn', 'Hebr', 'Latn']
+    """
+    call = (tables or default_tables())._handle.call
+    runs = get_records(RawScriptRun, call, library.hordguli_script_runs, len(text), utf32(text))
+    return [ScriptRun(start, length, script.to_bytes(4, "big").decode()) for start, length, script in runs]
 
 
 def count_utf8(data: bytes) -> int:

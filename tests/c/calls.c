@@ -1494,6 +1494,117 @@ static void text_of_ranges(void) {
     HOLDS(length == 0);
 }
 
+static void decoded_text(void) {
+    static const char bytes[] = "a\u00e9\u05d0\u4e00\U0001F600\0b"; /* 1 to 4 bytes, and U+0000 */
+    static const uint32_t wanted[] = {'a', 0xE9, 0x5D0, 0x4E00, 0x1F600, 0, 'b'};
+    static const size_t at[] = {0, 1, 3, 5, 8, 12, 13};
+    uint32_t characters[8] = {7, 7, 7, 7, 7, 7, 7, 7};
+    size_t offsets[8] = {7, 7, 7, 7, 7, 7, 7, 7}, count = 77;
+    IS(hordguli_decode(NULL, 1, 8, characters, offsets, &count), NULL);
+    IS(hordguli_decode(bytes, 14, 8, characters, offsets, NULL), NULL);
+    IS(hordguli_decode(bytes, 14, 8, characters, offsets, &offsets[7]), OVERLAP);
+    IS(hordguli_decode(bytes, 14, 8, (uint32_t *)offsets, offsets, &count), OVERLAP);
+    IS(hordguli_decode((const char *)characters, 1, 8, characters, NULL, &count), OVERLAP);
+    IS(hordguli_decode((const char *)offsets, 1, 8, NULL, offsets, &count), OVERLAP);
+    IS(hordguli_decode(bytes, SIZE_MAX, 8, characters, offsets, &count), OVERLAP);
+    IS(hordguli_decode(bytes, 14, SIZE_MAX, characters, NULL, &count), OVERLAP);
+    IS(hordguli_decode("a\xC3", 2, 8, characters, offsets, &count), NOT_UTF8);
+    HOLDS(count == 77);
+    IS(hordguli_decode(bytes, 14, 6, characters, NULL, &count), NO_ROOM);
+    HOLDS(count == 7), count = 77;
+    IS(hordguli_decode(bytes, 14, 6, NULL, offsets, &count), NO_ROOM);
+    HOLDS(count == 7 && characters[0] == 7 && offsets[0] == 7);
+    OK(hordguli_decode(bytes, 14, 7, characters, NULL, &count)); /* exactly large enough */
+    HOLDS(memcmp(characters, wanted, sizeof wanted) == 0 && characters[7] == 7 && offsets[0] == 7);
+    memset(characters, 0xFF, sizeof characters);
+    OK(hordguli_decode(bytes, 14, 8, NULL, offsets, &count));
+    HOLDS(memcmp(offsets, at, sizeof at) == 0 && offsets[7] == 7 && characters[0] == UINT32_MAX);
+    OK(hordguli_decode(bytes, 14, 8, characters, offsets, &count));
+    HOLDS(count == 7 && memcmp(characters, wanted, sizeof wanted) == 0 && memcmp(offsets, at, sizeof at) == 0);
+    OK(hordguli_decode(NULL, 0, 0, NULL, NULL, &count));
+    HOLDS(count == 0);
+}
+
+#define CODE(letters) \
+    ((uint32_t)(letters)[0] << 24 | (uint32_t)(letters)[1] << 16 | (uint32_t)(letters)[2] << 8 | (uint32_t)(letters)[3])
+
+/* Compares the script runs of a text with a string such as `3 Latn 2 Hebr `. */
+static void runs_are(const char *bytes, const char *wanted) {
+    uint32_t characters[300];
+    hordguli_script_run runs[100];
+    char found[1000] = "";
+    size_t count = 0, run_count = 0, at = 0;
+    OK(hordguli_decode(bytes, strlen(bytes), 300, characters, NULL, &count));
+    OK(hordguli_script_runs(&tables, count, characters, 100, runs, &run_count));
+    for (size_t k = 0; k < run_count; at += runs[k++].length) {
+        uint32_t code = runs[k].script;
+        size_t length = strlen(found);
+        HOLDS(runs[k].start == at && runs[k].length > 0 && runs[k].zero == 0);
+        snprintf(found + length, sizeof found - length, "%zu %c%c%c%c ", runs[k].length, (char)(code >> 24),
+                 (char)(code >> 16 & 255), (char)(code >> 8 & 255), (char)(code & 255));
+    }
+    holds(at == count && strcmp(found, wanted) == 0, __FILE__, __LINE__, bytes);
+}
+
+static void script_runs(void) {
+    static const uint32_t characters[] = {'a', 0x5D0, ' '}, no_character[] = {'a', 0xD800, ' '};
+    hordguli_script_run runs[3] = {{7, 7, 7, 7}, {7, 7, 7, 7}, {7, 7, 7, 7}};
+    uint32_t both[12] = {'a'};
+    size_t count = 77;
+    runs_are("", "");
+    runs_are("abc, \u05d0\u05d1.", "5 Latn 3 Hebr ");
+    runs_are("a (\u05d0) b", "3 Latn 1 Hebr 3 Latn ");             /* the brackets are those of `a` */
+    runs_are("(\u05d0) abc", "4 Hebr 3 Latn ");                    /* what comes first belongs to what follows */
+    runs_are("a[\u05d0(\u05d1]c", "2 Latn 3 Hebr 2 Latn ");        /* an outer bracket closes an inner one */
+    runs_are("a)\u05d0)", "2 Latn 2 Hebr ");                       /* closing brackets without an opening one */
+    runs_are("a(\u05d0))", "2 Latn 1 Hebr 2 Latn ");               /* a pair matches once */
+    runs_are("12 + 3", "6 Zyyy ");                                 /* no character has a script */
+    runs_are("\u0301a\u0301\u05d0\u0301", "3 Latn 2 Hebr ");      /* marks */
+    runs_are("\u0e01\u0628\u3042\u30a2\u4e00\U00010E80", "1 Thai 1 Arab 1 Hira 1 Kana 1 Hani 1 Yezi ");
+    runs_are("\ue000 \u0378", "3 Zzzz ");                         /* a private-use character and an unassigned one */
+    runs_are("a\u0f3a\u05d0\u0f3b", "1 Latn 1 Tibt 1 Hebr 1 Tibt "); /* brackets of a script */
+    IS(hordguli_script_runs(NULL, 3, characters, 3, runs, &count), NULL);
+    IS(hordguli_script_runs(&tables, 3, NULL, 3, runs, &count), NULL);
+    IS(hordguli_script_runs(&tables, 3, characters, 3, NULL, &count), NULL);
+    IS(hordguli_script_runs(&tables, 3, characters, 3, runs, NULL), NULL);
+    IS(hordguli_script_runs(&tables, 3, characters, 3, runs, (size_t *)runs), OVERLAP);
+    IS(hordguli_script_runs(&tables, 12, both, 1, (hordguli_script_run *)both, &count), OVERLAP);
+    IS(hordguli_script_runs(&no_tables, 3, characters, 3, runs, &count), CLOSED);
+    IS(hordguli_script_runs(&tables, 3, no_character, 3, runs, &count), NOT_A_CHARACTER);
+    HOLDS(count == 77 && runs[0].start == 7);
+    IS(hordguli_script_runs(&tables, 3, characters, 1, runs, &count), NO_ROOM);
+    HOLDS(count == 2 && runs[0].start == 7);
+    OK(hordguli_script_runs(&tables, 3, characters, 2, runs, &count)); /* exactly large enough */
+    HOLDS(count == 2 && runs[0].start == 0 && runs[0].length == 1 && runs[0].script == CODE("Latn") && runs[0].zero == 0);
+    HOLDS(runs[1].start == 1 && runs[1].length == 2 && runs[1].script == CODE("Hebr") && runs[2].start == 7);
+    OK(hordguli_script_runs(&tables, 0, NULL, 0, NULL, &count));
+    HOLDS(count == 0);
+}
+
+static void clusters_of_text(void) {
+    /* a letter with a mark, CR LF, a Devanagari conjunct, a flag, an emoji family */
+    static const uint32_t characters[] = {'e', 0x301, '\r', '\n', 0x915, 0x94D, 0x937, 0x1F1F3, 0x1F1F1, 0x1F468, 0x200D, 0x1F469, 'a'};
+    static const uint32_t no_character[] = {'a', 0xD800};
+    static const size_t wanted[] = {2, 4, 7, 9, 12, 13};
+    size_t ends[7] = {7, 7, 7, 7, 7, 7, 7}, count = 77;
+    IS(hordguli_clusters(13, NULL, 7, ends, &count), NULL);
+    IS(hordguli_clusters(13, characters, 7, NULL, &count), NULL);
+    IS(hordguli_clusters(13, characters, 7, ends, NULL), NULL);
+    IS(hordguli_clusters(13, characters, 7, ends, &ends[6]), OVERLAP);
+    IS(hordguli_clusters(2, (const uint32_t *)ends, 7, ends, &count), OVERLAP);
+    IS(hordguli_clusters(1, (const uint32_t *)&count, 7, ends, &count), OVERLAP);
+    IS(hordguli_clusters(SIZE_MAX, characters, 7, ends, &count), OVERLAP);
+    IS(hordguli_clusters(13, characters, SIZE_MAX, ends, &count), OVERLAP);
+    IS(hordguli_clusters(2, no_character, 7, ends, &count), NOT_A_CHARACTER);
+    HOLDS(count == 77 && ends[0] == 7);
+    IS(hordguli_clusters(13, characters, 5, ends, &count), NO_ROOM);
+    HOLDS(count == 6 && ends[0] == 7), count = 77;
+    OK(hordguli_clusters(13, characters, 6, ends, &count)); /* exactly large enough */
+    HOLDS(count == 6 && memcmp(ends, wanted, sizeof wanted) == 0 && ends[6] == 7);
+    OK(hordguli_clusters(0, NULL, 0, NULL, &count));
+    HOLDS(count == 0);
+}
+
 static void characters_of_ranges(void) {
     uint32_t characters[18], seven = 7;
     size_t length = 77;
@@ -1888,6 +1999,8 @@ static void null_array_is_too_small(void) {
     SIZE_IS(hordguli_spans(&session, 0, 3, 5, 0, NULL, &size), 2);
     SIZE_IS(hordguli_line_clusters(&session, 0, 0, NULL, &size), 8);
     SIZE_IS(hordguli_row_runs(&tables, 0, 2, characters, levels, 0, NULL, &size), 2);
+    SIZE_IS(hordguli_clusters(2, characters, 0, NULL, &size), 2);
+    SIZE_IS(hordguli_script_runs(&tables, 2, characters, 0, NULL, &size), 2);
 #undef SIZE_IS
 #define NOTHING(call) OK(call), HOLDS(size == 0), size = 77
     NOTHING(hordguli_layout(&tables, 0, 80, HORDGULI_PRINT_VISUAL, NULL, 0, 0, NULL, &size));
@@ -1896,6 +2009,8 @@ static void null_array_is_too_small(void) {
     NOTHING(hordguli_text_utf32(&session, 3, 0, 0, NULL, &size));
     NOTHING(hordguli_spans(&session, 0, 3, 3, 0, NULL, &size));
     NOTHING(hordguli_row_runs(&tables, 0, 0, NULL, NULL, 0, NULL, &size));
+    NOTHING(hordguli_clusters(0, NULL, 0, NULL, &size));
+    NOTHING(hordguli_script_runs(&tables, 0, NULL, 0, NULL, &size));
 #undef NOTHING
     IS(hordguli_levels(&tables, 0, characters, 2, 0, NULL), NO_ROOM);
     IS(hordguli_marks(&tables, 0, characters, 2, 0, NULL), NO_ROOM);
@@ -1909,6 +2024,7 @@ static void null_arrays_are_skipped(void) {
     static const uint8_t levels[] = {0, 1};
     uint32_t small[1] = {77};
     uint8_t small_levels[1] = {77};
+    size_t small_offsets[1] = {77}, count = 0;
     for (size_t capacity = 0; capacity < 9; capacity += 4) {
         hordguli_line_info info = {0};
         hordguli_paragraph_info paragraph = {0};
@@ -1917,12 +2033,17 @@ static void null_arrays_are_skipped(void) {
         OK(hordguli_paragraph(&session, 0, &paragraph, capacity, NULL, NULL));
         HOLDS(paragraph.length == 8);
         OK(hordguli_row(&tables, 0, 0, 2, characters, levels, capacity, NULL, NULL, NULL, NULL));
+        count = 77;
+        OK(hordguli_decode("a\u05d0", 3, capacity, NULL, NULL, &count));
+        HOLDS(count == 2);
     }
+    for (int k = 0; k < 2; k++)
+        IS(hordguli_decode("a\u05d0", 3, 1, k == 0 ? small : NULL, k == 1 ? small_offsets : NULL, &count), NO_ROOM);
     for (int k = 0; k < 4; k++)
         IS(hordguli_row(&tables, 0, 0, 2, characters, levels, 1, k == 0 ? small : NULL, k == 1 ? small_levels : NULL,
                         k == 2 ? small : NULL, k == 3 ? small : NULL),
            NO_ROOM);
-    HOLDS(small[0] == 77 && small_levels[0] == 77);
+    HOLDS(small[0] == 77 && small_levels[0] == 77 && small_offsets[0] == 77);
 }
 
 int main(int count, char **words) {
@@ -1953,6 +2074,9 @@ int main(int count, char **words) {
     printed();
     laid_out_without_session();
     text_of_ranges();
+    decoded_text();
+    clusters_of_text();
+    script_runs();
     characters_of_ranges();
     paragraphs();
     directions_are_one_or_refused();

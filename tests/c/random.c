@@ -138,6 +138,26 @@ static void same_places(hordguli_session *kept, hordguli_session *anew, const ho
     }
 }
 
+/* Without a session, a text has the characters, offsets and clusters that it has in one. */
+static void text_alone_is_that_of_session(hordguli_session *session, const char *bytes, size_t size, size_t count) {
+    static uint32_t characters[2][MOST * 4];
+    static size_t offsets[MOST * 4], ends[MOST * 4];
+    size_t counts[2] = {0, 0}, k = 0;
+    OK(hordguli_decode(bytes, size, MOST * 4, characters[0], offsets, &counts[0]));
+    OK(hordguli_text_utf32(session, 0, count, MOST * 4, characters[1], &counts[1]));
+    HOLDS(counts[0] == count && counts[1] == count && memcmp(characters[0], characters[1], count * sizeof **characters) == 0);
+    OK(hordguli_clusters(count, characters[0], MOST * 4, ends, &counts[0]));
+    for (size_t pos = 0; pos < count; pos++) {
+        hordguli_cluster cluster = {0, 0};
+        size_t byte = 0;
+        OK(hordguli_byte_of(session, pos, &byte));
+        OK(hordguli_cluster_at(session, pos, &cluster));
+        HOLDS(offsets[pos] == byte && k < counts[0] && ends[k] == cluster.end && cluster.start == (k == 0 ? 0 : ends[k - 1]));
+        k += pos + 1 == cluster.end;
+    }
+    HOLDS(k == counts[0]);
+}
+
 /* The text that the session should have. */
 static uint32_t text[MOST * 4];
 static size_t length;
@@ -213,6 +233,7 @@ int main(int count, char **words) {
         same_lines(&kept, &anew, &counts);
         lines_are_rows(&kept, &tables, &counts, options);
         same_places(&kept, &anew, &counts);
+        if (change % 10 == 0) text_alone_is_that_of_session(&kept, bytes, size, length);
         hordguli_session_close(&anew);
         if (failed > 20) break;
     }

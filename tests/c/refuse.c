@@ -98,6 +98,7 @@ static hordguli_edge found_edge;
 static hordguli_caret found_caret;
 static uint32_t found_moved;
 static size_t found_ends[100];
+static hordguli_script_run found_scripts[9];
 static hordguli_damage damage;
 static char found_bytes[BYTES];
 static size_t found_length;
@@ -106,7 +107,7 @@ static hordguli_line_info found_info;
 
 enum {
     BUILTIN, OPEN_17, OPEN_TABLES, OPEN, OPEN_MEASURED, ADVANCES, JOIN, MEASURED_WIDTH, INSERT, REPLACE, WIDTH, CLUSTER, WORD, CARET, STEP, EDGE, NEAREST, CLUSTERS, DELETE, BASE, LEVELS,
-    MARKS, ROW, ROW_RUNS, LAYOUT, LINES, TEXT, PAGE, STEPS
+    MARKS, ROW, ROW_RUNS, TEXT_CLUSTERS, SCRIPT_RUNS, LAYOUT, LINES, TEXT, PAGE, STEPS
 };
 
 static const char start[] = "ab \u05d0\u05d1 12\nx\n";
@@ -158,6 +159,8 @@ static hordguli_status step(int k) {
             return hordguli_row(&tables, 0, 1, 9, characters, levels_before, 9, found_visual, found_row, NULL, NULL);
         case ROW_RUNS:
             return hordguli_row_runs(&tables, 1, 9, characters, levels_before, 9, found_runs, &found_length);
+        case TEXT_CLUSTERS: return hordguli_clusters(9, characters, 100, found_ends, &found_length);
+        case SCRIPT_RUNS: return hordguli_script_runs(&tables, 9, characters, 9, found_scripts, &found_length);
         case LAYOUT:
             return hordguli_layout(&tables, 0, 4, 127, start, sizeof start - 1, BYTES, found_bytes, &found_length);
         case LINES: return hordguli_lines_utf8(&session, 0, 2, 127, BYTES, found_bytes, &found_length);
@@ -210,7 +213,7 @@ int main(int count, char **words) {
             memset(found_marks, 77, sizeof found_marks);
             memset(found_row, 77, sizeof found_row);
             found_visual[0] = 77;
-            found_runs[0].level = 77;
+            found_runs[0].level = found_scripts[0].script = 77;
             found_base = 77;
             found_length = 77;
             found_bytes[0] = '?';
@@ -226,6 +229,7 @@ int main(int count, char **words) {
             HOLDS(memcmp(&damage, &no_damage, sizeof damage) == 0 && found_base == 77);
             HOLDS(found_levels[0] == 77 && found_marks[0] == 77 && found_length == 77 && found_bytes[0] == '?');
             HOLDS(found_row[0] == 77 && found_visual[0] == 77 && found_runs[0].level == 77);
+            HOLDS(found_scripts[0].script == 77);
             HOLDS(found_edge.pos == 77 && found_caret.line == 77 && found_moved == 77 && found_ends[0] == 77);
             HOLDS(k != OPEN_TABLES || tables.at == NULL);
             HOLDS(k != OPEN || session.at == NULL);

@@ -139,6 +139,11 @@ FIELD(run, length, WORDS(1), size_t);
 FIELD(run, level, WORDS(2), uint32_t);
 FIELD(run, zero, WORDS(2) + 4, uint32_t);
 SIZE(run, WORDS(2) + 8);
+FIELD(script_run, start, WORDS(0), size_t);
+FIELD(script_run, length, WORDS(1), size_t);
+FIELD(script_run, script, WORDS(2), uint32_t);
+FIELD(script_run, zero, WORDS(2) + 4, uint32_t);
+SIZE(script_run, WORDS(2) + 8);
 FIELD(word, start, WORDS(0), size_t);
 FIELD(word, end, WORDS(1), size_t);
 FIELD(word, kind, WORDS(2), uint32_t);
@@ -482,11 +487,12 @@ static void paragraphs_have_each_value_in_its_field(void) {
 static void parameters_are_not_exchanged(void) {
     hordguli_session session = HORDGULI_SESSION_INIT;
     char bytes[64];
-    size_t length = 77;
+    size_t length = 77, offsets[4] = {77, 77, 77, 77};
     uint32_t base = 77;
     uint8_t found[4] = {77, 77, 77, 77};
     uint32_t both[4] = {77, 77, 77, 77}, maps[2][4] = {{77, 77, 77, 77}, {77, 77, 77, 77}};
     hordguli_run runs[4] = {{77, 77, 77, 77}};
+    hordguli_script_run scripts[4] = {{77, 77, 77, 77}};
     static const uint32_t characters[] = {'a', ' ', 0x5D0, 'b'}, row[] = {'(', 0x5D0, '1', ' '};
     static const uint8_t row_levels[] = {1, 1, 2, 1};
     static const char printed[] = "12 \u05d5\u05b0\u05d4\u05b0\u05d3\nlast\n";
@@ -497,12 +503,21 @@ static void parameters_are_not_exchanged(void) {
     HOLDS(length == 6 && memcmp(bytes, "three\n", 6) == 0);
     OK(hordguli_text_utf32(&session, 2, 3, 4, both, &length));
     HOLDS(length == 3 && both[0] == 'e' && both[1] == ' ' && both[2] == 't' && both[3] == 77);
+    both[2] = 77;
     OK(hordguli_utf8_length(&session, 12, 3, &length));
     HOLDS(length == 4);
     OK(hordguli_valid_utf8("\u05d0a\xd7\u05d1", 6, &length));
     HOLDS(length == 3);
     OK(hordguli_count_utf8("\u05d0a\u05d1", 5, &length));
     HOLDS(length == 3);
+    OK(hordguli_decode("\u05d0a\xd7\u05d1", 3, 4, both, offsets, &length));
+    HOLDS(length == 2 && both[0] == 0x5D0 && both[1] == 'a' && both[2] == 77);
+    HOLDS(offsets[0] == 0 && offsets[1] == 2 && offsets[2] == 77);
+    OK(hordguli_clusters(3, (const uint32_t[]){'a', 0x301, 'b', 'c'}, 4, offsets, &length));
+    HOLDS(length == 2 && offsets[0] == 2 && offsets[1] == 3 && offsets[2] == 77);
+    OK(hordguli_script_runs(&tables, 3, characters, 4, scripts, &length));
+    HOLDS(length == 2 && scripts[0].start == 0 && scripts[0].length == 2 && scripts[0].script == 0x4C61746E);
+    HOLDS(scripts[1].start == 2 && scripts[1].length == 1 && scripts[1].script == 0x48656272 && scripts[1].zero == 0);
     OK(hordguli_base(&tables, 0, characters + 1, 2, &base));
     HOLDS(base == 1);
     OK(hordguli_levels(&tables, 3, characters, 3, 4, found));
@@ -964,6 +979,41 @@ static const way of_valid_utf8[] = {
     END,
 };
 
+static const way of_decode[] = {
+    {"OVERLAP", ARRAYS | OUT_IS, array_at_out, 0, 1},
+    {"OVERLAP", ARRAYS | TEXT, array_at_text, 0, 1},
+    {"OVERLAP", ARRAYS, array_at_first, 0, 0},
+    {"OVERLAP", CAPACITY, long_arrays, 0, 1},
+    {"OVERLAP", CAPACITY | ARRAYS, wrapping_array, 0, 0},
+    {"NO_ROOM", CAPACITY, one_too_few, 0, 0},
+    {"NO_ROOM", CAPACITY | ARRAYS, one_too_few_in_one_array, 0, 1},
+    {"NO_ROOM", CAPACITY | ARRAYS, no_elements, 0, 0},
+    END,
+};
+
+/* Characters without tables, and an array of their ends */
+static const way of_clusters[] = {
+    {"NULL", NUMBERS, null_characters, 0, 0},
+    {"NULL, OVERLAP", NUMBERS | COUNT, many_null_characters, 0, 0},
+    {"OVERLAP", NUMBERS | OUT_IS, characters_at_out, 0, 0},
+    {"OVERLAP", COUNT, many_characters, 0, 2},
+    {"NOT_A_CHARACTER", NUMBERS | COUNT, not_a_character, 0, 7},
+    END,
+};
+
+static const way of_ends[] = {
+    {"NULL", OUT | OUT_IS, null_out, 0, 0},
+    {"NULL", ARRAYS, null_array, 0, 0},
+    {"NULL, OVERLAP", ARRAYS | CAPACITY, long_null_array, 0, 0},
+    {"OVERLAP", ARRAYS | OUT_IS, array_at_out, 0, 0},
+    {"OVERLAP", ARRAYS | NUMBERS | COUNT, array_at_characters, 0, 0},
+    {"OVERLAP", CAPACITY, long_arrays, 0, 1},
+    {"NO_ROOM", CAPACITY, one_too_few, 0, 0},
+    {"NO_ROOM", CAPACITY | ARRAYS, no_elements, 0, 0},
+    {"NO_ROOM", CAPACITY | ARRAYS, no_elements_null, 0, 0},
+    END,
+};
+
 /* Tables and characters */
 static const way of_characters[] = {
     {"NULL", TABLES | TABLES_IS, null_tables, 0, 0},
@@ -1169,11 +1219,14 @@ MAKE(text_utf32, a->session, a->at, a->count, a->capacity, a->arrays[0], a->out)
 MAKE(utf8_length, a->session, a->at, a->count, a->out)
 MAKE(count_utf8, a->text, a->length, a->out)
 MAKE(valid_utf8, a->text, a->length, a->out)
+MAKE(decode, a->text, a->length, a->capacity, a->arrays[0], a->arrays[1], a->out)
 MAKE(paragraph, a->session, a->at, a->out, a->capacity, a->arrays[0], a->arrays[1])
 MAKE(layout, a->tables, a->flags, a->width, a->direction, a->text, a->length, a->capacity, a->arrays[0], a->out)
 MAKE(base, a->tables, a->flags, a->characters, a->count, a->out)
 MAKE(levels, a->tables, a->flags, a->characters, a->count, a->capacity, a->arrays[0])
 MAKE(marks, a->tables, a->flags, a->characters, a->count, a->capacity, a->arrays[0])
+MAKE(clusters, a->count, a->characters, a->capacity, a->arrays[0], a->out)
+MAKE(script_runs, a->tables, a->count, a->characters, a->capacity, a->arrays[0], a->out)
 MAKE(row, a->tables, a->flags, a->base, a->count, a->characters, a->levels, a->capacity, a->arrays[0], a->arrays[1],
      a->arrays[2], a->arrays[3])
 MAKE(row_runs, a->tables, a->base, a->count, a->characters, a->levels, a->capacity, a->arrays[0], a->out)
@@ -1291,6 +1344,12 @@ static const call calls[] = {
          .count = 4, .end = 19),
     CALL(count_utf8, "NULL, OVERLAP, NOT_UTF8", .ways = {of_count_utf8}, .out_size = sizeof(size_t)),
     CALL(valid_utf8, "NULL, OVERLAP", .ways = {of_valid_utf8}, .out_size = sizeof(size_t)),
+    CALL(decode, "NULL, OVERLAP, NOT_UTF8, NO_ROOM", .ways = {of_count_utf8, of_decode}, .out_size = sizeof(size_t),
+         .needed = 2),
+    CALL(clusters, "NULL, OVERLAP, NOT_A_CHARACTER, NO_MEMORY, NO_ROOM", .ways = {of_clusters, of_ends},
+         .out_size = sizeof(size_t), .count = 5, .needed = 5),
+    CALL(script_runs, "NULL, OVERLAP, CLOSED, NOT_A_CHARACTER, NO_MEMORY, NO_ROOM",
+         .ways = {of_characters, of_base, of_elements}, .out_size = sizeof(size_t), .count = 5, .needed = 3),
     CALL(paragraph, READING ", NO_ROOM", .ways = {of_session, of_at, of_paragraph},
          .out_size = sizeof(hordguli_paragraph_info), .at = 1, .end = 3, .needed = 7),
     /* NO_ROOM does not allocate: the handle of the tables keeps the memory of the first call. */
@@ -1460,7 +1519,8 @@ static int is_set_as_promised(const call *c, hordguli_status status) {
 /* Whether a call allocates before it finds an error. */
 static int allocates_first(const call *c, hordguli_status error) {
     if (error == HORDGULI_NO_ROOM)
-        return c->make == make_lines_utf8 || c->make == make_text || c->make == make_row_runs || c->make == make_line_clusters;
+        return c->make == make_lines_utf8 || c->make == make_text || c->make == make_row_runs || c->make == make_line_clusters
+               || c->make == make_clusters || c->make == make_script_runs;
     return (error == HORDGULI_TABLE_FAULT && c->make != make_tables_open_image) || error == HORDGULI_UNREAD_FILE;
 }
 #endif

@@ -156,6 +156,8 @@ OPENING = {
     "a row with a level above 255": (ValueError, lambda: hordguli.row("a", [256])),
     "a row with a base level above 1": (ValueError, lambda: hordguli.row("a", [0], 2)),
     "runs with too many levels": (ValueError, lambda: hordguli.row_runs("a", [0, 0])),
+    "script runs of a lone surrogate": (UnicodeEncodeError, lambda: hordguli.script_runs(LONE)),
+    "clusters of a lone surrogate": (UnicodeEncodeError, lambda: hordguli.clusters(LONE)),
     "properties of a lone surrogate": (UnicodeEncodeError, lambda: hordguli.properties(LONE)),
     "bytes that are not UTF-8": (ValueError, lambda: hordguli.count_utf8(b"\xff")),
     "six table files": (ValueError, lambda: hordguli.Tables([b""] * 6)),

@@ -254,6 +254,8 @@ FUNCTIONS = {
     "breaks": lambda: hordguli.breaks("a b"),
     "row": lambda: hordguli.row("a b", [0, 1, 0]),
     "row_runs": lambda: hordguli.row_runs("a b", [0, 1, 0]),
+    "script_runs": lambda: hordguli.script_runs("a \u05d0"),
+    "clusters": lambda: hordguli.clusters("e\u0301a"),
 }
 
 

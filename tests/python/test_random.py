@@ -117,6 +117,12 @@ def test_offsets_are_those_of_python(start):
         assert text.utf8() == start.encode() and text.utf8_length() == len(start.encode())
 
 
+@given(any_texts)
+def test_clusters_are_those_of_a_session(start):
+    with hordguli.Session(start) as text:
+        assert hordguli.clusters(start) == sorted({text.cluster(pos).end for pos in range(len(start))})
+
+
 @settings(max_examples=300)
 @given(st.binary(max_size=30))
 def test_valid_utf8_is_that_of_python(data):

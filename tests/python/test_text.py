@@ -126,6 +126,21 @@ def test_runs_of_a_row_are_from_left_to_right():
     assert hordguli.row_runs(f"{HEBREW}12", [1, 1, 1, 2, 2], 1) == [(3, 2, 2), (0, 3, 1)]
 
 
+def test_clusters_of_a_text():
+    text = "e\u0301\r\n\u0915\u094d\u0937\U0001f468\u200d\U0001f469a"
+    assert hordguli.clusters(text) == [2, 4, 7, 10, 11]
+    assert hordguli.clusters("a" * 100) == list(range(1, 101)) and hordguli.clusters("") == []
+
+
+def test_script_runs_follow_brackets():
+    def scripts(text):
+        return [(run.length, run.script) for run in hordguli.script_runs(text)]
+
+    assert hordguli.script_runs("a (\u05d0) 1") == [(0, 3, "Latn"), (3, 1, "Hebr"), (4, 3, "Latn")]
+    assert (scripts("1 \u05d0!"), scripts("12"), scripts("")) == ([(4, "Hebr")], [(2, "Zyyy")], [])
+    assert len(scripts("a\u05d0" * 50)) == 100
+
+
 def test_properties_of_characters():
     bracket, letter, mark, wide, clef = hordguli.properties(f"[\u05d0\u0300\u4e00{CLEF}")
     assert bracket == hordguli.Character("]", "]", False, False, "ON", "OP", 1, "open")

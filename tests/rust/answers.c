@@ -314,6 +314,8 @@ static void session_answers(uint64_t number) {
     static const uint32_t tabs[] = {0, 0, 4, 8};
     static char text[4 * MOST], page[BYTES];
     static uint32_t characters[MOST];
+    static size_t offsets[MOST];
+    static hordguli_script_run script_runs[MOST];
     size_t version, direction, length, all, written, damaged;
     uint32_t options, tab, width, print;
     int is_measured;
@@ -354,12 +356,23 @@ static void session_answers(uint64_t number) {
     sizes();
     hordguli_text_utf32(&session, 0, counts.characters, MOST, characters, &written);
     row_answers(&tables[version], options, directions[direction], characters, counts.characters);
+    if (succeeds("text_clusters", hordguli_clusters(counts.characters, characters, MOST, offsets, &all))) TELL_ARRAY("end", offsets, all);
+    if (succeeds("script_runs", hordguli_script_runs(&tables[version], counts.characters, characters, MOST, script_runs, &all)))
+        for (size_t k = 0; k < all; k++) {
+            tell("run.start", script_runs[k].start);
+            tell("run.length", script_runs[k].length);
+            tell("run.script", script_runs[k].script);
+        }
     hordguli_text(&session, 0, counts.characters, BYTES, page, &written);
     damaged = below(written + 1);
     if (damaged < written) page[damaged] = (char)(page[damaged] ^ 0x80);
     if (succeeds("count_utf8", hordguli_count_utf8(page, written, &all))) tell("count", all);
     hordguli_valid_utf8(page, written, &all);
     tell("valid", all);
+    if (succeeds("decode", hordguli_decode(page, written, MOST, characters, offsets, &all))) {
+        TELL_ARRAY("character", characters, all);
+        TELL_ARRAY("offset", offsets, all);
+    }
     hordguli_session_close(&session);
 }
 

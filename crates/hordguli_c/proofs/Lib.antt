@@ -1,3 +1,4 @@
+mod DecodeLemmas
 mod PageLemmas
 mod PartLemmas
 mod RowLemmas

@@ -14,3 +14,4 @@ pub mod Lines
 pub mod Edges
 pub mod Rows
 pub mod Levels
+pub mod Segments

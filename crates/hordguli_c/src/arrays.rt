@@ -200,3 +200,15 @@ pub fn put_bytes(bytes: &[u8], array: &mut [u8], len: &mut usize) -> Status
     array[..bytes.len()].copy_from_slice(bytes);
     Status::Ok
 }
+
+/// Copies positions to an array, if they fit, and stores their number.
+pub fn put_ends(ends: &[usize], array: &mut [usize], count: &mut usize) -> Status
+    ensures { PutsItems ends.now result (array.old, count.old) (array.new, count.new) }
+{
+    *count = ends.len();
+    if array.len() < ends.len() {
+        return Status::NoRoom;
+    }
+    array[..ends.len()].copy_from_slice(ends);
+    Status::Ok
+}

@@ -14,6 +14,7 @@ ghost use Rattle.hordguli_c.specs.Edges.{GivesEdge, GivesEdgeCaret, GivesLineClu
 ghost use Rattle.hordguli_c.specs.Edges.{GivesNearestEdge, GivesStep};
 ghost use Rattle.hordguli_c.specs.Statuses.{Returns};
 
+use crate::arrays::put_ends;
 use crate::calls::with_object;
 use crate::flags::flag;
 use crate::session_handle::{SessionHandle, SessionObject};
@@ -619,17 +620,6 @@ pub extern "C" fn hordguli_core_line_edges(
         object,
         find_line_edges(&object, n, first, last)
     )
-}
-
-fn put_ends(ends: &[usize], array: &mut [usize], count: &mut usize) -> Status
-    ensures { PutsItems ends.now result (array.old, count.old) (array.new, count.new) }
-{
-    *count = ends.len();
-    if array.len() < ends.len() {
-        return Status::NoRoom;
-    }
-    array[..ends.len()].copy_from_slice(ends);
-    Status::Ok
 }
 
 fn find_line_clusters(

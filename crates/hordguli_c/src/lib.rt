@@ -11,6 +11,7 @@ mod options;
 mod raw_box;
 mod row_calls;
 mod runs;
+mod segment_calls;
 mod session_calls;
 mod session_handle;
 mod status;

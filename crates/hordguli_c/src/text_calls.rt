@@ -1,14 +1,17 @@
 //! Functions on whole texts, without a session.
-ghost use Rattle.std.specs.Prelude.{◌≡◌, length};
+ghost use Rattle.std.specs.Prelude.{◌≡◌, length, true};
+ghost use Rattle.std.specs.Str.{chars};
 ghost use Rattle.std.specs.Str.Lossy.{utf8_valid_len};
+ghost use Rattle.hordguli_c.specs.Arrays.{has_room, put_if};
 ghost use Rattle.hordguli_c.specs.Calls.{OfText};
 ghost use Rattle.hordguli_c.specs.Options.{page_form_of};
 ghost use Rattle.hordguli_c.specs.Statuses.{Returns};
-ghost use Rattle.hordguli_c.specs.Texts.{PrintsText};
+ghost use Rattle.hordguli_c.specs.Texts.{char_offsets, Decodes, PrintsText, PutsDecoded};
 ghost use Rattle.hordguli_c.specs.declared.status.Status.TheVariants.{Ok};
 
+use crate::arrays::has_room;
 use crate::calls::with_object;
-use crate::options::page_form_of;
+use crate::options::{has_bit, page_form_of};
 use crate::status::{Status, number_of};
 use crate::tables_handle::TablesHandle;
 use lines::char_count;
@@ -72,4 +75,98 @@ pub extern "C" fn hordguli_core_valid_utf8(bytes: &[u8], valid: &mut usize) -> u
 {
     *valid = valid_len(bytes);
     number_of(Status::Ok)
+}
+
+// Copies the characters of a text to an array of the same length.
+fn put_each_decoded(text: &str, array: &mut [u32])
+    requires { length array.old ≡ length (chars text.now) }
+    ensures { array.new ≡ chars text.now }
+{
+    let mut k = 0;
+    for c in text.chars() {
+        array[k] = u32::from(c);
+        k += 1;
+    }
+}
+
+// Copies the characters of a text to the front of an array, if the array is `wanted`.
+fn put_decoded_if(wanted: bool, text: &str, len: usize, array: &mut [u32])
+    requires len { len ≡ length (chars text.now) }
+    requires room { has_room wanted len (length array.old) ≡ true }
+    ensures { array.new ≡ put_if wanted (chars text.now) array.old }
+{
+    if wanted {
+        put_each_decoded(text, &mut array[..len]);
+    }
+}
+
+// Stores the offset of each character of a text in an array of the same length.
+fn put_each_offset(text: &str, array: &mut [usize])
+    requires { length array.old ≡ length (chars text.now) }
+    ensures { array.new ≡ char_offsets (chars text.now) }
+{
+    // The offsets are less than the number of bytes, and a slice's length is bounded.
+    let _bytes = text.len();
+    let mut k = 0;
+    let mut offset = 0;
+    for c in text.chars() {
+        array[k] = offset;
+        offset += c.len_utf8();
+        k += 1;
+    }
+}
+
+// Stores the offset of each character of a text at the front of an array, if the array is `wanted`.
+fn put_offsets_if(wanted: bool, text: &str, len: usize, array: &mut [usize])
+    requires len { len ≡ length (chars text.now) }
+    requires room { has_room wanted len (length array.old) ≡ true }
+    ensures { array.new ≡ put_if wanted (char_offsets (chars text.now)) array.old }
+{
+    if wanted {
+        put_each_offset(text, &mut array[..len]);
+    }
+}
+
+fn put_decoded(
+    text: &str,
+    wanted: u32,
+    characters: &mut [u32],
+    offsets: &mut [usize],
+    count: &mut usize,
+) -> Status
+    ensures { PutsDecoded wanted (chars text.now) result
+        (count.old, record { characters = characters.old; offsets = offsets.old })
+        (count.new, record { characters = characters.new; offsets = offsets.new }) }
+{
+    let len = char_count(text);
+    let (wants_characters, wants_offsets) = (has_bit(wanted, 1), has_bit(wanted, 2));
+    *count = len;
+    if !has_room(wants_characters, len, characters.len()) {
+        return Status::NoRoom;
+    }
+    if !has_room(wants_offsets, len, offsets.len()) {
+        return Status::NoRoom;
+    }
+    put_decoded_if(wants_characters, text, len, characters);
+    put_offsets_if(wants_offsets, text, len, offsets);
+    Status::Ok
+}
+
+/// Stores the number of characters in UTF-8 text, and the arrays that `wanted` selects.
+#[unsafe(no_mangle)]
+pub extern "C" fn hordguli_core_decode(
+    bytes: &[u8],
+    wanted: u32,
+    characters: &mut [u32],
+    offsets: &mut [usize],
+    count: &mut usize,
+) -> u32
+    ensures { Returns (λ status. Decodes wanted bytes.now status
+        (count.old, record { characters = characters.old; offsets = offsets.old })
+        (count.new, record { characters = characters.new; offsets = offsets.new })) result }
+{
+    match from_utf8(bytes) {
+        Ok(text) => number_of(put_decoded(text, wanted, characters, offsets, count)),
+        Err(_) => number_of(Status::NotUtf8),
+    }
 }

@@ -1,4 +1,5 @@
-//! Tests of tables, levels, marks, stores and streams, through public calls: a module for each library.
+//! Tests of tables, levels, scripts, marks, stores and streams, through public calls: a module for each
+//! library.
 #![tactic(auto)]
 
 #[cfg(test)]
@@ -7,6 +8,8 @@ mod files;
 mod levels;
 #[cfg(test)]
 mod marks;
+#[cfg(test)]
+mod scripts;
 #[cfg(test)]
 mod snippets;
 #[cfg(test)]

@@ -385,6 +385,19 @@ pub struct hordguli_edge {
     pub zero: u32,
 }
 
+/// The `length` characters of a text from position `start` on, all of one script. `script` has the four letters of its
+/// code (ISO 15924), the first one in the highest byte, such as 0x4C61746E for `Latn`. So it is an `hb_script_t` of
+/// HarfBuzz.
+#[derive(Clone, Copy, Debug, Default, PartialEq, Eq)]
+#[repr(C)]
+pub struct hordguli_script_run {
+    pub start: usize,
+    pub length: usize,
+    pub script: u32,
+    /// always 0
+    pub zero: u32,
+}
+
 /// The properties of a character.
 #[derive(Clone, Copy, Debug, Default, PartialEq, Eq)]
 #[repr(C)]
@@ -413,8 +426,8 @@ extern "C" {
     /// Returns "15.0", the Unicode version of tables that `hordguli_tables_open_builtin`, `hordguli_tables_open_folder` and
     /// `hordguli_tables_read` open.
     pub fn hordguli_unicode_version() -> *const c_char;
-    /// Returns the Unicode version of column widths and grapheme clusters, such as "18.0". It is that of the library, and
-    /// does not depend on the tables.
+    /// Returns the Unicode version of column widths, grapheme clusters and scripts, such as "18.0". It is that of the library,
+    /// and does not depend on the tables.
     ///
     /// Since: 0.6.
     pub fn hordguli_width_unicode_version() -> *const c_char;
@@ -573,6 +586,28 @@ extern "C" {
         bytes: *const c_char,
         length: usize,
         valid: *mut usize,
+    ) -> hordguli_status;
+    /// Decodes UTF-8 text of `length` bytes. Stores the number of its characters in `*count`, and this many elements in each
+    /// array. Each array has `capacity` elements. NULL arrays are skipped, so with both NULL nothing needs room (see BUFFERS).
+    /// - `characters`: characters, for the functions below `Clusters and scripts`, `Rows` and `Levels and properties`
+    /// - `offsets`: byte offset of each character
+    ///
+    /// On NO_ROOM, `*count` is set and the arrays are unchanged. Text that is not UTF-8 is refused, as in all functions, so a
+    /// position always means the same character. On NOT_UTF8, `hordguli_valid_utf8` says where. To replace invalid bytes by
+    /// U+FFFD, decode the text before them, and go on after them.
+    ///
+    /// Errors: NULL, OVERLAP, NOT_UTF8, NO_ROOM.
+    ///
+    /// Cost: O(length).
+    ///
+    /// Since: 0.6.
+    pub fn hordguli_decode(
+        bytes: *const c_char,
+        length: usize,
+        capacity: usize,
+        characters: *mut u32,
+        offsets: *mut usize,
+        count: *mut usize,
     ) -> hordguli_status;
     /// Opens a session on a text. `width` is in columns. The session shares the tables, so their handle may be closed
     /// before the session. On NOT_UTF8, `hordguli_valid_utf8` says where. NO_MEMORY comes directly after CLOSED if 2^63
@@ -1166,6 +1201,49 @@ extern "C" {
         capacity: usize,
         ends: *mut usize,
         count: *mut usize,
+    ) -> hordguli_status;
+    /// Stores where the grapheme clusters of a text of `count` characters end, in an array of `capacity` elements, and their
+    /// number in `*cluster_count`. NULL with capacity 0 is NO_ROOM, unless `count` is 0 (see BUFFERS). The first cluster starts
+    /// at 0, each other one where the one before it ends, and the last one ends at `count`. No cluster continues after a
+    /// separator, so the clusters are those of a session with this text (`hordguli_cluster_at`), also of a text of several
+    /// paragraphs. NO_MEMORY comes before NO_ROOM.
+    ///
+    /// Errors: NULL, OVERLAP, NOT_A_CHARACTER, NO_MEMORY, NO_ROOM.
+    ///
+    /// Cost: time and memory proportional to `count`.
+    ///
+    /// Since: 0.6.
+    pub fn hordguli_clusters(
+        count: usize,
+        characters: *const u32,
+        capacity: usize,
+        ends: *mut usize,
+        cluster_count: *mut usize,
+    ) -> hordguli_status;
+    /// Stores the script runs of a text of `count` characters (UAX #24), for fonts and shapers: the longest ranges of
+    /// characters of one script. A shaper takes the parts of a directional run (`hordguli_row_runs`) that they make.
+    ///   - A character has the script of its property Script. It is that of the Unicode version that
+    ///     `hordguli_width_unicode_version` returns. A private-use or unassigned character has the script Unknown (`Zzzz`).
+    ///   - If the property is Common or Inherited, as of a space, a digit or a mark, the character has the script of the one
+    ///     before it. At the start of the text, it has the first script that follows, or Common (`Zyyy`) if none does.
+    ///   - But a closing bracket whose property is Common has the script of its opening bracket. Brackets are those of the
+    ///     tables. Of brackets that are nested more than 63 deep, only the innermost 63 are matched.
+    ///
+    /// The property Script_Extensions is not used. The number of runs is stored in `*run_count`, and the runs in an array of
+    /// `capacity` elements. NULL with capacity 0 is NO_ROOM, unless `count` is 0 (see BUFFERS). NO_MEMORY comes before NO_ROOM.
+    ///
+    /// Errors: NULL, OVERLAP, CLOSED, NOT_A_CHARACTER, NO_MEMORY, NO_ROOM.
+    ///
+    /// Cost: time and memory proportional to `count`.
+    ///
+    /// Since: 0.6.
+    pub fn hordguli_script_runs(
+        tables: *mut hordguli_tables,
+        count: usize,
+        characters: *const u32,
+        capacity: usize,
+        runs: *mut hordguli_script_run,
+        run_count: *mut usize,
     ) -> hordguli_status;
     /// Puts a row of `count` characters into visual order. The caller chose where the row starts and ends. `base` is the
     /// base level of its paragraph (`hordguli_base`), and `levels` are the levels of the row's characters in the whole

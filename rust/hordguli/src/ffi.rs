@@ -134,6 +134,33 @@ pub fn valid_utf8(bytes: &[u8]) -> Result<usize, Error> {
     stored(|valid| unsafe { hordguli_valid_utf8(bytes.as_ptr().cast(), bytes.len(), valid) })
 }
 
+/// Returns the characters of UTF-8 text, and the offset of each, in bytes.
+pub fn decode(bytes: &[u8]) -> Result<(Vec<char>, Vec<usize>), Error> {
+    let count = count_utf8(bytes)?;
+    let (mut chars, mut offsets) = (defaults(count)?, defaults(count)?);
+    // SAFETY: `bytes` is an input, and the two arrays of `count` elements and the count are outputs.
+    let _count = stored(|stored| unsafe {
+        hordguli_decode(
+            bytes.as_ptr().cast(),
+            bytes.len(),
+            count,
+            chars.as_mut_ptr().cast(),
+            offsets.as_mut_ptr(),
+            stored,
+        )
+    })?;
+    Ok((chars, offsets))
+}
+
+pub fn clusters(chars: &[char]) -> Result<Vec<usize>, Error> {
+    // SAFETY: `chars` is an input, and the ends and their number are outputs.
+    unsafe {
+        array(USUAL_COUNT, |capacity, ends, count| {
+            hordguli_clusters(chars.len(), chars.as_ptr().cast(), capacity, ends, count)
+        })
+    }
+}
+
 // ---- Tables ----
 
 /// Open tables.
@@ -342,6 +369,22 @@ impl TablesHandle {
                     chars.len(),
                     chars.as_ptr().cast(),
                     levels.as_ptr().cast(),
+                    capacity,
+                    runs,
+                    count,
+                )
+            })
+        }
+    }
+
+    pub fn script_runs(&self, chars: &[char]) -> Result<Vec<hordguli_script_run>, Error> {
+        // SAFETY: *handle*; `chars` is an input, and the runs and their number are outputs.
+        unsafe {
+            array(USUAL_COUNT, |capacity, runs, count| {
+                hordguli_script_runs(
+                    self.at(),
+                    chars.len(),
+                    chars.as_ptr().cast(),
                     capacity,
                     runs,
                     count,

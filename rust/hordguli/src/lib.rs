@@ -7,7 +7,7 @@
 //! | Task | Calls |
 //! |---|---|
 //! | [One string](#one-string) | [`wrap`], [`layout`], [`layout_into`] |
-//! | [A terminal row](#a-terminal-row) | [`base_level`], [`levels`], [`row`], [`row_runs`], [`breaks`], [`properties`] |
+//! | [A terminal row](#a-terminal-row) | [`base_level`], [`levels`], [`row`], [`row_runs`], [`script_runs`], [`breaks`], [`clusters`], [`properties`] |
 //! | [A document](#a-document) | [`Session`], [`Line`], [`Paragraph`] |
 //! | Text in any font | [`Session::open_measured`], [`Session::set_advances`] |
 //! | [An editor](#an-editor) | [`Session::insert`], [`Damage`], [`Edge`], [`Line::spans`] |
@@ -193,14 +193,14 @@ pub use numbers::{BidiClass, Cause, LineClass, UnicodeVersion, TABLE_FILES};
 pub use options::{BaseDirection, Options, Print};
 pub use position::{BytePos, CharPos, Position, TextRange, Utf16Pos};
 pub use records::{
-    Bracket, Break, Caret, ChangedLines, Character, Counts, Damage, Direction, Edge, Hit, Level, Place, Row, Run,
-    Side, Span, Word, Work,
+    Bracket, Break, Caret, ChangedLines, Character, Counts, Damage, Direction, Edge, Hit, Level,
+    Place, Row, Run, ScriptRun, Side, Span, Word, Work,
 };
 pub use session::Session;
 pub use tables::Tables;
 pub use text::{
-    base_level, breaks, count_utf8, layout, layout_into, levels, properties, row, row_runs,
-    valid_utf8, wrap,
+    base_level, breaks, clusters, count_utf8, decode, layout, layout_into, levels, properties, row,
+    row_runs, script_runs, valid_utf8, wrap,
 };
 
 /// Returns the version of the C library, such as `0.5.0`.

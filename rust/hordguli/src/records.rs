@@ -233,6 +233,15 @@ pub struct Run<P> {
     pub level: Level,
 }
 
+/// Characters of one script.
+#[derive(Clone, Debug, PartialEq, Eq, Hash)]
+pub struct ScriptRun {
+    /// The indexes of the characters.
+    pub range: Range<usize>,
+    /// The code of their script (ISO 15924), such as `*b"Latn"`.
+    pub script: [u8; 4],
+}
+
 /// Which edge of a position.
 #[derive(Clone, Copy, Debug, Default, PartialEq, Eq, Hash)]
 pub enum Side {

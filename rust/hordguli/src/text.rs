@@ -1,5 +1,7 @@
 use crate::records::{breaks_of, levels_of};
-use crate::{ffi, BaseDirection, Break, Character, Error, Level, Options, Print, Row, Run, Tables};
+use crate::{
+    ffi, BaseDirection, Break, Character, Error, Level, Options, Print, Row, Run, ScriptRun, Tables,
+};
 
 /// Lays out a text in lines of at most `width` columns, and returns what `print` selects for each line.
 ///
@@ -293,4 +295,78 @@ pub fn count_utf8(bytes: &[u8]) -> Result<usize, Error> {
 pub fn valid_utf8(bytes: &[u8]) -> usize {
     // (it fails for NULL and overlapping parameters only)
     ffi::valid_utf8(bytes).unwrap_or_default()
+}
+
+/// Returns the characters of UTF-8 text, and the offset of each, in bytes.
+///
+/// A program that has a `&str` can iterate over its [`char_indices`](str::char_indices) instead.
+///
+/// ```
+/// let (chars, offsets) = hordguli::decode("\u{5d0}b".as_bytes())?;
+/// assert_eq!((chars, offsets), (vec!['\u{5d0}', 'b'], vec![0, 2]));
+/// # Ok::<(), hordguli::Error>(())
+/// ```
+///
+/// # Errors
+///
+/// [`Error::NotUtf8`], in which case [`valid_utf8`] says where; [`Error::OutOfMemory`].
+///
+/// # Cost
+///
+/// Time and memory proportional to the number of bytes.
+pub fn decode(bytes: &[u8]) -> Result<(Vec<char>, Vec<usize>), Error> {
+    ffi::decode(bytes)
+}
+
+/// Returns where the grapheme clusters of a text end. They are those of a session with this text, and the last one ends at its end.
+///
+/// ```
+/// assert_eq!(hordguli::clusters(&['e', '\u{301}', 'a'])?, [2, 3]);
+/// # Ok::<(), hordguli::Error>(())
+/// ```
+///
+/// # Errors
+///
+/// [`Error::OutOfMemory`].
+///
+/// # Cost
+///
+/// Time and memory proportional to the number of characters.
+pub fn clusters(chars: &[char]) -> Result<Vec<usize>, Error> {
+    ffi::clusters(chars)
+}
+
+/// Returns the script runs of a text (UAX #24), for fonts and shapers: the longest ranges of characters of one script.
+///
+/// - Spaces, digits, marks and other characters whose property Script is Common or Inherited have the script before them. At the
+///   start of the text, they have the script after them, or Common (`Zyyy`) if there is none.
+/// - A closing bracket has the script of its opening bracket.
+/// - Private-use and unassigned characters have the script Unknown (`Zzzz`).
+///
+/// ```
+/// use hordguli::{script_runs, Tables};
+///
+/// let tables = Tables::builtin()?;
+/// let chars = ['a', ' ', '(', '\u{5d0}', ')'];
+/// let scripts: Vec<_> = script_runs(&tables, &chars)?.map(|run| (run.range, run.script)).collect();
+/// assert_eq!(scripts, [(0..3, *b"Latn"), (3..4, *b"Hebr"), (4..5, *b"Latn")]);
+/// # Ok::<(), hordguli::Error>(())
+/// ```
+///
+/// # Errors
+///
+/// [`Error::OutOfMemory`].
+///
+/// # Cost
+///
+/// Time and memory proportional to the number of characters.
+pub fn script_runs(
+    tables: &Tables,
+    chars: &[char],
+) -> Result<impl DoubleEndedIterator<Item = ScriptRun> + ExactSizeIterator, Error> {
+    let runs = tables.handle.script_runs(chars)?;
+    Ok(runs.into_iter().map(|run| ScriptRun {
+        range: run.start..run.start + run.length,
+        script: run.script.to_be_bytes(),
+    }))
 }

@@ -1,8 +1,8 @@
 //! The functions that need no session.
 use hordguli::{
-    base_level, breaks, count_utf8, layout, layout_into, levels, properties, row, row_runs,
-    valid_utf8, wrap, BaseDirection, BidiClass, Bracket, Break, Error, Level, LineClass, Options,
-    Print, Run, Tables, UnicodeVersion,
+    base_level, breaks, clusters, count_utf8, decode, layout, layout_into, levels, properties, row,
+    row_runs, script_runs, valid_utf8, wrap, BaseDirection, BidiClass, Bracket, Break, Error,
+    Level, LineClass, Options, Print, Run, ScriptRun, Tables, UnicodeVersion,
 };
 
 const HEBREW: &str = "\u{5d0}\u{5d1}\u{5d2}";
@@ -306,6 +306,44 @@ fn utf8_is_counted_and_checked() {
         (Err(Error::NotUtf8), 3)
     );
     assert_eq!((count_utf8(b""), valid_utf8(b"")), (Ok(0), 0));
+}
+
+#[test]
+fn decode_is_that_of_str() {
+    let text = "a\u{e9}\u{5d0}\u{4e00}\u{1d11e}\0";
+    let (offsets, chars): (Vec<_>, Vec<_>) = text.char_indices().unzip();
+    assert_eq!(decode(text.as_bytes()), Ok((chars, offsets)));
+    assert_eq!(decode(b"a\xff"), Err(Error::NotUtf8));
+    assert_eq!(decode(b""), Ok((vec![], vec![])));
+}
+
+fn scripts_of(text: &str) -> Vec<(usize, [u8; 4])> {
+    let chars: Vec<_> = text.chars().collect();
+    let runs: Vec<ScriptRun> = script_runs(&tables(), &chars).unwrap().collect();
+    assert!(runs
+        .windows(2)
+        .all(|two| two[0].range.end == two[1].range.start));
+    runs.into_iter()
+        .map(|run| (run.range.len(), run.script))
+        .collect()
+}
+
+#[test]
+fn script_runs_follow_brackets() {
+    assert_eq!(
+        scripts_of("a (\u{5d0}) 1"),
+        [(3, *b"Latn"), (1, *b"Hebr"), (3, *b"Latn")]
+    );
+    assert_eq!(scripts_of("1 \u{5d0}!"), [(4, *b"Hebr")]);
+    assert_eq!(scripts_of("12"), [(2, *b"Zyyy")]);
+    assert_eq!(scripts_of(""), []);
+}
+
+#[test]
+fn clusters_end_where_those_of_a_session_do() {
+    let text: Vec<_> = "e\u{301}\r\n\u{1f468}\u{200d}\u{1f469}a".chars().collect();
+    assert_eq!(clusters(&text), Ok(vec![2, 4, 7, 8]));
+    assert_eq!(clusters(&[]), Ok(vec![]));
 }
 
 #[test]

@@ -6,9 +6,10 @@ use std::fmt::Write;
 use std::ops::Range;
 
 use hordguli::{
-    base_level, breaks, count_utf8, layout, levels, properties, row, row_runs, valid_utf8,
-    BaseDirection, Bracket, Break, BytePos, Caret, CharPos, Damage, Direction, Edge, Error, Level,
-    Line, Options, Print, Row, Session, Side, Tables, UnicodeVersion, Utf16Pos,
+    base_level, breaks, clusters, count_utf8, decode, layout, levels, properties, row, row_runs,
+    script_runs, valid_utf8, BaseDirection, Bracket, Break, BytePos, Caret, CharPos, Damage,
+    Direction, Edge, Error, Level, Line, Options, Print, Row, Session, Side, Tables,
+    UnicodeVersion, Utf16Pos,
 };
 
 const ALPHABET: [char; 48] = [
@@ -566,6 +567,17 @@ impl Run<'_> {
         self.answers(&session);
         let chars = session.chars(..).unwrap();
         self.rows(tables, options, direction, &chars);
+        let ends = self.teller.told("text_clusters", clusters(&chars)).unwrap();
+        self.teller.tell_all("end", ends.into_iter());
+        let runs = self
+            .teller
+            .told("script_runs", script_runs(tables, &chars))
+            .unwrap();
+        for run in runs {
+            self.tell("run.start", run.range.start);
+            self.tell("run.length", run.range.len());
+            self.tell("run.script", u32::from_be_bytes(run.script));
+        }
         let mut bytes = session.text(..).unwrap().into_bytes();
         let damaged = self.below(bytes.len() + 1);
         bytes
@@ -577,6 +589,10 @@ impl Run<'_> {
             self.tell("count", count);
         }
         self.tell("valid", valid_utf8(&bytes));
+        if let Some((chars, offsets)) = self.teller.told("decode", decode(&bytes)) {
+            self.teller.tell_all("character", chars.into_iter());
+            self.teller.tell_all("offset", offsets.into_iter());
+        }
     }
 
     fn answers(&self, session: &Session) {
