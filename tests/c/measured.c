@@ -685,14 +685,14 @@ static void edit_and_measure(const snapshot *then) {
     hordguli_damage edited = {7, 7, 7, 7, 7, 7}, measured = {7, 7, 7, 7, 7, 7};
     size_t start, count;
     if (!edit(&edited)) return;
-    take(&session, &now);
+    take(&session, advances, &now);
     lines_were_replaced(then, &now, edited.first_line, edited.old_lines, edited.new_lines);
     changed_lines_are_right(&session, then, &now, &edited);
     if (below(4) == 0) session_is_right();
     find_new(&session, &edited, &start, &count);
     between = now;
     if (!measure(start, count, &measured)) return;
-    take(&session, &now);
+    take(&session, advances, &now);
     changed_lines_are_right(&session, &between, &now, &measured);
     HOLDS(count == 0 || (measured.first_line == edited.first_line && measured.old_lines == edited.new_lines));
     HOLDS(measured.old_paragraphs == edited.new_paragraphs && measured.new_paragraphs == edited.new_paragraphs);
@@ -703,19 +703,19 @@ static void change(void) {
     static snapshot then, now;
     hordguli_damage damage = {7, 7, 7, 7, 7, 7};
     size_t pos = below(length + 1), count = below(length - pos + 1);
-    take(&session, &then);
+    take(&session, advances, &then);
     switch (below(6)) {
         case 0:
             width = random_width();
             if (width <= UINT16_MAX && below(2) == 0) OK(hordguli_set_width(&session, width, &damage));
             else OK(hordguli_set_measured_width(&session, width, &damage));
-            take(&session, &now);
+            take(&session, advances, &now);
             HOLDS(damage.first_line == 0 && damage.old_lines == then.count && damage.new_lines == now.count);
             changed_lines_are_right(&session, &then, &now, &damage);
             break;
         case 1:
             if (!measure(pos, count, &damage)) break;
-            take(&session, &now);
+            take(&session, advances, &now);
             if (count > 0) lines_were_replaced(&then, &now, damage.first_line, damage.old_lines, damage.new_lines);
             else HOLDS(damage.old_lines == 0 && damage.new_lines == 0 && memcmp(&then, &now, sizeof now) == 0);
             changed_lines_are_right(&session, &then, &now, &damage);

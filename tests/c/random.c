@@ -191,7 +191,7 @@ int main(int count, char **words) {
         OK(hordguli_session_counts(&kept, &counts));
         old_lines = counts.lines;
         old_paragraphs = counts.paragraphs;
-        take(&kept, &then);
+        take(&kept, NULL, &then);
         if (below(3) != 0 || length == 0) piece_length = decoded(text_pieces[below(TEXT_PIECES)], piece);
         if (length > 0 && (below(2) == 0 || length > MOST - 40)) taken = below(length - pos < 30 ? length - pos + 1 : 30);
         size = encoded(piece, piece_length, piece_bytes);
@@ -207,7 +207,7 @@ int main(int count, char **words) {
             status = hordguli_replace(&kept, pos, taken, piece_bytes, size, &damage);
         }
         OK(status);
-        take(&kept, &now);
+        take(&kept, NULL, &now);
         lines_were_replaced(&then, &now, damage.first_line, damage.old_lines, damage.new_lines);
         changed_lines_are_right(&kept, &then, &now, &damage);
         memmove(text + pos + piece_length, text + pos + taken, (length - pos - taken) * sizeof *text);

@@ -4,7 +4,8 @@
 
 enum { SNAPSHOT_LINES = 1600, SNAPSHOT_CHARACTERS = 1600 };
 
-/* Each line has its numbers, without its position and padding, and a hash of its characters, levels, maps and columns. */
+/* Each line has its numbers, without its position and padding, and a hash of its characters, levels, maps, columns and
+ * advances. */
 typedef struct snapshot {
     struct {
         hordguli_line_info info;
@@ -15,7 +16,8 @@ typedef struct snapshot {
 
 static uint64_t hashed(uint64_t hash, uint64_t number) { return (hash ^ number) * 0x100000001B3; }
 
-static void take(hordguli_session *of, snapshot *into) {
+/* `advances` are those of the session's characters, or NULL if it is not measured. */
+static void take(hordguli_session *of, const uint32_t *advances, snapshot *into) {
     static uint32_t characters[SNAPSHOT_CHARACTERS], ltov[SNAPSHOT_CHARACTERS], vtol[SNAPSHOT_CHARACTERS];
     static uint8_t levels[SNAPSHOT_CHARACTERS];
     static size_t columns[SNAPSHOT_CHARACTERS];
@@ -30,6 +32,7 @@ static void take(hordguli_session *of, snapshot *into) {
         for (size_t k = 0; k < info->shown; k++) {
             hash = hashed(hashed(hash, characters[k]), levels[k]);
             hash = hashed(hashed(hashed(hash, ltov[k]), vtol[k]), columns[k]);
+            if (advances != NULL) hash = hashed(hash, advances[info->start + k]);
         }
         into->lines[line].hash = hash;
         info->start = info->padding = 0;
