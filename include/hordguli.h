@@ -226,6 +226,11 @@ const char *hordguli_width_unicode_version(void);
  * refused with UNKNOWN_OPTION. `n` is evaluated twice. In a measured session, tabs have their own stops (see MEASURED
  * TEXT). Since 0.6. */
 #define HORDGULI_TAB_WIDTH(n) ((uint32_t)(n) > 255 ? UINT32_C(1) << 16 : (uint32_t)(n) << 8)
+/* Ends paragraphs at LF, CR and CRLF only, as LSP, Git and most editors end lines: U+001C to U+001E, U+0085 and U+2029
+ * have bidi class S (segment separator) where the tables give them B. U+0085 and U+2029 still end lines, not paragraphs,
+ * as do VT, FF and U+2028. Each function with `options` or `direction` accepts it. It changes no result of
+ * `hordguli_row` and `hordguli_marks`. Since 0.6. */
+#define HORDGULI_LINE_SEPARATORS UINT32_C(0x4000000)
 
 /* ---- Print flags ----
  *
@@ -960,8 +965,8 @@ hordguli_status hordguli_row_runs(hordguli_tables *tables, uint32_t base, size_t
 /* ---- Levels and properties ----
  *
  * `hordguli_base`, `hordguli_levels` and `hordguli_marks` take one paragraph of `count` characters, and do not split it
- * at separators. `direction` is a base direction without other options, or 0. NO_ROOM means that `capacity` is less
- * than `count`.
+ * at separators. `direction` is a base direction or 0, and can have HORDGULI_LINE_SEPARATORS. NO_ROOM means that
+ * `capacity` is less than `count`.
  *
  * To lay out text with these functions, a caller has to:
  *   - split the text into paragraphs (UAX #9, P1);

@@ -309,14 +309,15 @@ static void session_answers(uint64_t number) {
     static char text[4 * MOST], page[BYTES];
     static uint32_t characters[MOST];
     size_t version, direction, length, all, written, damaged;
-    uint32_t options, tab, width, print;
+    uint32_t bits, options, tab, width, print;
     int is_measured;
     hordguli_status status;
     state = (number + 1) * 0x9E3779B97F4A7C15;
     sum = 0xCBF29CE484222325;
     version = below(2);
     direction = below(4);
-    options = (uint32_t)below(32) << 2;
+    bits = (uint32_t)below(64);
+    options = (bits & 31) << 2 | (bits & 32 ? HORDGULI_LINE_SEPARATORS : 0);
     tab = tabs[below(4)];
     options |= directions[direction] | HORDGULI_TAB_WIDTH(tab);
     width = 1 + (uint32_t)below(20);
@@ -347,7 +348,7 @@ static void session_answers(uint64_t number) {
     for (size_t offset = 0; offset < all + 2; offset++) offset_answers(offset);
     sizes();
     hordguli_text_utf32(&session, 0, counts.characters, MOST, characters, &written);
-    row_answers(&tables[version], options, directions[direction], characters, counts.characters);
+    row_answers(&tables[version], options, directions[direction] | (options & HORDGULI_LINE_SEPARATORS), characters, counts.characters);
     hordguli_text(&session, 0, counts.characters, BYTES, page, &written);
     damaged = below(written + 1);
     if (damaged < written) page[damaged] = (char)(page[damaged] ^ 0x80);

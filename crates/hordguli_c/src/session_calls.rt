@@ -5,7 +5,7 @@ ghost use Rattle.session.specs.Edits.{deletion, insertion, replacing};
 ghost use Rattle.session.specs.Kept.{lines_in};
 ghost use Rattle.session.specs.Sessions.{text_at};
 ghost use Rattle.hordguli_c.specs.Calls.{Asks, Changes, Gives, OfText};
-ghost use Rattle.hordguli_c.specs.Options.{options_of};
+ghost use Rattle.hordguli_c.specs.Options.{options_of, tables_by};
 ghost use Rattle.hordguli_c.specs.Sessions.{IsFresh, IsOpened, IsRefused, OpensOn, OpensSession};
 ghost use Rattle.hordguli_c.specs.Sessions.{damage_out, TriesAdvances, TriesEdit, TriesMeasuredWidth};
 ghost use Rattle.hordguli_c.specs.Sessions.{TriesWidth};
@@ -14,7 +14,7 @@ ghost use Rattle.hordguli_c.specs.Statuses.{Returns};
 ghost use Rattle.hordguli_c.specs.declared.status.Status.TheVariants.{Ok};
 
 use crate::calls::with_object;
-use crate::options::options_of;
+use crate::options::{options_of, separates_lines};
 use crate::session_handle::{SessionHandle, SessionObject};
 use crate::status::{Status, advance_status, edit_status, number_of};
 use crate::tables_handle::TablesHandle;
@@ -95,7 +95,7 @@ pub extern "C" fn hordguli_core_session_open(
 ) -> u32
     ensures unchanged { tables.new.held ≡ tables.old.held }
     ensures opens { Returns (λ status. OpensSession (options_of options) text.now (Columns width) status
-        tables.old.held session.old.held session.new.held) result }
+        (tables_by options tables.old.held) session.old.held session.new.held) result }
 {
     open_session(
         alloc,
@@ -119,7 +119,7 @@ pub extern "C" fn hordguli_core_session_open_measured(
 ) -> u32
     ensures unchanged { tables.new.held ≡ tables.old.held }
     ensures opens { Returns (λ status. OpensSession (options_of options) text.now (Units width) status
-        tables.old.held session.old.held session.new.held) result }
+        (tables_by options tables.old.held) session.old.held session.new.held) result }
 {
     open_session(
         alloc,
@@ -141,9 +141,10 @@ fn open_session(
     text: &[u8],
 ) -> u32
     ensures unchanged { tables.new.held ≡ tables.old.held }
-    ensures opens { Returns (λ status. OpensSession (options_of options) text.now width status tables.old.held
-        session.old.held session.new.held) result }
+    ensures opens { Returns (λ status. OpensSession (options_of options) text.now width status
+        (tables_by options tables.old.held) session.old.held session.new.held) result }
 {
+    let separates = separates_lines(options);
     let Some(options) = options_of(options) else {
         return number_of(Status::UnknownOption);
     };
@@ -158,7 +159,14 @@ fn open_session(
         tables,
         alloc,
         object,
-        open_at(alloc, session, object.tables(), options, text, width)
+        open_at(
+            alloc,
+            session,
+            object.tables_if(separates),
+            options,
+            text,
+            width
+        )
     )
 }
 

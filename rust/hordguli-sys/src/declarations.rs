@@ -38,6 +38,7 @@ pub const HORDGULI_REORDER_NSM: u32 = 8;
 pub const HORDGULI_WHOLE_NUMBERS: u32 = 16;
 pub const HORDGULI_REORDER_CLUSTERS: u32 = 32;
 pub const HORDGULI_SHOW_SPACES: u32 = 64;
+pub const HORDGULI_LINE_SEPARATORS: u32 = 0x4000000;
 
 // Print flags
 pub const HORDGULI_PRINT_VISUAL: u32 = 1;

@@ -425,16 +425,16 @@ impl Run<'_> {
         }
     }
 
-    fn rows(&self, tables: &Tables, options: Options, direction: BaseDirection, chars: &[char]) {
+    fn rows(&self, tables: &Tables, options: Options, chars: &[char]) {
         let teller = &self.teller;
         let from = self.below(chars.len() + 1);
         let to = from + self.below(chars.len() + 1 - from);
         let base = teller
-            .told("base", base_level(tables, chars, direction))
+            .told("base", base_level(tables, chars, options))
             .unwrap();
         self.tell("base", base);
         let levels = teller
-            .told("levels", levels(tables, chars, direction))
+            .told("levels", levels(tables, chars, options))
             .unwrap();
         teller.tell_all("level", levels.iter().copied());
         let marks = teller
@@ -529,7 +529,7 @@ impl Run<'_> {
             BaseDirection::Ltr,
             BaseDirection::Rtl,
         ][self.below(4)];
-        let bits = self.below(32);
+        let bits = self.below(64);
         let options = Options::new()
             .base(direction)
             .no_break(bits & 1 != 0)
@@ -537,6 +537,7 @@ impl Run<'_> {
             .whole_numbers(bits & 4 != 0)
             .reorder_clusters(bits & 8 != 0)
             .show_spaces(bits & 16 != 0)
+            .line_separators(bits & 32 != 0)
             .tab_width([0, 0, 4, 8][self.below(4)]);
         let width = 1 + self.below(20) as u16;
         let print = print_of(1 + self.below(127));
@@ -560,7 +561,7 @@ impl Run<'_> {
         }
         self.answers(&session);
         let chars = session.chars(..).unwrap();
-        self.rows(tables, options, direction, &chars);
+        self.rows(tables, options, &chars);
         let mut bytes = session.text(..).unwrap().into_bytes();
         let damaged = self.below(bytes.len() + 1);
         bytes
