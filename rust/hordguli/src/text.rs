@@ -103,9 +103,7 @@ pub fn base_level(
     chars: &[char],
     options: impl Into<Options>,
 ) -> Result<Level, Error> {
-    let base = tables
-        .handle
-        .base(options.into().paragraph_bits(), chars)?;
+    let base = tables.handle.base(options.into().paragraph_bits(), chars)?;
     Ok(Level::of_u32(base))
 }
 
