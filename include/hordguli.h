@@ -404,9 +404,10 @@ void hordguli_tables_close(hordguli_tables *tables);
  *     status = hordguli_layout(&tables, HORDGULI_WEAK_LTR, 80, HORDGULI_PRINT_DEFAULT, line, strlen(line),
  *                              sizeof buffer, buffer, &written);
  *
- * The handle keeps the memory that a call used, and a call that needs no more than that allocates nothing. The handle
- * keeps at most 5 MB: memory for a text or for lines of more than 65,536 bytes is freed. `hordguli_tables_close` frees
- * it. Calls at the same time in several threads need a handle of tables each.
+ * The handle keeps the memory that a call used, and a call that needs no more than that allocates nothing, unless only
+ * one of both has HORDGULI_LINE_SEPARATORS. The handle keeps at most 5 MB: memory for a text or for lines of more than
+ * 65,536 bytes is freed. `hordguli_tables_close` frees it. Calls at the same time in several threads need a handle of
+ * tables each.
  *
  * On NOT_UTF8, `hordguli_valid_utf8` says where. NO_MEMORY comes before NO_ROOM, because the lines are gathered before
  * their size is known.

@@ -136,8 +136,8 @@ void __wrap_free(void *block) {
     __real_free(block);
 }
 
-/* The same calls again allocate nothing. */
-static void warm_calls_allocate_nothing(void) {
+/* The same calls again allocate nothing. `line_separators` is an option that all of them have, or 0. */
+static void warm_calls_allocate_nothing(uint32_t line_separators) {
     uint64_t start = seed;
     for (int round = 0; round < 2; round++) {
         long before = allocations;
@@ -147,6 +147,7 @@ static void warm_calls_allocate_nothing(void) {
             request r = random_request(below(2) == 0 ? 60 : 8);
             /* (after a call that prints much, no buffer is kept) */
             if (r.width == 65535) r.width = 90;
+            r.options = (r.options & ~HORDGULI_LINE_SEPARATORS) | line_separators;
             OK(lay_out(&r, BYTES, page, &written));
         }
         HOLDS(round == 0 || allocations == before);
@@ -200,7 +201,8 @@ int main(int count, char **words) {
         if (count == 4 && k < STORED) store_case(words[3], k, &r);
     }
 #ifdef WRAPPED
-    warm_calls_allocate_nothing();
+    warm_calls_allocate_nothing(0);
+    warm_calls_allocate_nothing(HORDGULI_LINE_SEPARATORS);
     large_calls_keep_little(words[1]);
 #endif
     hordguli_tables_close(&tables);
