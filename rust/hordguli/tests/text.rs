@@ -93,9 +93,7 @@ fn line_separators_alone_end_paragraphs() {
     let only = Options::new().line_separators(true);
     let text = "a\u{2029}b\u{85}c\u{1c}d\re";
     let paragraphs = |options| {
-        let counts = Session::open(&tables(), text, 80, options)
-            .unwrap()
-            .counts();
+        let counts = Session::new(&tables(), text, 80, options).unwrap().counts();
         (counts.paragraphs, counts.lines)
     };
     assert_eq!(paragraphs(Options::new()), (5, 5));
