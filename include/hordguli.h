@@ -118,9 +118,10 @@
  * to no stream, calls no callbacks, and has no state outside its handles. The strings it returns are static; do not
  * free them.
  *
- * A session keeps 5 KB for itself, 0.5 KB for each paragraph, 12 bytes for each further line of a paragraph, and 19 bytes
- * for each character. Its buffers keep up to 26 bytes more for each character of its longest paragraph. Tables keep 112
- * KB, which their sessions share. `bench/memory` in the sources has measured this, with glibc's malloc. */
+ * A session keeps 0.1 KB for itself, 0.5 KB for each paragraph, 12 bytes for each further line of a paragraph, and 19
+ * bytes for each character. From its first edit on, its buffers keep 5 KB more, and up to 26 bytes for each character of
+ * its longest paragraph. Opening it uses buffers that the handle of the tables keeps. Tables keep 112 KB, which their
+ * sessions share. `bench/memory` in the sources has measured this, with glibc's malloc. */
 #ifndef HORDGULI_H
 #define HORDGULI_H
 
@@ -238,6 +239,11 @@ const char *hordguli_width_unicode_version(void);
  * refused with UNKNOWN_OPTION. `n` is evaluated twice. In a measured session, tabs have their own stops (see MEASURED
  * TEXT). Since 0.6. */
 #define HORDGULI_TAB_WIDTH(n) ((uint32_t)(n) > 255 ? UINT32_C(1) << 16 : (uint32_t)(n) << 8)
+/* Ends paragraphs at LF, CR and CRLF only, as LSP, Git and most editors end lines: U+001C to U+001E, U+0085 and U+2029
+ * have bidi class S (segment separator) where the tables give them B. U+0085 and U+2029 still end lines, not paragraphs,
+ * as do VT, FF and U+2028. Each function with `options` or `direction` accepts it. It changes no result of
+ * `hordguli_row` and `hordguli_marks`. Since 0.6. */
+#define HORDGULI_LINE_SEPARATORS UINT32_C(0x4000000)
 
 /* ---- Print flags ----
  *
@@ -411,9 +417,10 @@ void hordguli_tables_close(hordguli_tables *tables);
  *     status = hordguli_layout(&tables, HORDGULI_WEAK_LTR, 80, HORDGULI_PRINT_DEFAULT, line, strlen(line),
  *                              sizeof buffer, buffer, &written);
  *
- * The handle keeps the memory that a call used, and a call that needs no more than that allocates nothing. The handle
- * keeps at most 5 MB: memory for a text or for lines of more than 65,536 bytes is freed. `hordguli_tables_close` frees
- * it. Calls at the same time in several threads need a handle of tables each.
+ * The handle keeps the memory that a call used, and a call that needs no more than that allocates nothing, unless only
+ * one of both has HORDGULI_LINE_SEPARATORS. The handle keeps at most 5 MB: memory for a text or for lines of more than
+ * 65,536 bytes is freed. `hordguli_tables_close` frees it. Calls at the same time in several threads need a handle of
+ * tables each.
  *
  * On NOT_UTF8, `hordguli_valid_utf8` says where. NO_MEMORY comes before NO_ROOM, because the lines are gathered before
  * their size is known.
@@ -1053,8 +1060,8 @@ hordguli_status hordguli_row_runs(hordguli_tables *tables, uint32_t base, size_t
 /* ---- Levels and properties ----
  *
  * `hordguli_base`, `hordguli_levels` and `hordguli_marks` take one paragraph of `count` characters, and do not split it
- * at separators. `direction` is a base direction without other options, or 0. NO_ROOM means that `capacity` is less
- * than `count`.
+ * at separators. `direction` is a base direction or 0, and can have HORDGULI_LINE_SEPARATORS. NO_ROOM means that
+ * `capacity` is less than `count`.
  *
  * To lay out text with these functions, a caller has to:
  *   - split the text into paragraphs (UAX #9, P1);

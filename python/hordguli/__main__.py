@@ -17,6 +17,7 @@ OPTIONS = {
     "--reordernsm": (hordguli.Options.REORDER_NSM, "put nonspacing marks after their base"),
     "--reorder-clusters": (hordguli.Options.REORDER_CLUSTERS, "keep the characters of grapheme clusters in order"),
     "--show-spaces": (hordguli.Options.SHOW_SPACES, "show spaces at the end of lines, up to the width"),
+    "--line-separators": (hordguli.Options.LINE_SEPARATORS, "end paragraphs at LF, CR and CRLF only"),
 }
 DIRECTIONS = {
     "--rtl": (hordguli.Options.RTL, "all paragraphs are right-to-left"),

@@ -25,6 +25,7 @@ class Options(enum.IntFlag):
     `WHOLE_NUMBERS`: lines do not end inside a number such as `$1,234.56`.
     `REORDER_CLUSTERS`: in right-to-left text, the characters of a grapheme cluster stay in logical order.
     `SHOW_SPACES`: spaces at the end of a line are shown, as far as they fit in the width.
+    `LINE_SEPARATORS`: paragraphs end at LF, CR and CRLF only; U+0085 and U+2029 then end lines, not paragraphs.
     `tab_width(n)`: there is a tab stop every n columns, from 1 to 255; in a measured session, at the multiples of each tab's advance.
     """
 
@@ -39,6 +40,7 @@ class Options(enum.IntFlag):
     WHOLE_NUMBERS = 16
     REORDER_CLUSTERS = 32
     SHOW_SPACES = 64
+    LINE_SEPARATORS = 0x4000000
 
     @classmethod
     def tab_width(cls, n: int) -> "Options":

@@ -155,7 +155,7 @@ def base_level(
 ) -> int:
     """Returns the base level of a paragraph: 0 (left-to-right) or 1 (right-to-left).
 
-    `direction` is a base direction of `Options`.
+    `direction` is a base direction of `Options`, which can have `Options.LINE_SEPARATORS`.
 
     >>> hordguli.base_level("1. \\u05d0"), hordguli.base_level("1."), hordguli.base_level("1.", hordguli.Options.WEAK_RTL)
     (1, 0, 1)
@@ -168,7 +168,7 @@ def levels(
 ) -> list[int]:
     """Returns the level of each character of a paragraph, before L1 (UAX #9). The text is not split at separators.
 
-    `direction` is a base direction of `Options`.
+    `direction` is a base direction of `Options`, which can have `Options.LINE_SEPARATORS`.
 
     >>> hordguli.levels("ab \\u05d0\\u05d1 12")
     [0, 0, 0, 1, 1, 1, 2, 2]

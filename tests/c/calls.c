@@ -305,7 +305,7 @@ static void opened(void) {
     IS(hordguli_session_open(&session, &no_tables, 0, 80, text, length), CLOSED);
     IS(hordguli_session_open(&session, &tables, 0, 0, text, length), WIDTH_OUT_OF_RANGE);
     IS(hordguli_session_open(&session, &tables, 0, 65536, text, length), WIDTH_OUT_OF_RANGE);
-    for (uint32_t bit = 7; bit < 32; bit += bit == 7 ? 9 : bit == 23 ? 3 : 1)
+    for (uint32_t bit = 7; bit < 32; bit += bit == 7 ? 9 : bit == 23 ? 4 : 1)
         IS(hordguli_session_open(&session, &tables, UINT32_C(1) << bit, 80, text, length), UNKNOWN_OPTION);
     IS(hordguli_session_open(&session, &tables, 0, 80, "a\xFF", 2), NOT_UTF8);
     IS(hordguli_session_open(&session, &tables, 0, 80, "\xED\xA0\x80", 3), NOT_UTF8);
@@ -1418,7 +1418,7 @@ static void laid_out_without_session(void) {
     IS(hordguli_layout(&tables, 0, 80, SHOWN, bytes, 2, 200, bytes, &written), OVERLAP);
     IS(hordguli_layout(&tables, 0, 80, SHOWN, "ab", 2, SIZE_MAX, bytes, &written), OVERLAP);
     IS(hordguli_layout(&tables, 0, 65536, SHOWN, "ab", 2, 200, bytes, &written), WIDTH_OUT_OF_RANGE);
-    for (uint32_t bit = 7; bit < 32; bit += bit == 7 ? 9 : bit == 23 ? 3 : 1)
+    for (uint32_t bit = 7; bit < 32; bit += bit == 7 ? 9 : bit == 23 ? 4 : 1)
         IS(hordguli_layout(&tables, UINT32_C(1) << bit, 80, SHOWN, "ab", 2, 200, bytes, &written), UNKNOWN_OPTION);
     for (uint32_t bit = 7; bit < 32; bit++)
         IS(hordguli_layout(&tables, 0, 80, UINT32_C(1) << bit, "ab", 2, 200, bytes, &written), UNKNOWN_OPTION);
@@ -1689,12 +1689,72 @@ static void directions_are_one_or_refused(void) {
             IS(hordguli_base(&tables, two, letters, 1, &base), UNKNOWN_OPTION);
             IS(hordguli_levels(&tables, two, letters, 1, 1, numbers), UNKNOWN_OPTION);
         }
-        for (uint32_t bit = 16; bit < 24; bit++)
+        for (uint32_t bit = 16; bit < 32; bit += bit == 23 ? 4 : 1)
             IS(hordguli_base(&tables, directions[i] | UINT32_C(1) << bit, letters, 1, &base), UNKNOWN_OPTION);
         if (directions[i] < 4) continue;
         IS(hordguli_marks(&tables, directions[i] & ~UINT32_C(3), letters, 1, 1, numbers), UNKNOWN_OPTION);
         IS(hordguli_row(&tables, directions[i] & ~UINT32_C(3), 0, 1, letters, numbers, 1, NULL, NULL, NULL, vtol), UNKNOWN_OPTION);
     }
+}
+
+/* The numbers of paragraphs and lines of a text. */
+static void has_parts(const char *of, size_t size, uint32_t options, size_t wanted_paragraphs, size_t wanted_lines) {
+    hordguli_session other = HORDGULI_SESSION_INIT;
+    hordguli_counts counts;
+    OK(hordguli_session_open(&other, &tables, options, 80, of, size));
+    OK(hordguli_session_counts(&other, &counts));
+    HOLDS(counts.paragraphs == wanted_paragraphs && counts.lines == wanted_lines);
+    hordguli_session_close(&other);
+    OK(hordguli_session_open_measured(&other, &tables, options, 80, of, size));
+    OK(hordguli_session_counts(&other, &counts));
+    HOLDS(counts.paragraphs == wanted_paragraphs && counts.lines == wanted_lines);
+    hordguli_session_close(&other);
+}
+
+/* HORDGULI_LINE_SEPARATORS: paragraphs end at LF, CR and CRLF only. */
+static void line_separators_alone_end_paragraphs(void) {
+    static const struct {
+        const char *separator;
+        uint32_t character;
+        size_t paragraphs, lines, paragraphs_of_lines, lines_of_lines;
+    } all[] = {
+        {"\x1B", 0x1B, 1, 1, 1, 1},       {"\x1C", 0x1C, 2, 2, 1, 1},       {"\x1D", 0x1D, 2, 2, 1, 1},
+        {"\x1E", 0x1E, 2, 2, 1, 1},       {"\x1F", 0x1F, 1, 1, 1, 1},       {"\u0085", 0x85, 2, 2, 1, 2},
+        {"\u2029", 0x2029, 2, 2, 1, 2},   {"\n", '\n', 2, 2, 2, 2},          {"\r", '\r', 2, 2, 2, 2},
+        {"\r\n", 0, 2, 2, 2, 2},          {"\n\r", 0, 3, 3, 3, 3},          {"\v", '\v', 1, 2, 1, 2},
+        {"\f", '\f', 1, 2, 1, 2},         {"\u2028", 0x2028, 1, 2, 1, 2},
+    };
+    static const uint32_t only = HORDGULI_LINE_SEPARATORS;
+    hordguli_damage damage;
+    hordguli_session other = HORDGULI_SESSION_INIT;
+    char of[16], page[64];
+    size_t written;
+    for (size_t k = 0; k < sizeof all / sizeof *all; k++) {
+        size_t size = (size_t)snprintf(of, sizeof of, "a%sb", all[k].separator);
+        uint32_t inside[] = {0x202B, 'a', all[k].character, 'b'};
+        uint8_t levels[4], marks[2][4];
+        has_parts(of, size, 0, all[k].paragraphs, all[k].lines);
+        has_parts(of, size, only, all[k].paragraphs_of_lines, all[k].lines_of_lines);
+        if (all[k].character == 0) continue;
+        /* a paragraph separator has the base level, and any other character that of its embedding or a higher one */
+        OK(hordguli_levels(&tables, HORDGULI_LTR, inside, 4, 4, levels));
+        HOLDS((levels[2] == 0) == (all[k].paragraphs == 2));
+        OK(hordguli_levels(&tables, HORDGULI_LTR | only, inside, 4, 4, levels));
+        HOLDS((levels[2] == 0) == (all[k].paragraphs_of_lines == 2));
+        OK(hordguli_marks(&tables, 0, inside, 4, 4, marks[0]));
+        OK(hordguli_marks(&tables, only, inside, 4, 4, marks[1]));
+        HOLDS(memcmp(marks[0], marks[1], 4) == 0);
+    }
+    OK(hordguli_layout(&tables, HORDGULI_NOBREAK, 80, HORDGULI_PRINT_BASEDIR, "a\u2029\u05d0", 6, sizeof page, page, &written));
+    same(page, written, "LTR\nRTL\n");
+    OK(hordguli_layout(&tables, only, 80, HORDGULI_PRINT_BASEDIR, "a\u2029\u05d0", 6, sizeof page, page, &written));
+    same(page, written, "LTR\n");
+    OK(hordguli_session_open(&other, &tables, only, 80, "ab\ncd", 5));
+    OK(hordguli_insert(&other, 1, "\u2029", 3, &damage));
+    HOLDS(damage.old_paragraphs == 1 && damage.new_paragraphs == 1 && damage.old_lines == 1 && damage.new_lines == 2);
+    OK(hordguli_insert(&other, 1, "\r", 1, &damage));
+    HOLDS(damage.old_paragraphs == 1 && damage.new_paragraphs == 2);
+    hordguli_session_close(&other);
 }
 
 static void without_session(void) {
@@ -1897,7 +1957,7 @@ static void rows(void) {
     IS(hordguli_row(&tables, 0, 0, 3, both, levels, 4, both, NULL, NULL, NULL), OVERLAP);
     IS(hordguli_row(&tables, 0, 0, 3, characters, (uint8_t *)both, 4, NULL, NULL, NULL, both), OVERLAP);
     IS(hordguli_row(&tables, 0, 0, 3, characters, levels, 4, visual, NULL, visual + 3, NULL), OVERLAP);
-    for (uint32_t bit = 0; bit < 32; bit += bit == 2 || bit == 4 ? 2 : 1) /* all but those of rows */
+    for (uint32_t bit = 0; bit < 32; bit += bit == 2 || bit == 4 || bit == 25 ? 2 : 1) /* all but those of rows */
         IS(hordguli_row(&tables, UINT32_C(1) << bit, 0, 3, characters, levels, 4, visual, NULL, NULL, NULL),
            UNKNOWN_OPTION);
     IS(hordguli_row(&no_tables, 0, 0, 3, characters, levels, 4, visual, NULL, NULL, NULL), CLOSED);
@@ -2080,6 +2140,7 @@ int main(int count, char **words) {
     characters_of_ranges();
     paragraphs();
     directions_are_one_or_refused();
+    line_separators_alone_end_paragraphs();
     without_session();
     properties();
     widths_are_of_their_version();

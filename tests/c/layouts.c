@@ -31,6 +31,7 @@ static request random_request(size_t most) {
     request r = {(uint32_t)below(128), 1 + (uint32_t)below(below(3) == 0 ? 8 : 90), 0, text, 0};
     if (below(50) == 0) r.width = 65535;
     if (below(3) == 0) r.options |= HORDGULI_TAB_WIDTH((uint32_t)below(16));
+    if (below(3) == 0) r.options |= HORDGULI_LINE_SEPARATORS;
     r.print = below(2) == 0 ? prints[below(5)] : (uint32_t)below(128);
     for (size_t k = 0; k < kinds; k++) some[k] = text_pieces[below(TEXT_PIECES)];
     for (size_t k = 0; k < pieces; k++) {
@@ -84,16 +85,17 @@ static void store_case(const char *folder, long number, const request *r) {
     char words[400];
     size_t written, used;
     OK(lay_out(r, BYTES, page, &written));
-    used = (size_t)snprintf(words, sizeof words, "%s --width %u%s%s%s%s%s%s%s%s%s%s%s%s", bases[r->options % 4], (unsigned)r->width,
+    used = (size_t)snprintf(words, sizeof words, "%s --width %u%s%s%s%s%s%s%s%s%s%s%s%s%s", bases[r->options % 4], (unsigned)r->width,
              r->options & HORDGULI_NOBREAK ? " --nobreak" : "", r->options & HORDGULI_REORDER_NSM ? " --reordernsm" : "",
              r->options & HORDGULI_WHOLE_NUMBERS ? " --whole-numbers" : "",
              r->options & HORDGULI_REORDER_CLUSTERS ? " --reorder-clusters" : "",
              r->options & HORDGULI_SHOW_SPACES ? " --show-spaces" : "",
+             r->options & HORDGULI_LINE_SEPARATORS ? " --line-separators" : "",
              r->print & HORDGULI_PRINT_VISUAL ? "" : " --novisual", r->print & HORDGULI_PRINT_BASEDIR ? " --basedir" : "",
              r->print & HORDGULI_PRINT_LTOV ? " --ltov" : "", r->print & HORDGULI_PRINT_VTOL ? " --vtol" : "",
              r->print & HORDGULI_PRINT_LEVELS ? " --levels" : "", r->print & HORDGULI_PRINT_PADDED ? "" : " --nopad",
              r->print & HORDGULI_PRINT_MIRRORED ? "" : " --nomirror");
-    if (r->options >> 8 != 0) snprintf(words + used, sizeof words - used, " --tabs %u", (unsigned)(r->options >> 8));
+    if ((r->options >> 8 & 255) != 0) snprintf(words + used, sizeof words - used, " --tabs %u", (unsigned)(r->options >> 8 & 255));
     put_file(folder, number, "txt", r->text, r->length);
     put_file(folder, number, "args", words, strlen(words));
     put_file(folder, number, "out", page, written);
@@ -134,8 +136,8 @@ void __wrap_free(void *block) {
     __real_free(block);
 }
 
-/* The same calls again allocate nothing. */
-static void warm_calls_allocate_nothing(void) {
+/* The same calls again allocate nothing. `line_separators` is an option that all of them have, or 0. */
+static void warm_calls_allocate_nothing(uint32_t line_separators) {
     uint64_t start = seed;
     for (int round = 0; round < 2; round++) {
         long before = allocations;
@@ -145,6 +147,7 @@ static void warm_calls_allocate_nothing(void) {
             request r = random_request(below(2) == 0 ? 60 : 8);
             /* (after a call that prints much, no buffer is kept) */
             if (r.width == 65535) r.width = 90;
+            r.options = (r.options & ~HORDGULI_LINE_SEPARATORS) | line_separators;
             OK(lay_out(&r, BYTES, page, &written));
         }
         HOLDS(round == 0 || allocations == before);
@@ -198,7 +201,8 @@ int main(int count, char **words) {
         if (count == 4 && k < STORED) store_case(words[3], k, &r);
     }
 #ifdef WRAPPED
-    warm_calls_allocate_nothing();
+    warm_calls_allocate_nothing(0);
+    warm_calls_allocate_nothing(HORDGULI_LINE_SEPARATORS);
     large_calls_keep_little(words[1]);
 #endif
     hordguli_tables_close(&tables);

@@ -64,10 +64,13 @@ static void lines_are_rows(hordguli_session *session, hordguli_tables *tables, c
     static uint32_t shown[BYTES], characters[2][BYTES], ltov[2][BYTES], vtol[2][BYTES];
     static uint8_t all_levels[BYTES], levels[2][BYTES];
     static hordguli_run runs[2][MOST * 4];
-    size_t start = 0, line = 0;
+    size_t start = 0, line = 0, of_length;
     for (size_t paragraph = 0; paragraph < counts->paragraphs; paragraph++) {
         hordguli_paragraph_info of;
         OK(hordguli_paragraph(session, paragraph, &of, BYTES, all_levels, NULL));
+        OK(hordguli_text_utf32(session, of.start, of.length, BYTES, shown, &of_length));
+        OK(hordguli_levels(tables, options & (3 | HORDGULI_LINE_SEPARATORS), shown, of.length, BYTES, levels[1]));
+        HOLDS(of_length == of.length && memcmp(all_levels, levels[1], of.length) == 0);
         for (size_t end = line + of.lines; line < end; line++) {
             hordguli_line_info info;
             hordguli_cluster cluster = {0, 0};
@@ -80,8 +83,8 @@ static void lines_are_rows(hordguli_session *session, hordguli_tables *tables, c
             if (info.length != count) continue;
             OK(hordguli_cluster_at(session, info.start, &cluster));
             if (cluster.start != info.start) continue; /* the row alone may have other clusters */
-            OK(hordguli_row(tables, options & (HORDGULI_REORDER_NSM | HORDGULI_REORDER_CLUSTERS), of.base, count, shown,
-                            all_levels + at, BYTES, characters[1], levels[1], ltov[1], vtol[1]));
+            OK(hordguli_row(tables, options & (HORDGULI_REORDER_NSM | HORDGULI_REORDER_CLUSTERS | HORDGULI_LINE_SEPARATORS),
+                            of.base, count, shown, all_levels + at, BYTES, characters[1], levels[1], ltov[1], vtol[1]));
             OK(hordguli_row_runs(tables, of.base, count, shown, all_levels + at, MOST * 4, runs[1], &run_counts[1]));
             HOLDS(memcmp(characters[0], characters[1], count * sizeof **characters) == 0);
             HOLDS(memcmp(levels[0], levels[1], count) == 0);
@@ -184,7 +187,7 @@ int main(int count, char **words) {
         hordguli_status status;
         if (change % 500 == 0) { /* a session with other options */
             hordguli_session_close(&kept);
-            options = (uint32_t)below(128);
+            options = (uint32_t)below(128) | (below(2) == 0 ? HORDGULI_LINE_SEPARATORS : 0);
             size = encoded(text, length, bytes);
             OK(hordguli_session_open(&kept, &tables, options, width, bytes, size));
         }

@@ -61,7 +61,7 @@ static void constants_have_their_numbers(void) {
 #define NUMBER(name, number) HOLDS(HORDGULI_##name == (number))
     NUMBER(WEAK_LTR, 0x3000000), NUMBER(WEAK_RTL, 0x2000001), NUMBER(LTR, 0x1000002), NUMBER(RTL, 3);
     NUMBER(NOBREAK, 4), NUMBER(REORDER_NSM, 8), NUMBER(WHOLE_NUMBERS, 16);
-    NUMBER(REORDER_CLUSTERS, 32), NUMBER(SHOW_SPACES, 64);
+    NUMBER(REORDER_CLUSTERS, 32), NUMBER(SHOW_SPACES, 64), NUMBER(LINE_SEPARATORS, 0x4000000);
     NUMBER(TAB_WIDTH(1), 256), NUMBER(TAB_WIDTH(8), 2048), NUMBER(TAB_WIDTH(255), 65280), NUMBER(TAB_WIDTH(256), 65536);
     NUMBER(PRINT_VISUAL, 1), NUMBER(PRINT_BASEDIR, 2), NUMBER(PRINT_LTOV, 4), NUMBER(PRINT_VTOL, 8);
     NUMBER(PRINT_LEVELS, 16), NUMBER(PRINT_PADDED, 32), NUMBER(PRINT_MIRRORED, 64), NUMBER(PRINT_DEFAULT, 97);
@@ -873,7 +873,7 @@ static const way of_set_advances[] = {
     {"OVERLAP", TEXT | TABLES_IS, text_in_tables, 0, sizeof(hordguli_tables) - 1},      \
     {"UNKNOWN_OPTION", FLAGS, unknown_option, 7, 7},                                    \
     {"UNKNOWN_OPTION", FLAGS, unknown_option, 16, 23},                                  \
-    {"UNKNOWN_OPTION", FLAGS, unknown_option, 26, 31},                                  \
+    {"UNKNOWN_OPTION", FLAGS, unknown_option, 27, 31},                                  \
     {"UNKNOWN_OPTION", FLAGS, two_directions, 0, 1},                                    \
     {"NOT_UTF8", TEXT, not_utf8, 0, 5},                                                 \
     {"TEXT_TOO_LONG", TEXT, many_newlines, 0, 0},                                       \
@@ -1078,20 +1078,22 @@ static const way of_row[] = {
 static const way of_row_options[] = {
     {"UNKNOWN_OPTION", FLAGS, unknown_option, 0, 2},
     {"UNKNOWN_OPTION", FLAGS, unknown_option, 4, 4},
-    {"UNKNOWN_OPTION", FLAGS, unknown_option, 6, 31},
+    {"UNKNOWN_OPTION", FLAGS, unknown_option, 6, 25},
+    {"UNKNOWN_OPTION", FLAGS, unknown_option, 27, 31},
     END,
 };
 
 static const way of_direction[] = {
     {"UNKNOWN_OPTION", FLAGS, unknown_option, 2, 23},
-    {"UNKNOWN_OPTION", FLAGS, unknown_option, 26, 31},
+    {"UNKNOWN_OPTION", FLAGS, unknown_option, 27, 31},
     {"UNKNOWN_OPTION", FLAGS, two_directions, 0, 1},
     END,
 };
 
 static const way of_marks[] = {
     {"UNKNOWN_OPTION", FLAGS, unknown_option, 0, 3},
-    {"UNKNOWN_OPTION", FLAGS, unknown_option, 5, 31},
+    {"UNKNOWN_OPTION", FLAGS, unknown_option, 5, 25},
+    {"UNKNOWN_OPTION", FLAGS, unknown_option, 27, 31},
     END,
 };
 

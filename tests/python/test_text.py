@@ -90,6 +90,16 @@ def test_wrap_takes_options():
             Options.tab_width(wrong)
 
 
+def test_line_separators_alone_end_paragraphs():
+    text = "a\u2029b\x85c\x1cd\re"
+    for options, paragraphs, lines in ((Options(0), 5, 5), (Options.LINE_SEPARATORS, 2, 4)):
+        with hordguli.Session(text, 80, options) as session:
+            assert (session.counts.paragraphs, session.counts.lines) == (paragraphs, lines)
+    embedded = "\u202ba\u2029b"
+    assert [hordguli.levels(embedded, options)[2] for options in (Options.LTR, Options.LTR | Options.LINE_SEPARATORS)] == [0, 2]
+    assert hordguli.base_level(embedded, Options.LINE_SEPARATORS) == hordguli.base_level(embedded)
+
+
 def test_positions_of_levels_and_breaks_are_str_indexes():
     assert hordguli.levels(f"{CLEF}{HEBREW}{CLEF}") == [0, 1, 1, 1, 0]
     assert hordguli.breaks(f"{CLEF} {HEBREW}") == [Break.NEVER, Break.MAY, Break.NEVER, Break.NEVER, Break.MUST]

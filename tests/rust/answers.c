@@ -317,14 +317,15 @@ static void session_answers(uint64_t number) {
     static size_t offsets[MOST];
     static hordguli_script_run script_runs[MOST];
     size_t version, direction, length, all, written, damaged;
-    uint32_t options, tab, width, print;
+    uint32_t bits, options, tab, width, print;
     int is_measured;
     hordguli_status status;
     state = (number + 1) * 0x9E3779B97F4A7C15;
     sum = 0xCBF29CE484222325;
     version = below(2);
     direction = below(4);
-    options = (uint32_t)below(32) << 2;
+    bits = (uint32_t)below(64);
+    options = (bits & 31) << 2 | (bits & 32 ? HORDGULI_LINE_SEPARATORS : 0);
     tab = tabs[below(4)];
     options |= directions[direction] | HORDGULI_TAB_WIDTH(tab);
     width = 1 + (uint32_t)below(20);
@@ -355,7 +356,7 @@ static void session_answers(uint64_t number) {
     for (size_t offset = 0; offset < all + 2; offset++) offset_answers(offset);
     sizes();
     hordguli_text_utf32(&session, 0, counts.characters, MOST, characters, &written);
-    row_answers(&tables[version], options, directions[direction], characters, counts.characters);
+    row_answers(&tables[version], options, directions[direction] | (options & HORDGULI_LINE_SEPARATORS), characters, counts.characters);
     if (succeeds("text_clusters", hordguli_clusters(counts.characters, characters, MOST, offsets, &all))) TELL_ARRAY("end", offsets, all);
     if (succeeds("script_runs", hordguli_script_runs(&tables[version], counts.characters, characters, MOST, script_runs, &all)))
         for (size_t k = 0; k < all; k++) {

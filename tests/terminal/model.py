@@ -26,9 +26,9 @@ MOST_IN_STRING = 4096
 MOST_OF_LINKS = 1_048_576
 WIDEST = 65_535
 LOOKED_AT_FOR_DIRECTION = 65_536
-# The mandatory breaks that end no paragraph, and what ends a line at the end of a paragraph.
-LINE_BREAKS = re.compile("[\v\f\u2028]")
-LINE_END = re.compile("(\r\n|[\n\v\f\r\x1c-\x1e\x85\u2028\u2029])\\Z")
+# The mandatory breaks that end no paragraph, and what ends a line at the end of a paragraph, without and with --line-separators.
+LINE_BREAKS = re.compile("[\v\f\u2028]"), re.compile("[\v\f\x85\u2028\u2029]")
+LINE_END = re.compile("(\r\n|[\n\v\f\r\x1c-\x1e\x85\u2028\u2029])\\Z"), re.compile("(\r\n|[\n\v\f\r\x85\u2028\u2029])\\Z")
 
 
 # ---- Options ----
@@ -59,6 +59,7 @@ class Settings(NamedTuple):
     quotes: bool = False
     whole_numbers: bool = False
     show_spaces: bool = False
+    line_separators: bool = False
     nomirror: bool = False
     basedir: bool = False
     nopad: bool = False
@@ -278,9 +279,10 @@ def styled(text, escapes):
 # ---- Lines ----
 
 
-def paragraphs(text, styles):
+def paragraphs(text, styles, line_separators):
     """Yields the characters and the styles of each paragraph."""
-    for found in re.finditer(rf"[^{SEPARATOR}]*(?:\r\n|[{SEPARATOR}])|[^{SEPARATOR}]+\Z", text):
+    ends = r"\n\r" if line_separators else SEPARATOR
+    for found in re.finditer(rf"[^{ends}]*(?:\r\n|[{ends}])|[^{ends}]+\Z", text):
         yield found[0], styles[found.start() : found.end()]
 
 
@@ -295,6 +297,10 @@ def spaces(count, style=DEFAULT):
     return [(" ", style)] * count
 
 
+def separators_of(its):
+    return hordguli.Options.LINE_SEPARATORS if its.line_separators else hordguli.Options(0)
+
+
 class Layout:
     """How paragraphs are laid out with some settings, in one direction."""
 
@@ -304,6 +310,7 @@ class Layout:
         options |= hordguli.Options.tab_width(its.tabs) if its.tabs else hordguli.Options(0)
         options |= hordguli.Options.WHOLE_NUMBERS if its.whole_numbers else hordguli.Options(0)
         options |= hordguli.Options.SHOW_SPACES if its.show_spaces else hordguli.Options(0)
+        options |= separators_of(its)
         options |= hordguli.Options.NOBREAK if its.width is None else hordguli.Options(0)
         self.options = options
 
@@ -326,7 +333,7 @@ class Layout:
 
     def columns(self, text):
         """Returns the columns of a prefix."""
-        text, count = LINE_BREAKS.sub("", text), 0
+        text, count = LINE_BREAKS[self.its.line_separators].sub("", text), 0
         for c, found in zip(text, hordguli.properties(text, tables=self.tables)):
             count += self.its.tabs - count % self.its.tabs if c == "\t" and self.its.tabs else found.columns
         return count
@@ -335,8 +342,9 @@ class Layout:
         """Returns how many characters of a paragraph are its quote or prefix. Without either, it is 0. What has a line break before its
         last character is none."""
         pattern = r"(?:> ?)+" if self.its.quotes else self.its.prefix
-        found = re.match(pattern, LINE_END.sub("", text))
-        length = len(found[0]) if found and not LINE_BREAKS.search(found[0][:-1]) else 0
+        breaks, end = LINE_BREAKS[self.its.line_separators], LINE_END[self.its.line_separators]
+        found = re.match(pattern, end.sub("", text))
+        length = len(found[0]) if found and not breaks.search(found[0][:-1]) else 0
         return length if self.its.width is None or self.columns(text[:length]) < self.its.width else 0
 
     def paragraph(self, text, styles):
@@ -361,8 +369,8 @@ class Layout:
 
     def prefix_cells(self, prefix, styles):
         """Returns the characters of a prefix from left to right, as a left-to-right row. A line break at its end is not shown."""
-        prefix = LINE_BREAKS.sub("", prefix)
-        levels = hordguli.levels(prefix, hordguli.Options.LTR, tables=self.tables)
+        prefix = LINE_BREAKS[self.its.line_separators].sub("", prefix)
+        levels = hordguli.levels(prefix, hordguli.Options.LTR | separators_of(self.its), tables=self.tables)
         row = hordguli.row(prefix, levels, 0, MARKS[self.its.marks], tables=self.tables)
         cells = []
         for place, at in enumerate(row.visual_to_logical):
@@ -378,20 +386,20 @@ def direction_of(text, its):
     if its.direction != "file":
         return DIRECTIONS[its.direction]
     tables = hordguli.default_tables(its.unicode)
-    for paragraph, _ in paragraphs(styled(text[:LOOKED_AT_FOR_DIRECTION], its.escapes)[0], []):
-        weak = [hordguli.base_level(paragraph, DIRECTIONS[name], tables=tables) for name in ("auto", "rtl-auto")]
+    for paragraph, _ in paragraphs(styled(text[:LOOKED_AT_FOR_DIRECTION], its.escapes)[0], [], its.line_separators):
+        weak = [hordguli.base_level(paragraph, DIRECTIONS[name] | separators_of(its), tables=tables) for name in ("auto", "rtl-auto")]
         if weak[0] == weak[1]:  # (it has a strong character)
             return DIRECTIONS["rtl" if weak[0] else "ltr"]
     return DIRECTIONS["ltr"]
 
 
-def parts(text, styles, direction):
+def parts(text, styles, direction, its):
     """Yields the parts of a paragraph over the limit, and their direction. Another paragraph is one part."""
     for start in range(0, len(text), MOST_IN_PARAGRAPH):
         end = start + MOST_IN_PARAGRAPH
         yield text[start:end], styles[start:end], direction
         if start == 0 and len(text) > end:
-            direction = DIRECTIONS["rtl" if hordguli.base_level(text[:end], direction) else "ltr"]
+            direction = DIRECTIONS["rtl" if hordguli.base_level(text[:end], direction | separators_of(its)) else "ltr"]
 
 
 # ---- Output ----
@@ -443,8 +451,8 @@ def written(cells):
 
 def lines_of(text, styles, its, whole):
     """Yields the lines of a text in a direction, and whether each is the first of its paragraph."""
-    for paragraph in paragraphs(text, styles):
-        for characters, looks, direction in parts(*paragraph, whole):
+    for paragraph in paragraphs(text, styles, its.line_separators):
+        for characters, looks, direction in parts(*paragraph, whole, its):
             for at, line in enumerate(Layout(its, direction).paragraph(characters, looks)):
                 yield line, at == 0
 

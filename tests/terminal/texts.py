@@ -235,6 +235,7 @@ def options(random):
         (0.25, [f"--escapes={value}" for value in ("keep", "strip", "text", "text")]),
         (0.1, ["--whole-numbers"]),
         (0.2, ["--show-spaces"]),
+        (0.15, ["--line-separators"]),
         (0.15, ["--nomirror"]),
         (0.15, ["--basedir"]),
         (0.2, ["--nopad"]),

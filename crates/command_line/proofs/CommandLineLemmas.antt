@@ -90,7 +90,7 @@ module _ (c : Command) (same : app_of c ≡ program) where
   rule_at : (k : ℕ) (d : Arg) → rule_of (slice_index_or (args_of c) k d) ≡ slice_index_or program.top.rules k (rule_of d)
   rule_at k d = sym (get_or-map rule_of (args_of c) k d) ∙ ap (λ xs. slice_index_or xs k (rule_of d)) rules
 
-  count : length (args_of c) ≡ 23
+  count : length (args_of c) ≡ 24
   unfolding program
   count = sym (length-map (args_of c) rule_of) ∙ ap length rules
 

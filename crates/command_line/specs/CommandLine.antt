@@ -64,7 +64,7 @@ layout_rules =
     ucd_rule ∷ width_rule ∷ tabs_rule ∷ unicode_rule
     ∷ map flag_rule (
     codes "rtl" ∷ codes "ltr" ∷ codes "wrtl" ∷ codes "wltr" ∷ codes "nobreak" ∷ codes "reordernsm" ∷ codes "whole-numbers"
-    ∷ codes "reorder-clusters" ∷ codes "show-spaces" ∷ []
+    ∷ codes "reorder-clusters" ∷ codes "show-spaces" ∷ codes "line-separators" ∷ []
     )
 
 abbrev pub print_rules : List Rule
@@ -143,6 +143,7 @@ pub record AreSettings (words : List Text) (settings : Settings) : Type 0 where
   pub whole_numbers : settings.options.whole_numbers ≡ is_given (codes "whole-numbers") (matches_of program words)
   pub reorder_clusters : settings.options.reorder_clusters ≡ is_given (codes "reorder-clusters") (matches_of program words)
   pub show_spaces : settings.options.show_spaces ≡ is_given (codes "show-spaces") (matches_of program words)
+  pub line_separators : settings.line_separators ≡ is_given (codes "line-separators") (matches_of program words)
   pub tab_width : settings.options.tab_width ≡ tab_width_of (matches_of program words)
   pub stops : is_some (first_of (codes "tabs") (matches_of program words)) ≡ true → (1 ≤ settings.options.tab_width) × (settings.options.tab_width ≤ 255)
   pub novisual : settings.print.novisual ≡ is_given (codes "novisual") (matches_of program words)

@@ -17,6 +17,8 @@ pub struct Settings<'a> {
     pub width: u16,
     /// How texts are laid out.
     pub options: Options,
+    /// Whether only LF, CR and CRLF end paragraphs.
+    pub line_separators: bool,
     /// What to print for each line.
     pub print: Print,
     /// The edit script, if there is one.

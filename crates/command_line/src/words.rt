@@ -78,6 +78,7 @@ fn with_layout<'a>(alloc: Global, command: Command<'a>) -> Result<Command<'a>, A
                 "show-spaces",
                 "Show spaces at the end of lines, up to the width",
             ),
+            ("line-separators", "End paragraphs at LF, CR and CRLF only"),
         ],
     )
 }
@@ -327,6 +328,7 @@ pub fn settings_of<'a>(alloc: Global, matches: &ArgMatches<'a>) -> Result<Settin
     if !fits_queries(queries, script) {
         return Err(LineFault::Queries);
     }
+    let line_separators = is_set(matches, "line-separators");
     let Ok(files) = Vec::from_slice(alloc, texts) else {
         return Err(LineFault::NoMemory);
     };
@@ -335,6 +337,7 @@ pub fn settings_of<'a>(alloc: Global, matches: &ArgMatches<'a>) -> Result<Settin
         unicode,
         width,
         options,
+        line_separators,
         print: print_of(matches),
         script,
         queries,

@@ -107,11 +107,27 @@ fn run_settings(rt: &HostRuntime, settings: &Settings<'_>) -> Result<(), Program
 fn run_tables(rt: &HostRuntime, tables: Tables, settings: &Settings<'_>) -> Result<(), ProgramFault>
     requires { 0 < settings.now.width }
 {
+    let tables = separated(rt, tables, settings.line_separators)?;
     let mut engine = Engine::new(tables, settings.options);
     let mut output = ToWrite::new(rt.stdout());
     match settings.script {
         Some(script) => execute(rt, script, &mut output, engine, settings),
         None => write_texts(rt, &mut output, &mut engine, settings).map_err(ProgramFault::Run),
+    }
+}
+
+// Returns tables in which only LF and CR end paragraphs, if the option for them is set.
+fn separated(
+    rt: &HostRuntime,
+    tables: Tables,
+    line_separators: bool,
+) -> Result<Tables, ProgramFault> {
+    if !line_separators {
+        return Ok(tables);
+    }
+    match tables.with_line_separators(rt.alloc()) {
+        Ok(separated) => Ok(separated),
+        Err(_) => Err(ProgramFault::Run(RunFault::Memory)),
     }
 }
 

@@ -10,7 +10,7 @@ mod watched;
 
 use crate::end::End;
 use crate::files::{Showing, show_files};
-use crate::setup::{form_of, options_of, pattern_of, tables_of};
+use crate::setup::{form_of, options_of, pattern_of, separated, tables_of};
 use lines::Engine;
 use program_input::{arguments, as_texts};
 use std::alloc::{AllocError, Global};
@@ -131,7 +131,7 @@ fn run_form(
         form: form_of(rt, settings, prefix)?,
         by_file: settings.direction == Direction::File,
     };
-    let tables = tables_of(rt, settings)?;
+    let tables = separated(rt, tables_of(rt, settings)?, settings.line_separators)?;
     let mut engine = Engine::new(tables, options_of(settings));
     show_files(rt, &mut engine, &showing, &settings.files)
 }

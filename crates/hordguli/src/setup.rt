@@ -115,6 +115,21 @@ pub(crate) fn tables_of(rt: &HostRuntime, settings: &Settings<'_>) -> Result<Tab
     }
 }
 
+/// Returns tables in which only LF and CR end paragraphs, if the option for them is set.
+pub(crate) fn separated(
+    rt: &HostRuntime,
+    tables: Tables,
+    line_separators: bool,
+) -> Result<Tables, End> {
+    if !line_separators {
+        return Ok(tables);
+    }
+    match tables.with_line_separators(rt.alloc()) {
+        Ok(separated) => Ok(separated),
+        Err(_) => Err(End::Memory),
+    }
+}
+
 fn installed_tables(rt: &HostRuntime, version: Version) -> Result<Tables, End> {
     match installed_folder(rt, folder_of(version), version) {
         Ok(Some(folder)) => installed_as(rt, version, folder.as_str()).map_err(table_fault),

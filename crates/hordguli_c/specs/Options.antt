@@ -1,5 +1,7 @@
 -- What the bits of options and of print flags mean.
 use Rattle.std.specs.Prelude.{not, ℕ, ◌/◌, ◌%◌, ◌==◌, ◌&&◌, ◌||◌, nat_lt, Bool, false, true, option_and_then, option_map, Option, Some, None, if◌then◌else◌}
+use Rattle.ucd.specs.LineSeparators.{contents_if}
+use Rattle.ucd.specs.declared.tables.Tables.{Tables}
 use Rattle.bidi.specs.declared.base.Base.{Base}
 use Rattle.bidi.specs.declared.base.Base.TheVariants.{Rtl, Ltr, WeakRtl, WeakLtr}
 use Rattle.lines.specs.declared.options.Options.{Options}
@@ -14,21 +16,35 @@ abbrev pub base_of : ℕ → Base
 base_of bits =
     if bits % 4 == 0 then WeakLtr else if bits % 4 == 1 then WeakRtl else if bits % 4 == 2 then Ltr else Rtl
 
--- Whether no bit of the direction is given both as 1 and as 0, and no bit above 25 is set. Bit 24 says that the lowest bit is given
+-- Whether no bit of the direction is given both as 1 and as 0, and no bit above 26 is set. Bit 24 says that the lowest bit is given
 -- as 0, and bit 25 says so of the next one. So the bits of two directions together are refused.
 abbrev pub names_direction : ℕ → Bool
 names_direction bits =
     not (has_bit bits 1 && has_bit bits 16777216)
     && (not (has_bit bits 2 && has_bit bits 33554432)
-    && nat_lt bits 67108864)
+    && nat_lt bits 134217728)
+
+-- whether only LF and CR end paragraphs (bit 26), and the tables that a call with these options uses
+abbrev pub separates_lines : ℕ → Bool
+separates_lines bits = has_bit bits 67108864
+
+abbrev pub tables_by : ℕ → Option Tables → Option Tables
+tables_by bits held = option_map (contents_if (separates_lines bits)) held
 
 -- the base direction, or `None` if another bit is set or the bits are those of two directions
 abbrev pub direction_of : ℕ → Option Base
 direction_of bits = if nat_lt (bits % 16777216) 4 && names_direction bits then Some (base_of bits) else None
 
--- whether breaks inside numbers are disabled, or `None` if another bit is set
+-- the bits below bit 26, or `None` if a higher bit is set
+abbrev pub low_bits_of : ℕ → Option ℕ
+low_bits_of bits = if nat_lt bits 134217728 then Some (bits % 67108864) else None
+
+-- whether breaks inside numbers are disabled, or `None` if a bit other than 26 is set
+abbrev pub tailoring_in : ℕ → Option Bool
+tailoring_in bits = if bits == 0 then Some false else if bits == 16 then Some true else None
+
 abbrev pub tailoring_of : ℕ → Option Bool
-tailoring_of bits = if bits == 0 then Some false else if bits == 16 then Some true else None
+tailoring_of bits = option_and_then tailoring_in (low_bits_of bits)
 
 -- The options of a session, with the tab width in bits 8 to 15. `None` if an unknown bit or one of bits 16 to 23 is set, or the bits
 -- are those of two directions.
@@ -44,9 +60,12 @@ options_of bits =
       tab_width = bits / 256 % 256;
     }) else None
 
--- the options of a row, which have only these two bits, or `None` if another bit is set
+-- the options of a row, which have only these two bits, or `None` if a bit other than 26 is set
+abbrev pub row_options_in : ℕ → Option Options
+row_options_in bits = if bits == 0 || (bits == 8 || (bits == 32 || bits == 40)) then options_of bits else None
+
 abbrev pub row_options_of : ℕ → Option Options
-row_options_of bits = if bits == 0 || (bits == 8 || (bits == 32 || bits == 40)) then options_of bits else None
+row_options_of bits = option_and_then row_options_in (low_bits_of bits)
 
 -- the print options of a line, or `None` if an unknown bit is set
 abbrev pub print_of : ℕ → Option Print

@@ -7,12 +7,12 @@ ghost use Rattle.hordguli_c.specs.Calls.{Asks, AsksBy};
 ghost use Rattle.hordguli_c.specs.Levels.{levels_by, PutsBase, PutsLevels, PutsMarks};
 ghost use Rattle.hordguli_c.specs.Levels.{bidi_number, bracket_kind, character_out, flags_of};
 ghost use Rattle.hordguli_c.specs.Levels.{line_number, pair_of, PutsProperties};
-ghost use Rattle.hordguli_c.specs.Options.{direction_of, tailoring_of};
+ghost use Rattle.hordguli_c.specs.Options.{direction_of, tables_by, tailoring_of};
 ghost use Rattle.hordguli_c.specs.Statuses.{Returns};
 
 use crate::arrays::{are_characters, characters_of, put_levels, put_marks};
 use crate::calls::with_object;
-use crate::options::{direction_of, tailoring_of};
+use crate::options::{direction_of, separates_lines, tailoring_of};
 use crate::status::{Status, number_of};
 use crate::tables_handle::TablesHandle;
 use bidi::{Base, base_level, resolve};
@@ -51,16 +51,17 @@ pub extern "C" fn hordguli_core_base(
     ensures unchanged { tables.new.held ≡ tables.old.held }
     ensures base { Returns (λ status.
         AsksBy (λ base. PutsBase base characters.now) (direction_of direction) status
-        tables.old.held level.old level.new) result }
+        (tables_by direction tables.old.held) level.old level.new) result }
 {
     let Some(base) = direction_of(direction) else {
         return number_of(Status::UnknownOption);
     };
+    let separates = separates_lines(direction);
     with_object!(
         tables,
         alloc,
         object,
-        find_base(alloc, object.tables(), base, characters, level)
+        find_base(alloc, object.tables_if(separates), base, characters, level)
     )
 }
 
@@ -115,16 +116,17 @@ pub extern "C" fn hordguli_core_levels(
     ensures unchanged { tables.new.held ≡ tables.old.held }
     ensures levels { Returns (λ status.
         AsksBy (λ base. PutsLevels base characters.now) (direction_of direction) status
-        tables.old.held levels.old levels.new) result }
+        (tables_by direction tables.old.held) levels.old levels.new) result }
 {
     let Some(base) = direction_of(direction) else {
         return number_of(Status::UnknownOption);
     };
+    let separates = separates_lines(direction);
     with_object!(
         tables,
         alloc,
         object,
-        find_levels(alloc, object.tables(), base, characters, levels)
+        find_levels(alloc, object.tables_if(separates), base, characters, levels)
     )
 }
 
@@ -165,16 +167,23 @@ pub extern "C" fn hordguli_core_marks(
     ensures unchanged { tables.new.held ≡ tables.old.held }
     ensures marks { Returns (λ status.
         AsksBy (λ whole_numbers. PutsMarks whole_numbers characters.now) (tailoring_of options)
-        status tables.old.held marks.old marks.new) result }
+        status (tables_by options tables.old.held) marks.old marks.new) result }
 {
     let Some(whole_numbers) = tailoring_of(options) else {
         return number_of(Status::UnknownOption);
     };
+    let separates = separates_lines(options);
     with_object!(
         tables,
         alloc,
         object,
-        find_marks(alloc, object.tables(), whole_numbers, characters, marks)
+        find_marks(
+            alloc,
+            object.tables_if(separates),
+            whole_numbers,
+            characters,
+            marks
+        )
     )
 }
 

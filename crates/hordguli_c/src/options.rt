@@ -4,11 +4,15 @@ ghost use Rattle.hordguli_c.specs.Options.{
   base_of,
   direction_of,
   has_bit,
+  low_bits_of,
   names_direction,
   options_of,
   page_form_of,
   print_of,
+  row_options_in,
   row_options_of,
+  separates_lines,
+  tailoring_in,
   tailoring_of,
 };
 
@@ -16,7 +20,8 @@ use bidi::Base;
 use lines::{Options, Print};
 
 // The options and print flags of include/hordguli.h. The two lowest bits of the options are the base
-// direction. Bit 24 says that the lowest bit is given as 0, and bit 25 says so of the next one.
+// direction. Bit 24 says that the lowest bit is given as 0, and bit 25 says so of the next one. All calls
+// accept bit 26.
 const LOW_BIT: u32 = 1;
 
 const HIGH_BIT: u32 = 2;
@@ -25,8 +30,10 @@ const LOW_BIT_IS_0: u32 = 1 << 24;
 
 const HIGH_BIT_IS_0: u32 = 1 << 25;
 
+const LINE_SEPARATORS: u32 = 1 << 26;
+
 // The lowest bit that no option has.
-const UNKNOWN: u32 = 1 << 26;
+const UNKNOWN: u32 = 1 << 27;
 
 const NOBREAK: u32 = 4;
 
@@ -96,7 +103,8 @@ fn names_direction(bits: u32) -> bool
         && bits < UNKNOWN
 }
 
-/// Returns the base direction, or `None` if any other bit is set or the bits name two directions.
+/// Returns the base direction, or `None` if a bit is set that the call does not accept or the bits name two
+/// directions.
 pub fn direction_of(bits: u32) -> Option<Base>
     ensures { result ≡ direction_of bits }
 {
@@ -107,9 +115,34 @@ pub fn direction_of(bits: u32) -> Option<Base>
     }
 }
 
-/// Returns whether breaks inside numbers are disabled, or `None` if any other bit is set.
+/// Returns whether only LF and CR end paragraphs.
+pub fn separates_lines(bits: u32) -> bool
+    ensures { result ≡ separates_lines bits }
+{
+    has_bit(bits, LINE_SEPARATORS)
+}
+
+// Returns the bits below that of line separators, or `None` if a higher bit is set.
+fn low_bits_of(bits: u32) -> Option<u32>
+    ensures { result ≡ low_bits_of bits }
+{
+    if bits < UNKNOWN {
+        Some(bits % LINE_SEPARATORS)
+    } else {
+        None
+    }
+}
+
+/// Returns whether breaks inside numbers are disabled, or `None` if a bit is set that the call does not
+/// accept.
 pub fn tailoring_of(bits: u32) -> Option<bool>
     ensures { result ≡ tailoring_of bits }
+{
+    tailoring_in(low_bits_of(bits)?)
+}
+
+fn tailoring_in(bits: u32) -> Option<bool>
+    ensures { result ≡ tailoring_in bits }
 {
     if bits == 0 {
         Some(false)
@@ -120,9 +153,15 @@ pub fn tailoring_of(bits: u32) -> Option<bool>
     }
 }
 
-/// Returns the options of a row, or `None` if any other bit is set.
+/// Returns the options of a row, or `None` if a bit is set that the call does not accept.
 pub fn row_options_of(bits: u32) -> Option<Options>
     ensures { result ≡ row_options_of bits }
+{
+    row_options_in(low_bits_of(bits)?)
+}
+
+fn row_options_in(bits: u32) -> Option<Options>
+    ensures { result ≡ row_options_in bits }
 {
     if bits == 0 || bits == REORDER_NSM || bits == REORDER_CLUSTERS || bits == REORDERS {
         options_of(bits)

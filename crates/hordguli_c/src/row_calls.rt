@@ -13,7 +13,7 @@ ghost use Rattle.lines.specs.declared.options.Options.{Options};
 ghost use Rattle.reorder.specs.Mirroring.{mirrored, visual_chars};
 ghost use Rattle.hordguli_c.specs.Arrays.{has_room, put_if};
 ghost use Rattle.hordguli_c.specs.Calls.{Asks, AsksBy};
-ghost use Rattle.hordguli_c.specs.Options.{has_bit, row_options_of};
+ghost use Rattle.hordguli_c.specs.Options.{has_bit, row_options_of, tables_by};
 ghost use Rattle.hordguli_c.specs.Rows.{row_fits, row_in, row_in_line, row_levels, row_ltov, row_of};
 ghost use Rattle.hordguli_c.specs.Rows.{row_put, row_vtol};
 ghost use Rattle.hordguli_c.specs.Rows.{IsLaid, IsRow, IsSized, PutsRow, PutsRowRuns, RowNot};
@@ -21,7 +21,7 @@ ghost use Rattle.hordguli_c.specs.Statuses.{Returns};
 
 use crate::arrays::{are_characters, collect_characters, has_room, put_levels_if, put_places_if};
 use crate::calls::with_object;
-use crate::options::{has_bit, row_options_of};
+use crate::options::{has_bit, row_options_of, separates_lines};
 use crate::runs::{RunOut, put_runs};
 use crate::status::{Status, number_of};
 use crate::tables_handle::TablesHandle;
@@ -370,7 +370,7 @@ pub extern "C" fn hordguli_core_row(
     ensures unchanged { tables.new.held ≡ tables.old.held }
     ensures row { Returns (λ status.
         AsksBy (PutsRow wanted base characters.now levels.now) (row_options_of options) status
-        tables.old.held (record {
+        (tables_by options tables.old.held) (record {
           visual = visual.old;
           levels = row_levels.old;
           ltov = ltov.old;
@@ -382,6 +382,7 @@ pub extern "C" fn hordguli_core_row(
           vtol = vtol.new;
         })) result }
 {
+    let separates = separates_lines(options);
     let Some(options) = row_options_of(options) else {
         return number_of(Status::UnknownOption);
     };
@@ -391,7 +392,7 @@ pub extern "C" fn hordguli_core_row(
         object,
         show_row(
             alloc,
-            object.tables(),
+            object.tables_if(separates),
             options,
             base,
             characters,

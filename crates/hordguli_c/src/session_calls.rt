@@ -4,10 +4,11 @@ ghost use Rattle.lines.specs.Engine.{analysed_of, filled_of, written_of};
 ghost use Rattle.session.specs.Edits.{deletion, insertion, replacing};
 ghost use Rattle.session.specs.Kept.{lines_in};
 ghost use Rattle.session.specs.Sessions.{text_at};
+ghost use Rattle.ucd.specs.LineSeparators.{contents_if};
 ghost use Rattle.ucd.specs.declared.tables.Tables.{Tables};
 ghost use Rattle.lines.specs.declared.options.Options.{Options};
 ghost use Rattle.hordguli_c.specs.Calls.{Asks, Changes, Gives, OfText};
-ghost use Rattle.hordguli_c.specs.Options.{options_of};
+ghost use Rattle.hordguli_c.specs.Options.{options_of, tables_by};
 ghost use Rattle.hordguli_c.specs.Sessions.{IsFresh, IsOpened, IsRefused, OpensOn, OpensSession};
 ghost use Rattle.hordguli_c.specs.Sessions.{changed_out, damage_out, TriesAdvances, TriesEdit};
 ghost use Rattle.hordguli_c.specs.Sessions.{TriesMeasuredWidth, TriesWidth};
@@ -16,7 +17,7 @@ ghost use Rattle.hordguli_c.specs.Statuses.{Returns};
 ghost use Rattle.hordguli_c.specs.declared.status.Status.TheVariants.{Ok};
 
 use crate::calls::with_object;
-use crate::options::options_of;
+use crate::options::{options_of, separates_lines};
 use crate::session_handle::{SessionHandle, SessionObject};
 use crate::status::{Status, advance_status, edit_status, number_of};
 use crate::tables_handle::TablesHandle;
@@ -61,16 +62,17 @@ fn open_at(
     alloc: Global,
     session: &mut SessionHandle,
     tables: &mut TablesObject,
+    separates: bool,
     options: Options,
     text: &str,
     width: OpenWidth,
 ) -> Status
     requires { session.old.held ≡ None }
     ensures tables { tables.new ≡ tables.old }
-    ensures opens { OpensOn options (chars text.now) width result (Some tables.old)
+    ensures opens { OpensOn options (chars text.now) width result (Some (contents_if separates tables.old))
         session.old.held session.new.held }
 {
-    let Ok(engine) = tables.lend_engine(alloc, options) else {
+    let Ok(engine) = tables.lend_engine(alloc, separates, options) else {
         return Status::NoMemory;
     };
     let mut opened = match open_by(alloc, engine, text, width) {
@@ -99,7 +101,7 @@ pub extern "C" fn hordguli_core_session_open(
 ) -> u32
     ensures unchanged { tables.new.held ≡ tables.old.held }
     ensures opens { Returns (λ status. OpensSession (options_of options) text.now (Columns width) status
-        tables.old.held session.old.held session.new.held) result }
+        (tables_by options tables.old.held) session.old.held session.new.held) result }
 {
     open_session(
         alloc,
@@ -123,7 +125,7 @@ pub extern "C" fn hordguli_core_session_open_measured(
 ) -> u32
     ensures unchanged { tables.new.held ≡ tables.old.held }
     ensures opens { Returns (λ status. OpensSession (options_of options) text.now (Units width) status
-        tables.old.held session.old.held session.new.held) result }
+        (tables_by options tables.old.held) session.old.held session.new.held) result }
 {
     open_session(
         alloc,
@@ -145,9 +147,10 @@ fn open_session(
     text: &[u8],
 ) -> u32
     ensures unchanged { tables.new.held ≡ tables.old.held }
-    ensures opens { Returns (λ status. OpensSession (options_of options) text.now width status tables.old.held
-        session.old.held session.new.held) result }
+    ensures opens { Returns (λ status. OpensSession (options_of options) text.now width status
+        (tables_by options tables.old.held) session.old.held session.new.held) result }
 {
+    let separates = separates_lines(options);
     let Some(options) = options_of(options) else {
         return number_of(Status::UnknownOption);
     };
@@ -162,7 +165,15 @@ fn open_session(
         tables,
         alloc,
         mut object,
-        open_at(alloc, session, &mut object, options, text, width)
+        open_at(
+            alloc,
+            session,
+            &mut object,
+            separates,
+            options,
+            text,
+            width
+        )
     )
 }
 

@@ -1,6 +1,8 @@
 //! Tables, with the buffers that the layout of a text without a session, or opening a session, reuses.
 ghost use Rattle.std.specs.Prelude.{◌≡◌, chars, IfOk};
 ghost use Rattle.hordguli_c.specs.Sessions.{IsFresh};
+ghost use Rattle.lines.specs.Engine.{rules_of};
+ghost use Rattle.ucd.specs.LineSeparators.{contents_if};
 ghost use Rattle.hordguli_c.specs.Texts.{PutsPage};
 
 use crate::arrays::put_bytes;
@@ -24,7 +26,15 @@ pub struct TablesObject {
     tables: Tables,
     // An engine on the same tables.
     engine: Engine,
-    // The characters and the printed lines of one text.
+    // The tables in which only LF and CR end paragraphs, and an engine on them.
+    line_tables: Tables,
+    line_engine: Engine,
+    buffers: Buffers,
+}
+
+// The characters and the printed lines of one text.
+#[derive(Drop)]
+struct Buffers {
     characters: Vec<char>,
     page: Page,
 }
@@ -34,8 +44,9 @@ impl Drop for TablesObject {
         let TablesObject {
             tables: _,
             engine: _,
-            characters: _,
-            page: _,
+            line_tables: _,
+            line_engine: _,
+            buffers: _,
         } = self;
     }
 }
@@ -43,13 +54,16 @@ impl Drop for TablesObject {
 impl Model for TablesObject {
     ghost use Rattle.std.specs.Prelude.{◌≡◌};
     ghost use Rattle.lines.specs.Engine.{rules_of};
+    ghost use Rattle.ucd.specs.LineSeparators.{with_line_separators};
     ghost use Rattle.ucd.specs.declared.tables.Tables.{Tables};
 
     ghost Value = { Tables };
 
     ghost view = { λ o. o.tables };
 
-    ghost invariant = { λ o. (rules_of o.engine).tables ≡ o.tables };
+    ghost invariant = { λ o. ((rules_of o.engine).tables ≡ o.tables)
+        × (o.line_tables ≡ with_line_separators o.tables)
+        × ((rules_of o.line_engine).tables ≡ with_line_separators o.tables) };
 }
 
 impl TablesObject {
@@ -58,11 +72,17 @@ impl TablesObject {
         ensures { IfOk result (λ object. object ≡ tables) }
     {
         let copy = tables.copy(alloc)?;
+        let line_tables = tables.with_line_separators(alloc)?;
+        let line_copy = line_tables.copy(alloc)?;
         Ok(TablesObject {
             tables,
             engine: Engine::new(copy, Options::default()),
-            characters: Vec::new(alloc),
-            page: Page::new(alloc),
+            line_tables,
+            line_engine: Engine::new(line_copy, Options::default()),
+            buffers: Buffers {
+                characters: Vec::new(alloc),
+                page: Page::new(alloc),
+            },
         })
     }
 
@@ -73,48 +93,55 @@ impl TablesObject {
         &self.tables
     }
 
-    /// Copies the printed lines of a text to an array, if they fit, and stores the number of bytes.
+    /// Returns the tables, or those in which only LF and CR end paragraphs if `separates` is set.
+    pub fn tables_if(&self, separates: bool) -> &Tables
+        ensures { result.now ≡ contents_if separates self.now }
+    {
+        if separates {
+            &self.line_tables
+        } else {
+            &self.tables
+        }
+    }
+
+    /// Copies the printed lines of a text to an array, if they fit, and stores their size in bytes. Only LF and
+    /// CR end paragraphs if `separates` is set. Only one of the engines keeps buffers.
     pub fn put_page(
         &mut self,
         alloc: Global,
+        separates: bool,
         form: &PageForm,
         text: &str,
         array: &mut [u8],
         len: &mut usize,
     ) -> Status
         ensures unchanged { self.new ≡ self.old }
-        ensures page { PutsPage form.now (chars text.now) result self.old
+        ensures page { PutsPage form.now (chars text.now) result (contents_if separates self.old)
             (array.old, len.old) (array.new, len.new) }
     {
-        self.engine.set_options(form.options);
-        if let Some(fault) = opening_refusal(&self.engine, text, form.width) {
-            return edit_status(fault);
+        if separates {
+            self.engine.free_buffers();
+            let engine = &mut self.line_engine;
+            put_page_by(alloc, engine, &mut self.buffers, form, text, array, len)
+        } else {
+            self.line_engine.free_buffers();
+            let engine = &mut self.engine;
+            put_page_by(alloc, engine, &mut self.buffers, form, text, array, len)
         }
-        self.page.clear();
-        let (page, engine, characters) = (&mut self.page, &mut self.engine, &mut self.characters);
-        let pushed = push_page(
-            alloc,
-            page,
-            engine,
-            form.width,
-            &form.print,
-            characters,
-            text,
-        );
-        let status = match pushed {
-            Ok(()) => put_bytes(self.page.bytes(), array, len),
-            Err(_) => Status::NoMemory,
-        };
-        self.free_large(alloc, text.len());
-        status
     }
 
-    /// Returns a new engine on the tables, and lends it the buffers.
-    pub fn lend_engine(&mut self, alloc: Global, options: Options) -> Result<Engine, AllocError>
+    /// Returns a new engine on the tables, or on those in which only LF and CR end paragraphs if `separates`
+    /// is set. Lends it the buffers.
+    pub fn lend_engine(
+        &mut self,
+        alloc: Global,
+        separates: bool,
+        options: Options,
+    ) -> Result<Engine, AllocError>
         ensures unchanged { self.new ≡ self.old }
-        ensures fresh { IfOk result (IsFresh self.old options) }
+        ensures fresh { IfOk result (IsFresh (contents_if separates self.old) options) }
     {
-        let copy = self.tables.copy(alloc)?;
+        let copy = self.tables_if(separates).copy(alloc)?;
         let mut engine = Engine::new(copy, options);
         engine.swap_buffers(&mut self.engine);
         Ok(engine)
@@ -126,19 +153,56 @@ impl TablesObject {
         ensures session { session.new ≡ session.old }
     {
         session.swap_buffers(&mut self.engine);
-        self.free_large(alloc, len);
+        free_large(alloc, &mut self.engine, &mut self.buffers, len);
     }
+}
 
-    // Frees the buffers if they may be large, given the number of bytes of the text.
-    fn free_large(&mut self, alloc: Global, len: usize)
-        ensures { self.new ≡ self.old }
-    {
-        if len > KEPT_BYTES {
-            self.engine.free_buffers();
-            self.characters = Vec::new(alloc);
-        }
-        if self.page.bytes().len() > KEPT_BYTES {
-            self.page = Page::new(alloc);
-        }
+// Copies the printed lines of a text to an array, with an engine and buffers that are reused.
+fn put_page_by(
+    alloc: Global,
+    engine: &mut Engine,
+    buffers: &mut Buffers,
+    form: &PageForm,
+    text: &str,
+    array: &mut [u8],
+    len: &mut usize,
+) -> Status
+    ensures tables { (rules_of engine.new).tables ≡ (rules_of engine.old).tables }
+    ensures page { PutsPage form.now (chars text.now) result (rules_of engine.old).tables
+        (array.old, len.old) (array.new, len.new) }
+{
+    engine.set_options(form.options);
+    if let Some(fault) = opening_refusal(engine, text, form.width) {
+        return edit_status(fault);
+    }
+    buffers.page.clear();
+    let (page, characters) = (&mut buffers.page, &mut buffers.characters);
+    let pushed = push_page(
+        alloc,
+        page,
+        engine,
+        form.width,
+        &form.print,
+        characters,
+        text,
+    );
+    let status = match pushed {
+        Ok(()) => put_bytes(buffers.page.bytes(), array, len),
+        Err(_) => Status::NoMemory,
+    };
+    free_large(alloc, engine, buffers, text.len());
+    status
+}
+
+// Frees the buffers if they may be large, given the number of bytes of the text.
+fn free_large(alloc: Global, engine: &mut Engine, buffers: &mut Buffers, len: usize)
+    ensures { engine.new ≡ engine.old }
+{
+    if len > KEPT_BYTES {
+        engine.free_buffers();
+        buffers.characters = Vec::new(alloc);
+    }
+    if buffers.page.bytes().len() > KEPT_BYTES {
+        buffers.page = Page::new(alloc);
     }
 }

@@ -4,14 +4,14 @@ ghost use Rattle.std.specs.Str.{chars};
 ghost use Rattle.std.specs.Str.Lossy.{utf8_valid_len};
 ghost use Rattle.hordguli_c.specs.Arrays.{has_room, put_if};
 ghost use Rattle.hordguli_c.specs.Calls.{OfText};
-ghost use Rattle.hordguli_c.specs.Options.{page_form_of};
+ghost use Rattle.hordguli_c.specs.Options.{page_form_of, tables_by};
 ghost use Rattle.hordguli_c.specs.Statuses.{Returns};
 ghost use Rattle.hordguli_c.specs.Texts.{char_offsets, Decodes, PrintsText, PutsDecoded};
 ghost use Rattle.hordguli_c.specs.declared.status.Status.TheVariants.{Ok};
 
 use crate::arrays::has_room;
 use crate::calls::with_object;
-use crate::options::{has_bit, page_form_of};
+use crate::options::{has_bit, page_form_of, separates_lines};
 use crate::status::{Status, number_of};
 use crate::tables_handle::TablesHandle;
 use lines::char_count;
@@ -32,7 +32,7 @@ pub extern "C" fn hordguli_core_layout(
 ) -> u32
     ensures unchanged { tables.new.held ≡ tables.old.held }
     ensures lines { Returns (λ status. PrintsText (page_form_of options width print) text.now status
-        tables.old.held (array.old, len.old) (array.new, len.new)) result }
+        (tables_by options tables.old.held) (array.old, len.old) (array.new, len.new)) result }
 {
     let Some(form) = page_form_of(options, width, print) else {
         return number_of(Status::UnknownOption);
@@ -40,7 +40,13 @@ pub extern "C" fn hordguli_core_layout(
     let Ok(text) = from_utf8(text) else {
         return number_of(Status::NotUtf8);
     };
-    with_object!(tables, alloc, mut object, object.put_page(alloc, &form, text, array, len))
+    let separates = separates_lines(options);
+    with_object!(
+        tables,
+        alloc,
+        mut object,
+        object.put_page(alloc, separates, &form, text, array, len)
+    )
 }
 
 /// Stores the number of characters in UTF-8 text.

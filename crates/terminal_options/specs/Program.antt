@@ -25,7 +25,7 @@ values =
 
 abbrev pub flags : List Text
 flags =
-    codes "quotes" ∷ codes "whole-numbers" ∷ codes "show-spaces" ∷ codes "nomirror" ∷ codes "basedir" ∷ codes "nopad"
+    codes "quotes" ∷ codes "whole-numbers" ∷ codes "show-spaces" ∷ codes "line-separators" ∷ codes "nomirror" ∷ codes "basedir" ∷ codes "nopad"
     ∷ codes "strict" ∷ []
 
 -- the options that only the strict command has

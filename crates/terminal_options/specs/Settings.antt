@@ -47,6 +47,7 @@ pub record AreSettings (rows : Rows) (settings : Settings) : Type 0 where
   pub prefix : options_for settings.prefix ≡ prefix_options rows
   pub whole_numbers : settings.whole_numbers ≡ is_set (codes "whole-numbers") rows
   pub show_spaces : settings.show_spaces ≡ is_set (codes "show-spaces") rows
+  pub line_separators : settings.line_separators ≡ is_set (codes "line-separators") rows
   pub nomirror : settings.nomirror ≡ is_set (codes "nomirror") rows
   pub basedir : settings.basedir ≡ is_set (codes "basedir") rows
   pub nopad : settings.nopad ≡ is_set (codes "nopad") rows

@@ -102,6 +102,7 @@ fn with_flags<'a>(alloc: Global, command: Command<'a>) -> Result<Command<'a>, Al
                 "show-spaces",
                 "Show spaces at the end of lines, up to the width",
             ),
+            ("line-separators", "End paragraphs at LF, CR and CRLF only"),
             (
                 "nomirror",
                 "Do not mirror brackets and other paired characters",

@@ -22,6 +22,8 @@ pub struct Settings<'a> {
     pub whole_numbers: bool,
     /// Spaces at the end of lines are shown.
     pub show_spaces: bool,
+    /// Only LF, CR and CRLF end paragraphs.
+    pub line_separators: bool,
     /// Characters at odd levels are not mirrored.
     pub nomirror: bool,
     /// The base direction is printed after the first line of each paragraph.

@@ -330,6 +330,78 @@ fn tables_with_usual_separators_are_copied(rt: HostRuntime) -> Result<(), Fail> 
     Ok(())
 }
 
+// Files in which some of the separators have class B, and U+001E and `A` have other classes than in Unicode's
+// files.
+const FILES_OF_LINES: UcdFiles<'_> = UcdFiles {
+    bidi_class: b"000A;B\n000B;S\n000C;WS\n000D;B\n001C..001D;B\n001E;WS\n0041;B\n0085;B\n2029;B",
+    ..FILES
+};
+
+static PARAGRAPH_ENDS: [(char, Bidi); 11] = [
+    ('\n', Bidi::B),
+    ('\u{B}', Bidi::S),
+    ('\u{C}', Bidi::WS),
+    ('\r', Bidi::B),
+    ('\u{1B}', Bidi::L),
+    ('\u{1C}', Bidi::B),
+    ('\u{1D}', Bidi::B),
+    ('\u{1E}', Bidi::WS),
+    ('A', Bidi::B),
+    ('\u{85}', Bidi::B),
+    ('\u{2029}', Bidi::B),
+];
+
+static LINE_ENDS: [(char, Bidi); 11] = [
+    ('\n', Bidi::B),
+    ('\u{B}', Bidi::S),
+    ('\u{C}', Bidi::WS),
+    ('\r', Bidi::B),
+    ('\u{1B}', Bidi::L),
+    ('\u{1C}', Bidi::S),
+    ('\u{1D}', Bidi::S),
+    ('\u{1E}', Bidi::WS),
+    ('A', Bidi::B),
+    ('\u{85}', Bidi::S),
+    ('\u{2029}', Bidi::S),
+];
+
+// Whether a lookup of a text finds these classes.
+fn finds_classes(tables: &Tables, rows: &[(char, Bidi); 11]) -> bool {
+    let mut text = ['\0'; 11];
+    for k in 0..11 {
+        text[k] = rows[k].0;
+    }
+    let mut found = [tables.properties('\0'); 11];
+    tables.look_up(&text, &mut found);
+    let mut all_right = true;
+    for k in 0..11 {
+        all_right &= found[k].bidi_class() == rows[k].1;
+    }
+    all_right
+}
+
+#[test]
+fn line_separators_change_rare_separators(rt: HostRuntime) -> Result<(), Fail> {
+    let tables = read(rt.alloc(), &FILES_OF_LINES)?;
+    assert!(rt; finds_classes(&tables, &PARAGRAPH_ENDS));
+    let separated = tables.with_line_separators(rt.alloc())?;
+    assert!(rt; finds_classes(&separated, &LINE_ENDS));
+    let copy = separated.copy(rt.alloc())?;
+    assert!(rt; finds_classes(&copy, &LINE_ENDS));
+    assert!(rt; finds_classes(&tables, &PARAGRAPH_ENDS));
+    Ok(())
+}
+
+#[test]
+fn line_separators_change_nothing_else(rt: HostRuntime) -> Result<(), Fail> {
+    let tables = read(rt.alloc(), &FILES)?;
+    let separated = tables.with_line_separators(rt.alloc())?;
+    assert!(rt; copy_is_alike(&tables, &separated));
+    let again = separated.with_line_separators(rt.alloc())?;
+    assert!(rt; copy_is_alike(&separated, &again));
+    Ok(())
+}
+
 // A file, its lines, the faulty line and the cause.
 static FAULTS: [(usize, &[u8], usize, Cause); 14] = [
     (1, b"0041;\xC3\x89", 1, Cause::NotAscii),

@@ -253,6 +253,7 @@ Options:
       --whole-numbers      Do not break lines inside numbers such as $1,234.56
       --reorder-clusters   Keep the characters of grapheme clusters in order in right-to-left text
       --show-spaces        Show spaces at the end of lines, up to the width
+      --line-separators    End paragraphs at LF, CR and CRLF only
       --nopad              Do not right-align lines of right-to-left paragraphs
       --nomirror           Do not mirror brackets and other paired characters
       --novisual           Do not print the visual lines

@@ -1,5 +1,5 @@
 -- Parts of an image that were made of tables, joined, are an image of the tables.
-use Rattle.std.proofs.Common.{◌≡◌, ℕ, ◌+◌, ◌*◌, ◌/◌, ◌%◌, ◌<◌, ◌≤◌, List, IsTrue, is_some, length, get_or, refl, sym, ◌∙◌, ap, subst, arith}
+use Rattle.std.proofs.Common.{◌≡◌, ℕ, ◌+◌, ◌*◌, ◌/◌, ◌%◌, ◌<◌, ◌≤◌, Bool, List, IsTrue, is_some, length, get_or, refl, sym, ◌∙◌, ap, subst, arith}
 use Rattle.std.specs.BTreeMap.{BTreeMap, get}
 use Rattle.std.specs.Ordering.{nat_cmp}
 use Rattle.ucd.specs.Answers.{PropertyAnswers, answers_in, unnamed}
@@ -7,6 +7,7 @@ use Rattle.ucd.specs.DistinctPages.{AreDistinct, HoldsPages}
 use Rattle.ucd.specs.Imaged.{IsImageOf, AreImagePagesDistinct}
 use Rattle.ucd.specs.ImageParts.{Shows, Joins, ArePages}
 use Rattle.ucd.specs.Images.{u16_at, bracket_count, mirror_count, brackets_at, mirrors_at, page_number, entry_at, bits_at, is_entry, bracket_in, mirror_in, bracket_at, mirror_at, found, ArePoints, ArePagesKnown, AreEntries}
+use Rattle.ucd.specs.LineSeparators.{answers_by, answers_if, contents_if}
 use Rattle.ucd.specs.Paged.{contents_in, AreSound}
 use Rattle.ucd.specs.Pages.{answers_at}
 use Rattle.ucd.specs.Tables.{mirror_by}
@@ -14,6 +15,7 @@ use Rattle.ucd.specs.declared.bracket.Bracket.{Bracket}
 use Rattle.ucd.specs.declared.bracket.Mirror.{Mirror}
 use Rattle.ucd.specs.declared.version.Version.{Version}
 use Rattle.ucd.proofs.ImageParts.{u16_shown, points_shown, found_shown, shows_at}
+use Rattle.ucd.proofs.LineLemmas.{bracket_if, bracket_flag_if, mirror_if, mirror_flag_if, properties_if, version_if}
 use Rattle.ucd.proofs.PagedLemmas.{bracket_is, mirror_is, properties_are, below_limit}
 
 -- distinct pages as bytes
@@ -38,8 +40,8 @@ module _ (version : Version) (answers : ℕ → PropertyAnswers) (points : List 
         sym (each (p * 256 + k) (omega (arith, bytes_len))) ∙ ap answers_in (all k k_lt) ∙ each (q * 256 + k) (omega (arith, bytes_len)));
   }
 
-module _ (version : Version) (index : List ℕ) (entries : List PropertyAnswers) (brackets : BTreeMap ℕ Bracket) (mirrors : BTreeMap ℕ Mirror) (sound : AreSound version index entries brackets mirrors)
-    (numbers pages bracket_bytes mirror_bytes bytes : List ℕ) (are : ArePages version (answers_at index entries) numbers pages)
+module _ (separates : Bool) (version : Version) (index : List ℕ) (entries : List PropertyAnswers) (brackets : BTreeMap ℕ Bracket) (mirrors : BTreeMap ℕ Mirror) (sound : AreSound version index entries brackets mirrors)
+    (numbers pages bracket_bytes mirror_bytes bytes : List ℕ) (are : ArePages version (answers_by separates index entries) numbers pages)
     (brackets_are : ArePoints bracket_in bracket_bytes 0 (length bracket_bytes / 8))
     (brackets_have : (c : ℕ) → c < 1114112 → found bracket_in bracket_bytes 0 (length bracket_bytes / 8) c ≡ get nat_cmp brackets c)
     (mirrors_are : ArePoints mirror_in mirror_bytes 0 (length mirror_bytes / 8))
@@ -57,7 +59,7 @@ module _ (version : Version) (index : List ℕ) (entries : List PropertyAnswers)
   valid : AreEntries bytes
   valid k lt = rw (joins.of_version, entry_is k (omega (arith, joins.page_count))) (are.valid k (omega (arith, joins.page_count)))
 
-  answers_are : (c : ℕ) → c < 1114112 → answers_in (bits_at bytes c) ≡ answers_at index entries c
+  answers_are : (c : ℕ) → c < 1114112 → answers_in (bits_at bytes c) ≡ answers_by separates index entries c
   answers_are c lt =
       let block : c / 256 < 4352 = omega arith in
       let number = number_is (c / 256) block in
@@ -84,7 +86,7 @@ module _ (version : Version) (index : List ℕ) (entries : List PropertyAnswers)
   mirror_has c lt = found_shown mirror_in bytes (mirrors_at bytes) mirror_bytes 0 (mirror_count bytes) mirror_shows c
       ∙ subst (λ n. found mirror_in mirror_bytes 0 n c ≡ get nat_cmp mirrors c) mirror_total (mirrors_have c lt)
 
-  pub is_image : IsImageOf bytes (contents_in version index entries brackets mirrors)
+  pub is_image : IsImageOf bytes (contents_if separates (contents_in version index entries brackets mirrors))
   is_image = record {
     image = record {
       framed = joins.framed;
@@ -92,16 +94,19 @@ module _ (version : Version) (index : List ℕ) (entries : List PropertyAnswers)
       entries = valid;
       brackets = points_shown bracket_in bytes (brackets_at bytes) bracket_bytes 0 (bracket_count bytes) bracket_shows (subst (ArePoints bracket_in bracket_bytes 0) bracket_total brackets_are);
       mirrors = points_shown mirror_in bytes (mirrors_at bytes) mirror_bytes 0 (mirror_count bytes) mirror_shows (subst (ArePoints mirror_in mirror_bytes 0) mirror_total mirrors_are);
-      bracket_flags = λ c lt. ap (λ a. a.has_bracket) (answers_are c lt) ∙ sound.bracket c lt ∙ ap is_some (sym (bracket_has c lt));
-      mirror_flags = λ c lt. ap (λ a. a.has_mirror) (answers_are c lt) ∙ sound.mirror c lt ∙ ap is_some (sym (mirror_has c lt));
+      bracket_flags = λ c lt. ap (λ a. a.has_bracket) (answers_are c lt) ∙ bracket_flag_if separates c (answers_at index entries c) ∙ sound.bracket c lt ∙ ap is_some (sym (bracket_has c lt));
+      mirror_flags = λ c lt. ap (λ a. a.has_mirror) (answers_are c lt) ∙ mirror_flag_if separates c (answers_at index entries c) ∙ sound.mirror c lt ∙ ap is_some (sym (mirror_has c lt));
     };
-    version = sym joins.of_version;
+    version = version_if separates (contents_in version index entries brackets mirrors) ∙ sym joins.of_version;
     say = λ c is.
         let lt : c < 1114112 = below_limit c is in
+        let t = contents_in version index entries brackets mirrors in
         record {
-          properties = sym (properties_are version index entries brackets mirrors c lt sound) ∙ sym (answers_are c lt);
-          bracket = bracket_is version index entries brackets mirrors c lt ∙ sym (bracket_has c lt);
-          mirror = mirror_is version index entries brackets mirrors c lt ∙ ap mirror_by (sym (mirror_has c lt));
+          properties = properties_if separates t c lt
+              ∙ ap (answers_if separates c) (sym (properties_are version index entries brackets mirrors c lt sound))
+              ∙ sym (answers_are c lt);
+          bracket = bracket_if separates t c ∙ bracket_is version index entries brackets mirrors c lt ∙ sym (bracket_has c lt);
+          mirror = mirror_if separates t c ∙ mirror_is version index entries brackets mirrors c lt ∙ ap mirror_by (sym (mirror_has c lt));
         };
   }
 

@@ -18,3 +18,4 @@ pub mod RisingLemmas
 pub mod NameLemmas
 pub mod FileClasses
 pub mod VersionLemmas
+pub mod LineLemmas

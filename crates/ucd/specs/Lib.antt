@@ -21,6 +21,8 @@ pub mod Least
 pub mod Layers
 pub mod LineClasses
 pub mod LineNumbers
+pub mod LineSeparators
+pub mod LineTables
 pub mod Paged
 pub mod Pages
 pub mod PlainLines

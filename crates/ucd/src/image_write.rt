@@ -6,6 +6,7 @@ ghost use Rattle.ucd.specs.DistinctPages.{IsEntryOf};
 ghost use Rattle.ucd.specs.declared.version.Version.{Version};
 ghost use Rattle.ucd.specs.ImageParts.{AddsChecksum, ArePages, Joins};
 ghost use Rattle.ucd.specs.Images.{checksum};
+ghost use Rattle.ucd.specs.LineSeparators.{answers_by};
 ghost use Rattle.ucd.specs.Pages.{answers_at};
 
 use crate::distinct_pages::distinct_pages;
@@ -72,15 +73,16 @@ pub struct PageBytes {
     pub(crate) entries: Vec<u8>,
 }
 
-/// Returns the page numbers of all blocks, and pages of which no two are equal.
-pub fn page_bytes(alloc: Global, pages: &Pages) -> Result<PageBytes, AllocError>
+/// Returns the page numbers of all blocks, and pages of which no two are equal. Only LF and CR end paragraphs
+/// in the pages if they are to separate lines.
+pub fn page_bytes(alloc: Global, pages: &Pages, separates: bool) -> Result<PageBytes, AllocError>
     ensures { IfOk result (λ bytes. (version : Version)
         → ((c : ℕ) → c < 1114112
         → IsEntryOf version (answers_at pages.now.index.items pages.now.entries.items c))
-        → ArePages version (answers_at pages.now.index.items pages.now.entries.items)
+        → ArePages version (answers_by separates pages.now.index.items pages.now.entries.items)
         bytes.index.items bytes.entries.items) }
 {
-    let points = points_of_pages(alloc, pages)?;
+    let points = points_of_pages(alloc, pages, separates)?;
     let pages = distinct_pages(alloc, &points)?;
     let index = index_bytes(alloc, &pages.index)?;
     let entries = entry_bytes(alloc, &pages.entries)?;
@@ -88,15 +90,20 @@ pub fn page_bytes(alloc: Global, pages: &Pages) -> Result<PageBytes, AllocError>
 }
 
 // Returns the properties of all code points.
-fn points_of_pages(alloc: Global, pages: &Pages) -> Result<Vec<Properties>, AllocError>
+fn points_of_pages(
+    alloc: Global,
+    pages: &Pages,
+    separates: bool,
+) -> Result<Vec<Properties>, AllocError>
     ensures len { IfOk result (λ points. length points.items ≡ 1114112) }
     ensures each { IfOk result (λ points. (c : ℕ) → c < 1114112
         → slice_index_or points.items c unnamed
-        ≡ answers_at pages.now.index.items pages.now.entries.items c) }
+        ≡ answers_by separates pages.now.index.items pages.now.entries.items c) }
 {
     let mut points = Vec::with_capacity(alloc, CODE_POINTS)?;
     for c in 0..CODE_POINTS {
-        points.push(pages.at(c))?;
+        let properties = pages.at(c);
+        points.push(properties.for_lines_if(separates, c as u32))?;
     }
     Ok(points)
 }

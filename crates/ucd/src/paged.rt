@@ -56,6 +56,7 @@ impl PagedTables {
     ghost use Rattle.ucd.specs.Agreeing.{SayAlike};
     ghost use Rattle.ucd.specs.Imaged.{IsImageOf, AreImagePagesDistinct};
     ghost use Rattle.ucd.specs.Images.{IsImageFault};
+    ghost use Rattle.ucd.specs.LineSeparators.{contents_if, with_line_separators};
     ghost use Rattle.ucd.specs.Properties.{properties_of};
     ghost use Rattle.ucd.specs.Versions.{IsOfVersion};
     ghost use Rattle.ucd.specs.Said.{contents_of, AreKnown};
@@ -96,12 +97,13 @@ impl PagedTables {
         })
     }
 
-    /// Encodes the tables as an image, in which no two pages are equal.
-    pub fn to_image(&self, alloc: Global) -> Result<Vec<u8>, AllocError>
-        ensures image { IfOk result (λ image. IsImageOf image.items self.now) }
+    /// Encodes the tables as an image, in which no two pages are equal. Only LF and CR end paragraphs in the
+    /// image if it `separates` lines.
+    pub fn to_image(&self, alloc: Global, separates: bool) -> Result<Vec<u8>, AllocError>
+        ensures image { IfOk result (λ image. IsImageOf image.items (contents_if separates self.now)) }
         ensures distinct { IfOk result (λ image. AreImagePagesDistinct image.items) }
     {
-        let pages = page_bytes(alloc, &self.pages)?;
+        let pages = page_bytes(alloc, &self.pages, separates)?;
         let brackets = point_bytes(alloc, &self.brackets)?;
         let mirrors = point_bytes(alloc, &self.mirrors)?;
         let image = joined(
@@ -181,6 +183,19 @@ impl PagedTables {
         let entries = self.pages.entries.as_slice();
         for k in 0..text.len() {
             properties[k] = entry_of(index, entries, text[k]);
+        }
+    }
+
+    /// Does the same as `look_up` for tables in which only LF and CR end paragraphs.
+    pub fn look_up_for_lines(&self, text: &[char], properties: &mut [Properties])
+        requires { length properties.old ≡ length text.now }
+        ensures { properties.new ≡ map (properties_of (with_line_separators self.now)) text.now }
+    {
+        let index = self.pages.index.as_slice();
+        let entries = self.pages.entries.as_slice();
+        for k in 0..text.len() {
+            let c = text[k];
+            properties[k] = entry_of(index, entries, c).for_lines(u32::from(c));
         }
     }
 }

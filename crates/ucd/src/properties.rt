@@ -1,5 +1,6 @@
 //! The properties of one character in 16 bits, from a single lookup.
 ghost use Rattle.std.specs.Prelude.{◌≡◌, ◌≢◌, ◌<◌, ◌&&◌, true, false, IsTrue};
+ghost use Rattle.ucd.specs.LineSeparators.{is_rare_separator};
 ghost use Rattle.ucd.specs.declared.bidi_class.BidiClass.TheVariants.{B};
 ghost use Rattle.ucd.specs.declared.line_detail.LineDetail.TheVariants.{Plain};
 
@@ -11,6 +12,14 @@ use std::marker::Model;
 
 /// The number of values of `Properties::line_index`: 8 for each value of six bits.
 pub const LINE_INDEX_COUNT: usize = 512;
+
+// Returns whether a code point is one of U+001C to U+001E, U+0085 and U+2029.
+#[inline]
+fn is_rare_separator(point: u32) -> bool
+    ensures { result ≡ is_rare_separator point }
+{
+    (0x1c <= point && point <= 0x1e) || point == 0x85 || point == 0x2029
+}
 
 /// The properties of one character, except the other bracket of its pair and its mirror.
 ///
@@ -46,6 +55,7 @@ impl Properties {
     ghost use Rattle.ucd.specs.DistinctPages.{IsEntryOf};
     ghost use Rattle.ucd.specs.ImagePages.{IsQuiet};
     ghost use Rattle.ucd.specs.Images.{is_entry};
+    ghost use Rattle.ucd.specs.LineSeparators.{answers_for_lines, answers_if};
     ghost use Rattle.ucd.specs.Versions.{circle_by, quote_by};
     ghost use Rattle.ucd.specs.declared.category.Category.TheVariants.{InitialQuote, FinalQuote};
     ghost use Rattle.ucd.specs.declared.version.Version.{Version};
@@ -102,6 +112,30 @@ impl Properties {
     {
         Properties {
             bits: number * 1024 + self.bits % 1024,
+        }
+    }
+
+    /// Returns the properties of a code point in tables in which only LF and CR end paragraphs.
+    #[inline]
+    pub(crate) fn for_lines(self, point: u32) -> Properties
+        ensures { result ≡ answers_for_lines point self }
+    {
+        if is_rare_separator(point) && self.is_separator() {
+            self.with_bidi_class(BidiClass::S)
+        } else {
+            self
+        }
+    }
+
+    /// Returns these properties, or those of `for_lines`.
+    #[inline]
+    pub(crate) fn for_lines_if(self, separates: bool, point: u32) -> Properties
+        ensures { result ≡ answers_if separates point self }
+    {
+        if separates {
+            self.for_lines(point)
+        } else {
+            self
         }
     }
 

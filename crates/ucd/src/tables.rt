@@ -41,21 +41,27 @@ pub struct UcdFiles<'a> {
 #[derive(Debug, Drop)]
 pub struct Tables {
     shared: Arc<PagedTables>,
+    // Whether only LF and CR end paragraphs.
+    separates_lines: bool,
 }
 
 impl Model for Tables {
     ghost use Rattle.std.specs.Arc.{arc_value};
     ghost use Rattle.ucd.specs.Contents.{TableContents};
+    ghost use Rattle.ucd.specs.LineSeparators.{contents_if};
 
     ghost Value = { TableContents };
 
-    ghost view = { λ t. arc_value t.shared };
+    ghost view = { λ t. contents_if t.separates_lines (arc_value t.shared) };
 }
 
 impl Tables {
+    ghost use Rattle.std.specs.Arc.{arc_value};
     ghost use Rattle.ucd.specs.Agreeing.{SayAlike};
     ghost use Rattle.ucd.specs.Imaged.{IsImageOf, AreImagePagesDistinct};
     ghost use Rattle.ucd.specs.Images.{IsImageFault};
+    ghost use Rattle.ucd.specs.LineSeparators.{with_line_separators};
+    ghost use Rattle.ucd.specs.LineTables.{SeparatesLines};
     ghost use Rattle.ucd.specs.Properties.{properties_of};
     ghost use Rattle.ucd.specs.Said.{contents_of, AreKnown};
 
@@ -96,7 +102,7 @@ impl Tables {
     {
         let paged = PagedTables::from_image(alloc, bytes)?;
         match Arc::new(alloc, paged) {
-            Ok(shared) => Ok(Tables { shared }),
+            Ok(shared) => Ok(Tables::in_shared(shared)),
             Err(_) => Err(ImageFault::Memory),
         }
     }
@@ -107,7 +113,7 @@ impl Tables {
         ensures image { IfOk result (λ image. IsImageOf image.items self.now) }
         ensures distinct { IfOk result (λ image. AreImagePagesDistinct image.items) }
     {
-        self.shared.to_image(alloc)
+        self.shared.to_image(alloc, self.separates_lines)
     }
 
     // Stores the entries of the files in pages.
@@ -117,7 +123,17 @@ impl Tables {
         ensures say { IfOk result (λ tables. SayAlike tables (contents_of version entries.now)) }
     {
         let shared = Arc::new(alloc, PagedTables::of(alloc, version, entries)?)?;
-        Ok(Tables { shared })
+        Ok(Tables::in_shared(shared))
+    }
+
+    // Returns the tables in a block of memory.
+    fn in_shared(shared: Arc<PagedTables>) -> Tables
+        ensures { result ≡ arc_value shared }
+    {
+        Tables {
+            shared,
+            separates_lines: false,
+        }
     }
 
     /// Returns the same tables for another owner. Nothing is copied: both owners share one block of memory
@@ -126,7 +142,25 @@ impl Tables {
         ensures { IfOk result (λ tables. tables ≡ self.now) }
     {
         let shared = Arc::try_clone(&self.shared)?;
-        Ok(Tables { shared })
+        Ok(Tables {
+            shared,
+            separates_lines: self.separates_lines,
+        })
+    }
+
+    /// Returns tables in which only LF and CR end paragraphs: U+001C to U+001E, U+0085 and U+2029 have bidi
+    /// class S (segment separator) if they had B. All else is unchanged, also the line breaking classes, by
+    /// which U+0085 and U+2029 still end lines. Nothing is copied, as in `copy`. `alloc` is not used. Fails
+    /// only if the tables already have 2^63 owners.
+    pub fn with_line_separators(&self, _alloc: Global) -> Result<Tables, AllocError>
+        ensures tables { IfOk result (λ tables. tables ≡ with_line_separators self.now) }
+        ensures separates { IfOk result (SeparatesLines self.now) }
+    {
+        let shared = Arc::try_clone(&self.shared)?;
+        Ok(Tables {
+            shared,
+            separates_lines: true,
+        })
     }
 
     /// Returns the version of Unicode.
@@ -219,7 +253,9 @@ impl Tables {
     pub fn properties(&self, c: char) -> Properties
         ensures { result ≡ properties_of self.now c }
     {
-        self.shared.properties(c)
+        self.shared
+            .properties(c)
+            .for_lines_if(self.separates_lines, u32::from(c))
     }
 
     /// Overwrites `properties` with the properties of each character of a text. Faster than a call for each
@@ -228,6 +264,10 @@ impl Tables {
         requires { length properties.old ≡ length text.now }
         ensures { properties.new ≡ map (properties_of self.now) text.now }
     {
-        self.shared.look_up(text, properties);
+        if self.separates_lines {
+            self.shared.look_up_for_lines(text, properties);
+        } else {
+            self.shared.look_up(text, properties);
+        }
     }
 }

@@ -38,6 +38,7 @@ pub const HORDGULI_REORDER_NSM: u32 = 8;
 pub const HORDGULI_WHOLE_NUMBERS: u32 = 16;
 pub const HORDGULI_REORDER_CLUSTERS: u32 = 32;
 pub const HORDGULI_SHOW_SPACES: u32 = 64;
+pub const HORDGULI_LINE_SEPARATORS: u32 = 0x4000000;
 
 // Print flags
 pub const HORDGULI_PRINT_VISUAL: u32 = 1;
@@ -538,9 +539,10 @@ extern "C" {
     ///                          sizeof buffer, buffer, &written);
     /// ```
     ///
-    /// The handle keeps the memory that a call used, and a call that needs no more than that allocates nothing. The handle
-    /// keeps at most 5 MB: memory for a text or for lines of more than 65,536 bytes is freed. `hordguli_tables_close` frees
-    /// it. Calls at the same time in several threads need a handle of tables each.
+    /// The handle keeps the memory that a call used, and a call that needs no more than that allocates nothing, unless only
+    /// one of both has HORDGULI_LINE_SEPARATORS. The handle keeps at most 5 MB: memory for a text or for lines of more than
+    /// 65,536 bytes is freed. `hordguli_tables_close` frees it. Calls at the same time in several threads need a handle of
+    /// tables each.
     ///
     /// On NOT_UTF8, `hordguli_valid_utf8` says where. NO_MEMORY comes before NO_ROOM, because the lines are gathered before
     /// their size is known.

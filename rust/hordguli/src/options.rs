@@ -44,6 +44,7 @@ pub struct Options {
     whole_numbers: bool,
     reorder_clusters: bool,
     show_spaces: bool,
+    line_separators: bool,
     tab_width: u8,
 }
 
@@ -57,6 +58,7 @@ impl Options {
             whole_numbers: false,
             reorder_clusters: false,
             show_spaces: false,
+            line_separators: false,
             tab_width: 0,
         }
     }
@@ -100,6 +102,13 @@ impl Options {
         self
     }
 
+    /// Whether paragraphs end at LF, CR and CRLF only, as lines do in LSP, Git and most editors. U+0085 and U+2029 then end lines, not
+    /// paragraphs, as do VT, FF and U+2028.
+    pub const fn line_separators(mut self, is_set: bool) -> Self {
+        self.line_separators = is_set;
+        self
+    }
+
     /// Sets a tab stop every `columns` columns. With 0, the default, there are none, and a tab has no columns. In a measured session, any
     /// other number sets stops at the multiples of each tab's own advance.
     pub const fn tab_width(mut self, columns: u8) -> Self {
@@ -108,12 +117,17 @@ impl Options {
     }
 
     pub(crate) const fn bits(self) -> u32 {
-        self.base.bits()
+        self.paragraph_bits()
             | self.row_bits()
             | self.break_bits()
             | if_set(self.no_break, HORDGULI_NOBREAK)
             | if_set(self.show_spaces, HORDGULI_SHOW_SPACES)
             | HORDGULI_TAB_WIDTH(self.tab_width as u32)
+    }
+
+    /// The options that change the levels of a paragraph.
+    pub(crate) const fn paragraph_bits(self) -> u32 {
+        self.base.bits() | if_set(self.line_separators, HORDGULI_LINE_SEPARATORS)
     }
 
     /// The options that change the order of a row.
@@ -125,6 +139,13 @@ impl Options {
     /// The options that change break marks.
     pub(crate) const fn break_bits(self) -> u32 {
         if_set(self.whole_numbers, HORDGULI_WHOLE_NUMBERS)
+    }
+}
+
+impl From<BaseDirection> for Options {
+    /// Returns options with this base direction and none of the others.
+    fn from(base: BaseDirection) -> Options {
+        Options::new().base(base)
     }
 }
 

@@ -1,6 +1,6 @@
 use crate::records::{breaks_of, levels_of};
 use crate::{
-    ffi, BaseDirection, Break, Character, Error, Level, Options, Print, Row, Run, ScriptRun, Tables,
+    ffi, Break, Character, Error, Level, Options, Print, Row, Run, ScriptRun, Tables,
 };
 
 /// Lays out a text in lines of at most `width` columns, and returns what `print` selects for each line.
@@ -81,6 +81,9 @@ pub fn wrap(
 
 /// Returns the base level of a paragraph: [`Level::LTR`] or [`Level::RTL`]. The characters are not split at separators.
 ///
+/// `options` is a [`BaseDirection`] or [`Options`], of which only [`Options::base`] and [`Options::line_separators`] change the
+/// result.
+///
 /// ```
 /// use hordguli::{base_level, BaseDirection, Level, Tables};
 ///
@@ -100,13 +103,14 @@ pub fn wrap(
 pub fn base_level(
     tables: &Tables,
     chars: &[char],
-    direction: BaseDirection,
+    options: impl Into<Options>,
 ) -> Result<Level, Error> {
-    let base = tables.handle.base(direction.bits(), chars)?;
+    let base = tables.handle.base(options.into().paragraph_bits(), chars)?;
     Ok(Level::of_u32(base))
 }
 
-/// Returns the level of each character of a paragraph, before L1 (UAX #9). The characters are not split at separators.
+/// Returns the level of each character of a paragraph, before L1 (UAX #9). The characters are not split at separators. `options` is as
+/// in [`base_level`].
 ///
 /// ```
 /// use hordguli::{levels, BaseDirection, Tables};
@@ -128,9 +132,12 @@ pub fn base_level(
 pub fn levels(
     tables: &Tables,
     chars: &[char],
-    direction: BaseDirection,
+    options: impl Into<Options>,
 ) -> Result<Vec<Level>, Error> {
-    tables.handle.levels(direction.bits(), chars).map(levels_of)
+    tables
+        .handle
+        .levels(options.into().paragraph_bits(), chars)
+        .map(levels_of)
 }
 
 /// Returns the break mark after each character of a paragraph (UAX #14). The characters are not split at separators.

@@ -2,7 +2,7 @@
 use hordguli::{
     base_level, breaks, clusters, count_utf8, decode, layout, layout_into, levels, properties, row,
     row_runs, script_runs, valid_utf8, wrap, BaseDirection, BidiClass, Bracket, Break, Error,
-    Level, LineClass, Options, Print, Run, ScriptRun, Tables, UnicodeVersion,
+    Level, LineClass, Options, Print, Run, ScriptRun, Session, Tables, UnicodeVersion,
 };
 
 const HEBREW: &str = "\u{5d0}\u{5d1}\u{5d2}";
@@ -85,6 +85,26 @@ fn layout_into_keeps_the_buffer_after_an_error() {
     assert_eq!(
         (failed, buffer.as_str()),
         (Err(Error::WidthOutOfRange), "> ")
+    );
+}
+
+#[test]
+fn line_separators_alone_end_paragraphs() {
+    let only = Options::new().line_separators(true);
+    let text = "a\u{2029}b\u{85}c\u{1c}d\re";
+    let paragraphs = |options| {
+        let counts = Session::new(&tables(), text, 80, options).unwrap().counts();
+        (counts.paragraphs, counts.lines)
+    };
+    assert_eq!(paragraphs(Options::new()), (5, 5));
+    assert_eq!(paragraphs(only), (2, 4));
+    let embedded = ['\u{202b}', 'a', '\u{2029}', 'b'];
+    let numbers = |options| levels(&tables(), &embedded, options).unwrap()[2].number();
+    assert_eq!(numbers(Options::new()), 0);
+    assert_eq!(numbers(only), 2);
+    assert_eq!(
+        base_level(&tables(), &embedded, only),
+        base_level(&tables(), &embedded, BaseDirection::WeakLtr)
     );
 }
 

@@ -426,16 +426,16 @@ impl Run<'_> {
         }
     }
 
-    fn rows(&self, tables: &Tables, options: Options, direction: BaseDirection, chars: &[char]) {
+    fn rows(&self, tables: &Tables, options: Options, chars: &[char]) {
         let teller = &self.teller;
         let from = self.below(chars.len() + 1);
         let to = from + self.below(chars.len() + 1 - from);
         let base = teller
-            .told("base", base_level(tables, chars, direction))
+            .told("base", base_level(tables, chars, options))
             .unwrap();
         self.tell("base", base);
         let levels = teller
-            .told("levels", levels(tables, chars, direction))
+            .told("levels", levels(tables, chars, options))
             .unwrap();
         teller.tell_all("level", levels.iter().copied());
         let marks = teller
@@ -535,7 +535,7 @@ impl Run<'_> {
             BaseDirection::Ltr,
             BaseDirection::Rtl,
         ][self.below(4)];
-        let bits = self.below(32);
+        let bits = self.below(64);
         let options = Options::new()
             .base(direction)
             .no_break(bits & 1 != 0)
@@ -543,6 +543,7 @@ impl Run<'_> {
             .whole_numbers(bits & 4 != 0)
             .reorder_clusters(bits & 8 != 0)
             .show_spaces(bits & 16 != 0)
+            .line_separators(bits & 32 != 0)
             .tab_width([0, 0, 4, 8][self.below(4)]);
         let width = 1 + self.below(20) as u16;
         let print = print_of(1 + self.below(127));
@@ -566,7 +567,7 @@ impl Run<'_> {
         }
         self.answers(&session);
         let chars = session.chars(..).unwrap();
-        self.rows(tables, options, direction, &chars);
+        self.rows(tables, options, &chars);
         let ends = self.teller.told("text_clusters", clusters(&chars)).unwrap();
         self.teller.tell_all("end", ends.into_iter());
         let runs = self

@@ -87,6 +87,7 @@ returns-clause-ok c = λ words m.
       whole_numbers = c.in-Some.ensures.whole_numbers ∙ given (codes "whole-numbers");
       reorder_clusters = c.in-Some.ensures.reorder_clusters ∙ given (codes "reorder-clusters");
       show_spaces = c.in-Some.ensures.show_spaces ∙ given (codes "show-spaces");
+      line_separators = c.is_set-line_separators.ensures ∙ given (codes "line-separators");
       tab_width = tabs;
       stops = λ some. let limits = stops_in (rows_of found) m.tabs (ap (λ rows. is_some (first_of (codes "tabs") rows)) m.rows ∙ some) in
           (omega (arith, c.in-Some.ensures.tab_width, limits.0), omega (arith, c.in-Some.ensures.tab_width, limits.1));

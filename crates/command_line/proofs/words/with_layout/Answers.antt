@@ -11,5 +11,5 @@ returns c =
     let two = with_arg _ _ _ _ _ one c.width.ensures.rule c.width.ensures.local c.in_ok-command.ensures in
     let three = with_arg _ _ _ _ _ two c.tabs.ensures.rule c.tabs.ensures.local c.in_ok-arg-2.ensures in
     let four = with_arg _ _ _ _ _ three c.unicode.ensures.rule c.unicode.ensures.local c.in_ok-command-2.ensures in
-    let flags = map flag_rule (codes "rtl" ∷ codes "ltr" ∷ codes "wrtl" ∷ codes "wltr" ∷ codes "nobreak" ∷ codes "reordernsm" ∷ codes "whole-numbers" ∷ codes "reorder-clusters" ∷ codes "show-spaces" ∷ []) in
+    let flags = map flag_rule (codes "rtl" ∷ codes "ltr" ∷ codes "wrtl" ∷ codes "wltr" ∷ codes "nobreak" ∷ codes "reordernsm" ∷ codes "whole-numbers" ∷ codes "reorder-clusters" ∷ codes "show-spaces" ∷ codes "line-separators" ∷ []) in
     IfOk-weaker c.with_flags.result _ _ (λ new is. is ∙ ap (λ app. fold with_rule app flags) four) c.with_flags.ensures

@@ -28,9 +28,10 @@ returns-clause-ok c =
       prefix = c.in-Some-prefix_of.ensures.some;
       whole_numbers = c.is_set.ensures;
       show_spaces = c.is_set-2.ensures;
-      nomirror = c.is_set-3.ensures;
-      basedir = c.is_set-4.ensures;
-      nopad = c.is_set-5.ensures;
-      strict = c.is_set-6.ensures;
+      line_separators = c.is_set-3.ensures;
+      nomirror = c.is_set-4.ensures;
+      basedir = c.is_set-5.ensures;
+      nopad = c.is_set-6.ensures;
+      strict = c.is_set-7.ensures;
       files = ap (map (λ s. s.now)) c.in-Ok.ensures.items ∙ texts;
     }

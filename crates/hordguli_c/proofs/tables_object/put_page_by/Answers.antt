@@ -4,22 +4,19 @@ use Rattle.bidi.proofs.TextCutLemmas.{some_chars}
 use Rattle.lines.specs.Engine.{rules_of}
 use Rattle.lines.specs.Layouts.{cut_by, unmeasured}
 use Rattle.session.specs.Sessions.{opening_refusal}
-use Rattle.ucd.specs.declared.tables.Tables.{Tables}
 use Rattle.hordguli_c.specs.Texts.{PutsPage, text_page}
 use Rattle.hordguli_c.specs.declared.status.Status.{Status}
 use Rattle.hordguli_c.proofs.PageLemmas.{lines_are_put, nothing_is_put}
-use Rattle.hordguli_c.proofs.tables_object.TablesObject.put_page.Goals as goal
-use Rattle.hordguli_c.proofs.tables_object.TablesObject.put_page.Goals.{in-Ok, in-Err}
+use Rattle.hordguli_c.proofs.tables_object.put_page_by.Goals as goal
+use Rattle.hordguli_c.proofs.tables_object.put_page_by.Goals.{in-Ok, in-Err}
 
 pub returns-clause-page : goal.returns-clause-page
 returns-clause-page c =
     let form = c.args.form.now in
     let text = chars c.args.text.now in
-    let tables = c.args.self.now in
+    let tables = (rules_of c.args.engine.now).tables in
     let rules = rules_of c.set_options.new.self in
-    let tables_are : (rules_of c.self.inside.engine).tables ≡ tables = cc (c.self.invariant, c.self.view_is) in
-    let rules_are : rules ≡ unmeasured tables form.options =
-    c.set_options.ensures.rules ∙ ap (λ (t : Tables). unmeasured t form.options) tables_are in
+    let rules_are : rules ≡ unmeasured tables form.options = c.set_options.ensures.rules in
     let allowed : opening_refusal (cut_by rules) text form.width ≡ None = cc (c.opening_refusal.ensures, c.in_default.is) in
     let old : List ℕ × ℕ = (c.args.array.now, c.args.len.now) in
     let merged : List ℕ × ℕ = (c.match-pushed.array, c.match-pushed.len) in
