@@ -51,8 +51,20 @@ fn report_refusal(rt: &HostRuntime, refused: &OptionFault) -> ExitCode {
 
 fn print_refusal(rt: &HostRuntime, refused: &OptionFault) -> io::Result<()> {
     match refused {
-        OptionFault::Words(error) => error.print(rt),
+        OptionFault::Words(error) if refused.status() == 0 => error.print(rt),
+        OptionFault::Words(_) => print_words(rt, refused),
         _ => eprintln!(rt; "{refused}"),
+    }
+}
+
+// Prints why `clap` refuses the arguments. Its own messages begin with `error:`.
+fn print_words(rt: &HostRuntime, refused: &OptionFault) -> io::Result<()> {
+    let Ok(text) = format!(in rt.alloc(); "{refused}") else {
+        return eprintln!(rt; "{}", End::Memory);
+    };
+    match text.strip_prefix("error: ") {
+        Some(reason) => eprint!(rt; "hordguli: {reason}"),
+        None => eprint!(rt; "{text}"),
     }
 }
 
