@@ -1351,7 +1351,7 @@ static const call calls[] = {
     CALL(clusters, "NULL, OVERLAP, NOT_A_CHARACTER, NO_MEMORY, NO_ROOM", .ways = {of_clusters, of_ends},
          .out_size = sizeof(size_t), .count = 5, .needed = 5),
     CALL(script_runs, "NULL, OVERLAP, CLOSED, NOT_A_CHARACTER, NO_MEMORY, NO_ROOM",
-         .ways = {of_characters, of_base, of_elements}, .out_size = sizeof(size_t), .count = 5, .needed = 3),
+         .ways = {of_characters, of_base, of_elements}, .out_size = sizeof(size_t), .count = 5, .needed = 2),
     CALL(paragraph, READING ", NO_ROOM", .ways = {of_session, of_at, of_paragraph},
          .out_size = sizeof(hordguli_paragraph_info), .at = 1, .end = 3, .needed = 7),
     /* NO_ROOM does not allocate: the handle of the tables keeps the memory of the first call. */

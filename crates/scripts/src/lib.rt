@@ -2,10 +2,10 @@
 //! that of others, and the runs of one script.
 //!
 //! ```rust
-//! let scripts = resolve(alloc, tables, &text)?;
-//! for run in script_runs(alloc, &scripts)? {
-//!     shape(&text[run.start..run.start + run.len], iso_code(run.script));
-//! }
+//! let scripts = resolve(alloc, tables, &['a', '(', 'א', ')', '.'])?;
+//! let runs = script_runs(alloc, &scripts)?;
+//! assert!(rt; runs.len() == 3 && runs[1].start == 2 && runs[1].len == 1);
+//! assert!(rt; iso_code(runs[1].script) == u32::from_be_bytes(*b"Hebr"));
 //! ```
 //!
 //! The property Script is that of the kit's crate `ucd_script`. Brackets are those of the tables.

@@ -89,6 +89,22 @@ fn check_each(
     Ok(())
 }
 
+fn find_runs(rt: &impl Abort, alloc: Global, tables: &Tables) -> Result<(), AllocError> {
+    let scripts = resolve(alloc, tables, &['a', '(', 'א', ')', '.'])?;
+    let runs = script_runs(alloc, &scripts)?;
+    assert!(rt; runs.len() == 3 && runs[1].start == 2 && runs[1].len == 1);
+    assert!(rt; iso_code(runs[1].script) == u32::from_be_bytes(*b"Hebr"));
+    Ok(())
+}
+
+#[test]
+fn hebrew_in_brackets_is_a_run(rt: HostRuntime) -> Result<(), Fail> {
+    let tables = read(rt.alloc(), &FILES)?;
+    let result = find_runs(&rt, rt.alloc(), &tables);
+    drop(tables);
+    Ok(result?)
+}
+
 #[test]
 fn texts_have_their_scripts(rt: HostRuntime) -> Result<(), Fail> {
     let tables = read(rt.alloc(), &FILES)?;

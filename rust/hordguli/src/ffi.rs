@@ -137,7 +137,8 @@ pub fn valid_utf8(bytes: &[u8]) -> Result<usize, Error> {
 /// Returns the characters of UTF-8 text, and the offset of each, in bytes.
 pub fn decode(bytes: &[u8]) -> Result<(Vec<char>, Vec<usize>), Error> {
     let count = count_utf8(bytes)?;
-    let (mut chars, mut offsets) = (defaults(count)?, defaults(count)?);
+    let mut chars: Vec<char> = defaults(count)?;
+    let mut offsets: Vec<usize> = defaults(count)?;
     // SAFETY: `bytes` is an input, and the two arrays of `count` elements and the count are outputs.
     let _count = stored(|stored| unsafe {
         hordguli_decode(
