@@ -18,8 +18,8 @@ static uint64_t hashed(uint64_t hash, uint64_t number) { return (hash ^ number) 
 
 /* `advances` are those of the session's characters, or NULL if it is not measured. */
 static void take(hordguli_session *of, const uint32_t *advances, snapshot *into) {
-    static uint32_t characters[SNAPSHOT_CHARACTERS], ltov[SNAPSHOT_CHARACTERS], vtol[SNAPSHOT_CHARACTERS];
-    static uint8_t levels[SNAPSHOT_CHARACTERS];
+    static uint32_t visual[SNAPSHOT_CHARACTERS], ltov[SNAPSHOT_CHARACTERS], vtol[SNAPSHOT_CHARACTERS];
+    static uint8_t line_levels[SNAPSHOT_CHARACTERS];
     static size_t columns[SNAPSHOT_CHARACTERS];
     hordguli_counts counts = {0, 0, 0, 0};
     memset(into, 0, sizeof *into);
@@ -28,9 +28,9 @@ static void take(hordguli_session *of, const uint32_t *advances, snapshot *into)
     for (size_t line = 0; line < counts.lines; line++) {
         uint64_t hash = 0xCBF29CE484222325;
         hordguli_line_info *info = &into->lines[line].info;
-        HOLDS(hordguli_line(of, line, info, SNAPSHOT_CHARACTERS, characters, levels, ltov, vtol, columns) == HORDGULI_OK);
+        HOLDS(hordguli_line(of, line, info, SNAPSHOT_CHARACTERS, visual, line_levels, ltov, vtol, columns) == HORDGULI_OK);
         for (size_t k = 0; k < info->shown; k++) {
-            hash = hashed(hashed(hash, characters[k]), levels[k]);
+            hash = hashed(hashed(hash, visual[k]), line_levels[k]);
             hash = hashed(hashed(hashed(hash, ltov[k]), vtol[k]), columns[k]);
             if (advances != NULL) hash = hashed(hash, advances[info->start + k]);
         }

@@ -61,6 +61,7 @@ fn with_layout<'a>(alloc: Global, command: Command<'a>) -> Result<Command<'a>, A
                 "wltr",
                 "Lay out paragraphs without a strong character left-to-right (default)",
             ),
+            // how lines are broken and ordered
             ("nobreak", "Break lines at mandatory breaks only"),
             (
                 "reordernsm",

@@ -32,49 +32,6 @@ fn recycle(engine: &mut Engine, old: Vec<Kept>)
     }
 }
 
-// Replaces the paragraphs between two borders. Changes nothing if an allocation fails.
-fn put_in<S: ParagraphStore<Kept>>(
-    engine: &mut Engine,
-    store: &mut S,
-    front: Border,
-    back: Border,
-    new: Vec<Kept>,
-) -> Result<Damage, EditFault>
-    requires front { IsBorder (S.items store.old) front }
-    requires back { IsBorder (S.items store.old) back }
-    requires order { front.index ≤ back.index }
-    requires chars_fit { sum_by (λ l. length l.text)
-        (splice (S.items store.old) front.index back.index new.items) < 2 ^ 64 }
-    requires lines_fit { sum_by (λ l. length l.lines)
-        (splice (S.items store.old) front.index back.index new.items) < 2 ^ 64 }
-    requires bytes_fit { sum_by (λ l. length_in Utf8 l.text)
-        (splice (S.items store.old) front.index back.index new.items) < 2 ^ 64 }
-    requires utf16_fit { sum_by (λ l. length_in Utf16 l.text)
-        (splice (S.items store.old) front.index back.index new.items) < 2 ^ 64 }
-    ensures ok { OnOk result
-        (S.items store.new ≡ splice (S.items store.old) front.index back.index new.items) }
-    ensures damage { IfOk result (λ damage. damage ≡ damage_between front back new.items) }
-    ensures err { OnErr result (S.items store.new ≡ S.items store.old) }
-    ensures fault { IfErr result (λ fault. fault ≡ NoMemory) }
-    ensures memory { OnErr result (0 < back.index - front.index + length new.items) }
-    ensures engine { engine.new ≡ engine.old }
-{
-    let (total, new_pars) = (store.total_lines(), new.len());
-    match store.replace(front.index..back.index, new) {
-        Ok(old) => recycle(engine, old),
-        Err(_) => return Err(EditFault::NoMemory),
-    }
-    let old_lines = back.lines - front.lines;
-    Ok(Damage {
-        first_line: front.lines,
-        old_lines,
-        new_lines: store.total_lines() - (total - old_lines),
-        first_par: front.index,
-        old_pars: back.index - front.index,
-        new_pars,
-    })
-}
-
 /// Replaces the paragraphs between two borders, and finds which lines change. Changes nothing if an
 /// allocation fails.
 pub fn put<S: ParagraphStore<Kept>>(
@@ -109,7 +66,20 @@ pub fn put<S: ParagraphStore<Kept>>(
 {
     let start = matching_at_start(store, front.index, back.index, &new);
     let end = matching_at_end(store, front.index, back.index, &new);
-    let damage = put_in(engine, store, front, back, new)?;
+    let (total, new_pars) = (store.total_lines(), new.len());
+    match store.replace(front.index..back.index, new) {
+        Ok(old) => recycle(engine, old),
+        Err(_) => return Err(EditFault::NoMemory),
+    }
+    let old_lines = back.lines - front.lines;
+    let damage = Damage {
+        first_line: front.lines,
+        old_lines,
+        new_lines: store.total_lines() - (total - old_lines),
+        first_par: front.index,
+        old_pars: back.index - front.index,
+        new_pars,
+    };
     *changed = without_same(damage, start, end);
     Ok(damage)
 }

@@ -5,8 +5,8 @@ use hordguli_sys::hordguli_position;
 
 use crate::ffi::SessionHandle;
 use crate::{
-    BytePos, Caret, ChangedLines, CharPos, Counts, Damage, Direction, Edge, Error, Hit, Line, Lines, Options,
-    Paragraph, Place, Position, Print, Tables, TextRange, Utf16Pos, Word, Work,
+    BytePos, Caret, ChangedLines, CharPos, Counts, Damage, Direction, Edge, Error, Hit, Line,
+    Lines, Options, Paragraph, Place, Position, Print, Tables, TextRange, Utf16Pos, Word, Work,
 };
 
 /// A text and its layout in lines, which is kept up to date when the text is edited or the width changes.

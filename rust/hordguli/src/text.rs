@@ -1,7 +1,5 @@
 use crate::records::{breaks_of, levels_of};
-use crate::{
-    ffi, Break, Character, Error, Level, Options, Print, Row, Run, ScriptRun, Tables,
-};
+use crate::{ffi, Break, Character, Error, Level, Options, Print, Row, Run, ScriptRun, Tables};
 
 /// Lays out a text in lines of at most `width` columns, and returns what `print` selects for each line.
 ///

@@ -1,20 +1,48 @@
-use Rattle.std.proofs.Common.{◌≡◌, ◌+◌, List, length, ap, subst, sym, arith}
+use Rattle.std.proofs.Common.{◌≡◌, ◌∙◌, ◌-◌, List, length, ap, refl, subst, sum_by, sym, arith}
 use Rattle.std.specs.List.{All, slice_range, splice}
 use Rattle.lines.specs.Layouts.{Layout}
 use Rattle.lines.specs.Matching.{MatchAtEnd, MatchAtStart}
+use Rattle.session.specs.Borders.{damage_between}
 use Rattle.session.specs.Changes.{without_same, AreFound, HasLines}
 use Rattle.session.specs.Kept.{lines_in}
 use Rattle.session.specs.declared.edits.ChangedLines.{ChangedLines}
 use Rattle.session.specs.declared.edits.Damage.{Damage}
+use Rattle.session.proofs.BorderLemmas.{lines_of}
+use Rattle.session.proofs.EditLemmas.{at_ok, AreSums-splice}
 use Rattle.session.proofs.TrimLemmas.{damage_fits, AreFound-put}
 use Rattle.session.proofs.replace.put.Goals as goal
+
+pub overflow_sub-old_lines : goal.overflow_sub-old_lines
+overflow_sub-old_lines g c =
+    (AreSums-splice (g.S.ParagraphStore.items c.args.store.now) c.args.new.items c.args.front c.args.back
+    c.total_lines-total.result _ c.requires.front c.requires.back c.requires.order c.total_lines-total.ensures
+    refl).order
+
+pub overflow_sub-damage : goal.overflow_sub-damage
+overflow_sub-damage g c =
+    (AreSums-splice (g.S.ParagraphStore.items c.args.store.now) c.args.new.items c.args.front c.args.back
+    c.total_lines-total.result _ c.requires.front c.requires.back c.requires.order c.total_lines-total.ensures
+    refl).within
+
+pub overflow_sub-damage-2 : goal.overflow_sub-damage-2
+overflow_sub-damage-2 g c =
+    let put = c.in-Ok.ensures.ok in
+    (AreSums-splice (g.S.ParagraphStore.items c.args.store.now) c.args.new.items c.args.front c.args.back
+    c.total_lines-total.result c.total_lines.result c.requires.front c.requires.back c.requires.order
+    c.total_lines-total.ensures (c.total_lines.ensures ∙ ap (sum_by lines_of) put)).others
+
+pub returns-clause-damage : goal.returns-clause-damage
+returns-clause-damage g c =
+    let put = c.in-Ok.ensures.ok in
+    let made = (AreSums-splice (g.S.ParagraphStore.items c.args.store.now) c.args.new.items c.args.front c.args.back
+    c.total_lines-total.result c.total_lines.result c.requires.front c.requires.back c.requires.order
+    c.total_lines-total.ensures (c.total_lines.ensures ∙ ap (sum_by lines_of) put)).made in
+    rw (made, c.len-new_pars.ensures ∙ c.args.new.ok.0) refl
 
 pub without_same-requires : goal.without_same-requires
 without_same-requires g c =
     let ks = g.S.ParagraphStore.items c.args.store.now in
-    let fits = damage_fits ks c.args.new.items c.args.front c.args.back c.requires.front c.requires.back c.requires.order in
-    let is = ap (λ (d : Damage). d.first_line + d.old_lines) c.in_ok-damage.ensures.damage in
-    omega (arith, fits, is)
+    omega (arith, damage_fits ks c.args.new.items c.args.front c.args.back c.requires.front c.requires.back c.requires.order)
 
 pub returns-clause-changed : goal.returns-clause-changed
 returns-clause-changed g c =
@@ -25,6 +53,19 @@ returns-clause-changed g c =
     let start = subst (λ (ns : List Layout). All HasLines ks → All HasLines ns → MatchAtStart (lines_in mid) (lines_in ns) s) c.deref.ensures.value c.matching_at_start-start.ensures in
     let end = subst (λ (ns : List Layout). All HasLines ks → All HasLines ns → MatchAtEnd (lines_in mid) (lines_in ns) e) c.deref-2.ensures.value c.matching_at_end-end.ensures in
     let found = AreFound-put ks c.args.new.items c.args.front c.args.back c.requires.front c.requires.back c.requires.order s e start end in
-    subst (λ (x : ChangedLines). AreFound ks (g.S.ParagraphStore.items c.put_in.new.store) c.in_ok-damage.damage x) (sym c.without_same.ensures)
-    (subst (λ (ms : List Layout). AreFound ks ms c.in_ok-damage.damage (without_same c.in_ok-damage.damage s e)) (sym c.in_ok-damage.ensures.ok)
-    (subst (λ (d : Damage). AreFound ks (splice ks c.args.front.index c.args.back.index c.args.new.items) d (without_same d s e)) (sym c.in_ok-damage.ensures.damage) found))
+    let put = c.in-Ok.ensures.ok in
+    let made = (AreSums-splice ks c.args.new.items c.args.front c.args.back
+    c.total_lines-total.result c.total_lines.result c.requires.front c.requires.back c.requires.order
+    c.total_lines-total.ensures (c.total_lines.ensures ∙ ap (sum_by lines_of) put)).made in
+    let damage : Damage = record {
+      first_line = c.args.front.lines;
+      old_lines = c.args.back.lines - c.args.front.lines;
+      new_lines = c.total_lines.result - (c.total_lines-total.result - (c.args.back.lines - c.args.front.lines));
+      first_par = c.args.front.index;
+      old_pars = c.args.back.index - c.args.front.index;
+      new_pars = c.len-new_pars.result;
+    } in
+    let is : damage ≡ damage_between c.args.front c.args.back c.args.new.items = rw (made, c.len-new_pars.ensures ∙ c.args.new.ok.0) refl in
+    subst (λ (x : ChangedLines). AreFound ks (g.S.ParagraphStore.items c.replace.new.self) damage x) (sym c.without_same.ensures)
+    (subst (λ (ms : List Layout). AreFound ks ms damage (without_same damage s e)) (sym put)
+    (subst (λ (d : Damage). AreFound ks (splice ks c.args.front.index c.args.back.index c.args.new.items) d (without_same d s e)) (sym is) found))
