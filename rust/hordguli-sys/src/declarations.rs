@@ -712,8 +712,8 @@ extern "C" {
     /// Stores in `*changed` which lines changed in the last successful call that edited the text, set the width or set
     /// advances. These are the lines of its damage, which names whole paragraphs, without as many as possible at the start,
     /// and then at the end, that are the same before and after the call: their characters, levels, maps, columns, advances,
-    /// base level and length, and whether they are the first of their paragraph. After the session was opened, all lines
-    /// have changed. A call that fails changes nothing.
+    /// base level and length, and whether they are the first of their paragraph. The padding, which depends on the width, is
+    /// not compared. After the session was opened, all lines have changed. A call that fails changes nothing.
     ///
     /// Errors: NULL, OVERLAP, CLOSED.
     ///
