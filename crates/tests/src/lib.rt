@@ -9,7 +9,7 @@ mod levels;
 #[cfg(test)]
 mod marks;
 #[cfg(test)]
-mod scripts;
+mod script_runs;
 #[cfg(test)]
 mod snippets;
 #[cfg(test)]
