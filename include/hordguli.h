@@ -999,13 +999,13 @@ typedef struct hordguli_script_run {
 } hordguli_script_run;
 
 /* Stores the script runs of a text of `count` characters (UAX #24), for fonts and shapers: the longest ranges of
- * characters of one script. A shaper takes the parts of a directional run (`hordguli_row_runs`) that they make.
+ * characters of one script. To shape a row, split its directional runs (`hordguli_row_runs`) where a script run ends.
  *   - A character has the script of its property Script. It is that of the Unicode version that
  *     `hordguli_width_unicode_version` returns. A private-use or unassigned character has the script Unknown (`Zzzz`).
  *   - If the property is Common or Inherited, as of a space, a digit or a mark, the character has the script of the one
  *     before it. At the start of the text, it has the first script that follows, or Common (`Zyyy`) if none does.
- *   - But a closing bracket whose property is Common has the script of its opening bracket. Brackets are those of the
- *     tables. Of brackets that are nested more than 63 deep, only the innermost 63 are matched.
+ *   - But a closing bracket whose property is Common has the script of its opening bracket, if it has one. Brackets are
+ *     those of the tables. Of brackets that are nested more than 63 deep, only the innermost 63 are matched.
  *
  * The property Script_Extensions is not used. The number of runs is stored in `*run_count`, and the runs in an array of
  * `capacity` elements. NULL with capacity 0 is NO_ROOM, unless `count` is 0 (see BUFFERS). NO_MEMORY comes before NO_ROOM.

@@ -23,8 +23,8 @@ sys.path.insert(0, f"{TOP}/tools")
 from c_header import Header
 
 HEADER = Header("include/hordguli.h")
-# functions of the C library that the package deliberately leaves out: it passes a version
-NOT_OFFERED = {f"hordguli_tables_{name}" for name in ("open_builtin", "open_folder", "read")}
+# functions of the C library that the package deliberately leaves out: it passes a version, and `bytes.decode` decodes
+NOT_OFFERED = {"hordguli_decode", *(f"hordguli_tables_{name}" for name in ("open_builtin", "open_folder", "read"))}
 NAMES = {*hordguli.__all__} | {name for name, one in vars(hordguli).items() if name[0] != "_" and not inspect.ismodule(one)}
 PUBLIC = [getattr(hordguli, name) for name in sorted(NAMES)]
 MOST_LINES = 400  # of help(hordguli)
