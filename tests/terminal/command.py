@@ -5,7 +5,8 @@ from typing import NamedTuple
 import model
 
 TOP = model.TOP
-PROGRAM = [f"{TOP}/bin/hordguli"]
+EMULATOR = os.environ.get("EMULATOR", "").split()
+PROGRAM = [*EMULATOR, f"{TOP}/bin/hordguli"]
 TABLES = ["--ucd", f"{TOP}/ucd"]
 SECONDS = 60
 
@@ -18,8 +19,8 @@ class Result(NamedTuple):
 
 def use(program):
     """Chooses a program. One that is installed finds its own tables."""
-    PROGRAM[:] = [os.path.abspath(program)]
-    if os.path.exists(os.path.join(os.path.dirname(PROGRAM[0]), "../../share/hordguli/ucd")):
+    PROGRAM[:] = [*EMULATOR, os.path.abspath(program)]
+    if os.path.exists(os.path.join(os.path.dirname(PROGRAM[-1]), "../../share/hordguli/ucd")):
         TABLES.clear()
 
 

@@ -1,12 +1,12 @@
 -- The characters of a text tell, one by one, whether its sequence is known.
-use Rattle.std.proofs.Common.{◌≡◌, ℕ, zero, suc, ◌+◌, ◌-◌, ◌<◌, ◌≤◌, ◌==◌, nat_lt, Bool, true, false, ◌&&◌, ◌||◌, not, List, [], ◌∷◌, ◌++◌, length, drop, slice_index, if◌then◌else◌, refl, sym, ap, ap₂, inl, inr, ◌∙◌, arith}
+use Rattle.std.proofs.Common.{◌≡◌, ℕ, zero, suc, ◌+◌, ◌-◌, ◌≤◌, ◌==◌, nat_lt, Bool, true, false, ◌&&◌, ◌||◌, not, List, [], ◌∷◌, ◌++◌, length, drop, slice_index, if◌then◌else◌, refl, sym, ap, ap₂, inl, inr, ◌∙◌, arith}
 use Rattle.std.specs.List.{prefix_len}
-use Rattle.std.proofs.lemmas.Bool.{and_parts, cases_Bool, cases_lt, cond-true, cond-false, eqb-true, false≢true, le-ltb, lt-ltb, or_parts, not-true}
+use Rattle.std.proofs.lemmas.Bool.{cases_Bool, cases_lt, cond-true, cond-false, eqb-true, false≢true, le-ltb, lt-ltb}
 use Rattle.std.proofs.lemmas.Bool.Decides.{nat_tests}
-use Rattle.sequences.specs.Characters.{ends_piece, is_c1_introducer, is_control, is_dropped, is_inline}
-use Rattle.sequences.specs.Known.{knows_after_escape, knows_long, knows_sequence, knows_string}
-use Rattle.sequences.specs.Progress.{advanced, after_all, after_code, after_intermediate, after_long, after_long_escape, is_known}
-use Rattle.sequences.specs.Sequences.{csi_end, is_intermediate, is_parameter, opens_string, string_end, terminator_len}
+use Rattle.sequences.specs.Characters.{ends_piece, is_c1_introducer, is_inline}
+use Rattle.sequences.specs.Known.{knows_after_escape, knows_long, knows_sequence}
+use Rattle.sequences.specs.Progress.{advanced, after_all, after_code, after_intermediate, after_long, is_known}
+use Rattle.sequences.specs.Sequences.{csi_end, is_intermediate, is_parameter, opens_string, string_end}
 use Rattle.sequences.proofs.PlainLemmas.{inline_remains, not_among}
 use Rattle.sequences.specs.declared.known.Progress.{Progress}
 use Rattle.sequences.specs.declared.known.Progress.TheVariants.{Start, Escape, Parameters, Intermediates, InString, AfterString, InLong, AfterLong, Known}

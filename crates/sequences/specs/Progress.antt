@@ -1,5 +1,5 @@
 -- What the characters of a text tell, one by one, about the sequence that it begins with.
-use Rattle.std.specs.Prelude.{ℕ, zero, suc, ◌+◌, ◌-◌, nat_lt, ◌==◌, Bool, true, false, ◌&&◌, ◌||◌, List, [], ◌∷◌, if◌then◌else◌}
+use Rattle.std.specs.Prelude.{ℕ, ◌+◌, ◌-◌, nat_lt, ◌==◌, Bool, true, false, ◌&&◌, ◌||◌, List, [], ◌∷◌, if◌then◌else◌}
 use Rattle.sequences.specs.Characters.{ends_piece, is_c1_introducer, is_inline}
 use Rattle.sequences.specs.Sequences.{is_intermediate, is_parameter, opens_string}
 use Rattle.sequences.specs.declared.known.Progress.{Progress}

@@ -1,5 +1,5 @@
 //! Finds the character after a CR in a text that comes in pieces.
-ghost use Rattle.std.specs.Prelude.{◌≡◌, ◌+◌, ◌≤◌, List, ℕ, false, true, length, IfErr, IfOk};
+ghost use Rattle.std.specs.Prelude.{◌≡◌, ◌+◌, List, ℕ, false, true, IfErr, IfOk};
 ghost use Rattle.sequences.specs.declared.known.Progress.TheVariants.{Start};
 ghost use Rattle.terminal.specs.Ends.{knows_next};
 ghost use Rattle.terminal.specs.Passed.{HasPassed};
