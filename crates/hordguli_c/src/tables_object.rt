@@ -104,8 +104,8 @@ impl TablesObject {
         }
     }
 
-    /// Copies the printed lines of a text to an array, if they fit, and stores their size in bytes. Only LF and
-    /// CR end paragraphs if `separates` is set. Only one of the engines keeps buffers.
+    /// Copies the printed lines of a text to an array, if they fit, and stores the number of bytes. If
+    /// `separates` is set, only LF and CR end paragraphs. Only one of the engines keeps buffers.
     pub fn put_page(
         &mut self,
         alloc: Global,
