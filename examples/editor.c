@@ -219,6 +219,15 @@ static void measure(void) {
 
 /* ---- Changes ---- */
 
+/* Returns whether a position is the start of the text, or after a character that ends a line. */
+static int is_after_line(size_t pos) {
+    uint32_t last = '\n';
+    size_t count;
+    if (pos > 0) check(hordguli_text_utf32(&session, pos - 1, 1, 1, &last, &count));
+    return (last >= 0xA && last <= 0xD) || (last >= 0x1C && last <= 0x1E) || last == 0x85 || last == 0x2028 ||
+           last == 0x2029;
+}
+
 /* Replaces characters, and moves the caret after the new text, or before what follows it. */
 static void replace(hordguli_cluster old, const char *text, size_t length, uint32_t side) {
     hordguli_changed changed;
@@ -229,13 +238,15 @@ static void replace(hordguli_cluster old, const char *text, size_t length, uint3
     check(hordguli_changed_lines(&session, &changed));
     show_changed(&changed);
     caret = anchor = (hordguli_edge){old.start + count, side, 0};
+    if (is_after_line(caret.pos)) caret.side = anchor.side = HORDGULI_BEFORE;
 }
 
-/* Deletes the selection, or else the grapheme cluster that contains a character. */
+/* Deletes the selection, or else the grapheme cluster that contains a character. For Backspace, this is the character
+ * before the caret. */
 static void take_out(size_t at) {
     hordguli_cluster old = selected();
     if (old.start == old.end && !succeeds(hordguli_cluster_at(&session, at, &old))) return;
-    replace(old, NULL, 0, HORDGULI_BEFORE);
+    replace(old, NULL, 0, at + 1 == caret.pos ? HORDGULI_AFTER : HORDGULI_BEFORE);
 }
 
 static void save(void) {

@@ -24,7 +24,7 @@ int main(void) {
     if (!status) status = hordguli_levels(&tables, HORDGULI_WEAK_LTR, text, count, CAPACITY, levels);
     for (; !status && start < count; start = end) {
         size_t used = 0;
-        while (end < count && used + properties[end].columns <= COLUMNS) used += properties[end++].columns;
+        while (end < count && (end == start || used + properties[end].columns <= COLUMNS)) used += properties[end++].columns;
         status = hordguli_row(&tables, 0, base, end - start, text + start, levels + start, CAPACITY, visual, NULL, NULL, NULL);
         for (size_t k = 0; !status && k < end - start; k++) putwchar((wchar_t)visual[k]);
         putwchar(L'\n');

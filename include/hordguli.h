@@ -9,10 +9,12 @@
  *
  * Each route starts with tables (`hordguli_tables_open_builtin`). Its first calls are, for
  *   - one string: `hordguli_layout`
- *   - a text that is edited or resized: `hordguli_session_open`, `hordguli_insert`, `hordguli_lines_utf8`
+ *   - a text that is edited or resized: `hordguli_session_open`, `hordguli_insert`, `hordguli_set_width`,
+ *     `hordguli_lines_utf8`
  *   - an editor: the same, and those that `Carets and edges` lists
  *   - text in any font: `hordguli_session_open_measured`, `hordguli_set_advances`
- *   - rows that the caller breaks, as in a terminal: `hordguli_base`, `hordguli_levels`, `hordguli_row`
+ *   - rows that the caller breaks, as in a terminal: `hordguli_decode`, `hordguli_base`, `hordguli_levels`,
+ *     `hordguli_row`
  *   - levels, break marks or character properties: `hordguli_levels`, `hordguli_marks`, `hordguli_properties`
  *
  * UNITS
@@ -28,7 +30,8 @@
  *
  * A line ends at the end of its paragraph, after U+000B, U+000C or U+2028, or at a break opportunity (UAX #14). If none
  * of these fits the width, the line ends inside a word, at the last grapheme cluster boundary that fits. If no such
- * boundary fits either, the line is wider than the width.
+ * boundary fits either, the line ends at the first boundary, and is wider than the width. What follows is on another
+ * line, even a separator alone: an emoji family of 6 columns and U+000A are two lines at width 5.
  *
  * The tail of a line is all U+0020, U+000A to U+000D, U+0085, U+2028 and U+2029 at its end. It is not shown. The rest
  * of the line is its shown part, to which HORDGULI_SHOW_SPACES adds spaces of the tail.
@@ -53,8 +56,8 @@
  *     is written as itself.
  *   - Lines are written without padding. `hordguli_line` stores what aligns a line right.
  *
- * A ligature or another glyph of several characters has its advance at the first of them, and 0 at the others. Or its
- * advance is divided among them, so that a caret can be inside a ligature of several grapheme clusters.
+ * Give a ligature, or another glyph of several characters, its advance at the first of them, and 0 at the others.
+ * Alternatively, divide the advance among them, so that a caret can be inside a ligature of several grapheme clusters.
  *
  * ERRORS
  *
@@ -98,6 +101,8 @@
  *         buffer = larger;
  *         capacity = length;
  *     }
+ *
+ * If there was nothing to write, `buffer` may still be NULL. Do not pass it to functions such as `fwrite` then.
  *
  * THREADS, SIGNALS AND FORK
  *
@@ -178,8 +183,9 @@ const char *hordguli_status_text(hordguli_status status);
 
 /* ---- Version ---- */
 
-/* The version of this header. A release that adds functions, options or statuses raises the minor version. `Since` in a
- * comment is the first version that has the function. So a program can test for those of 0.6:
+/* The version of this header. A release that adds functions, options or statuses raises the minor version. `Since` in
+ * a comment is the first version that has the function. 0.6 is the next release. Until then, this header has its
+ * functions, but the version 0.5.0. From 0.6.0 on, a program can test for them:
  *
  *     #if HORDGULI_VERSION_MAJOR > 0 || HORDGULI_VERSION_MINOR >= 6 */
 #define HORDGULI_VERSION_MAJOR 0
@@ -225,9 +231,11 @@ const char *hordguli_width_unicode_version(void);
  * `(PR|PO)? (OP|HY)? NU (NU|SY|IS)* (CL|CP)? (PR|PO)?`. It changes nothing with tables of Unicode 17.0. */
 #define HORDGULI_WHOLE_NUMBERS UINT32_C(16)
 /* Keeps the characters of a grapheme cluster that follow each other at one odd level in logical order. By default they
- * are reversed, as is all RTL text. Use it if the terminal draws clusters as units, such as emoji families, skin tones,
- * flags, and letters with marks. HORDGULI_REORDER_NSM then has no effect. For example, RLO `man ZWJ woman` is written
- * as RLO `woman ZWJ man` by default, which no terminal draws as one emoji. Since 0.6. */
+ * are reversed, as is all RTL text. Use it if the terminal draws clusters as units, such as emoji families, skin
+ * tones, flags, and letters with marks. HORDGULI_REORDER_NSM then has no effect. For example, RLO `man ZWJ woman` is
+ * written as RLO `woman ZWJ man` by default, which no terminal draws as one emoji. Choose this option, unless the
+ * terminal draws only marks, and not emoji sequences, in the cell of their base; then choose HORDGULI_REORDER_NSM.
+ * Since 0.6. */
 #define HORDGULI_REORDER_CLUSTERS UINT32_C(32)
 /* Shows the spaces with which the tail of a line begins, as many as fit in the width. So they have carets, hits and
  * spans. Lines end where they end without this option. A line that is wider than the width shows none of these spaces,
@@ -450,9 +458,10 @@ hordguli_status hordguli_valid_utf8(const char *bytes, size_t length, size_t *va
  *   characters  characters, for the functions below `Clusters and scripts`, `Rows` and `Levels and properties`
  *   offsets     byte offset of each character
  *
- * On NO_ROOM, `*count` is set and the arrays are unchanged. Text that is not UTF-8 is refused, as in all functions, so a
- * position always means the same character. On NOT_UTF8, `hordguli_valid_utf8` says where. To replace invalid bytes by
- * U+FFFD, decode the text before them, and go on after them.
+ * On NO_ROOM, `*count` is set and the arrays are unchanged. Text that is not UTF-8 is refused, as in all functions, so
+ * a position always means the same character. On NOT_UTF8, `hordguli_valid_utf8` says where. To replace invalid bytes
+ * by U+FFFD, decode the text before the first of them, write U+FFFD, skip one byte, and go on. So each invalid byte
+ * becomes one U+FFFD.
  * Errors: NULL, OVERLAP, NOT_UTF8, NO_ROOM.
  * Cost: O(length).
  * Since: 0.6. */
@@ -462,9 +471,11 @@ hordguli_status hordguli_decode(const char *bytes, size_t length, size_t capacit
 /* ---- Sessions and edits ---- */
 
 /* What an edit replaced: `old_lines` lines from `first_line` on became `new_lines` lines, and likewise for paragraphs.
- * All other lines are unchanged, except that the lines that follow are renumbered. By design, damage names whole
- * paragraphs: all that contain or touch the edited range, even if nothing is inserted and deleted. For the lines that
- * changed, see `hordguli_changed_lines`. A caller that draws everything anew may pass NULL as `damage`. */
+ * All other lines are unchanged, except that line `first_line + old_lines` becomes line `first_line + new_lines`, and
+ * so on. If there are fewer lines than before, clear the rows below the last one. By design, damage names whole
+ * paragraphs: all that contain or touch the edited range, even if nothing is inserted and deleted. So text that is
+ * appended after a final separator also replaces the last paragraph. For the lines that changed, see
+ * `hordguli_changed_lines`. A caller that draws everything anew may pass NULL as `damage`. */
 typedef struct hordguli_damage {
     size_t first_line;
     size_t old_lines;
@@ -539,8 +550,9 @@ typedef struct hordguli_changed {
 /* Stores in `*changed` which lines changed in the last successful call that edited the text, set the width or set
  * advances. These are the lines of its damage, which names whole paragraphs, without as many as possible at the start,
  * and then at the end, that are the same before and after the call: their characters, levels, maps, columns, advances,
- * base level and length, and whether they are the first of their paragraph. The padding, which depends on the width, is
- * not compared. After the session was opened, all lines have changed. A call that fails changes nothing.
+ * base level and length, and whether they are the first of their paragraph. The padding, which depends on the width,
+ * is not compared: RTL lines move when the width changes, so draw all of them then. After the session was opened, all
+ * lines have changed. A call that fails changes nothing.
  * Errors: NULL, OVERLAP, CLOSED.
  * Cost: O(1).
  * Since: 0.6. */
@@ -747,8 +759,14 @@ hordguli_status hordguli_paragraph(hordguli_session *session, size_t paragraph, 
  * New programs keep an edge, and call these:
  *   - `hordguli_edge_caret` to draw the caret
  *   - `hordguli_step` and `hordguli_line_edges` for Left, Right, Home and End
- *   - `hordguli_edge_at` or `hordguli_nearest_edge` for clicks, Up and Down
+ *   - `hordguli_nearest_edge` for clicks
+ *   - `hordguli_edge_at` for Up and Down, and where Left and Right lead to another line
  *   - `hordguli_word_at` for words, and `hordguli_spans` for the selection
+ *   - `hordguli_cluster_at` for the cluster that Backspace (at `pos - 1`) or Delete (at `pos`) removes
+ *
+ * After typing and Backspace, keep the edge after the position, but the one before it at the start of the text and
+ * behind a separator, U+000B, U+000C or U+2028. After Delete, keep the edge before it. The guide has code for all of
+ * these.
  *
  * `hordguli_caret_at` and `hordguli_hit_at` are for programs that keep a position. They know only its leading edge, and
  * leave clusters to the caller. */
@@ -771,7 +789,7 @@ hordguli_status hordguli_place_of(hordguli_session *session, size_t pos, hordgul
 
 typedef struct hordguli_caret {
     size_t line;
-    size_t column;   /* columns left of the caret, without padding */
+    size_t column;   /* columns left of the caret, without padding; can equal the width */
     uint32_t level;  /* level of the character if shown, else base level */
     uint32_t zero;   /* always 0 */
 } hordguli_caret;
@@ -892,8 +910,10 @@ typedef struct hordguli_edge {
  *   - At another shown character: at its leading edge, which is the left one if its level is even, or its trailing edge.
  *   - At a character that is not shown, and before the end of the text: as in `hordguli_caret_at`.
  *
- * `level` is that of the character whose edge it is. Fails with OUT_OF_RANGE if the position is past the end of the
- * text, and for the edge after position 0.
+ * `level` is that of the character whose edge it is. In the line where a new paragraph would start, an odd `level`
+ * means that the caret is at the right edge of the screen. A block cursor covers the cell at `column`, or at an odd
+ * level the one to its left; if there is no such cell, the nearest one. Fails with OUT_OF_RANGE if the position is
+ * past the end of the text, and for the edge after position 0.
  *
  * Errors: NULL, OVERLAP, UNKNOWN_OPTION, CLOSED, OUT_OF_RANGE, NO_MEMORY.
  * Cost: as `hordguli_cluster_at`, plus O(length of the line).
@@ -926,8 +946,8 @@ hordguli_status hordguli_edge_caret(hordguli_session *session, hordguli_edge edg
 hordguli_status hordguli_step(hordguli_session *session, hordguli_edge edge, uint32_t direction, hordguli_edge *next,
                               uint32_t *moved);
 
-/* Stores in `*edge` the edge at a column of a line, for mouse clicks and for moves to another line. Column 0 is the left
- * edge of the shown part, right of padding.
+/* Stores in `*edge` the edge at a column of a line, for moves to another line, as by Up and Down. For mouse clicks, see
+ * `hordguli_nearest_edge`. Column 0 is the left edge of the shown part, right of padding.
  *   - In the shown part: the left end of the caret unit that covers the column.
  *   - Right of the shown part: its right end. So columns 0 and SIZE_MAX are the two ends of the line on the screen.
  *   - In a line of width 0: before its start.
@@ -939,9 +959,9 @@ hordguli_status hordguli_step(hordguli_session *session, hordguli_edge edge, uin
  * Since: 0.6. */
 hordguli_status hordguli_edge_at(hordguli_session *session, size_t line, size_t column, hordguli_edge *edge);
 
-/* Stores in `*edge` the nearest edge to a column of a line, for mouse clicks that may hit either half of a character. In
- * the shown part, this is the nearer end of the caret unit that covers the column, and from the unit's middle the right
- * one. Elsewhere, and in a unit of one column, it is the edge that `hordguli_edge_at` stores.
+/* Stores in `*edge` the nearest edge to a column of a line, for mouse clicks, which may hit either half of a
+ * character. In the shown part, this is the nearer end of the caret unit that covers the column, and from the unit's
+ * middle the right one. Elsewhere, and in a unit of one column, it is the edge that `hordguli_edge_at` stores.
  *
  * Fails with OUT_OF_RANGE for the same lines as `hordguli_edge_at`.
  * Errors: NULL, OVERLAP, CLOSED, OUT_OF_RANGE, NO_MEMORY.

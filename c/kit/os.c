@@ -35,7 +35,7 @@ static ptrdiff_t copied(const char *text, uint8_t *buf, size_t length) {
 
 /* Puts argument i at the start of buf, without the NUL that ends it. Argument 0 is the command's name.
  *
- *     returns    its length, or -1 if there is no such argument, or -2 if it does not fit, and then buf is full
+ *     returns    its length; -1 if there is no such argument; -2 if it does not fit, and then buf is full
  *
  * Leaves the bytes of buf after the argument as they are. */
 ptrdiff_t rattle_arg(size_t i, uint8_t *buf, size_t length) {
@@ -45,7 +45,7 @@ ptrdiff_t rattle_arg(size_t i, uint8_t *buf, size_t length) {
 /* Puts the value of an environment variable at the start of buf, without the NUL that ends it.
  *
  *     requires ended    name has 4,096 bytes, and the last one is NUL
- *     returns           the value's length, or -1 if there is no such variable, or -2 if it does not fit, and then buf is full
+ *     returns           the value's length; -1 if there is no such variable; -2 if it does not fit, and then buf is full
  *
  * Leaves the bytes of buf after the value as they are. */
 ptrdiff_t rattle_env(const uint8_t *name, uint8_t *buf, size_t length) {
@@ -54,7 +54,7 @@ ptrdiff_t rattle_env(const uint8_t *name, uint8_t *buf, size_t length) {
 
 /* Puts entry i of the environment, such as NAME=value, at the start of buf, without the NUL that ends it.
  *
- *     returns    its length, or -1 if there is no such entry, or -2 if it does not fit, and then buf is full
+ *     returns    its length; -1 if there is no such entry; -2 if it does not fit, and then buf is full
  *
  * Leaves the bytes of buf after the entry as they are. */
 ptrdiff_t rattle_env_at(size_t i, uint8_t *buf, size_t length) {

@@ -82,7 +82,7 @@ _NOUNS = {"pos": "position", "line": "line", "paragraph": "paragraph", "byte": "
 def check(status: int, function: Any = None, *arguments: Any) -> None:
     """Raises the exception for a status, unless it is OK. The default is `ValueError`.
 
-    `arguments` are those of the function after the handle. The message has the values that are out of range or not accepted.
+    `arguments` are the function's arguments that follow the handle. The message has the values that are out of range or not accepted.
     """
     if status != OK:
         raise _EXCEPTIONS.get(status, ValueError)(_message(status, getattr(function, "__name__", ""), arguments))

@@ -28,6 +28,57 @@ static void highlight(size_t left, size_t right) {
     sprintf(highlighted + strlen(highlighted), "%zu-%zu ", left, right);
 }
 
+/* Opens the session on another text, with the caret after its last character, or before its start. */
+static void open_text(hordguli_tables *tables, uint32_t options, uint32_t width, const char *text) {
+    hordguli_counts all = {0};
+    hordguli_session_close(&session);
+    OK(hordguli_session_open(&session, tables, HORDGULI_SHOW_SPACES | options, width, text, strlen(text)));
+    OK(hordguli_session_counts(&session, &all));
+    OK(keep_edge(all.characters));
+}
+
+static void test_backspace(hordguli_tables *tables) {
+    /* stays left of the Hebrew letters, and not behind them */
+    open_text(tables, 0, 20, "abc ");
+    OK(type("\u05d0\u05d1\u05d2", 6));
+    HOLDS(is_at(0, 4));
+    for (size_t pos = 6; pos >= 4; pos--) {
+        OK(press_backspace());
+        HOLDS(is_edge(pos, HORDGULI_AFTER) && is_at(0, 4));
+    }
+    /* stays at the end of a wrapped line */
+    open_text(tables, 0, 10, "aaaaaaaa  cccc");
+    caret = (hordguli_edge){0, HORDGULI_BEFORE, 0};
+    OK(press_home_or_end(1));
+    HOLDS(is_at(0, 10));
+    OK(press_backspace());
+    HOLDS(is_at(0, 9));
+    /* deletes a cluster, and goes to the start of a line */
+    open_text(tables, 0, 20, "a\u2028e\u0301");
+    OK(press_backspace());
+    HOLDS(is_edge(2, HORDGULI_BEFORE));
+    OK(press_backspace());
+    OK(press_backspace());
+    HOLDS(is_edge(0, HORDGULI_BEFORE) && is_at(0, 0));
+    HOLDS(press_backspace() == HORDGULI_OUT_OF_RANGE);
+    OK(type("", 0));
+    HOLDS(is_edge(0, HORDGULI_BEFORE));
+    open_text(tables, 0, 20, "a\r\nb");
+    OK(press_backspace());
+    HOLDS(is_edge(3, HORDGULI_BEFORE) && is_at(1, 0));
+    OK(press_backspace());
+    HOLDS(is_edge(1, HORDGULI_AFTER) && is_at(0, 1));
+}
+
+static void test_line_that_does_not_exist(hordguli_tables *tables) {
+    open_text(tables, 0, 20, "\u05d0\n");
+    HOLDS(is_at(1, 0));
+    open_text(tables, HORDGULI_RTL, 20, "a\n");
+    HOLDS(is_at(1, 20));
+    open_text(tables, HORDGULI_WEAK_RTL, 20, "");
+    HOLDS(is_at(0, 20));
+}
+
 int main(int count, char **words) {
     /* a line in which the direction changes, and a padded one */
     static const char text[] = "abc \u05d0\u05d1\u05d2 def\n\u05d0\u05d1 \u05d2\n";
@@ -81,6 +132,8 @@ int main(int count, char **words) {
     OK(click(3, 0));
     HOLDS(go_to_end_of_word() == HORDGULI_OUT_OF_RANGE);
     HOLDS(is_edge(20, HORDGULI_BEFORE));
+    test_backspace(&tables);
+    test_line_that_does_not_exist(&tables);
     hordguli_session_close(&session);
     hordguli_tables_close(&tables);
     return failed;

@@ -216,9 +216,11 @@ pub struct hordguli_table_fault {
 }
 
 /// What an edit replaced: `old_lines` lines from `first_line` on became `new_lines` lines, and likewise for paragraphs.
-/// All other lines are unchanged, except that the lines that follow are renumbered. By design, damage names whole
-/// paragraphs: all that contain or touch the edited range, even if nothing is inserted and deleted. For the lines that
-/// changed, see `hordguli_changed_lines`. A caller that draws everything anew may pass NULL as `damage`.
+/// All other lines are unchanged, except that line `first_line + old_lines` becomes line `first_line + new_lines`, and
+/// so on. If there are fewer lines than before, clear the rows below the last one. By design, damage names whole
+/// paragraphs: all that contain or touch the edited range, even if nothing is inserted and deleted. So text that is
+/// appended after a final separator also replaces the last paragraph. For the lines that changed, see
+/// `hordguli_changed_lines`. A caller that draws everything anew may pass NULL as `damage`.
 #[derive(Clone, Copy, Debug, Default, PartialEq, Eq)]
 #[repr(C)]
 pub struct hordguli_damage {
@@ -330,7 +332,7 @@ pub struct hordguli_place {
 #[repr(C)]
 pub struct hordguli_caret {
     pub line: usize,
-    /// columns left of the caret, without padding
+    /// columns left of the caret, without padding; can equal the width
     pub column: usize,
     /// level of the character if shown, else base level
     pub level: u32,
@@ -594,9 +596,10 @@ extern "C" {
     /// - `characters`: characters, for the functions below `Clusters and scripts`, `Rows` and `Levels and properties`
     /// - `offsets`: byte offset of each character
     ///
-    /// On NO_ROOM, `*count` is set and the arrays are unchanged. Text that is not UTF-8 is refused, as in all functions, so a
-    /// position always means the same character. On NOT_UTF8, `hordguli_valid_utf8` says where. To replace invalid bytes by
-    /// U+FFFD, decode the text before them, and go on after them.
+    /// On NO_ROOM, `*count` is set and the arrays are unchanged. Text that is not UTF-8 is refused, as in all functions, so
+    /// a position always means the same character. On NOT_UTF8, `hordguli_valid_utf8` says where. To replace invalid bytes
+    /// by U+FFFD, decode the text before the first of them, write U+FFFD, skip one byte, and go on. So each invalid byte
+    /// becomes one U+FFFD.
     ///
     /// Errors: NULL, OVERLAP, NOT_UTF8, NO_ROOM.
     ///
@@ -712,8 +715,9 @@ extern "C" {
     /// Stores in `*changed` which lines changed in the last successful call that edited the text, set the width or set
     /// advances. These are the lines of its damage, which names whole paragraphs, without as many as possible at the start,
     /// and then at the end, that are the same before and after the call: their characters, levels, maps, columns, advances,
-    /// base level and length, and whether they are the first of their paragraph. The padding, which depends on the width, is
-    /// not compared. After the session was opened, all lines have changed. A call that fails changes nothing.
+    /// base level and length, and whether they are the first of their paragraph. The padding, which depends on the width,
+    /// is not compared: RTL lines move when the width changes, so draw all of them then. After the session was opened, all
+    /// lines have changed. A call that fails changes nothing.
     ///
     /// Errors: NULL, OVERLAP, CLOSED.
     ///
@@ -1080,8 +1084,10 @@ extern "C" {
     ///   - At another shown character: at its leading edge, which is the left one if its level is even, or its trailing edge.
     ///   - At a character that is not shown, and before the end of the text: as in `hordguli_caret_at`.
     ///
-    /// `level` is that of the character whose edge it is. Fails with OUT_OF_RANGE if the position is past the end of the
-    /// text, and for the edge after position 0.
+    /// `level` is that of the character whose edge it is. In the line where a new paragraph would start, an odd `level`
+    /// means that the caret is at the right edge of the screen. A block cursor covers the cell at `column`, or at an odd
+    /// level the one to its left; if there is no such cell, the nearest one. Fails with OUT_OF_RANGE if the position is
+    /// past the end of the text, and for the edge after position 0.
     ///
     /// Errors: NULL, OVERLAP, UNKNOWN_OPTION, CLOSED, OUT_OF_RANGE, NO_MEMORY.
     ///
@@ -1127,8 +1133,8 @@ extern "C" {
         next: *mut hordguli_edge,
         moved: *mut u32,
     ) -> hordguli_status;
-    /// Stores in `*edge` the edge at a column of a line, for mouse clicks and for moves to another line. Column 0 is the left
-    /// edge of the shown part, right of padding.
+    /// Stores in `*edge` the edge at a column of a line, for moves to another line, as by Up and Down. For mouse clicks, see
+    /// `hordguli_nearest_edge`. Column 0 is the left edge of the shown part, right of padding.
     ///   - In the shown part: the left end of the caret unit that covers the column.
     ///   - Right of the shown part: its right end. So columns 0 and SIZE_MAX are the two ends of the line on the screen.
     ///   - In a line of width 0: before its start.
@@ -1147,9 +1153,9 @@ extern "C" {
         column: usize,
         edge: *mut hordguli_edge,
     ) -> hordguli_status;
-    /// Stores in `*edge` the nearest edge to a column of a line, for mouse clicks that may hit either half of a character. In
-    /// the shown part, this is the nearer end of the caret unit that covers the column, and from the unit's middle the right
-    /// one. Elsewhere, and in a unit of one column, it is the edge that `hordguli_edge_at` stores.
+    /// Stores in `*edge` the nearest edge to a column of a line, for mouse clicks, which may hit either half of a
+    /// character. In the shown part, this is the nearer end of the caret unit that covers the column, and from the unit's
+    /// middle the right one. Elsewhere, and in a unit of one column, it is the edge that `hordguli_edge_at` stores.
     ///
     /// Fails with OUT_OF_RANGE for the same lines as `hordguli_edge_at`.
     ///

@@ -89,8 +89,8 @@
 //!
 //! | The caret was last moved by | Edge to keep |
 //! |---|---|
-//! | typing text | [`Edge::after`] the text; [`Edge::before`] it if it ends with a separator |
-//! | deleting text | [`Edge::before`] its start |
+//! | typing up to a position, or Backspace back to it | [`Edge::after`] it; [`Edge::before`] it at the start of the text, or after a separator, VT, FF or U+2028 |
+//! | Delete | [`Edge::before`] the position |
 //! | an arrow key, a click, Home or End | what [`Session::step`], [`Session::edge_at`], [`Session::nearest_edge`] or [`Line::edges`] returned |
 //!
 //! ```
