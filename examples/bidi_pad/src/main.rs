@@ -170,17 +170,25 @@ impl Pad {
         Ok(())
     }
 
+    /// Returns whether a position is the start of the text, or after a character that ends a line.
+    fn is_after_line(&self, pos: CharPos) -> bool {
+        const ENDS: &str = "\n\u{b}\u{c}\r\u{1c}\u{1d}\u{1e}\u{85}\u{2028}\u{2029}";
+        let last = pos.0.checked_sub(1).map(CharPos);
+        let last = last.and_then(|last| self.session.text(last..pos).ok());
+        last.map_or(true, |last| ENDS.contains(&last))
+    }
+
     /// Replaces characters. Moves the caret after the new text, or before what follows it.
-    fn replace(&mut self, old: Range<CharPos>, text: &str) {
+    fn replace(&mut self, old: Range<CharPos>, text: &str, edge: fn(CharPos) -> Edge) {
         let end = old.start + text.chars().count();
         let is_selected = !self.selected().is_empty();
         if let Err(error) = self.session.replace(old, text) {
             return self.note = error.to_string();
         }
         self.note.clear();
-        self.caret = match text {
-            "" | "\n" => Edge::before(end),
-            _ => Edge::after(end),
+        self.caret = match self.is_after_line(end) {
+            true => Edge::before(end),
+            false => edge(end),
         };
         self.anchor = self.caret;
         let changed = self.session.changed_lines();
@@ -192,10 +200,10 @@ impl Pad {
     }
 
     /// Deletes the selection, or else the grapheme cluster that contains a character.
-    fn delete(&mut self, at: Option<CharPos>) {
+    fn delete(&mut self, at: Option<CharPos>, edge: fn(CharPos) -> Edge) {
         let selected = Some(self.selected()).filter(|range| !range.is_empty());
         if let Some(old) = selected.or_else(|| self.session.cluster(at?).ok()) {
-            self.replace(old, "");
+            self.replace(old, "", edge);
         }
     }
 
@@ -241,12 +249,15 @@ impl Pad {
             KeyCode::Char('s') if is_ctrl => self.save()?,
             KeyCode::Char(c) if !is_ctrl => {
                 name = c.to_string();
-                self.replace(self.selected(), &name);
+                self.replace(self.selected(), &name, Edge::after);
             }
-            KeyCode::Tab => self.replace(self.selected(), "\t"),
-            KeyCode::Enter => self.replace(self.selected(), "\n"),
-            KeyCode::Backspace => self.delete(self.caret.pos.0.checked_sub(1).map(CharPos)),
-            KeyCode::Delete => self.delete(Some(self.caret.pos)),
+            KeyCode::Tab => self.replace(self.selected(), "\t", Edge::after),
+            KeyCode::Enter => self.replace(self.selected(), "\n", Edge::before),
+            KeyCode::Backspace => {
+                let before = self.caret.pos.0.checked_sub(1).map(CharPos);
+                self.delete(before, Edge::after);
+            }
+            KeyCode::Delete => self.delete(Some(self.caret.pos), Edge::before),
             _ => self.travel(key)?,
         }
         Ok(name)
