@@ -656,7 +656,7 @@ class Session:
         return _edge(found) if moved.value else None
 
     def edge_at(self, line: SupportsIndex, column: SupportsIndex) -> Edge:
-        """Returns the edge at a column of a line, for mouse clicks and for moves to another line.
+        """Returns the edge at a column of a line, for moves to another line. `nearest_edge` is for mouse clicks.
 
         Columns 0 and `sys.maxsize` are the two ends of the line on the screen.
         """
@@ -665,7 +665,7 @@ class Session:
         return _edge(found)
 
     def nearest_edge(self, line: SupportsIndex, column: SupportsIndex) -> Edge:
-        """Returns the nearest edge to a column of a line, for mouse clicks that may hit either half of a character.
+        """Returns the nearest edge to a column of a line, for mouse clicks, which may hit either half of a character.
 
         >>> with hordguli.Session("漢字") as text:
         ...     text.edge_at(0, 1), text.nearest_edge(0, 1)

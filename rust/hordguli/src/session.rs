@@ -678,8 +678,8 @@ impl Session {
         Ok(next.map(Edge::new))
     }
 
-    /// Returns the edge at a column of a line, for mouse clicks and for moves to another line. Column 0 is the left edge of the shown
-    /// part, right of padding.
+    /// Returns the edge at a column of a line, for moves to another line. For mouse clicks, see
+    /// [`nearest_edge`](Session::nearest_edge). Column 0 is the left edge of the shown part, right of padding.
     ///
     /// - In the shown part: the left end of the caret unit that covers the column.
     /// - Right of the shown part: its right end. So columns 0 and `usize::MAX` are the two ends of the line on the screen.
@@ -697,7 +697,7 @@ impl Session {
         self.handle.edge_at(line, column).map(Edge::new)
     }
 
-    /// Returns the nearest edge to a column of a line, for mouse clicks that may hit either half of a character. In the shown part,
+    /// Returns the nearest edge to a column of a line, for mouse clicks, which may hit either half of a character. In the shown part,
     /// this is the nearer end of the caret unit that covers the column, and from the unit's middle the right one. Elsewhere, and in a
     /// unit of one column, it is the edge that [`edge_at`](Session::edge_at) returns.
     ///
