@@ -1719,7 +1719,7 @@ static void line_separators_alone_end_paragraphs(void) {
         size_t paragraphs, lines, paragraphs_of_lines, lines_of_lines;
     } all[] = {
         {"\x1B", 0x1B, 1, 1, 1, 1},       {"\x1C", 0x1C, 2, 2, 1, 1},       {"\x1D", 0x1D, 2, 2, 1, 1},
-        {"\x1E", 0x1E, 2, 2, 1, 1},       {"\x1F", 0x1F, 1, 1, 1, 1},       {"\u0085", 0x85, 2, 2, 1, 2},
+        {"\x1E", 0x1E, 2, 2, 1, 1},       {"\x1F", 0x1F, 1, 1, 1, 1},       {"\xC2\x85", 0x85, 2, 2, 1, 2},
         {"\u2029", 0x2029, 2, 2, 1, 2},   {"\n", '\n', 2, 2, 2, 2},          {"\r", '\r', 2, 2, 2, 2},
         {"\r\n", 0, 2, 2, 2, 2},          {"\n\r", 0, 3, 3, 3, 3},          {"\v", '\v', 1, 2, 1, 2},
         {"\f", '\f', 1, 2, 1, 2},         {"\u2028", 0x2028, 1, 2, 1, 2},
@@ -1736,11 +1736,12 @@ static void line_separators_alone_end_paragraphs(void) {
         has_parts(of, size, 0, all[k].paragraphs, all[k].lines);
         has_parts(of, size, only, all[k].paragraphs_of_lines, all[k].lines_of_lines);
         if (all[k].character == 0) continue;
-        /* a paragraph separator has the base level, and any other character that of its embedding or a higher one */
+        /* A paragraph separator is between the ends of the embedding, which are right-to-left, so it has level 1 before L1.
+         * Any other character is between two letters of the embedding. */
         OK(hordguli_levels(&tables, HORDGULI_LTR, inside, 4, 4, levels));
-        HOLDS((levels[2] == 0) == (all[k].paragraphs == 2));
+        HOLDS((levels[2] == 1) == (all[k].paragraphs == 2));
         OK(hordguli_levels(&tables, HORDGULI_LTR | only, inside, 4, 4, levels));
-        HOLDS((levels[2] == 0) == (all[k].paragraphs_of_lines == 2));
+        HOLDS((levels[2] == 1) == (all[k].paragraphs_of_lines == 2));
         OK(hordguli_marks(&tables, 0, inside, 4, 4, marks[0]));
         OK(hordguli_marks(&tables, only, inside, 4, 4, marks[1]));
         HOLDS(memcmp(marks[0], marks[1], 4) == 0);
