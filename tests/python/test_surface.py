@@ -25,6 +25,7 @@ from c_header import Header
 HEADER = Header("include/hordguli.h")
 # functions of the C library that the package deliberately leaves out: it passes a version, and `bytes.decode` decodes
 NOT_OFFERED = {"hordguli_decode", *(f"hordguli_tables_{name}" for name in ("open_builtin", "open_folder", "read"))}
+RENAMED = {"changed_lines": "changed"}  # in C, the function has this name
 NAMES = {*hordguli.__all__} | {name for name, one in vars(hordguli).items() if name[0] != "_" and not inspect.ismodule(one)}
 PUBLIC = [getattr(hordguli, name) for name in sorted(NAMES)]
 MOST_LINES = 400  # of help(hordguli)
@@ -61,7 +62,7 @@ def test_records_are_those_of_the_header():
     structs = {name: HEADER.members(name) for name in HEADER.structs}
     for kind, layout in _records.FORMATS.items():
         name = re.sub(r"(?<=[a-z])(?=[A-Z])", "_", kind.__name__.removeprefix("Raw")).lower()
-        fields = structs.pop(f"hordguli_{name}")
+        fields = structs.pop(f"hordguli_{RENAMED.get(name, name)}")
         wanted = "".join("4x" if name == "zero" else codes[code] for code, name in fields)
         assert list(kind._fields) == [name for _, name in fields if name != "zero"], kind
         unrolled = re.sub(r"(\d+)([A-Z])", lambda m: int(m[1]) * m[2], layout.format)

@@ -79,8 +79,8 @@ pub fn wrap(
 
 /// Returns the base level of a paragraph: [`Level::LTR`] or [`Level::RTL`]. The characters are not split at separators.
 ///
-/// `options` is a [`BaseDirection`] or [`Options`], of which only [`Options::base`] and [`Options::line_separators`] change the
-/// result.
+/// `options` is a [`BaseDirection`](crate::BaseDirection) or [`Options`], of which only [`Options::base`] and
+/// [`Options::line_separators`] change the result.
 ///
 /// ```
 /// use hordguli::{base_level, BaseDirection, Level, Tables};
