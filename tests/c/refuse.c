@@ -169,11 +169,17 @@ static hordguli_status step(int k) {
     }
 }
 
-/* Whether a call may keep buffers though it fails */
-static int keeps_buffers(int k) { return k == LAYOUT || k == WIDTH || k == ADVANCES || k == MEASURED_WIDTH; }
+static int opens_session(int k) { return k == OPEN || k == OPEN_MEASURED; }
+static int edits(int k) { return k == INSERT || k == REPLACE || k == DELETE || k == JOIN; }
 
-/* Whether a call may free the lists of a paragraph that an earlier edit has replaced, though it fails */
-static int frees_lists(int k) { return k == INSERT || k == REPLACE || k == DELETE || k == JOIN; }
+/* Whether a call may keep buffers though it fails. The first edit of a session makes its buffers. */
+static int keeps_buffers(int k) {
+    return k == LAYOUT || k == WIDTH || k == ADVANCES || k == MEASURED_WIDTH || opens_session(k) || edits(k);
+}
+
+/* Whether a call may free memory though it fails: the lists of a paragraph that an earlier edit has replaced, or the
+ * buffers that the tables lent to a session that was not opened */
+static int frees_buffers(int k) { return opens_session(k) || edits(k); }
 
 /* A folder in place of a file can be opened, but not read, so it is closed. */
 static void unread_file_sets_errno(void) {
@@ -225,7 +231,7 @@ int main(int count, char **words) {
             /* the tables and the sessions keep the buffers that they lay text out in, and sessions the lists of the last
              * replaced paragraph until the next edit */
             HOLDS(asked >= refused_at
-                  && (live == held || (keeps_buffers(k) && live > held) || (frees_lists(k) && live < held)));
+                  && (live == held || (keeps_buffers(k) && live > held) || (frees_buffers(k) && live < held)));
             HOLDS(memcmp(&damage, &no_damage, sizeof damage) == 0 && found_base == 77);
             HOLDS(found_levels[0] == 77 && found_marks[0] == 77 && found_length == 77 && found_bytes[0] == '?');
             HOLDS(found_row[0] == 77 && found_visual[0] == 77 && found_runs[0].level == 77);
