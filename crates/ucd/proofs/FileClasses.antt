@@ -1,4 +1,4 @@
--- A LineBreak.txt of Unicode 15.0 gives no character a class of a later version.
+-- A LineBreak.txt of Unicode 15.0 assigns no class of a later version to any character.
 use Rattle.std.proofs.Common.{◌≡◌, ℕ, nat_lt, ◌==◌, ◌&&◌, not, Bool, true, false, List, [], ◌∷◌, length, Option, Some, None, Result, Ok, Err, unwrap_or, option_map, refl, if◌then◌else◌}
 use Rattle.std.specs.List.{find, list_all}
 use Rattle.std.specs.Str.{bytes_eq}
@@ -16,7 +16,7 @@ use Rattle.ucd.specs.declared.line_class.LineClass.TheVariants.{XX}
 use Rattle.ucd.specs.declared.version.Version.{Version}
 use Rattle.ucd.specs.declared.version.Version.TheVariants.{V15_0, V17_0}
 
--- what holds of every value that the form gives holds of the values in a file
+-- what holds for every value that the form can parse holds for the values in a file
 module _ {V : Type 0} (P : V → Type 0) where
   abbrev Each : List V → Type 0
   Each [] = Unit {0}

@@ -23,7 +23,7 @@ abbrev pub size_left : Option (List ℕ) → ℕ
 size_left None = 0
 size_left (Some text) = length text + 1
 
--- none of the first k lines is faulty, and the entries have the values of these lines
+-- none of the first k lines is faulty, and the entries hold the values of these lines
 pub record HoldsLines {V : Type 0} (form : Form V) (lines : List (List ℕ)) (k : ℕ) (es : List (Entry V)) : Type 0 where
   pub good : (j : ℕ) (why : Cause) → j < k → ¬ (HasFault form lines j why)
   pub values : (c : ℕ) → IsScalar c → value_at es c ≡ value_in form (take k lines) c
@@ -40,7 +40,7 @@ at_drop [] (suc k) d y ys is = cc
 at_drop (x ∷ xs) zero d y ys is = (omega arith, cc, cc)
 at_drop (x ∷ xs) (suc k) d y ys is = let rest = at_drop xs k d y ys is in (omega arith, rest.1, rw add-one (rw add-one at rest.2))
 
--- reading a line never gives the cause `Memory`
+-- reading a line never results in the cause `Memory`
 module _ {V : Type 0} (form : Form V) where
   value_reads : (first last : ℕ) (value : Option (Option V)) → ¬ (by_value form first last value ≡ Err cause.Memory)
   value_reads first last None is = cc
@@ -104,14 +104,14 @@ module _ {V : Type 0} (form : Form V) where
   value_in_push [] line c = or_else_None (given form line c)
   value_in_push (l ∷ lines) line c = ap (or_else form (given form l c)) (value_in_push lines line c) ∙ or_else_assoc (given form l c) (value_in form lines c) (given form line c)
 
-  -- a character that one of the first k lines names has a value in these lines
+  -- a character that one of the first k lines lists has a value in these lines
   value_of_line : (lines : List (List ℕ)) (k j c : ℕ) → j < k → j < length lines → IsSome (given form (line_at form lines j) c) → IsSome (value_in form (take k lines) c)
   value_of_line [] k j c lt within some = absurd (omega arith)
   value_of_line (l ∷ lines) zero j c lt within some = absurd (omega arith)
   value_of_line (l ∷ lines) (suc k) zero c lt within some = or_else_left (given form l c) (value_in form (take k lines) c) some
   value_of_line (l ∷ lines) (suc k) (suc j) c lt within some = or_else_right (given form l c) (value_in form (take k lines) c) (value_of_line lines k j c (omega arith) (omega arith) some)
 
-  -- a character that has a value in the first k lines is named by one of them
+  -- a character that has a value in the first k lines is listed in one of them
   line_of_value : (lines : List (List ℕ)) (k c : ℕ) → IsSome (value_in form (take k lines) c) → (j : ℕ) × (j < k) × IsSome (given form (line_at form lines j) c)
   line_of_value lines zero c some = absurd (false≢true some)
   line_of_value [] (suc k) c some = absurd (false≢true some)
@@ -120,8 +120,8 @@ module _ {V : Type 0} (form : Form V) where
     | inr later ↦ let line = line_of_value lines k c later in (suc line.0, omega (arith, line.1), line.2)
   ]
 
-  -- a line with an entry gives a character the entry's value if the entry covers the character, and otherwise
-  -- no value
+  -- a line with an entry assigns the entry's value to a character if the entry covers the character, and otherwise no
+  -- value
   pub given_entry : (e : Entry V) (c : ℕ) → IsScalar c → given_by form (Ok (Some e)) c ≡ (if covers e c then Some e.value else None)
   given_entry e c character = rw character refl
 
@@ -161,8 +161,7 @@ module _ {V : Type 0} (form : Form V) where
     ]
     added new (Err why) adds c is = absurd adds
 
-    -- if line k is added, none of the first k + 1 lines is faulty, and the entries have the values of these
-    -- lines
+    -- if line k is added, none of the first k + 1 lines is faulty, and the entries hold the values of these lines
     one_more : (new : List (Entry V)) → AddsLine form es new (line_at form lines k) → HoldsLines form lines (k + 1) new
     one_more new adds = record {
       good = λ j why lt fault. elim (cases_lt j k) [
@@ -212,7 +211,7 @@ module _ {V : Type 0} (form : Form V) where
     fault_here : (why : Cause) → IsLineCause form es (line_at form lines k) why → IsFaultFor form lines (k + 1) why
     fault_here why because = refused _ refl why because
 
--- if all lines have been read, the entries have the values of the file
+-- if all lines have been read, the entries hold the values of the file
 pub holds_file : {V : Type 0} (form : Form V) (lines : List (List ℕ)) (k : ℕ) (es : List (Entry V)) → HoldsLines form lines k es → length lines ≤ k → HoldsFile form lines es
 holds_file form lines k es held all = record {
   good = λ j why lt. held.good j why (omega arith);

@@ -1,4 +1,4 @@
--- The cause of the first condition that an image does not meet, by condition.
+-- The fault of an image, for each condition that may be the first one to fail.
 use Rattle.std.proofs.Common.{◌≡◌, ℕ, ◌+◌, ◌/◌, ◌≤◌, List, length, take, codes, refl, inl, inr}
 use Rattle.ucd.specs.Images.{image_version, version_number, u32_at, u64_at, checksum, checksum_at, IsFramed, IsFirstFault, ArePagesKnown, AreEntries, AreBrackets, AreMirrors, AreBracketFlags, AreMirrorFlags}
 use Rattle.ucd.specs.declared.image_fault.ImageFault.TheVariants as fault

@@ -1,4 +1,4 @@
--- Parts of an image that were made of tables, joined, are an image of the tables.
+-- Joining the parts that were made from tables results in an image of the tables.
 use Rattle.std.proofs.Common.{◌≡◌, ℕ, ◌+◌, ◌*◌, ◌/◌, ◌%◌, ◌<◌, ◌≤◌, Bool, List, IsTrue, is_some, length, get_or, refl, sym, ◌∙◌, ap, subst, arith}
 use Rattle.std.specs.BTreeMap.{BTreeMap, get}
 use Rattle.std.specs.Ordering.{nat_cmp}

@@ -1,4 +1,4 @@
--- The values that pairs of an image give code points.
+-- The values that the pairs of an image assign to code points.
 use Rattle.std.proofs.Common.{◌≡◌, ℕ, zero, suc, ◌+◌, ◌<◌, ◌≤◌, ◌==◌, Bool, true, List, Option, Some, is_some, IsSome, if◌then◌else◌, refl, sym, ◌∙◌, ap, subst, inl, inr, add-one, arith}
 use Rattle.std.proofs.lemmas.Bool.{cases_Bool, cases_lt, cases_eq, false≢true}
 use Rattle.std.proofs.lemmas.Bool.Decides.{nat_tests}
@@ -6,7 +6,7 @@ use Rattle.ucd.specs.Answers.{PropertyAnswers, answers_in}
 use Rattle.ucd.specs.Images.{bits_at, point_at, point_value, found, IsPoint, ArePoints, AreFlags}
 
 module _ {V : Type 0} (decode : ℕ → Option V) (bytes : List ℕ) (start : ℕ) where
-  -- pair k gives its value to its code point
+  -- pair k assigns its value to its code point
   pub found_more : (k c : ℕ) → found decode bytes start (k + 1) c
       ≡ (if point_at decode bytes start k == c then point_value decode bytes start k else found decode bytes start k c)
   unfolding found

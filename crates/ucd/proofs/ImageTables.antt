@@ -19,7 +19,7 @@ use Rattle.ucd.proofs.PagedLemmas.{bracket_is, mirror_is, properties_are, below_
 use Rattle.ucd.specs.declared.bracket.Bracket.{Bracket}
 use Rattle.ucd.specs.declared.bracket.Mirror.{Mirror}
 
--- valid bits encode properties, and an image can have an entry for these
+-- valid bits encode properties that an image can contain
 entry_apart : (version : Version) (bits : ℕ) → IsTrue (is_entry version bits) → ((bits / 256 % 2 == 1) && (bits / 128 % 2 == 1)) ≡ false
 entry_apart version bits is = grind (arith, nat_tests)
 
@@ -36,7 +36,7 @@ entry_bidi version bits is = grind (arith, nat_tests)
 pub entry_bits : (version : Version) (bits : ℕ) → IsTrue (is_entry version bits) → AreBits bits
 entry_bits version bits is = record { bidi = entry_bidi version bits is; line = counts version (bits / 1024) (entry_number version bits is) }
 
--- and the other way round
+-- properties that an image can contain are encoded by valid bits
 entry_by : (version : Version) (bits : ℕ) → bits % 32 < 23 → bits / 1024 < number_count version → ((bits / 256 % 2 == 1) && (bits / 128 % 2 == 1)) ≡ false → IsTrue (is_entry version bits)
 entry_by version bits bidi line apart = grind (arith, nat_tests)
 

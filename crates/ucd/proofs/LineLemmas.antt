@@ -68,7 +68,7 @@ pub version_if : (separates : Bool) (t : Tables) → (contents_if separates t).v
 version_if true t = (separates_lines t).version
 version_if false t = refl
 
--- no line class and no detail changes
+-- line breaking classes and details do not change
 pub line_class_if : (separates : Bool) (t : Tables) (c : ℕ) → line_class_of (contents_if separates t) c ≡ line_class_of t c
 line_class_if true t c = (separates_lines t).line_class c
 line_class_if false t c = refl
@@ -77,12 +77,12 @@ pub line_detail_if : (separates : Bool) (t : Tables) (c : ℕ) → line_detail_o
 line_detail_if true t c = (separates_lines t).line_detail c
 line_detail_if false t c = refl
 
--- a class is B or no separator
+-- a class other than B is not a separator
 pub no_separator : (class : BidiClass) → class ≢ B → is_separator class ≡ false
 no_separator B other = absurd (other refl)
 no_separator class other = refl
 
--- a class that has been changed stays as it is
+-- changing a class twice has the same effect as changing it once
 again_by : (rare : Bool) (class : BidiClass) → (if rare && is_separator (if rare && is_separator class then S else class) then S else (if rare && is_separator class then S else class)) ≡ (if rare && is_separator class then S else class)
 again_by false class = refl
 again_by true B = refl
@@ -91,7 +91,7 @@ again_by true class = refl
 class_again : (c : ℕ) (class : BidiClass) → class_for_lines c (class_for_lines c class) ≡ class_for_lines c class
 class_again c class = again_by (is_rare_separator c) class
 
--- tables that have been changed stay as they are
+-- changing tables twice has the same effect as changing them once
 changed_again : (t : Tables) → with_line_separators (with_line_separators t) ≡ with_line_separators t
 unfolding with_line_separators class_of
 changed_again t = ap (λ list. record t { bidi_classes = list })
@@ -102,7 +102,7 @@ pub changed_if : (separates : Bool) (t : Tables) → with_line_separators t ≡ 
 changed_if true t = sym (changed_again t)
 changed_if false t = refl
 
--- no class becomes B, and the class of a code point that is no usual separator is unchanged
+-- no class becomes B, and the class of a code point that is not a usual separator is unchanged
 stays_no_b : (rare : Bool) (class : BidiClass) → class ≢ B → (if rare && is_separator class then S else class) ≢ B
 stays_no_b false class other is = other is
 stays_no_b true class other is = elim (is_separator class) as (λ b. (if b then S else class) ≡ B → ⊥) [ true ↦ (λ same. cc) | false ↦ other ] is
@@ -118,7 +118,7 @@ pub unusual_if : (separates : Bool) (t : Tables) (c : ℕ) → c < 1114112 → m
 unusual_if false t c lt isnt other is = other is
 unusual_if true t c lt isnt other is = other (class_changed t c lt ∙ stays_b c (class_of t c) isnt ∙ is)
 
--- an image can have the changed properties
+-- an image can contain the changed properties
 pub entry_if : (separates : Bool) (version : Version) (c : ℕ) (a : PropertyAnswers) → IsEntryOf version a → IsEntryOf version (answers_if separates c a)
 entry_if false version c a is = is
 entry_if true version c a is = record { apart = is.apart; number = is.number }

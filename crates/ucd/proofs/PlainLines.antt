@@ -1,4 +1,4 @@
--- Lines with a field, a name and maybe a comment, by the indices at which these parts begin and end.
+-- Lines with a field, a name and possibly a comment, described by the indices at which these parts begin and end.
 use Rattle.std.proofs.Common.{◌≡◌, ℕ, ◌+◌, ◌-◌, ◌<◌, ◌≤◌, ◌==◌, nat_le, Bool, Some, None, if◌then◌else◌, List, [], ◌∷◌, length, get_or, take, drop, map, true, false, refl, sym, ◌∙◌, ap, subst, inl, inr, arith}
 use Rattle.std.specs.List.{slice_split, list_all}
 use Rattle.std.specs.Char.{is_ascii, is_ascii_hexdigit}
@@ -40,7 +40,7 @@ part_of_part l a n m an nm within =
     let other : length (take (m - n) (drop n l)) ≡ m - n = length-take-le (m - n) (drop n l) (omega (arith, whole)) in
     ext_get_or 0 _ _ (one ∙ sym other) (λ i lt. same_byte l a n m i an (omega (arith, one)))
 
--- a byte of a word is no white space
+-- a byte of a word is not white space
 not_space : (b : ℕ) → 32 < b → is_one_of spaces b ≡ false
 not_space b above = rw (ne_eqb 32 b (λ is. omega arith), ne_eqb 9 b (λ is. omega arith)) refl
 
@@ -203,7 +203,7 @@ no_dot b is dot = grind arith
 dot_word : (b : ℕ) → b ≡ 46 → IsWordByte b
 dot_word b is = record { above = omega (arith, is); ascii = omega (arith, is); no_comment = λ o. omega (arith, is, o); no_separator = λ o. omega (arith, is, o) }
 
--- a code point that begins no range
+-- a code point that does not begin a range
 pub single_points : (x : List ℕ) (v : ℕ) → code_point x ≡ Some v → points_of true x ≡ Some (v, v)
 single_points x v is = ap (points_by true) (parts_one 46 x (λ k lt. no_dot _ (digit_at x v k is lt))) ∙ rw is refl
 

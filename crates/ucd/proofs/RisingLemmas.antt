@@ -1,4 +1,4 @@
--- Entries in rising order, and files whose entries can be sorted into that order.
+-- Entries in ascending order, and files whose entries can be sorted into that order.
 use Rattle.std.proofs.Common.{◌≡◌, ℕ, zero, suc, ◌+◌, ◌<◌, ◌≤◌, Bool, true, false, List, [], ◌∷◌, ◌++◌, length, get_or, take, slice_get, Option, Some, None, is_some, IsSome, Result, Ok, Err, IsOk, inl, inr, if◌then◌else◌, refl, sym, ◌∙◌, ap, arith}
 use Rattle.std.specs.Char.{IsScalar}
 use Rattle.std.specs.List.{Contains, sum_by}
@@ -48,7 +48,7 @@ module _ {V : Type 0} where
   covered_to : (e : Entry V) (c : ℕ) → covers e c ≡ true → c ≤ e.last
   covered_to e c covered = grind (arith, nat_tests)
 
-  -- rising entries cover no code point before the first, and no code point twice
+  -- entries in ascending order cover no code point before the first entry, and none twice
   none_before : (low : ℕ) (es : List (Entry V)) (c : ℕ) → AreRisingFrom low es → c < low → covering c es ≡ 0
   none_before low [] c rising lt = refl
   none_before low (e ∷ es) c (from, whole, within, rest) lt = covering_later c e es (before_first e c (omega arith)) ∙ none_before (e.last + 1) es c rest (omega arith)
@@ -99,7 +99,7 @@ module _ {V : Type 0} where
     | inr outside ↦ value_later c x es outside ∙ value_of_entry es c e k (omega arith) is covered (omega (arith, one, covering_later c x es outside))
   ]
 
-  -- a permutation has as many entries that cover a code point
+  -- a permutation has the same number of entries that cover a code point
   same_covering : (es sorted : List (Entry V)) (c : ℕ) → IsPermutation es sorted → covering c sorted ≡ covering c es
   same_covering es sorted c moved =
       let count : Entry V → ℕ = λ e. one_if (covers e c) in
@@ -117,7 +117,7 @@ module _ {V : Type 0} where
           let there = Contains-permutation es sorted found.0 moved found.1 in
           value_of_entry sorted c found.0 there.0 there.1 there.2 found.2 one ∙ ap Some found.3 ∙ sym some
 
-  -- rising entries are apart
+  -- entries in ascending order are apart
   first_from : (low : ℕ) (es : List (Entry V)) (i : ℕ) (e : Entry V) → AreRisingFrom low es → slice_get es i ≡ Some e → (low ≤ e.first) × (e.first ≤ e.last) × (e.last < 1114112)
   first_from low [] i e rising is = absurd (let no : ⊥ = cc in no)
   first_from low (x ∷ es) zero e (from, whole, within, rest) is = let same : x ≡ e = cc in rw (← same) (from, whole, within)
@@ -136,7 +136,8 @@ module _ {V : Type 0} where
     apart = λ i e is c covered. apart_at low es i e rising is c (covered_from e c covered);
   }
 
--- The values that the lines of a file give a character, and how many lines name it, by the entries of the lines.
+-- The values that the lines of a file assign to a character, and how many lines list it, in terms of the lines'
+-- entries.
 module _ {V : Type 0} (form : Form V) where
   value_append : (xs ys : List (Entry V)) (c : ℕ) → value_at (xs ++ ys) c ≡ or_else form (value_at xs c) (value_at ys c)
   value_append [] ys c = refl
@@ -152,7 +153,7 @@ module _ {V : Type 0} (form : Form V) where
   abbrev count_of : Option V → ℕ
   count_of o = one_if (is_some o)
 
-  -- an entry without its surrogates gives each character the value of the entry
+  -- an entry without its surrogates assigns the entry's value to each of its characters
   value_characters : (e : Entry V) (c : ℕ) → IsScalar c → value_at (characters_of e) c ≡ (if covers e c then Some e.value else None)
   value_characters e c is = grind (arith, nat_tests, is)
 
@@ -180,7 +181,7 @@ module _ {V : Type 0} (form : Form V) where
       ∙ ap (λ o. or_else form o (value_at (entries_in form lines) c)) (value_by (reading_of form line) c is)
       ∙ ap (or_else form (given form line c)) (value_lines lines c is)
 
-  -- the number of lines that name the character
+  -- the number of lines that list the character
   abbrev naming : ℕ → List (List ℕ) → ℕ
   naming c [] = 0
   naming c (line ∷ lines) = count_of (given form line c) + naming c lines
@@ -221,7 +222,7 @@ module _ {V : Type 0} (form : Form V) where
   line_read (line ∷ lines) zero read lt = read.0
   line_read (line ∷ lines) (suc k) read lt = line_read lines k read.1 (omega arith)
 
-  -- if all lines can be read, and their entries can be sorted into rising order, no line is faulty
+  -- if all lines can be read, and their entries can be sorted into ascending order, no line is faulty
   pub holds_sorted : (lines : List (List ℕ)) (es sorted : List (Entry V)) → es ≡ entries_in form lines → AreRead form lines → IsPermutation es sorted → AreRisingFrom 0 sorted → HoldsFile form lines sorted
   holds_sorted lines es sorted are read moved rising = record {
     good = λ k why lt fault. elim fault [
@@ -252,7 +253,7 @@ module _ {V : Type 0} where
   weaker low [] rising = rising
   weaker low (e ∷ es) (from, whole, within, rest) = (omega arith, whole, within, rest)
 
-  -- without the first entry, the entries are in rising order, and the code points after it keep their values
+  -- without the first entry, the entries are in ascending order, and the code points after it keep their values
   pub rising_rest : (es : List (Entry V)) (e : Entry V) (rest : List (Entry V)) → es ≡ e ∷ rest → AreRisingFrom 0 es → AreRisingFrom 0 rest
   rising_rest es e rest is rising = let parts : AreRisingFrom 0 (e ∷ rest) = rw is at rising in weaker (e.last + 1) rest parts.3
 

@@ -1,4 +1,4 @@
--- The properties that the entries give a code point, with one lemma for each property.
+-- The properties that the entries assign to a code point, with one lemma for each property.
 use Rattle.std.proofs.Common.{◌≡◌, ℕ, ◌<◌, ◌==◌, ◌&&◌, Bool, true, false, Option, Some, None, is_some, unwrap_or, refl, ◌∙◌, ap, arith, if◌then◌else◌}
 use Rattle.std.proofs.lemmas.Bool.Decides.{nat_tests}
 use Rattle.ucd.specs.Answers.{PropertyAnswers, unnamed, line_tag, line_number, circle_number}
@@ -317,7 +317,7 @@ module _ (k : Layers) (c : ℕ) where
   pub said_apart : ((said k c).is_mark && (said k c).is_future_pictograph) ≡ false
   said_apart = rw (said_mark, said_future) (apart_by (unwrap_or (value_at k.categories c) category.Unassigned) (is_some (value_at k.pictographs c)))
 
--- U+25CC alone has the mark of a dotted circle
+-- only U+25CC is marked as a dotted circle
 circle_at : (c : ℕ) → is_some (value_at (circle_entries V17_0) c) ≡ (c == 0x25CC)
 circle_at c = grind (arith, nat_tests)
 
@@ -333,7 +333,7 @@ said_detail k c circles = said_quote k c ∙ ap (λ es. quote_in k.version (unwr
     (if is_some (value_at es c) then circle_by (line_class_in k.version (unwrap_or (value_at k.line_classes c) XX)) Plain else Plain)) circles
     ∙ detail_in k.version (unwrap_or (value_at k.categories c) category.Unassigned) (unwrap_or (value_at k.line_classes c) XX) c
 
--- the version has the line number of the class and of the detail
+-- the line-breaking number of the class and the detail exists in the version
 circle_below : (class : LineClass) → circle_number class < 56
 circle_below BK = omega arith
 circle_below class = omega arith

@@ -1,4 +1,4 @@
--- Line numbers below the number of classes of Unicode 15.0 encode these classes, without a detail.
+-- Line-breaking numbers below the number of classes of Unicode 15.0 encode these classes, without a detail.
 use Rattle.std.proofs.Common.{◌≡◌, ◌<◌, refl, arith}
 use Rattle.ucd.specs.Answers.{line_tag, line_number, circle_number}
 use Rattle.ucd.specs.declared.line_class.LineClass.{LineClass}

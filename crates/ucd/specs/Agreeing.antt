@@ -1,4 +1,4 @@
--- Tables that give each character the same properties.
+-- Tables that assign the same properties to each character.
 use Rattle.std.specs.Prelude.{◌≡◌, ℕ}
 use Rattle.std.specs.Char.{IsScalar}
 use Rattle.ucd.specs.declared.tables.Tables.{Tables}

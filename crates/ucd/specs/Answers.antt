@@ -24,7 +24,7 @@ pub record PropertyAnswers : Type 0 where
   pub has_bracket : Bool
   pub has_mirror : Bool
 
--- the properties of a character that no line names
+-- the properties of a character that no line lists
 abbrev pub unnamed : PropertyAnswers
 unnamed = record {
   bidi_class = L;
@@ -44,7 +44,7 @@ bidi_tag class = tag_of bidi_type.the_type class
 abbrev pub bidi_class_at : ℕ → BidiClass
 bidi_class_at place = slice_index_or bidi.all_classes place L
 
--- the class and the detail in a line number
+-- the class and the detail that a line-breaking number encodes
 abbrev pub line_class_at : ℕ → LineClass
 line_class_at number = slice_index_or numbered_classes number BK
 
@@ -55,7 +55,7 @@ line_detail_at number = slice_index_or numbered_details number Plain
 abbrev pub line_tag : LineClass → ℕ
 line_tag class = tag_of line_type.the_type class
 
--- the number of U+25CC, by its class
+-- the line-breaking number of U+25CC, given its class
 abbrev pub circle_number : LineClass → ℕ
 circle_number AL = 51
 circle_number AI = 52
@@ -63,15 +63,15 @@ circle_number SG = 53
 circle_number XX = 54
 circle_number _ = 55
 
--- the line number of a class and a detail
+-- the line-breaking number of a class and a detail
 abbrev pub line_number : LineClass → LineDetail → ℕ
 line_number class Plain = line_tag class
 line_number class Initial = 49
 line_number class Final = 50
 line_number class DottedCircle = circle_number class
 
--- The bits, from the lowest: five for the bidi class, five flags, and six for the line number. All 16 are used.
--- The flags are, in order: bracket, mirror, future pictograph, mark and wide.
+-- The bits, from the lowest: five for the bidi class, five flags, and six for the line-breaking number. All 16
+-- are used. The flags are, in order: bracket, mirror, future pictograph, mark and wide.
 abbrev pub bit : Bool → ℕ
 bit b = if b then 1 else 0
 
@@ -91,12 +91,12 @@ answers_in bits = record {
   line_detail = line_detail_at (bits / 1024);
 }
 
--- `bits` encodes the properties of a character: the index of the bidi class and the line number are in range
+-- `bits` encode the properties of a character: the index of the bidi class and the line-breaking number are in range
 pub record AreBits (bits : ℕ) : Type 0 where
   pub bidi : bits % 32 < BIDI_CLASS_COUNT
   pub line : bits / 1024 < LINE_NUMBER_COUNT
 
--- the properties that line breaking needs, as one number
+-- the properties that line breaking needs, encoded as one number
 abbrev pub line_index : PropertyAnswers → ℕ
 line_index a =
     line_number a.line_class a.line_detail * 8 + (if a.is_wide then 4 else 0) + (if a.is_mark then 2 else 0) + (if a.is_future_pictograph then 1 else 0)

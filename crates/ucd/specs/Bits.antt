@@ -11,8 +11,8 @@ use Rattle.ucd.specs.declared.line_class.LineClass.TheVariants.{BK}
 use Rattle.ucd.specs.declared.line_detail.LineDetail.TheVariants.{Plain}
 use Rattle.ucd.specs.Answers.{bidi_tag, bidi_class_at, line_tag, line_class_at, line_detail_at, line_number, bit, bits_of, answers_in, AreBits, line_answers, line_answers_at, line_index}
 
--- Looking up the class at an index and looking up the index of a class are inverse, and so for line numbers.
--- Indices are below the number of classes.
+-- Converting an index to a class and converting a class to its index are inverse. The same holds for
+-- line-breaking numbers. Indices are below the number of classes.
 pub bidi_tag_at : (k : ℕ) → k < BIDI_CLASS_COUNT → bidi_tag (bidi_class_at k) ≡ k
 bidi_tag_at k lt =
     let f : ℕ → ℕ = λ n. bidi_tag (bidi_class_at n) in
@@ -60,7 +60,7 @@ bit_of n lt = elim (cases_zero n) [ inl none ↦ rw none refl | inr some ↦ (le
 times : (k n : ℕ) → n < 2 → (if n == 1 then k else 0) ≡ k * n
 times k n lt = elim (cases_zero n) [ inl none ↦ rw none (omega arith) | inr some ↦ (let one : n ≡ 1 = omega arith in rw one (omega arith)) ]
 
--- decoding bits and encoding them again gives the same bits
+-- decoding bits and encoding them again yields the same bits
 pub bits_of-answers_in : (bits : ℕ) → AreBits bits → bits_of (answers_in bits) ≡ bits
 bits_of-answers_in bits are =
     let bidi = bidi_tag_at (bits % 32) are.bidi in
@@ -72,7 +72,7 @@ bits_of-answers_in bits are =
     let wide = bit_of (bits / 512 % 2) (omega arith) in
     rw (bidi, line, bracket, mirror, wide, mark, pictograph) (omega arith)
 
--- without the lowest seven bits, the bits are the number that encodes the properties for line breaking
+-- the bits above the lowest seven are the number that encodes the properties for line breaking
 pub line_index_in : (bits : ℕ) → AreBits bits → bits / 128 ≡ line_index (answers_in bits)
 line_index_in bits are =
     let line = line_number_at (bits / 1024) are.line in
@@ -81,7 +81,7 @@ line_index_in bits are =
     let wide = times 4 (bits / 512 % 2) (omega arith) in
     rw (line, wide, mark, pictograph) (omega arith)
 
--- these properties, from the number
+-- the properties for line breaking can be decoded from this number
 pub line_answers_in : (bits : ℕ) → line_answers (answers_in bits) ≡ line_answers_at (bits / 128)
 line_answers_in bits =
     let number : bits / 128 / 8 ≡ bits / 1024 = omega arith in

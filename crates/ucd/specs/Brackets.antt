@@ -1,4 +1,4 @@
--- Brackets and mirrors, as BidiBrackets.txt and BidiMirroring.txt name them (UAX #9, BD14 to BD16 and L4).
+-- Brackets and mirrors, as BidiBrackets.txt and BidiMirroring.txt list them (UAX #9, BD14 to BD16 and L4).
 use Rattle.std.specs.Prelude.{ℕ, List, Bool, true, false, codes, Option, Some, None, option_map, if◌then◌else◌}
 use Rattle.std.specs.Str.{bytes_eq}
 use lib.Utf8.{scalar}

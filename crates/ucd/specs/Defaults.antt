@@ -1,4 +1,4 @@
--- The properties that a version gives code points without a line in a file, or whatever the files say.
+-- Properties that depend on the version alone: defaults of code points that the files do not list, and U+25CC.
 use Rattle.std.specs.Prelude.{ℕ, List, [], ◌∷◌, unwrap_or}
 use Rattle.ucd.specs.Entries.{value_at}
 use Rattle.ucd.specs.declared.bidi_class.BidiClass.{BidiClass}
@@ -11,8 +11,8 @@ use Rattle.ucd.specs.declared.version.Version.TheVariants.{V15_0, V17_0}
 abbrev pub missing : ℕ → ℕ → BidiClass → Entry BidiClass
 missing first last class = record { first = first; last = last; value = class }
 
--- The `@missing` lines of DerivedBidiClass.txt of Unicode 17.0, except the first one, which gives all other code
--- points the class L. tests/ucd/run compares them with the file.
+-- The `@missing` lines of DerivedBidiClass.txt of Unicode 17.0, except the first one, which assigns class L to
+-- all other code points. tests/ucd/run compares them with the file.
 unfoldable pub missing_17 : List (Entry BidiClass)
 missing_17 =
     missing 0x0590 0x05FF R
@@ -44,7 +44,7 @@ abbrev pub default_entries : Version → List (Entry BidiClass)
 default_entries V15_0 = []
 default_entries V17_0 = missing_17
 
--- the bidi class of a code point that no line of DerivedBidiClass.txt names
+-- the bidi class of a code point that no line of DerivedBidiClass.txt lists
 abbrev pub default_class : Version → ℕ → BidiClass
 default_class version c = unwrap_or (value_at (default_entries version) c) L
 

@@ -1,11 +1,11 @@
--- Pages of which no two are equal.
+-- Lists of pages in which no two are equal.
 use Rattle.std.specs.Prelude.{◌≡◌, ℕ, ◌+◌, ◌*◌, ◌%◌, ◌<◌, ◌≤◌, ◌&&◌, false, List, length, slice_index, slice_index_or}
 use Rattle.ucd.specs.Answers.{PropertyAnswers, unnamed}
 use Rattle.ucd.specs.Pages.{answers_at}
 use Rattle.ucd.specs.Versions.{IsOfVersion}
 use Rattle.ucd.specs.declared.version.Version.{Version}
 
--- an image of tables of this version can have an entry for the properties
+-- an image of tables of this version can contain these properties
 pub record IsEntryOf (version : Version) (a : PropertyAnswers) : Type 0 where
   pub apart : (a.is_mark && a.is_future_pictograph) ≡ false
   pub number : IsOfVersion version a
@@ -22,7 +22,7 @@ abbrev pub AreDistinct : List PropertyAnswers → Type 0
 AreDistinct entries = (p q : ℕ) → p < q → q * 256 + 256 ≤ length entries
     → ¬ ((k : ℕ) → k < 256 → slice_index_or entries (p * 256 + k) unnamed ≡ slice_index_or entries (q * 256 + k) unnamed)
 
--- the index and the entries give each code point of the first `place` blocks its properties
+-- the index and the entries determine the properties of each code point of the first `place` blocks
 pub record HoldsPages (answers : ℕ → PropertyAnswers) (index : List ℕ) (entries : List PropertyAnswers) (place : ℕ) : Type 0 where
   pub places : length index ≡ place
   pub whole : length entries % 256 ≡ 0

@@ -4,7 +4,7 @@ use Rattle.std.specs.Str.{bytes_eq}
 use Rattle.ucd.specs.Grammar.{Form}
 use Rattle.ucd.specs.declared.emoji.Pictograph.{Pictograph}
 
--- a line with a property other than Extended_Pictographic names no character
+-- a line with a property other than Extended_Pictographic adds no entry
 abbrev pub pictograph_named : List ℕ → Option Pictograph
 pictograph_named name = if bytes_eq (codes "Extended_Pictographic") name then Some (record {}) else None
 

@@ -1,5 +1,4 @@
--- Lists of entries, and the values that they give code points. An entry is a range of code points with a
--- value.
+-- Lists of entries, and the values that they assign to code points. An entry is a range of code points and a value.
 use Rattle.std.specs.Prelude.{◌≡◌, ℕ, ◌<◌, ◌≤◌, nat_le, Bool, false, ◌&&◌, List, [], ◌∷◌, length, take, slice_get, slice_index_or, Option, Some, None, is_some, IsSome, IsTrue, if◌then◌else◌}
 use Rattle.std.specs.Char.{IsScalar}
 use Rattle.ucd.specs.declared.grammar.Entry.{Entry}
@@ -19,12 +18,12 @@ module _ {V : Type 0} where
     pub whole : (i : ℕ) (e : Entry V) → slice_get es i ≡ Some e → (e.first ≤ e.last) × (e.last < 1114112)
     pub apart : (i : ℕ) (e : Entry V) → slice_get es i ≡ Some e → (c : ℕ) → IsTrue (covers e c) → value_at (take i es) c ≡ None
 
-  -- `named` has a flag for each code point: whether it has a value
+  -- `named` has a flag for each code point, which says whether the code point has a value
   pub record AreNamed (es : List (Entry V)) (named : List Bool) : Type 0 where
     pub len : length named ≡ 1114112
     pub each : (c : ℕ) → c < 1114112 → slice_index_or named c false ≡ is_some (value_at es c)
 
-  -- `new` gives the entry's value to the code points that the entry covers, which have no value in `old`.
+  -- `new` assigns the entry's value to the code points that the entry covers, which have no value in `old`.
   -- Every other code point has the same value as in `old`.
   pub record AddsEntry (old new : List (Entry V)) (e : Entry V) : Type 0 where
     pub free : (c : ℕ) → IsTrue (covers e c) → value_at old c ≡ None

@@ -1,4 +1,4 @@
--- The values that the lines of a file give to characters, and the first faulty line of the file.
+-- The values that the lines of a file assign to characters, and the first faulty line of the file.
 use Rattle.std.specs.Prelude.{◌≡◌, ℕ, ◌-◌, ◌<◌, ◌≤◌, ◌⊎◌, ◌&&◌, List, [], ◌∷◌, length, slice_index_or, Option, Some, None, IsSome, Result, Ok, Err, if◌then◌else◌}
 use Rattle.std.specs.Char.{IsScalar}
 use lib.Utf8.{scalar}
@@ -10,7 +10,7 @@ use Rattle.ucd.specs.declared.file.FileFault.{FileFault}
 use Rattle.ucd.specs.Entries.{covers, value_at, AddsCharacters, IsTaken, NamesSome}
 
 module _ {V : Type 0} (form : Form V) where
-  -- The value that a line gives to a character. A surrogate is not a character, so no line gives it a value.
+  -- The value that a line assigns to a character. A surrogate is not a character, so no line assigns it a value.
   abbrev pub given_by : Result (Option (Entry V)) Cause → ℕ → Option V
   given_by (Ok (Some e)) c = if scalar c && covers e c then Some e.value else None
   given_by (Ok None) c = None
@@ -19,7 +19,7 @@ module _ {V : Type 0} (form : Form V) where
   abbrev pub given : List ℕ → ℕ → Option V
   given line c = given_by (reading_of form line) c
 
-  -- the value from the first line that names the character
+  -- the value from the first line that lists the character
   abbrev pub or_else : Option V → Option V → Option V
   or_else (Some v) other = Some v
   or_else None other = other
@@ -31,7 +31,7 @@ module _ {V : Type 0} (form : Form V) where
   abbrev pub line_at : List (List ℕ) → ℕ → List ℕ
   line_at lines k = slice_index_or lines k []
 
-  -- line k names a character that an earlier line names
+  -- line k lists a character that an earlier line lists
   abbrev pub NamesAgain : List (List ℕ) → ℕ → Type 0
   NamesAgain lines k = (j : ℕ) × (c : ℕ) × (j < k) × IsSome (given (line_at lines j) c) × IsSome (given (line_at lines k) c)
 
@@ -59,7 +59,7 @@ module _ {V : Type 0} (form : Form V) where
   AddsLine old new line = AddsReading (reading_of form line) old new
 
   -- The cause that prevents a line from being added. `Memory` can be the cause only if the line is not faulty
-  -- and names a character.
+  -- and lists a character.
   abbrev pub IsReadingCause : Result (Option (Entry V)) Cause → List (Entry V) → Cause → Type 0
   IsReadingCause (Ok None) es why = ⊥
   IsReadingCause (Ok (Some e)) es cause.NamedBefore = IsTaken es e
@@ -70,12 +70,12 @@ module _ {V : Type 0} (form : Form V) where
   abbrev pub IsLineCause : List (Entry V) → List ℕ → Cause → Type 0
   IsLineCause es line why = IsReadingCause (reading_of form line) es why
 
-  -- no line is faulty, and the entries have the values of the lines
+  -- no line is faulty, and the entries hold the values that the lines assign
   pub record HoldsFile (lines : List (List ℕ)) (es : List (Entry V)) : Type 0 where
     pub good : IsGood lines
     pub values : (c : ℕ) → IsScalar c → value_at es c ≡ value_in lines c
 
-  -- Line k names a character, so adding the line allocates memory. No line up to k is faulty.
+  -- Line k lists a character, so adding the line allocates memory. No line up to k is faulty.
   pub record WantsMemoryAt (lines : List (List ℕ)) (k : ℕ) : Type 0 where
     pub entry : Entry V
     pub reads : reading_of form (line_at lines k) ≡ Ok (Some entry)

@@ -19,8 +19,7 @@ lines_of file = slice_split (is_mark 10) file
 abbrev pub trimmed : (ℕ → Bool) → List ℕ → List ℕ
 trimmed p bytes = let rest = drop (prefix_len p bytes) bytes in take (length rest - suffix_len p rest) rest
 
--- White space around fields consists of spaces and tabs. White space at the ends of a line can also be
--- U+000D.
+-- White space around fields consists of spaces and tabs. White space at the ends of a line can also include U+000D.
 abbrev pub is_one_of : List ℕ → ℕ → Bool
 is_one_of bytes b = list_any (λ byte. byte == b) bytes
 
@@ -52,8 +51,8 @@ is_code_point digits = nat_le 4 (length digits) && (nat_le (length digits) 6 && 
 abbrev pub code_point : List ℕ → Option ℕ
 code_point digits = if is_code_point digits then Some (hex_value digits) else None
 
--- The first and last code points of a field: `X`, or `X..Y` if the file has ranges. The field is given by its
--- parts between dots.
+-- The first and last code points of a field: `X`, or `X..Y` if the file has ranges. The field is passed as
+-- its parts between dots.
 abbrev pub both : Option ℕ → Option ℕ → Option (ℕ × ℕ)
 both (Some x) (Some y) = Some (x, y)
 both (Some x) None = None
@@ -68,8 +67,8 @@ abbrev pub points_of : Bool → List ℕ → Option (ℕ × ℕ)
 points_of has_ranges field = points_by has_ranges (slice_split (is_mark 46) field)
 
 -- The form of a file's lines: whether the first field may be a range, and whether there is a third field.
--- `value` parses the second and third fields. It gives `None` if the value is unknown, and `Some None` if the
--- line has no entry.
+-- `value` parses the second and third fields. It returns `None` if the value is unknown, and `Some None` if
+-- the line has no entry.
 pub record Form (V : Type 0) : Type 0 where
   pub has_ranges : Bool
   pub has_third : Bool

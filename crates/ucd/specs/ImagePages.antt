@@ -1,9 +1,9 @@
--- Properties that need no look at each code point of a page.
+-- Properties that are checked for whole pages, without looking at each code point.
 use Rattle.std.specs.Prelude.{◌≡◌, ◌≢◌, Bool, false}
 use Rattle.ucd.specs.Answers.{PropertyAnswers}
 use Rattle.ucd.specs.declared.bidi_class.BidiClass.TheVariants.{B}
 
--- neither a paragraph separator nor a bracket, and without a mirror
+-- the character is neither a paragraph separator nor a bracket, and has no mirror
 pub record IsQuiet (a : PropertyAnswers) : Type 0 where
   pub separator : a.bidi_class ≢ B
   pub bracket : a.has_bracket ≡ false

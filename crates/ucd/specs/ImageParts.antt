@@ -4,11 +4,11 @@ use Rattle.ucd.specs.Answers.{PropertyAnswers, answers_in}
 use Rattle.ucd.specs.declared.version.Version.{Version}
 use Rattle.ucd.specs.Images.{u16_at, u32_at, u64_at, checksum, image_version, page_count, bracket_count, mirror_count, brackets_at, mirrors_at, is_entry, IsFramed}
 
--- the `count` bytes of `bytes` from `at` are those of `part` from `from`
+-- the `count` bytes at `at` in `bytes` equal the bytes at `from` in `part`
 pub record Shows (bytes : List ℕ) (at : ℕ) (part : List ℕ) (from count : ℕ) : Type 0 where
   pub each : (i j : ℕ) → at ≤ i → i < at + count → i + from ≡ j + at → slice_index bytes i ≡ slice_index part j
 
--- a number is appended, and the bytes before it stay
+-- a number is appended, and the bytes before it are unchanged
 pub record Adds16 (old new : List ℕ) (number : ℕ) : Type 0 where
   pub kept : Shows new 0 old 0 (length old)
   pub len : length new ≡ length old + 2
@@ -44,7 +44,7 @@ pub record Joins (version : Version) (bytes index pages brackets mirrors : List 
   pub brackets_shown : Shows bytes (brackets_at bytes) brackets 0 (length brackets)
   pub mirrors_shown : Shows bytes (mirrors_at bytes) mirrors 0 (length mirrors)
 
--- page numbers and pages as bytes, which give each code point its properties
+-- page numbers and pages as bytes, which determine the properties of each code point
 pub record ArePages (version : Version) (answers : ℕ → PropertyAnswers) (index pages : List ℕ) : Type 0 where
   pub places : length index ≡ 8704
   pub whole : length pages % 512 ≡ 0

@@ -7,7 +7,7 @@ use Rattle.ucd.specs.Properties.{properties_of}
 use Rattle.ucd.specs.Tables.{bracket_of, mirror_of, mirror_by}
 use Rattle.ucd.specs.declared.tables.Tables.{Tables}
 
--- the tables give the character c the properties, the bracket and the mirror that the image has
+-- the tables and the image have the same properties, bracket and mirror for the character c
 pub record SaysImage (bytes : List ℕ) (t : Tables) (c : ℕ) : Type 0 where
   pub properties : properties_of t c ≡ answers_in (bits_at bytes c)
   pub bracket : bracket_of t c ≡ bracket_at bytes c

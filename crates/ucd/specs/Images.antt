@@ -10,7 +10,7 @@
 --   next   two u32 for each bracket: its code point, and twice its pair, plus 1 for an opening bracket
 --   next   two u32 for each character with a mirror: its code point and its mirror
 --   last   u64: the checksum of all bytes before it
--- Code points ascend. All parts except the checksum's own bytes count in the checksum.
+-- The code points in each part are in ascending order.
 use Rattle.std.specs.Prelude.{◌≡◌, ℕ, zero, suc, ◌+◌, ◌*◌, ◌/◌, ◌%◌, ◌^◌, ◌<◌, ◌≤◌, ◌==◌, ◌&&◌, ◌⊎◌, nat_lt, not, Bool, List, length, take, slice_index, codes, Option, Some, None, is_some, IsSome, IsTrue, option_map, if◌then◌else◌}
 use Rattle.ucd.specs.Answers.{PropertyAnswers, answers_in}
 use Rattle.ucd.specs.Brackets.{scalar_only}
@@ -32,7 +32,7 @@ u32_at bytes i = u16_at bytes i + 65536 * u16_at bytes (i + 2)
 unfoldable pub u64_at : List ℕ → ℕ → ℕ
 u64_at bytes i = u32_at bytes i + 4294967296 * u32_at bytes (i + 4)
 
--- the checksum of the first k numbers of 64 bits
+-- the checksum of the first k 64-bit numbers
 unfoldable pub checksum : List ℕ → ℕ → ℕ
 checksum bytes zero = 0
 checksum bytes (suc k) = (checksum bytes k * 11400714819323198485 % 2 ^ 64 + u64_at bytes (8 * k)) % 2 ^ 64
@@ -74,7 +74,8 @@ entry_at bytes i = u16_at bytes (8736 + 2 * i)
 abbrev pub bits_at : List ℕ → ℕ → ℕ
 bits_at bytes c = entry_at bytes (page_number bytes (c / 256) * 256 + c % 256)
 
--- the bits encode properties: the bidi class and the line number are in range, and no mark is a future pictograph
+-- the bits encode properties: the bidi class and the line-breaking number are in range, and no mark is a future
+-- pictograph
 abbrev pub is_entry : Version → ℕ → Bool
 is_entry version bits = nat_lt (bits % 32) 23 && (nat_lt (bits / 1024) (number_count version) && not (bits / 128 % 4 == 3))
 
@@ -93,7 +94,7 @@ module _ {V : Type 0} (decode : ℕ → Option V) (bytes : List ℕ) (start : �
   abbrev pub point_value : ℕ → Option V
   point_value k = decode (u32_at bytes (start + 8 * k + 4))
 
-  -- the value that the first `count` pairs give a code point
+  -- the value that the first `count` pairs assign to a code point
   unfoldable pub found : ℕ → ℕ → Option V
   found zero c = None
   found (suc k) c = if point_at k == c then point_value k else found k c
@@ -107,7 +108,7 @@ module _ {V : Type 0} (decode : ℕ → Option V) (bytes : List ℕ) (start : �
   abbrev pub ArePoints : ℕ → Type 0
   ArePoints count = (k : ℕ) → k < count → IsPoint k
 
-  -- a flag in the properties of each code point says whether the pairs give it a value
+  -- a flag in the properties of each code point says whether the pairs include the code point
   abbrev pub AreFlags : (PropertyAnswers → Bool) → ℕ → Type 0
   AreFlags flag count = (c : ℕ) → c < 1114112 → flag (answers_in (bits_at bytes c)) ≡ is_some (found count c)
 
@@ -118,8 +119,8 @@ bracket_at bytes c = found bracket_in bytes (brackets_at bytes) (bracket_count b
 abbrev pub mirror_at : List ℕ → ℕ → Option Mirror
 mirror_at bytes c = found mirror_in bytes (mirrors_at bytes) (mirror_count bytes) c
 
--- The conditions on an image, in the order in which they are checked. First its frame: the header, the length
--- and the checksum.
+-- The conditions on an image, in the order in which they are checked. First, its frame: the header, the
+-- length and the checksum.
 pub record IsFramed (bytes : List ℕ) : Type 0 where
   pub header : 32 ≤ length bytes
   pub magic : take 12 bytes ≡ codes "hordguli-ucd"
@@ -129,7 +130,7 @@ pub record IsFramed (bytes : List ℕ) : Type 0 where
   pub end : length bytes ≤ checksum_at bytes + 8
   pub checksum : u64_at bytes (checksum_at bytes) ≡ checksum bytes (checksum_at bytes / 8)
 
--- then the parts between
+-- then the parts between the header and the checksum
 abbrev pub ArePagesKnown : List ℕ → Type 0
 ArePagesKnown bytes = (block : ℕ) → block < 4352 → page_number bytes block < page_count bytes
 
@@ -178,7 +179,7 @@ IsFirstFault bytes =
     Fails (AreBracketFlags bytes) fault.Flags (
     Fails (AreMirrorFlags bytes) fault.Flags (λ _. ⊥)))))))))))))
 
--- what is checked before any memory is allocated
+-- the conditions that are checked before any memory is allocated
 pub record MayAllocate (bytes : List ℕ) : Type 0 where
   pub framed : IsFramed bytes
   pub pages : ArePagesKnown bytes

@@ -1,4 +1,4 @@
--- The entries from which the properties of a code point are made, in the order in which they are applied.
+-- The entries that determine the properties of a code point, in the order in which they are applied.
 use Rattle.std.specs.Prelude.{List}
 use Rattle.ucd.specs.declared.bidi_class.BidiClass.{BidiClass}
 use Rattle.ucd.specs.declared.bracket.Bracket.{Bracket}

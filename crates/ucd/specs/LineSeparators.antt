@@ -27,15 +27,15 @@ abbrev pub contents_if : Bool → TableContents → TableContents
 contents_if false t = t
 contents_if true t = with_line_separators t
 
--- the properties of a code point
+-- the properties of a code point in such tables
 abbrev pub answers_for_lines : ℕ → PropertyAnswers → PropertyAnswers
 answers_for_lines c a = record a { bidi_class = class_for_lines c a.bidi_class }
 
--- the properties of a code point, changed or not
+-- the properties of a code point, changed if the flag is true
 abbrev pub answers_if : Bool → ℕ → PropertyAnswers → PropertyAnswers
 answers_if false c a = a
 answers_if true c a = answers_for_lines c a
 
--- the properties of a code point in pages, changed or not
+-- the properties of a code point in pages, changed if the flag is true
 abbrev pub answers_by : Bool → List ℕ → List PropertyAnswers → ℕ → PropertyAnswers
 answers_by separates index entries c = answers_if separates c (answers_at index entries c)

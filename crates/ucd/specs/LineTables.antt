@@ -1,10 +1,10 @@
--- How tables in which only LF and CR end paragraphs differ from those of which they are made.
+-- How tables in which only LF and CR end paragraphs differ from the tables that they are made from.
 use Rattle.std.specs.Prelude.{◌≡◌, ℕ, ◌<◌}
 use Rattle.ucd.specs.LineSeparators.{class_for_lines}
 use Rattle.ucd.specs.Tables.{class_of, bracket_of, mirror_of, line_class_of, line_detail_of, is_wide_in, is_mark_in, is_future_pictograph_in}
 use Rattle.ucd.specs.declared.tables.Tables.{Tables}
 
--- U+001C to U+001E, U+0085 and U+2029 have class S where they had B. All else is unchanged.
+-- U+001C to U+001E, U+0085 and U+2029 have class S where they had B. Everything else is unchanged.
 pub record SeparatesLines (t u : Tables) : Type 0 where
   pub version : u.version ≡ t.version
   pub bidi_class : (c : ℕ) → c < 1114112 → class_of u c ≡ class_for_lines c (class_of t c)

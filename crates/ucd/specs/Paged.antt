@@ -24,7 +24,7 @@ module _ (version : Version) (index : List ℕ) (entries : List PropertyAnswers)
     line_details = singles (λ c. Some (answers_at index entries c).line_detail) 1114112;
   }
 
-  -- the flags in the pages agree with the maps of brackets and mirrors, and an image can have the entries
+  -- the flags in the pages agree with the maps of brackets and mirrors, and an image can contain the entries
   pub record AreSound : Type 0 where
     pub bracket : (c : ℕ) → c < 1114112 → (answers_at index entries c).has_bracket ≡ is_some (get nat_cmp brackets c)
     pub mirror : (c : ℕ) → c < 1114112 → (answers_at index entries c).has_mirror ≡ is_some (get nat_cmp mirrors c)

@@ -8,12 +8,11 @@ use Rattle.ucd.specs.declared.grammar.Entry.{Entry}
 use Rattle.ucd.specs.declared.width.Width.{Width}
 use Rattle.ucd.specs.declared.width.Width.TheVariants as width
 
--- The properties of a code point. `index` has the number of its page, and `entries` has the contents of the
--- pages.
+-- The properties of a code point. `index` holds the number of its page, and `entries` holds the contents of the pages.
 abbrev pub answers_at : List ℕ → List PropertyAnswers → ℕ → PropertyAnswers
 answers_at index entries c = slice_index_or entries (slice_index index (c / 256) * 256 + c % 256) unnamed
 
--- entries that give each code point below n the value of a function at that code point
+-- entries that assign to each code point below n the value of a function at that code point
 abbrev pub single : {V : Type 0} → ℕ → Option V → List (Entry V)
 single c None = []
 single c (Some v) = record { first = c; last = c; value = v } ∷ []
@@ -36,7 +35,7 @@ pictograph_in a = if a.is_future_pictograph then Some (record {}) else None
 abbrev pub EndsWithPage : List PropertyAnswers → List PropertyAnswers → Type 0
 EndsWithPage pages page = (256 ≤ length pages) × (drop (length pages - 256) pages ≡ page)
 
--- `new` has the page `page` under the given number. It is `old`, possibly with one page appended.
+-- `new` has the page `page` under the given number. `new` is `old`, possibly with one page appended.
 pub record HasPage (old new page : List PropertyAnswers) (number : ℕ) : Type 0 where
   pub whole : length new % 256 ≡ 0
   pub room : length new ≤ length old + 256

@@ -1,10 +1,10 @@
--- Lines of table files that have one name after their code points, and maybe a comment.
+-- Lines of table files that have one name after their code points, and possibly a comment.
 use Rattle.std.specs.Prelude.{◌≡◌, ◌≢◌, ℕ, ◌<◌, ◌≤◌, ◌==◌, true, false, List, [], ◌∷◌, length, slice_index, Some}
 use Rattle.std.specs.List.{list_all}
 use Rattle.std.specs.Char.{is_ascii}
 use Rattle.ucd.specs.Grammar.{before_comment, content_of, fields_of, points_of}
 
--- an ASCII byte that is no white space, and neither `#` nor `;`
+-- an ASCII byte other than white space, `#` and `;`
 pub record IsWordByte (b : ℕ) : Type 0 where
   pub above : 32 < b
   pub ascii : b < 128

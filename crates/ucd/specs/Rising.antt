@@ -1,11 +1,11 @@
--- Entries in rising order, and the entries of the lines of a file.
+-- Entries in ascending order, and the entries of the lines of a file.
 use Rattle.std.specs.Prelude.{⊤, ℕ, ◌+◌, ◌<◌, ◌≤◌, nat_le, List, [], ◌∷◌, ◌++◌, min, max, Option, Some, None, Result, Ok, Err, IsOk, if◌then◌else◌}
 use Rattle.ucd.specs.declared.fault.Cause.{Cause}
 use Rattle.ucd.specs.declared.grammar.Entry.{Entry}
 use Rattle.ucd.specs.Grammar.{Form, reading_of}
 
 module _ {V : Type 0} where
-  -- the entries have valid ranges from `low` on, each after the one before it
+  -- the entries have valid ranges, the first at or after `low`, and each later one after the end of the one before
   abbrev pub AreRisingFrom : ℕ → List (Entry V) → Type 0
   AreRisingFrom low [] = ⊤
   AreRisingFrom low (e ∷ es) = (low ≤ e.first) × (e.first ≤ e.last) × (e.last < 1114112) × AreRisingFrom (e.last + 1) es
@@ -14,7 +14,7 @@ module _ {V : Type 0} where
   abbrev pub if_any : Entry V → List (Entry V)
   if_any e = if nat_le e.first e.last then e ∷ [] else []
 
-  -- the entry without the code points from the surrogates on, and without those up to the surrogates
+  -- the part of an entry below the surrogates, and the part above them
   abbrev pub below_surrogates : Entry V → Entry V
   below_surrogates e = record { first = e.first; last = min e.last 55295; value = e.value }
 
@@ -36,7 +36,7 @@ module _ {V : Type 0} (form : Form V) where
   entries_in [] = []
   entries_in (line ∷ lines) = entries_by (reading_of form line) ++ entries_in lines
 
-  -- the grammar allows each line
+  -- each line conforms to the grammar
   abbrev pub AreRead : List (List ℕ) → Type 0
   AreRead [] = ⊤
   AreRead (line ∷ lines) = IsOk (reading_of form line) × AreRead lines

@@ -1,4 +1,4 @@
--- Runs of code points with the same properties, by the entries that are left.
+-- Runs of code points with the same properties, and the entries that remain after each run.
 use Rattle.std.specs.Prelude.{⊤, ◌≡◌, ℕ, ◌<◌, ◌≤◌, List, [], ◌∷◌}
 use Rattle.ucd.specs.Layers.{Layers}
 use Rattle.ucd.specs.Said.{said}
@@ -11,7 +11,7 @@ abbrev pub EndsFrom : {V : Type 0} → ℕ → List (Entry V) → Type 0
 EndsFrom point [] = ⊤
 EndsFrom point (e ∷ es) = point ≤ e.last
 
--- the entries that are left
+-- the remaining entries of all files
 abbrev pub layers_left : Left → Layers
 layers_left l = record {
   version = l.version;
@@ -26,7 +26,7 @@ layers_left l = record {
   categories = l.categories;
 }
 
--- no first entry ends before the code point
+-- the first entry of no file ends before the code point
 pub record AllEndFrom (point : ℕ) (k : Layers) : Type 0 where
   pub default_classes : EndsFrom point k.default_classes
   pub bidi_classes : EndsFrom point k.bidi_classes
@@ -38,8 +38,8 @@ pub record AllEndFrom (point : ℕ) (k : Layers) : Type 0 where
   pub pictographs : EndsFrom point k.pictographs
   pub categories : EndsFrom point k.categories
 
--- The run contains the code points before `point`, or ends there. Its code points have its properties, and the
--- entries that are left give the properties of those after it.
+-- The run contains `point` or ends there. Its code points have its properties. The remaining entries determine
+-- the properties of all code points after the run.
 pub record ReachesTo (k : Layers) (runs : Runs) (point : ℕ) : Type 0 where
   pub from : runs.run.start ≤ point
   pub to : point ≤ runs.run.end

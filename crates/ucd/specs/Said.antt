@@ -1,4 +1,4 @@
--- The properties that the entries of the files give each code point.
+-- The properties that the entries of the files assign to each code point.
 use Rattle.std.specs.Prelude.{◌≡◌, ℕ, Some, unwrap_or}
 use Rattle.std.specs.Char.{IsScalar}
 use Rattle.ucd.specs.Answers.{PropertyAnswers, unnamed}
@@ -16,7 +16,7 @@ use Rattle.ucd.specs.declared.line_class.LineClass.{LineClass}
 use Rattle.ucd.specs.declared.line_class.LineClass.TheVariants.{XX}
 use Rattle.ucd.specs.declared.version.Version.{Version}
 
--- the line breaking class and the category that the entries give a code point, or their defaults
+-- the line breaking class and the category that the entries assign to a code point, or the defaults
 abbrev pub line_class_by : Entries → ℕ → LineClass
 line_class_by e c = unwrap_or (value_at e.breaks.classes c) XX
 

@@ -1,4 +1,4 @@
--- The properties that tables give, and the files from which the tables are read.
+-- The properties that tables assign to characters, and the files from which the tables are read.
 use Rattle.std.specs.Prelude.{◌≡◌, ℕ, ◌-◌, ◌<◌, ◌⊎◌, ◌&&◌, Bool, true, false, List, Option, Some, is_some, option_map, unwrap_or}
 use Rattle.std.specs.Char.{IsScalar}
 use Rattle.ucd.specs.declared.bidi_class.BidiClass.{BidiClass}
@@ -49,7 +49,7 @@ abbrev pub is_unassigned_by : Category → Bool
 is_unassigned_by Unassigned = true
 is_unassigned_by _ = false
 
--- the properties that tables give a character, with defaults for characters that no line names
+-- the properties that tables assign to a character, with defaults for characters that no line lists
 unfoldable pub class_of : Tables → ℕ → BidiClass
 class_of t c = unwrap_or (value_at t.bidi_classes c) (default_class t.version c)
 
@@ -87,15 +87,15 @@ pub record AreGood (version : Version) (files : UcdFiles) : Type 0 where
   pub east_asian_width : IsGood width_form (lines_of files.east_asian_width.now)
   pub emoji_data : IsGood emoji_form (lines_of files.emoji_data.now)
 
--- the category that the file gives a character, or Cn if it gives none
+-- the category that the file assigns to a character, or Cn if it assigns none
 abbrev pub category_in : UcdFiles → ℕ → Category
 category_in files c = unwrap_or (value_in category_form (lines_of files.general_category.now) c) Unassigned
 
--- the line breaking class that the file gives a character, or XX if it gives none
+-- the line breaking class that the file assigns to a character, or XX if it assigns none
 abbrev pub line_class_from : Version → UcdFiles → ℕ → LineClass
 line_class_from version files c = unwrap_or (value_in (line_class_form version) (lines_of files.line_break.now) c) XX
 
--- the tables give the character c the same properties as the files, with the same defaults
+-- the tables assign to the character c the same properties as the files do, with the same defaults
 pub record SayOf (version : Version) (files : UcdFiles) (t : Tables) (c : ℕ) : Type 0 where
   pub bidi_class : class_of t c ≡ unwrap_or (value_in bidi_class_form (lines_of files.bidi_class.now) c) (default_class version c)
   pub bracket : bracket_of t c ≡ value_in bracket_form (lines_of files.bidi_brackets.now) c

@@ -1,4 +1,4 @@
--- What the versions of Unicode differ in.
+-- How the versions of Unicode differ.
 use Rattle.std.specs.Prelude.{ℕ, ◌<◌, nat_lt, ◌==◌, Bool, true, false, List, Option, Some, option_map, if◌then◌else◌}
 use Rattle.ucd.specs.Answers.{PropertyAnswers, line_tag, line_number}
 use Rattle.ucd.specs.Grammar.{Form}
@@ -27,12 +27,12 @@ abbrev pub line_class_in : Version → LineClass → LineClass
 line_class_in V15_0 class = if nat_lt (line_tag class) LINE_CLASS_COUNT_15 then class else XX
 line_class_in V17_0 class = class
 
--- the number of line numbers
+-- the number of line-breaking numbers
 abbrev pub number_count : Version → ℕ
 number_count V15_0 = 43
 number_count V17_0 = 56
 
--- the version has the line number of the properties
+-- the line-breaking number of the properties exists in the version
 abbrev pub IsOfVersion : Version → PropertyAnswers → Type 0
 IsOfVersion version a = line_number a.line_class a.line_detail < number_count version
 
@@ -40,7 +40,7 @@ abbrev pub is_quotation : LineClass → Bool
 is_quotation QU = true
 is_quotation _ = false
 
--- LB1 resolves the class to AL (SA only if the character is no mark)
+-- LB1 resolves the class to AL (SA only if the character is not a mark)
 abbrev pub is_alphabetic : LineClass → Bool
 is_alphabetic AI = true
 is_alphabetic AL = true
@@ -49,7 +49,7 @@ is_alphabetic SG = true
 is_alphabetic XX = true
 is_alphabetic _ = false
 
--- the detail of a character of this class after its general category has been applied to the detail
+-- the detail of a character of this class, after its general category has been applied to its detail
 abbrev pub quote_by : Category → LineClass → LineDetail → LineDetail
 quote_by InitialQuote class detail = if is_quotation class then Initial else detail
 quote_by FinalQuote class detail = if is_quotation class then Final else detail
@@ -63,8 +63,8 @@ quote_in V17_0 category class detail = quote_by category class detail
 abbrev pub circle_by : LineClass → LineDetail → LineDetail
 circle_by class detail = if is_alphabetic class then DottedCircle else detail
 
--- The detail of a code point, by its general category and its class. In Unicode 17.0, quotation marks of the
--- categories Pi and Pf have one, and U+25CC.
+-- The detail of a code point, given its general category and its class. In Unicode 17.0, U+25CC and quotation
+-- marks of the categories Pi and Pf have a detail.
 abbrev pub detail_by : Version → Category → LineClass → ℕ → LineDetail
 detail_by V15_0 category class c = Plain
 detail_by V17_0 category class c = quote_by category class (if c == 0x25CC then circle_by class Plain else Plain)

@@ -41,7 +41,7 @@ pub enum BidiClass {
 /// The number of classes.
 pub(crate) const BIDI_CLASS_COUNT: usize = 23;
 
-// The classes in the order of the enum, from which the lists of variants and names are made.
+// The classes in the order of the enum. The lists of variants and of names are generated from them.
 macro_rules! classes {
     ($list:ident) => {
         $list! {
@@ -115,8 +115,7 @@ impl BidiClass {
     }
 }
 
-// Returns the class with this short name, if it is one of those that nearly all lines of DerivedBidiClass.txt
-// name.
+// Returns the class with this short name, if it is one of those on nearly all lines of DerivedBidiClass.txt.
 fn frequent(name: &[u8]) -> Option<BidiClass>
     ensures { IfSome result (λ class. name.now ≡ name_of class) }
 {

@@ -1,4 +1,4 @@
-//! The bidi classes of code points that no line of DerivedBidiClass.txt names.
+//! The bidi classes of code points that no line of DerivedBidiClass.txt lists.
 ghost use Rattle.std.specs.Prelude.{◌≡◌};
 ghost use Rattle.ucd.specs.Defaults.{default_entries};
 ghost use Rattle.ucd.specs.Rising.{AreRisingFrom};
@@ -9,8 +9,8 @@ use crate::version::Version;
 
 static NONE: [Entry<BidiClass>; 0] = [];
 
-// The `@missing` lines of the file of Unicode 17.0, except the first one, which gives all other code points
-// L.
+// The `@missing` lines of the file of Unicode 17.0, except the first one, which assigns L to all other code
+// points.
 #[rattlefmt::skip]
 static MISSING_17: [Entry<BidiClass>; 23] = [
     Entry { first: 0x0590, last: 0x05FF, value: BidiClass::R },
@@ -38,7 +38,7 @@ static MISSING_17: [Entry<BidiClass>; 23] = [
     Entry { first: 0x1EF00, last: 0x1EFFF, value: BidiClass::R },
 ];
 
-/// Returns the ranges of code points that have another class than `L` by default.
+/// Returns the ranges of code points whose default class is not `L`.
 #[tactic(auto, unfolding(crate::specs::Defaults::missing_17))]
 pub fn default_classes(version: Version) -> &'static [Entry<BidiClass>]
     ensures entries { result.now ≡ default_entries version }

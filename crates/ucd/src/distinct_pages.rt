@@ -36,7 +36,7 @@ pub fn distinct_pages(alloc: Global, points: &[Properties]) -> Result<DistinctPa
     Ok(DistinctPages { index, entries })
 }
 
-// Returns the number of a page, and appends it if no page in `entries` equals it.
+// Returns the number of `page` in `entries`. Appends the page if no page there equals it.
 fn number_of(entries: &mut Vec<Properties>, page: &[Properties]) -> Result<u16, AllocError>
     requires page { length page.now ≡ 256 }
     requires whole { length entries.old.items % 256 ≡ 0 }
@@ -65,8 +65,8 @@ fn append_page(entries: &mut Vec<Properties>, page: &[Properties]) -> Result<u16
     Ok((end / PAGE) as u16)
 }
 
-// Returns the number of a page that equals this one, if there is one. Looks at the last page first, because
-// most pages equal the one before.
+// Returns the number of a page that equals this one, if there is one. Tries the last page first, because most
+// pages equal the one before.
 fn page_among(entries: &[Properties], page: &[Properties]) -> Option<usize>
     requires page { length page.now ≡ 256 }
     requires whole { length entries.now % 256 ≡ 0 }

@@ -8,7 +8,7 @@ use crate::grammar::{Entry, Layer};
 use crate::properties::Properties;
 use crate::version::Version;
 
-/// The mark of a dotted circle.
+/// Marks a code point as the dotted circle.
 #[derive(Clone, Copy)]
 pub struct Circle;
 
@@ -20,7 +20,7 @@ static CIRCLES: [Entry<Circle>; 1] = [Entry {
     value: Circle,
 }];
 
-/// Returns the code points that have this mark.
+/// Returns the code points marked as the dotted circle.
 pub fn circles(version: Version) -> &'static [Entry<Circle>]
     ensures entries { result.now ≡ circle_entries version }
     ensures rising { AreRisingFrom 0 result.now }

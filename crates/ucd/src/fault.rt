@@ -39,7 +39,7 @@ pub enum Cause {
     FieldCount = 4,
     /// The file does not allow this value.
     Value = 5,
-    /// An earlier line of the file already gives a value to one of the line's characters.
+    /// An earlier line of the file already assigns a value to one of the line's characters.
     NamedBefore = 6,
     /// Memory ran out, and no line is at fault.
     Memory = 7,

@@ -1,4 +1,4 @@
-//! Parses one line of a table file, which contains code points and their value, or no entry.
+//! Parses one line of a table file. A line contains code points and their value, or no entry.
 ghost use Rattle.std.specs.Prelude.{◌≡◌, ◌<◌, ◌≤◌, length, IfSome, option_map, if◌then◌else◌};
 ghost use Rattle.std.specs.List.{slice_split, before_first, list_all};
 ghost use Rattle.std.specs.Char.{is_ascii_hexdigit};
@@ -43,7 +43,7 @@ pub trait Property: Copy + Drop {
         ensures { result ≡ (form version).has_third };
 
     /// Parses the value in the second and third fields. Returns `None` if the file does not allow this value,
-    /// and `Some(None)` if the line gives no character a value.
+    /// and `Some(None)` if the line assigns no value to any character.
     fn read_value(version: Version, second: &[u8], third: &[u8]) -> Option<Option<Self>>
         ensures { result ≡ (form version).value second.now third.now };
 }
@@ -75,7 +75,7 @@ pub(crate) fn cut(bytes: &[u8], mark: u8) -> (&[u8], Option<&[u8]>)
     }
 }
 
-// The same, byte by byte, which is faster if the mark is among the first bytes.
+// Does the same byte by byte, which is faster if the mark is among the first bytes.
 fn cut_near(bytes: &[u8], mark: u8) -> (&[u8], Option<&[u8]>)
     ensures front { result.0.now ≡ before_first (is_mark mark) bytes.now }
     ensures rest { option_map (λ rest. rest.now) result.1 ≡ rest_after mark bytes.now }
@@ -176,7 +176,7 @@ fn entry_of<V: Property>(
     }
 }
 
-// Parses a line that has more than a comment.
+// Parses a line that contains more than a comment.
 fn read_fields<V: Property>(version: Version, content: &[u8]) -> Result<Option<Entry<V>>, Cause>
     ensures { result ≡ by_fields (V.form version) (fields_of content.now) }
 {

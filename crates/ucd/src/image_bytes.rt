@@ -29,10 +29,10 @@ pub fn u64_at(bytes: &[u8], i: usize) -> u64
     u64::from(u32_at(bytes, i)) + 0x1_0000_0000 * u64::from(u32_at(bytes, i + 4))
 }
 
-/// An odd number, so that a change of one number of 64 bits changes the checksum.
+/// The factor is odd, so a change of any one 64-bit number changes the checksum.
 const FACTOR: u64 = 0x9E37_79B9_7F4A_7C15;
 
-/// Returns the checksum of the first `count` numbers of 64 bits.
+/// Returns the checksum of the first `count` 64-bit numbers.
 pub fn checksum(bytes: &[u8], count: usize) -> u64
     requires { 8 * count ≤ length bytes.now }
     ensures { result ≡ checksum bytes.now count }

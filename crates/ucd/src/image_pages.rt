@@ -13,7 +13,7 @@ use crate::pages::{PAGE, PLACES, Pages};
 use crate::properties::Properties;
 use std::alloc::{AllocError, Global};
 
-/// Returns whether each block has the number of one of the image's pages.
+/// Returns whether the page number of each block is that of a page in the image.
 pub fn are_pages_known(bytes: &[u8], pages: usize) -> bool
     requires { 8736 ≤ length bytes.now }
     ensures yes { result ≡ true → (block : ℕ) → block < 4352 → page_number bytes.now block < pages }
@@ -103,7 +103,7 @@ fn loud_pages(alloc: Global, entries: &[Properties]) -> Result<Vec<bool>, AllocE
 }
 
 // Returns whether the page that starts at an index has a separator, a bracket or a mirror. Reads all of it,
-// which is faster than leaving the loop early.
+// which is faster than exiting the loop early.
 fn is_loud(entries: &[Properties], start: usize) -> bool
     requires { start + 256 ≤ length entries.now }
     ensures { result ≡ false → (k : ℕ) → k < 256 → IsQuiet (slice_index_or entries.now (start + k) unnamed) }
@@ -116,7 +116,7 @@ fn is_loud(entries: &[Properties], start: usize) -> bool
 }
 
 impl ImagePages {
-    /// Makes pages of their index and their entries.
+    /// Creates pages from an index and entries.
     pub fn new(
         alloc: Global,
         index: Vec<u16>,
@@ -145,7 +145,8 @@ impl ImagePages {
         self.entries[self.index[point / PAGE] as usize * PAGE + point % PAGE]
     }
 
-    /// Returns whether a block has no separator, bracket or mirror. May return `false` for such a block.
+    /// Returns whether a block has no separator, bracket or mirror. May also return `false` for a block
+    /// without any of these.
     pub fn is_quiet(&self, block: usize) -> bool
         requires { block < 4352 }
         ensures { result ≡ true → (c : ℕ) → block * 256 ≤ c → c < block * 256 + 256

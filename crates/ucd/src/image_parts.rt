@@ -18,7 +18,7 @@ use crate::version::Version;
 use std::alloc::{AllocError, Global};
 use std::collections::BTreeMap;
 
-// Appends a number of 16 bits.
+// Appends a 16-bit number.
 fn push_u16(bytes: &mut Vec<u8>, number: u16) -> Result<(), AllocError>
     ensures { OnOk result (Adds16 bytes.old.items bytes.new.items number) }
 {
@@ -27,7 +27,7 @@ fn push_u16(bytes: &mut Vec<u8>, number: u16) -> Result<(), AllocError>
     Ok(())
 }
 
-/// Appends a number of 32 bits.
+/// Appends a 32-bit number.
 pub fn push_u32(bytes: &mut Vec<u8>, number: u32) -> Result<(), AllocError>
     ensures { OnOk result (Adds32 bytes.old.items bytes.new.items number) }
 {

@@ -15,7 +15,7 @@ use crate::range_table::CODE_POINTS;
 use std::alloc::{AllocError, Global};
 use std::collections::BTreeMap;
 
-/// A property that an image stores beside the pages, as a number for each code point that has it. A flag in
+/// A property that an image stores outside the pages, as a number for each code point that has it. A flag in
 /// the properties says which code points have it.
 pub trait Point: Copy + Drop {
     ghost use Rattle.std.specs.Prelude.{ℕ, Bool, Option};
@@ -58,8 +58,8 @@ fn pair_at<P: Point>(bytes: &[u8], at: usize, next: u32) -> Option<(u32, P)>
     }
 }
 
-/// Returns a map of the pairs from byte `start` on, or `None` if their code points do not ascend or are out
-/// of range, or a number encodes no value.
+/// Returns a map of the pairs from byte `start` on, or `None` if their code points are out of range or not in
+/// ascending order, or a number encodes no value.
 pub fn points_in<P: Point>(
     alloc: Global,
     bytes: &[u8],
@@ -152,7 +152,7 @@ fn are_flags_points_of<P: Point>(
     true
 }
 
-// Returns whether a code point with these properties is in the map if its flag is set.
+// Returns whether a code point is in the map, or its flag in these properties is not set.
 fn is_flag_point<P: Point>(properties: Properties, points: &BTreeMap<u32, P>, c: u32) -> bool
     ensures yes { result ≡ true → P.flag properties ≡ true → IsSome (get nat_cmp points.now c) }
     ensures no { result ≡ false → ¬ (P.flag properties ≡ true → IsSome (get nat_cmp points.now c)) }

@@ -73,8 +73,8 @@ pub struct PageBytes {
     pub(crate) entries: Vec<u8>,
 }
 
-/// Returns the page numbers of all blocks, and pages of which no two are equal. Only LF and CR end paragraphs
-/// in the pages if they are to separate lines.
+/// Returns the page numbers of all blocks, and pages of which no two are equal. If `separates` is set, only
+/// LF and CR end paragraphs in these pages.
 pub fn page_bytes(alloc: Global, pages: &Pages, separates: bool) -> Result<PageBytes, AllocError>
     ensures { IfOk result (λ bytes. (version : Version)
         → ((c : ℕ) → c < 1114112

@@ -1,9 +1,9 @@
 //! Reads table files of the Unicode Character Database, and looks up characters in them.
 //!
-//! Each line of a file is checked against the file's grammar. The lines may be in any order. An error gives
+//! Each line of a file is checked against the file's grammar. The lines may be in any order. An error reports
 //! the file, the line and the cause. The properties of each code point are stored in 16 bits, in pages, so a
-//! lookup is two reads. Two of these bits say whether a character is a bracket and whether it has a mirror.
-//! The bracket's pair and the mirror are stored in maps.
+//! lookup needs two reads. Two of these bits say whether a character is a bracket and whether it has a
+//! mirror. The bracket's pair and the mirror are stored in maps.
 //!
 //! `Tables` are made from the contents of the seven files in `FILE_NAMES`, which are passed as `UcdFiles`.
 //! All other crates use the tables:

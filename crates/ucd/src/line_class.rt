@@ -74,10 +74,10 @@ pub(crate) const LINE_CLASS_COUNT: usize = 49;
 /// The number of classes of Unicode 15.0, which are the first ones.
 pub(crate) const LINE_CLASS_COUNT_15: usize = 43;
 
-/// The number of line numbers. A line number encodes a class and a detail (specs/LineNumbers.antt).
+/// The number of line-breaking numbers. Each encodes a class and a detail (specs/LineNumbers.antt).
 pub(crate) const LINE_NUMBER_COUNT: usize = 56;
 
-// The classes in the order of the enum, from which the lists of variants and names are made.
+// The classes in the order of the enum. The lists of variants and of names are generated from them.
 macro_rules! classes {
     ($list:ident) => {
         $list! {
@@ -97,7 +97,7 @@ macro_rules! classes_15 {
     };
 }
 
-// The class in each line number.
+// The class that each line-breaking number encodes.
 macro_rules! numbered {
     ($list:ident) => {
         $list! {
@@ -145,7 +145,7 @@ impl LineClass {
         named(&ALL_15, name)
     }
 
-    /// Returns the class in a line number.
+    /// Returns the class that a line-breaking number encodes.
     pub(crate) fn in_number(number: usize) -> LineClass
         requires { number < LINE_NUMBER_COUNT }
         ensures { result ≡ slice_index_or numbered_classes number BK }
@@ -153,7 +153,8 @@ impl LineClass {
         NUMBERED[number]
     }
 
-    // Returns the class itself if the version has it, or else XX. A file of the version has no other classes.
+    // Returns the class itself if the version has it, or else XX. A file of this version contains no other
+    // classes.
     fn in_version(self, version: Version) -> LineClass
         ensures { result ≡ line_class_in version self }
     {
@@ -177,7 +178,7 @@ fn named(classes: &[LineClass], name: &[u8]) -> Option<LineClass>
     classes.iter().copied().find(|class| class.name() == name)
 }
 
-// Returns the class with this short name, if it is one of those that nearly all lines of LineBreak.txt name.
+// Returns the class with this short name, if it is one of those on nearly all lines of LineBreak.txt.
 fn frequent(name: &[u8]) -> Option<LineClass>
     ensures all { IfSome result (λ class. Some class ≡ class_named name.now) }
     ensures first { IfSome result (λ class. Some class ≡ class_named_15 name.now) }

@@ -1,4 +1,4 @@
-//! What the line breaking rules of Unicode 17.0 need to know about a character beside its class.
+//! What the line breaking rules of Unicode 17.0 need to know about a character besides its class.
 ghost use Rattle.std.specs.Prelude.{◌≡◌, ◌<◌, slice_index_or};
 ghost use Rattle.ucd.specs.LineNumbers.{numbered_details};
 ghost use Rattle.ucd.specs.declared.line_detail.LineDetail.TheVariants.{Plain};
@@ -19,7 +19,7 @@ pub enum LineDetail {
     DottedCircle,
 }
 
-// The detail in each line number.
+// The detail that each line-breaking number encodes.
 #[rattlefmt::skip]
 static NUMBERED: [LineDetail; LINE_NUMBER_COUNT] = [
     LineDetail::Plain, LineDetail::Plain, LineDetail::Plain, LineDetail::Plain, LineDetail::Plain,
@@ -37,7 +37,7 @@ static NUMBERED: [LineDetail; LINE_NUMBER_COUNT] = [
 ];
 
 impl LineDetail {
-    /// Returns the detail in a line number.
+    /// Returns the detail that a line-breaking number encodes.
     pub(crate) fn in_number(number: usize) -> LineDetail
         requires { number < LINE_NUMBER_COUNT }
         ensures { result ≡ slice_index_or numbered_details number Plain }

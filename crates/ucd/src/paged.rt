@@ -79,7 +79,7 @@ impl PagedTables {
     }
 
     /// Decodes an image. Its parts are checked in the order of `ImageFault`. Allocates nothing before the
-    /// frame, the page numbers and the entries have passed.
+    /// frame, the page numbers and the entries have been checked.
     pub fn from_image(alloc: Global, bytes: &[u8]) -> Result<PagedTables, ImageFault>
         ensures ok { IfOk result (IsImageOf bytes.now) }
         ensures err { IfErr result (IsImageFault bytes.now) }
@@ -97,8 +97,8 @@ impl PagedTables {
         })
     }
 
-    /// Encodes the tables as an image, in which no two pages are equal. Only LF and CR end paragraphs in the
-    /// image if it `separates` lines.
+    /// Encodes the tables as an image, in which no two pages are equal. If `separates` is set, only LF and CR
+    /// end paragraphs in the image.
     pub fn to_image(&self, alloc: Global, separates: bool) -> Result<Vec<u8>, AllocError>
         ensures image { IfOk result (λ image. IsImageOf image.items (contents_if separates self.now)) }
         ensures distinct { IfOk result (λ image. AreImagePagesDistinct image.items) }
@@ -178,7 +178,8 @@ impl PagedTables {
         requires { length properties.old ≡ length text.now }
         ensures { properties.new ≡ map (properties_of self.now) text.now }
     {
-        // Lists that are borrowed once stay in registers. Otherwise, each write could change where they are.
+        // Borrowed once, the lists stay in registers. Otherwise, the compiler must assume that each write may
+        // move them.
         let index = self.pages.index.as_slice();
         let entries = self.pages.entries.as_slice();
         for k in 0..text.len() {

@@ -1,5 +1,5 @@
-//! The properties of each code point, in pages of 256 code points. An index has the page number of each block
-//! of 256 code points. Adjacent equal pages are stored once.
+//! The properties of each code point, in pages of 256 code points. An index holds the page number of each
+//! block of 256 code points. Adjacent equal pages are stored once.
 ghost use Rattle.std.specs.Prelude.{◌≡◌, ◌≢◌, ℕ, ◌+◌, ◌*◌, ◌%◌, ◌<◌, ◌≤◌};
 ghost use Rattle.std.specs.Prelude.{length, slice_index, slice_index_or};
 ghost use Rattle.std.specs.Prelude.{nat_le, nat_lt, ◌&&◌, false, true, if◌then◌else◌, IfOk, IsTrue};
@@ -23,7 +23,7 @@ pub const PAGE: usize = 256;
 /// The number of pages that all code points would need if none were shared.
 pub const PLACES: usize = 4_352;
 
-/// The pages, one after another, and the page number of each block of 256 code points.
+/// The concatenated pages, and the page number of each block of 256 code points.
 #[derive(Debug, Drop)]
 pub struct Pages {
     pub(crate) index: Vec<u16>,
@@ -68,8 +68,8 @@ pub fn entry_of(index: &[u16], entries: &[Properties], c: char) -> Properties
     entries[index[point / PAGE] as usize * PAGE + point % PAGE]
 }
 
-/// Returns the pages of all code points. Blocks inside one run are not looked at: they have the page of the
-/// block before.
+/// Returns the pages of all code points. A block in the same run as the whole block before it is not
+/// examined: both have the same page.
 pub fn pages_of(alloc: Global, version: Version, entries: &Entries) -> Result<Pages, AllocError>
     ensures { IfOk result (λ pages. (c : ℕ) → c < 1114112
         → answers_at pages.index.items pages.entries.items c ≡ said (layers_of version entries.now) c) }
@@ -155,8 +155,8 @@ fn are_usual(index: &[u16], entries: &[Properties]) -> bool
     !(ascii | latin | low | before | after | high)
 }
 
-// Returns whether any code point of the blocks in `first..end` has class B. Does not look at a block that has
-// the page of the block before.
+// Returns whether any code point of the blocks in `first..end` has class B. Skips a block that has the same
+// page as the block before it.
 fn blocks_have_separator(index: &[u16], entries: &[Properties], first: usize, end: usize) -> bool
     requires places { length index.now ≡ 4352 }
     requires within { (p : ℕ) → p < 4352 → slice_index index.now p * 256 + 256 ≤ length entries.now }
@@ -197,7 +197,7 @@ fn block_has_separator(
 }
 
 // Returns whether any of the entries in `first..end` has class B. Reads all of them, which is faster than
-// leaving the loop early.
+// exiting the loop early.
 fn has_separator(entries: &[Properties], first: usize, end: usize) -> bool
     requires { (first ≤ end) × (end ≤ length entries.now) }
     ensures no { result ≡ false → (c : ℕ) → first ≤ c → c < end

@@ -1,7 +1,7 @@
 //! Parses most lines of the table files in one pass.
 //!
 //! Most lines have the form `X ; NAME # COMMENT` or `X..Y ; NAME # COMMENT`, and some have no comment. A line
-//! of another form is left to `grammar`, which cuts and trims a line several times.
+//! of another form is left to `grammar`, which splits and trims a line several times.
 ghost use Rattle.std.specs.Prelude.{◌≡◌, ◌<◌, ◌≤◌, length, slice_index, take, true, IfSome, IsTrue, Some};
 ghost use Rattle.ucd.specs.Grammar.{code_point, points_of};
 ghost use Rattle.ucd.specs.PlainLines.{AreSpaces, AreWord, IsPlain, IsWordByte};
@@ -106,7 +106,7 @@ fn is_end(line: &[u8], at: usize) -> bool
     at == line.len() || line[at] == b'#'
 }
 
-// Digits, dots, letters and the underscore, among others: no white space, no separator, and only ASCII.
+// Accepts digits, dots, letters, the underscore and some other ASCII bytes, but no white space, `#` or `;`.
 fn is_word(byte: u8) -> bool
     ensures { IsTrue result → IsWordByte byte }
 {

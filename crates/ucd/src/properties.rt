@@ -10,7 +10,8 @@ use crate::line_detail::LineDetail;
 use crate::version::Version;
 use std::marker::Model;
 
-/// The number of values of `Properties::line_index`: 8 for each value of six bits.
+/// The number of values of `Properties::line_index`: 8 for each value of the six bits of a line-breaking
+/// number.
 pub const LINE_INDEX_COUNT: usize = 512;
 
 // Returns whether a code point is one of U+001C to U+001E, U+0085 and U+2029.
@@ -23,11 +24,11 @@ fn is_rare_separator(point: u32) -> bool
 
 /// The properties of one character, except the other bracket of its pair and its mirror.
 ///
-/// From the lowest bit: five bits for the bidi class, five flags, and six bits for the line number, which
-/// encodes the line breaking class and its detail. The flags say, in order, whether the character is a
+/// From the lowest bit: five bits for the bidi class, five flags, and six bits for the line-breaking number,
+/// which encodes the line breaking class and its detail. The flags say, in order, whether the character is a
 /// bracket, has a mirror, is a future pictograph, is a mark, and is wide. There can be up to 32 bidi classes
-/// and 64 line numbers. All 16 bits are used. Another property would require a `u32`, and so pages of twice
-/// the size.
+/// and 64 line-breaking numbers. All 16 bits are used. Another property would require a `u32`, which would
+/// double the size of pages.
 #[derive(Clone, Copy, Debug)]
 pub struct Properties {
     bits: u16,
@@ -60,7 +61,7 @@ impl Properties {
     ghost use Rattle.ucd.specs.declared.category.Category.TheVariants.{InitialQuote, FinalQuote};
     ghost use Rattle.ucd.specs.declared.version.Version.{Version};
 
-    /// Returns the properties of a character that no line names: bidi class `L`, line breaking class `XX`,
+    /// Returns the properties of a character that no line lists: bidi class `L`, line breaking class `XX`,
     /// and no flags.
     pub(crate) fn unnamed() -> Properties
         ensures { result ≡ unnamed }
@@ -102,7 +103,7 @@ impl Properties {
         }
     }
 
-    // Returns the properties with another line number.
+    // Returns the properties with another line-breaking number.
     fn with_number(self, number: u16) -> Properties
         requires { number < 56 }
         ensures { result ≡ record self {
@@ -127,7 +128,7 @@ impl Properties {
         }
     }
 
-    /// Returns these properties, or those of `for_lines`.
+    /// Returns the result of `for_lines` if `separates` is set, and otherwise these properties.
     #[inline]
     pub(crate) fn for_lines_if(self, separates: bool, point: u32) -> Properties
         ensures { result ≡ answers_if separates point self }
@@ -215,8 +216,8 @@ impl Properties {
         }
     }
 
-    /// Returns whether the bits encode properties: the bidi class and the line number are in range, and no
-    /// mark is a future pictograph.
+    /// Returns whether the bits encode properties: the bidi class and the line-breaking number are in range,
+    /// and no mark is a future pictograph.
     pub(crate) fn are_bits(version: Version, bits: u16) -> bool
         ensures { result ≡ is_entry version bits }
     {
@@ -276,7 +277,7 @@ impl Properties {
         LineClass::in_number((self.bits / 1024) as usize)
     }
 
-    /// Returns what the rules of Unicode 17.0 need to know beside the line breaking class.
+    /// Returns what the rules of Unicode 17.0 need to know besides the line breaking class.
     pub fn line_detail(self) -> LineDetail
         ensures { result ≡ self.line_detail }
     {
@@ -318,8 +319,8 @@ impl Properties {
         self.bits / 64 % 2 == 1
     }
 
-    /// Returns all that line breaking needs as one number: 8 times the line number, plus three flags. The
-    /// flags are 4 for a wide character, 2 for a mark and 1 for a future pictograph. The line number of a
+    /// Returns everything that line breaking needs as one number: 8 times the line-breaking number, plus 4
+    /// for a wide character, 2 for a mark and 1 for a future pictograph. The line-breaking number of a
     /// character without a detail is the index of its line breaking class in `LineClass`.
     pub fn line_index(self) -> usize
         ensures index { result ≡ line_index self }

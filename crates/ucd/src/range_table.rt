@@ -1,4 +1,4 @@
-//! The entries of a file, in the order of its lines, and the code points that they name.
+//! The entries of a file, in the order of its lines, and the code points that they cover.
 ghost use Rattle.std.specs.Prelude.{◌≡◌, ◌<◌, ◌≤◌, nat_le, nat_lt, ◌&&◌, if◌then◌else◌, IsTrue};
 ghost use Rattle.std.specs.Prelude.{ℕ, List, [], true, false, length, slice_index_or};
 ghost use Rattle.std.specs.Prelude.{IfOk, IfErr, OnOk, OnErr, ◌⊎◌, IsErrOf};
@@ -15,7 +15,7 @@ use std::marker::Model;
 pub const CODE_POINTS: usize = 0x110000;
 
 /// The entries of a file. No two entries have a character in common. A flag for each code point says whether
-/// an entry names it, so the cost of adding a line does not depend on the order of the lines.
+/// an entry covers it, so the cost of adding a line does not depend on the order of the lines.
 #[derive(Drop)]
 pub struct RangeTable<V> {
     entries: Vec<Entry<V>>,
@@ -121,9 +121,9 @@ impl<V: Copy> RangeTable<V> {
         self.insert(above)
     }
 
-    /// Gives the entry's value to each character from its first code point to its last, skipping surrogates.
-    /// Fails with `NamedBefore` if one of these characters already has a value, even if memory runs out.
-    /// After an error, the table must not be used.
+    /// Assigns the entry's value to each character from its first code point to its last, skipping
+    /// surrogates. Fails with `NamedBefore` if one of these characters already has a value, even if memory
+    /// runs out. After an error, the table must not be used.
     pub fn add(&mut self, entry: Entry<V>) -> Result<(), Cause>
         ensures ok { OnOk result (AddsCharacters self.old self.new entry) }
         ensures taken { IsErrOf result Cause.NamedBefore → IsTaken self.old entry }

@@ -1,7 +1,7 @@
-//! The entries of a file in rising order.
+//! The entries of a file in ascending order.
 //!
-//! Most files have their lines in rising order, or in a few runs of such lines. So the entries of all lines
-//! are collected, sorted and compared with their neighbours. This needs no flags for code points, but it does
+//! The lines of most files are in ascending order, or form a few ascending runs. So the entries of all lines
+//! are collected, sorted and compared with their neighbours. This needs no flag for each code point, but does
 //! not find the first faulty line.
 ghost use Rattle.std.specs.Prelude.{◌≡◌, List, ◌++◌, false, IsTrue, OnOk, IfOk, IfSome, IsOk};
 ghost use Rattle.ucd.specs.declared.grammar.Entry.{Entry};
@@ -17,7 +17,7 @@ use crate::version::Version;
 use std::alloc::{AllocError, Global};
 use std::marker::Model;
 
-/// Entries in rising order, which have no characters in common.
+/// Entries in ascending order. No two of them have a character in common.
 #[derive(Drop)]
 pub struct RisingEntries<V> {
     entries: Vec<Entry<V>>,
@@ -49,7 +49,7 @@ impl<V: Property> RisingEntries<V> {
         let Ok(mut entries) = collect(alloc, version, file) else {
             return None;
         };
-        // A file has few runs of rising lines, which a stable sort merges.
+        // The lines form a few ascending runs, which a stable sort merges.
         if entries.sort_by_key(|entry| entry.first).is_err() {
             return None;
         }
@@ -60,7 +60,7 @@ impl<V: Property> RisingEntries<V> {
     }
 }
 
-// Returns whether each entry has a valid range after the entry before it.
+// Returns whether each entry has a valid range that starts after the end of the entry before it.
 fn are_rising<V: Copy>(entries: &[Entry<V>]) -> bool
     ensures yes { IsTrue result → AreRisingFrom 0 entries.now }
     ensures no { result ≡ false → ¬ (AreRisingFrom 0 entries.now) }
@@ -75,7 +75,7 @@ fn are_rising<V: Copy>(entries: &[Entry<V>]) -> bool
     true
 }
 
-// Returns the entries of all lines, in the order of the lines. Different lines may name the same character.
+// Returns the entries of all lines, in the order of the lines. Different lines may list the same character.
 fn collect<V: Property>(
     alloc: Global,
     version: Version,

@@ -1,7 +1,7 @@
 //! Runs of code points with the same properties.
 //!
-//! The entries of all files, and those that a version adds, are passed once, side by side. A run ends where
-//! an entry begins or ends.
+//! One pass goes through the entries of all files in parallel, and through those that a version adds. A run
+//! ends where an entry begins or ends.
 ghost use Rattle.std.specs.Prelude.{◌≡◌, ℕ, ◌<◌, ◌≤◌, List};
 ghost use Rattle.ucd.specs.declared.grammar.Entry.{Entry};
 ghost use Rattle.ucd.specs.Entries.{value_at};
@@ -32,7 +32,7 @@ pub struct Run {
     pub properties: Properties,
 }
 
-/// The entries of a file that have not been passed.
+/// The remaining entries of a file.
 #[derive(Drop)]
 pub struct Cursor<'a, V> {
     entries: &'a [Entry<V>],
@@ -64,7 +64,8 @@ impl<'a, V: Layer> Cursor<'a, V> {
         Cursor { entries }
     }
 
-    // Passes the entries that end before `point`. Most runs pass none of most files, which needs no loop.
+    // Skips the entries that end before `point`. Most runs skip no entry of most files, and then no loop is
+    // needed.
     fn pass(&mut self, point: usize)
         ensures values { (c : ℕ) → point ≤ c
             → value_at self.new c ≡ value_at self.old c }
@@ -95,7 +96,7 @@ impl<'a, V: Layer> Cursor<'a, V> {
         left
     }
 
-    // Applies the value at the run's start, and ends the run where the entries give another value.
+    // Applies the value at the run's start, and ends the run where the value in the entries changes.
     fn applied(&self, version: Version, run: Run) -> Run
         requires ends { EndsFrom run.start self.now }
         requires run { run.start < run.end }
@@ -124,7 +125,7 @@ impl<'a, V: Layer> Cursor<'a, V> {
     }
 }
 
-/// The entries that have not been passed.
+/// The remaining entries of all files.
 #[derive(Drop)]
 pub struct Left<'a> {
     version: Version,
@@ -160,7 +161,7 @@ impl<'a> Left<'a> {
         }
     }
 
-    // Passes the entries that end before `point`.
+    // Skips the entries that end before `point`.
     fn pass(&mut self, point: usize)
         ensures said { (c : ℕ) → point ≤ c
             → said (layers_left self.new) c ≡ said (layers_left self.old) c }

@@ -75,7 +75,7 @@ impl Tables {
     }
 
     /// Reads tables of a version from its files, like `read`. In tables of 17.0, characters that the first
-    /// file does not list have the bidi classes of its `@missing` lines.
+    /// file does not list have the bidi classes from its `@missing` lines.
     pub fn read_as(
         alloc: Global,
         version: Version,
@@ -93,9 +93,9 @@ impl Tables {
         }
     }
 
-    /// Decodes a compiled image of tables, as `to_image` makes them. Fails with the first fault of the image
-    /// (docs/reference.md), or if memory runs out. Allocates nothing before the faults up to `Entry` are
-    /// ruled out. Linear in the length of the image.
+    /// Decodes a compiled image of tables, as returned by `to_image`. Fails with the first fault of the image
+    /// (docs/reference.md), or if memory runs out. Allocates nothing before the faults up to `Entry` have
+    /// been ruled out. Linear in the length of the image.
     pub fn from_image(alloc: Global, bytes: &[u8]) -> Result<Tables, ImageFault>
         ensures ok { IfOk result (IsImageOf bytes.now) }
         ensures err { IfErr result (IsImageFault bytes.now) }
@@ -126,7 +126,7 @@ impl Tables {
         Ok(Tables::in_shared(shared))
     }
 
-    // Returns the tables in a block of memory.
+    // Returns the tables in a shared block of memory.
     fn in_shared(shared: Arc<PagedTables>) -> Tables
         ensures { result ≡ arc_value shared }
     {
@@ -149,9 +149,9 @@ impl Tables {
     }
 
     /// Returns tables in which only LF and CR end paragraphs: U+001C to U+001E, U+0085 and U+2029 have bidi
-    /// class S (segment separator) if they had B. All else is unchanged, also the line breaking classes, by
-    /// which U+0085 and U+2029 still end lines. Nothing is copied, as in `copy`. `alloc` is not used. Fails
-    /// only if the tables already have 2^63 owners.
+    /// class S (segment separator) if they had B. Everything else is unchanged, including the line breaking
+    /// classes, so U+0085 and U+2029 still end lines. Nothing is copied, as in `copy`. `alloc` is not used.
+    /// Fails only if the tables already have 2^63 owners.
     pub fn with_line_separators(&self, _alloc: Global) -> Result<Tables, AllocError>
         ensures tables { IfOk result (λ tables. tables ≡ with_line_separators self.now) }
         ensures separates { IfOk result (SeparatesLines self.now) }
@@ -170,7 +170,7 @@ impl Tables {
         self.shared.version()
     }
 
-    /// States that tables of Unicode 15.0 give no character a class or a detail of a later version.
+    /// States that tables of Unicode 15.0 assign no class or detail of a later version to any character.
     pub fn classes_fit_version(&self)
         ensures { self.now.version ≡ V15_0 → (c : ℕ) → c < 1114112
             → (line_tag (line_class_of self.now c) < LINE_CLASS_COUNT_15)
@@ -179,8 +179,8 @@ impl Tables {
         self.shared.properties_fit_version();
     }
 
-    /// Returns the bidi class. If no line names the character, it is `L`, or with tables of Unicode 17.0 the
-    /// class in an `@missing` line of the file.
+    /// Returns the bidi class. If no line lists the character, it is `L`, or in tables of Unicode 17.0 the
+    /// class from an `@missing` line of the file.
     pub fn bidi_class(&self, c: char) -> BidiClass
         ensures { result ≡ class_of self.now c }
     {
@@ -211,14 +211,14 @@ impl Tables {
         self.shared.mirror(c)
     }
 
-    /// Returns the line breaking class, which is `XX` if no line names the character.
+    /// Returns the line breaking class, which is `XX` if no line lists the character.
     pub fn line_class(&self, c: char) -> LineClass
         ensures { result ≡ line_class_of self.now c }
     {
         self.properties(c).line_class()
     }
 
-    /// Returns what the rules of Unicode 17.0 need to know beside the line breaking class. With tables of
+    /// Returns what the rules of Unicode 17.0 need to know besides the line breaking class. In tables of
     /// Unicode 15.0, it is always `Plain`.
     pub fn line_detail(&self, c: char) -> LineDetail
         ensures { result ≡ line_detail_of self.now c }
@@ -241,7 +241,7 @@ impl Tables {
     }
 
     /// Returns whether the character is Extended_Pictographic and unassigned (category Cn). A character that
-    /// no line names has category Cn.
+    /// no line lists has category Cn.
     pub fn is_future_pictograph(&self, c: char) -> bool
         ensures { result ≡ is_future_pictograph_in self.now c }
     {

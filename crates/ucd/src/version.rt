@@ -14,7 +14,7 @@ pub enum Version {
 }
 
 impl Version {
-    /// Returns the number of line numbers. A line number encodes a line breaking class and a detail.
+    /// Returns the number of line-breaking numbers. Each encodes a line breaking class and a detail.
     pub(crate) fn number_count(self) -> u16
         ensures { result ≡ number_count self }
     {
@@ -24,7 +24,7 @@ impl Version {
         }
     }
 
-    /// Returns the number of the version in images.
+    /// Returns the number that encodes the version in images.
     pub(crate) fn number(self) -> u32
         ensures { result ≡ version_number self }
     {

@@ -1,4 +1,4 @@
--- The table has the value of each byte.
+-- The table holds the value of each byte.
 use Rattle.std.proofs.Common.{◌≡◌, ℕ, ◌<◌, ◌∙◌, map, get_or, if◌then◌else◌, refl, ap, zero-add, arith}
 use Rattle.std.specs.List.{range_with_len}
 use Rattle.std.specs.Char.{is_ascii_hexdigit, digit_value}

@@ -3,7 +3,7 @@ use Rattle.ucd.specs.Grammar.{lines_of}
 use Rattle.ucd.proofs.FileLines.{HoldsLines, lines_left, size_left}
 use Rattle.ucd.proofs.file.read_file.Given as goal
 
--- the entries have the values of the first `line` lines, and `rest` is the text after these lines
+-- the entries hold the values of the first `line` lines, and `rest` is the text after these lines
 abbrev pub invariant-loop-rest : goal.invariant-loop-rest
 invariant-loop-rest g l = record {
   held : HoldsLines (g.V.Property.form l.version) (lines_of l.file) l.line l.table;

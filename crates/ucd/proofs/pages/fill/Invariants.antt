@@ -5,7 +5,7 @@ use Rattle.ucd.specs.Runs.{ReachesTo}
 use Rattle.ucd.specs.Said.{said}
 use Rattle.ucd.proofs.pages.fill.Given as goal
 
--- the run reaches `point`, and the page has the properties of the code points before it
+-- the run reaches `point`, and the page holds the properties of the code points before it
 abbrev pub invariant-loop-point : goal.invariant-loop-point
 invariant-loop-point l = record {
   len : length l.page ≡ 256;

@@ -6,7 +6,7 @@ use Rattle.ucd.specs.Rising.{AreRead, entries_by, entries_in}
 use Rattle.ucd.proofs.FileLines.{first_left, lines_left}
 use Rattle.ucd.proofs.rising.collect.Goals as goal
 
--- the entry of the first line that is left moves to the entries collected
+-- the entry of the first remaining line moves to the collected entries
 module _ {V : Type 0} (form : Form V) (text front : List ℕ) (rest : Option (List ℕ)) (parts : lines_of text ≡ parts_of 10 front rest) where
   moved : (old new all : List (Entry V)) → new ≡ old ++ entries_by (reading_of form front) → old ++ entries_in form (lines_of text) ≡ all → new ++ entries_in form (lines_left rest) ≡ all
   moved old new all adds before =

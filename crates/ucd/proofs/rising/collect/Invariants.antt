@@ -4,7 +4,7 @@ use Rattle.ucd.specs.Rising.{entries_in, AreRead}
 use Rattle.ucd.proofs.FileLines.{lines_left, size_left}
 use Rattle.ucd.proofs.rising.collect.Given as goal
 
--- the entries of the lines that are left follow those collected, and only these lines may be faulty
+-- the entries of the remaining lines follow the collected ones, and only the remaining lines may be faulty
 abbrev pub invariant-loop-rest : goal.invariant-loop-rest
 invariant-loop-rest g l = record {
   entries : l.entries.items ++ entries_in (g.V.Property.form l.version) (lines_left (option_map (λ rest. rest.now) l.rest)) ≡ entries_in (g.V.Property.form l.version) (lines_of l.file);

@@ -8,7 +8,7 @@ use Rattle.ucd.specs.Pages.{answers_at}
 use Rattle.ucd.proofs.ImageTables.{sound, says}
 use Rattle.ucd.proofs.paged.PagedTables.from_image.Goals as goal
 
--- the pages have the properties of the image, and the maps its brackets and mirrors
+-- the pages hold the properties of the image, and the maps hold its brackets and mirrors
 pub invariant_of-result : goal.invariant_of-result
 invariant_of-result c =
     let same : (x : ℕ) → x < 1114112 → answers_at c.into_pages.result.index.items c.into_pages.result.entries.items x ≡ answers_in (bits_at c.args.bytes.now x) =

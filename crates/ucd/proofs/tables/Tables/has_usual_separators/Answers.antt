@@ -4,7 +4,7 @@ use Rattle.ucd.specs.Tables.{class_of}
 use Rattle.ucd.proofs.LineLemmas.{usual_if, unusual_if}
 use Rattle.ucd.proofs.tables.Tables.has_usual_separators.Goals as goal
 
--- characters that are no usual separators keep their classes
+-- characters that are not usual separators keep their classes
 pub returns-clause-yes : goal.returns-clause-yes
 returns-clause-yes c = λ is x lt other separates.
     usual_if c.self.inside.separates_lines (arc_value c.self.inside.shared) x lt

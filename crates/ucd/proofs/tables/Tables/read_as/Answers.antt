@@ -8,7 +8,7 @@ use Rattle.ucd.proofs.PagedLemmas.{value_singles, below_limit}
 use Rattle.ucd.specs.Tables.{class_of, bracket_of, mirror_of, line_class_of, line_detail_of, is_wide_in, is_mark_in, is_future_pictograph_in}
 use Rattle.ucd.proofs.tables.Tables.read_as.Goals as goal
 
--- the entries have the values of the files, and the pages have the values of the entries
+-- the entries hold the values of the files, and the pages hold the values of the entries
 pub returns-in-Ok-clause-ok : goal.returns-in-Ok-clause-ok
 unfolding class_of bracket_of mirror_of line_class_of line_detail_of is_wide_in is_mark_in is_future_pictograph_in
 returns-in-Ok-clause-ok c =
@@ -42,6 +42,6 @@ returns-in-Ok-clause-ok c =
       };
     }
 
--- the files give no class that the version lacks
+-- the files assign no class that is missing in the version
 pub of-tables-requires : goal.of-tables-requires
 of-tables-requires c = λ x is. rw (c.in_ok-entries.ensures.line_classes.values x is) (file_fits c.args.version (lines_of c.args.files.now.line_break.now) x)

@@ -5,7 +5,7 @@ use Rattle.ucd.specs.LineTables.{SeparatesLines}
 use Rattle.ucd.proofs.LineLemmas.{changed_if, separates_lines}
 use Rattle.ucd.proofs.tables.Tables.with_line_separators.Goals as goal
 
--- tables that separate lines already are changed again, to no effect
+-- tables that already separate lines are changed again, which has no effect
 pub returns-clause-tables : goal.returns-clause-tables
 returns-clause-tables c =
     ap with_line_separators c.in_ok-shared.ensures
