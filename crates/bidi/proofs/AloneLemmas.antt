@@ -26,7 +26,7 @@ put-within (value ∷ values) levels a e =
     ∙ append_assoc (take a levels) (value ∷ []) (values ++ rest)
     ∙ ap (λ n. take a levels ++ ((value ∷ values) ++ drop n levels)) (sym next)
 
--- reading the items at consecutive indices gives that part of the list
+-- reading the items at consecutive indices yields that part of the list
 pub range-part : {X : Type 0} (xs : List X) (d : X) (start n : ℕ) → start + n ≤ length xs → map (λ k. get_or xs k d) (range_with_len start n) ≡ take n (drop start xs)
 range-part xs d start zero within = refl
 range-part xs d start (suc n) within =

@@ -62,7 +62,7 @@ map_agree : (f g : ℕ → Bool) (xs : List ℕ) → ((x : ℕ) → f x ≡ g x)
 map_agree f g [] same = refl
 map_agree f g (x ∷ xs) same = ap₂ (λ b bs. b ∷ bs) (same x) (map_agree f g xs same)
 
--- from lanes that were computed by position to the bits
+-- the bits of lanes that were computed by position
 pub bits_by_position : (block lanes : List ℕ) (f : ℕ → ℕ) → lanes ≡ map f positions → ((k : ℕ) → top 7 (f k) ≡ leads_at block k)
     → mask_l (map (top 7) lanes) % 2 ^ 64 ≡ mask_l (map (leads_at block) positions)
 bits_by_position block lanes f is same =

@@ -95,7 +95,7 @@ pub no_Row : (marks : List Bool) (p q : ℕ) → q < length marks → (Row marks
 no_Row marks p q within none =
     elim (cases_Bool (is_set_with marks p q)) [ inl set ↦ absurd (none (set-Row marks p q within set)) | inr free ↦ free ]
 
--- Setting the bracket at p gives the new direction to the bracket and the marks directly after it. All other
+-- Setting the bracket at p sets the types of the bracket and the marks directly after it to the direction. All other
 -- types stay the same.
 pub set_with-at : (marks : List Bool) (d : BidiClass) (types : List BidiClass) (p q : ℕ) (e : BidiClass) → q < length types
     → get_or (set_with marks d types p) q e ≡ (if is_set_with marks p q then d else class_at types q)
@@ -342,8 +342,8 @@ take-set_pair marks types a b (Some d) front within sizes =
     take-set_with marks d (set_with marks d types a) b a front (omega arith) (omega arith) ∙ take-set_with marks d types a a (omega arith) within sizes
 take-set_pair marks types a b None front within sizes = refl
 
--- The state of the pass over the indices of openers. Resolving the pairs from k on in the current types gives
--- the result of N0.
+-- The state of the pass over the indices of openers. Resolving the pairs from k on in the current types yields the
+-- result of N0.
 pub record Resolved (embedding sos : BidiClass) (explicit : List BidiClass) (closers : List ℕ) (old current : List BidiClass) (k : ℕ) : Type 0 where
   pub changed : Changed closers old current k
   pub so_far : fold (λ types a. pair_step embedding sos (map is_mark explicit) types a (closer_in closers a)) current (range_with_len k (length old - k))
@@ -423,7 +423,7 @@ pub context-more : (sos : BidiClass) (types : List BidiClass) (k : ℕ) (e : Bid
     → context sos types (k + 1) ≡ (if is_direction (get_or types k e) then get_or types k e else context sos types k)
 context-more sos types k e within = ap (nearest is_direction sos) (ap reverse (take_more types k e within) ∙ reverse-append (take k types) (get_or types k e ∷ []))
 
--- the flags that the pass computes give the direction of a pair
+-- the flags that the pass computes determine the direction of a pair
 pub direction_is : (sos : BidiClass) (types : List BidiClass) (a b : ℕ) (left embedding same other : Bool) (strong : BidiClass)
     → left ≡ embedding → strong ≡ context sos types a → same ≡ stands left types a b → other ≡ stands (not left) types a b
     → (if same then Some (side left) else (if other then Some (side (if agree left (is_left strong) then left else not left)) else None)) ≡ pair_direction embedding sos types a b

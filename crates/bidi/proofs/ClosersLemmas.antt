@@ -1,5 +1,4 @@
--- Lists of opening brackets: which list of closers they give, and how the pass that finds the pairs changes
--- both.
+-- Lists of opening brackets: the list of closers of each, and how the pass that finds the pairs changes both.
 use Rattle.std.proofs.Common.{◌≡◌, ◌≢◌, ℕ, zero, suc, ◌+◌, ◌<◌, ◌≤◌, ◌==◌, Bool, false, List, ◌++◌, ◌∷◌, [], map, length, take, get_or, set, slice_index, Option, Some, None, unwrap_or, if◌then◌else◌, refl, sym, ap, ◌∙◌, inl, inr, arith}
 use Rattle.std.proofs.lemmas.Bool.{cond-true, cond-false, cases_Bool, cases_eq, cases_lt, cases_order, eq-eqb, ne_eqb}
 use Rattle.std.proofs.lemmas.List.{get_or-take, get_or_append_left, get_or_push, get_or_default, get_or_past, length-take, length_push, get_or-map, length-map, map-append, take-map, get_or-set_same, get_or-set_other, length-set}
@@ -21,7 +20,7 @@ closer_at pairs i = get_or (map (λ (p : BracketPair). p.closer) pairs) i 0
 pub length-closers_by : (pairs : List BracketPair) (len : ℕ) → length (closers_by pairs len) ≡ len
 length-closers_by pairs len = length-closers_of (map as_pair pairs) len
 
--- two lists of opening brackets that give each opener the same closer give the same list of closers
+-- two lists of opening brackets with the same closer for each opener have the same list of closers
 closers_by-same : (pairs others : List BracketPair) (len : ℕ)
     → ((x : ℕ) → x < len → unwrap_or (closer_of (map as_pair pairs) x) len ≡ unwrap_or (closer_of (map as_pair others) x) len)
     → closers_by pairs len ≡ closers_by others len
@@ -145,7 +144,7 @@ places_in-closed (Some m) openers pairs place =
     take-map (λ (o : Opener). opener_at pairs o.index) m openers
     ∙ ap (λ (ns : List ℕ). map (λ (o : Opener). get_or ns o.index 0) (take m openers)) (sym (openers-closed (Some m) openers pairs place))
 
--- an opening bracket at the end of the list leaves the openers before it
+-- an opening bracket at the end of the list leaves the openers before it unchanged
 opener-old : (pairs : List BracketPair) (p : BracketPair) (a : ℕ) → a < length pairs → opener_at (pairs ++ p ∷ []) a ≡ opener_at pairs a
 opener-old pairs p a within =
     let f : BracketPair → ℕ = λ p. p.opener in
@@ -205,7 +204,7 @@ indices-closed (Some n) openers pairs place indices m within =
     ∙ get_or-take n (map f openers) m 0 short in
     omega (arith, indices m (omega (arith, length-take n openers)))
 
--- the order of the opening brackets stays as the pass goes on
+-- the opening brackets stay in order as the pass continues
 pub AreInOrder-start : AreInOrder [] 0
 AreInOrder-start = record { ascending = λ a b lt within. absurd (omega arith); below = λ a within. absurd (omega arith) }
 

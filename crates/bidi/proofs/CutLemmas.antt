@@ -36,8 +36,8 @@ pub no_cut_after : (class_of : ℕ → BidiClass) (a b : ℕ) → class_of a ≢
 no_cut_after class_of a b other =
     ap (λ (t : Bool). t && not (a == 13 && (b == 10 && is_separator (class_of b)))) (not_separator (class_of a) other)
 
--- if none of the first `at` characters is a separator, and none of the first m of the n characters from `at` on, none of
--- the first `at + m` characters is
+-- if none of the first `at` characters is a separator, and none of the next m characters is, none of the first `at + m`
+-- characters is
 pub no_separators_to : (text : List ℕ) (at n m : ℕ) → m ≤ n → AreNoSeparators text at → AreNoSeparators (take n (drop at text)) m
     → AreNoSeparators text (at + m)
 no_separators_to text at n m within before block k lt = elim (cases_lt k at) [
@@ -73,7 +73,7 @@ uncut_next is_cut text last at before here k to inside = elim (cases_lt k at) [
       subst (λ i. is_cut (slice_index text i) (slice_index text (i + 1)) ≡ false) there (here (omega arith))
 ]
 
--- the same, by the index of the character after the boundary
+-- the same, in terms of the index of the character after the boundary
 pub uncut_before : (is_cut : ℕ → ℕ → Bool) (text : List ℕ) (last to : ℕ) → UncutTo is_cut text last to
     → (m : ℕ) → 1 ≤ m → m ≤ to → m ≤ last → is_cut (slice_index text (m - 1)) (slice_index text m) ≡ false
 uncut_before is_cut text last to uncut m from below inside =

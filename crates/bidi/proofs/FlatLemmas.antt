@@ -111,7 +111,7 @@ pub length-carry : (rule : BidiClass → BidiClass → List BidiClass → BidiCl
 length-carry rule test before [] = refl
 length-carry rule test before (type ∷ types) = ap suc (length-carry rule test (if test type then type else before) types)
 
--- the type that is passed on is one that passes, or the one before
+-- the type that is carried along passes the test, or is the one before
 kept-next : (test passes : BidiClass → Bool) (before type : BidiClass) → passes before ≡ true → passes type ≡ true → passes (if test type then type else before) ≡ true
 kept-next test passes before type k p = elim (test type) as (λ b. passes (if b then type else before) ≡ true) [ true ↦ p | false ↦ k ]
 
@@ -170,7 +170,7 @@ separator-step true AN type after k p a = absurd (cc)
 separator-step false AN type after k p a = absurd (cc)
 separator-step left _ type after k p a = p
 
--- in a right-to-left paragraph, no European number is nearest to a run of terminators
+-- in a right-to-left paragraph, the type next to a run of terminators is not a European number
 no_number : (type : BidiClass) → is_turned false type ≡ true → is_number type ≡ false
 no_number EN p = absurd (cc)
 no_number _ p = refl
@@ -349,7 +349,7 @@ fold-calm left n marks closer [] types now = now
 fold-calm left n marks closer (a ∷ places) types now =
     fold-calm left n marks closer places (pair_step (side left) (side left) marks types a (closer a)) (step-calm left n marks types a (closer a) now)
 
--- if all types have the paragraph's direction or are neutral, N1 to I2 give the paragraph level
+-- if all types have the paragraph's direction or are neutral, N1 to I2 result in the paragraph level
 abbrev same : Bool → ℕ → List ℕ
 same left n = replicate n (base left)
 

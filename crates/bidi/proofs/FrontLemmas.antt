@@ -39,8 +39,8 @@ module _ (is_cut : ℕ → ℕ → Bool) where
   onto x y text p ps uncut is =
       ap (λ (t : Bool). if t then (x ∷ []) ∷ paragraphs is_cut (y ∷ text) else onto_first x (paragraphs is_cut (y ∷ text))) uncut ∙ ap (onto_first x) is
 
-  -- if `xs` followed by `a` is a single paragraph, putting `xs` before a text that begins with `a` extends that
-  -- text's first paragraph
+  -- if `xs` followed by `a` is a single paragraph, prepending `xs` to a text that begins with `a` extends that text's
+  -- first paragraph
   pub join : (xs : List ℕ) (a : ℕ) (after p : List ℕ) (ps : List (List ℕ)) → paragraphs is_cut (xs ++ a ∷ []) ≡ (xs ++ a ∷ []) ∷ []
       → paragraphs is_cut (a ∷ after) ≡ p ∷ ps → paragraphs is_cut (xs ++ a ∷ after) ≡ (xs ++ p) ∷ ps
   join [] a after p ps whole splits = splits

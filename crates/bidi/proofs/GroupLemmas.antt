@@ -1,4 +1,4 @@
--- Facts about a list that is visited in groups of one length, of which the last may overlap the one before.
+-- Facts about a list that is visited in groups of one length. The last group may overlap the one before.
 use Rattle.std.proofs.Common.{◌≡◌, ℕ, ◌+◌, ◌-◌, ◌≤◌, ◌&&◌, ◌||◌, Bool, true, false, List, [], ◌++◌, length, map, take, drop, refl, sym, ap, ◌∙◌, arith}
 use Rattle.std.specs.List.{list_all, list_any}
 use Rattle.std.proofs.Math.Seq.{take-add}
@@ -54,7 +54,8 @@ module _ {X : Type 0} (p : X → Bool) (xs : List X) (at last : ℕ) (order : la
       ∙ ap (λ b. b || (list_any p middle || list_any p back)) (sym (any_up_to p xs last at order))
       ∙ ap (λ b. list_any p (take at xs) || b) (sym rest)
 
--- a list whose items before an index pass a test passes it if its items from an earlier index to the end do
+-- if the items before an index pass a test, the whole list passes it if and only if the items from an earlier index on
+-- do
 pub all_by : {X : Type 0} (p : X → Bool) (xs : List X) (at last : ℕ) → last ≤ at → list_all p (take at xs) ≡ true → list_all p xs ≡ list_all p (drop last xs)
 all_by p xs at last order before = all_overlap p xs at last order ∙ ap (λ b. b && list_all p (drop last xs)) before
 
@@ -78,7 +79,7 @@ put_over xs old ys at begin k order within size before here =
     take-put_mid begin k old ys (begin + k) (omega arith) (omega arith)
     ∙ ap (λ zs. zs ++ ys) front ∙ ap (λ zs. take begin xs ++ zs) here ∙ sym (take-add begin k xs)
 
--- the same where the part ends at the end of the list
+-- the same if the part ends at the end of the list
 pub put_over_last : {X : Type 0} (xs old ys : List X) (at begin k : ℕ) → begin ≤ at → begin + k ≡ length xs → length old ≡ length xs
     → take at old ≡ take at xs → ys ≡ take k (drop begin xs) → put_mid begin k old ys ≡ xs
 put_over_last xs old ys at begin k order end size before here =
@@ -89,6 +90,6 @@ put_over_last xs old ys at begin k order end size before here =
     ∙ put_over xs old ys at begin k order (omega arith) size before here
     ∙ take_all (begin + k) xs (omega arith)
 
--- a part of a list after a function
+-- a part of a list to which a function is applied
 pub part_of_map : {X Y : Type 0} (f : X → Y) (xs : List X) (begin k : ℕ) → map f (take k (drop begin xs)) ≡ take k (drop begin (map f xs))
 part_of_map f xs begin k = sym (take-map f k (drop begin xs)) ∙ ap (take k) (sym (drop-map f begin xs))

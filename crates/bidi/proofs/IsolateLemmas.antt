@@ -159,8 +159,7 @@ list_all-range p low (suc count) each =
     and_from (p low) (list_all p (range_with_len (low + 1) count)) (each low (omega arith) (omega arith))
     (list_all-range p (low + 1) count (λ i above below. each i (omega arith) (omega arith)))
 
--- from one index to the next, the count of initiators does not fall, and the count of PDIs rises by at most
--- one
+-- from one index to the next, the count of initiators does not decrease, and the count of PDIs increases by at most one
 pub steps : (classes : List BidiClass) (k : ℕ) → k < length classes → (opened classes k ≤ opened classes (k + 1)) × (closed classes (k + 1) ≤ closed classes k + 1)
 steps classes k h = (
   omega (arith, opened-next classes k h),

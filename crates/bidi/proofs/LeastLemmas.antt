@@ -79,7 +79,7 @@ least_within p low (suc count) end e =
       | inr failed ↦ rw (cond-false (p low) (Some low) (least p (suc low) count) failed) (least_within p (suc low) count end (omega arith))
     ]
 
--- the result is `None` if and only if `unwrap_or`, with the end of the range as the default, gives that end
+-- the result is `None` if and only if `unwrap_or`, with the end of the range as the default, returns that end
 pub least_is_none : (p : ℕ → Bool) (low count end : ℕ) → low + count ≡ end → is_none (least p low count) ≡ (unwrap_or (least p low count) end == end)
 least_is_none p low zero end e = sym (eq-eqb end end refl)
 least_is_none p low (suc count) end e =

@@ -36,7 +36,7 @@ base_level_of-low classes WeakLtr = weak_level-low classes (first_strong classes
 pub length-directed : (classes : List BidiClass) → length (directed classes) ≡ length classes
 length-directed classes = length-map-range_with_len (λ k. directed_at classes k (class_at classes k)) 0 (length classes)
 
--- putting back the characters that X9 removed gives a level for each class
+-- putting back the characters that X9 removed results in a level for each class
 length-put_back : (before : ℕ) (classes : List BidiClass) (levels : List ℕ) → length (put_back before classes levels) ≡ length classes
 length-put_back before [] levels = refl
 length-put_back before (class ∷ classes) [] = ap suc (length-put_back before classes [])

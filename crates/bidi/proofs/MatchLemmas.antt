@@ -1,4 +1,4 @@
--- The pass that finds the matches of initiators. Its stack has the open initiators, the innermost last.
+-- The pass that finds the matches of initiators. Its stack holds the open initiators, the innermost last.
 use Rattle.std.proofs.Common.{◌≡◌, ◌≢◌, ℕ, ◌+◌, ◌-◌, ◌<◌, ◌≤◌, ◌⊎◌, true, false, List, ◌++◌, ◌∷◌, [], length, take, set, get_or, replicate, unwrap_or, refl, sym, ap, ◌∙◌, inl, inr, arith}
 use Rattle.std.proofs.lemmas.Bool.{cond-true, cond-false, cases_eq}
 use Rattle.std.proofs.lemmas.List.{get_or-set_same, get_or-set_other, get_or-take, get_or_append_left, get_or_push, length_push, length-take-le, get_or-replicate, length-replicate, length-set}
@@ -17,8 +17,7 @@ pub record IsOpen (classes : List BidiClass) (k i : ℕ) : Type 0 where
   pub opens : is_initiator (class_at classes i) ≡ true
   pub above : (p : ℕ) → i < p → p ≤ k → opened classes i + closed classes p < opened classes p + closed classes i
 
--- The stack has the initiators that are open at k. Each one is lower than the next, and the last one is lower
--- than k.
+-- The stack holds the initiators that are open at k. Each one is lower than the next, and the last one is lower than k.
 pub record Opens (classes : List BidiClass) (k : ℕ) (stack found : List ℕ) : Type 0 where
   pub size : length found ≡ length classes
   pub item : (m : ℕ) → m < length stack → IsOpen classes k (get_or stack m 0)

@@ -25,7 +25,7 @@ module _ (level : ℕ) (sos eos : BidiClass) where
   side-other : (other type : BidiClass) (types : List BidiClass) → is_neutral type ≡ false → side_of other (type ∷ types) ≡ type
   side-other other type types e = cond-true (not (is_neutral type)) type (side_of other types) (not_from_false (is_neutral type) e)
 
-  -- the pass gives a run of neutrals and the types after it the same levels as the rules
+  -- the levels that the pass finds for a run of neutrals and the types after it are those of the rules
   after-is : (n : ℕ) (before : BidiClass) (front types : List BidiClass) → before ≡ side_of sos front
       → levels_after level eos n before types ≡ replicate n (row_level level before (side_of eos types)) ++ rules front types
   after-is n before front [] e = sym (append-nil (replicate n (row_level level before eos)))
@@ -304,7 +304,7 @@ guessed-first level sos eos types levels size = record {
   guessed = refl;
 }
 
--- the loop of `lower_run` has written the neutrals from `at` up to `end`; it writes one more
+-- the loop of `lower_run` has written the neutrals from `at` up to `end`, and writes one more
 pub run-lower : (types : List BidiClass) (old levels : List ℕ) (level end at : ℕ) → 0 < at → at ≤ end → end ≤ length levels → at ≤ length old
     → take end levels ≡ take at old ++ replicate (end - at) level
     → take end (set levels (at - 1) level) ≡ take (at - 1) old ++ replicate (end - (at - 1)) level
@@ -344,7 +344,7 @@ bit-low : (b : Bool) → (if b then 1 else 0) ≤ 1
 bit-low true = omega arith
 bit-low false = omega arith
 
--- one step of the pass in numbers: the rise of the neutrals beside the type before, and of those beside the type
+-- one step of the pass in numbers: the rise of the neutrals next to the previous type, and of those next to the type
 -- itself
 step-is : (rise : ℕ) (neutral is : Bool) → rise ≤ 1
     → ((rise + (if neutral then 1 else (if is then 2 else 0))) / 2 == 1) ≡ (((rise == 1) && neutral) || (if neutral then false else is))

@@ -20,7 +20,7 @@ level_above-rises opener level =
       | inr even ↦ let e : level_above opener level ≡ level + 2 - level % 2 = cond-false (opens_odd opener) (level + 1 + level % 2) (level + 2 - level % 2) even in omega arith
     ]
 
--- removing the last item of a list gives the items before it
+-- removing the last item of a list leaves the items before it
 take-last : (items front : List Status) (last : Status) → items ≡ front ++ last ∷ [] → take (length items - 1) items ≡ front
 take-last items front last e =
     let size : length items - 1 ≡ length front = omega (arith, ap length e, length-append front (last ∷ [])) in

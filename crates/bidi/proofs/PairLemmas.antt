@@ -250,7 +250,7 @@ other_is_on : (type : BidiClass) → is_other type ≡ true → type ≡ ON
 other_is_on ON e = refl
 other_is_on type e = absurd (false≢true e)
 
--- the list of closers has the index of the closer of each opener, and the length of the list at other indices
+-- the list of closers holds the index of the closer of each opener, and the length of the list at other indices
 pub closers_of-at : (pairs : List Pair) (len i d : ℕ) → i < len → get_or (closers_of pairs len) i d ≡ unwrap_or (closer_of pairs i) len
 closers_of-at pairs len i d within = get_or-map-range_with_len (λ i. unwrap_or (closer_of pairs i) len) 0 len i i d within (omega arith)
 
@@ -423,8 +423,8 @@ module _ (bracket_of : ℕ → Option Bracket) (characters : List ℕ) (types : 
             rw (v.2, w.2) (now.apart a b v.0 w.0 lt v.1 w.1);
       }
 
-  -- The state of the pass after k characters. `openers` has the live openers, in order, and `places` has their
-  -- indices in the text. `closers` has the closers of the pairs found so far.
+  -- The state of the pass after k characters. `openers` holds the live openers, in order, and `places` holds their
+  -- indices in the text. `closers` holds the closers of the pairs found so far.
   pub record Walks (k : ℕ) (places : List ℕ) (openers : List Opener) (closers : List ℕ) : Type 0 where
     pub size : length places ≡ length openers
     pub held : places ≡ lives (live (before k)) k
@@ -592,7 +592,7 @@ module _ (bracket_of : ℕ → Option Bracket) (characters : List ℕ) (types : 
       (least_none (is_full bracket_of characters types) 0 (length types) (λ j from to. now.room j (omega arith)))
       ∙ ap before (sym whole)
 
-  -- the list of closers gives the closer of each opener
+  -- the list of closers holds the closer of each opener
   closer_in-before : (k a : ℕ) → k ≤ length types → a < length types → closer_in (closers_of (before k) (length types)) a ≡ closer_of (before k) a
   closer_in-before k a within below =
       let len = length types in
@@ -612,8 +612,7 @@ module _ (bracket_of : ℕ → Option Bracket) (characters : List ℕ) (types : 
       closer_in-before (unwrap_or (least (is_full bracket_of characters types) 0 (length types)) (length types)) a
       (least_within (is_full bracket_of characters types) 0 (length types) (length types) (omega arith)) below
 
--- folding two functions over consecutive numbers gives the same result if the functions agree on these
--- numbers
+-- folding two functions over consecutive numbers yields the same result if the functions agree on these numbers
 pub fold-same : (f g : List BidiClass → ℕ → List BidiClass) (a n : ℕ) (types : List BidiClass) → ((k : ℕ) (current : List BidiClass) → a ≤ k → k < a + n → f current k ≡ g current k)
     → fold f types (range_with_len a n) ≡ fold g types (range_with_len a n)
 fold-same f g a zero types same = refl

@@ -21,7 +21,7 @@ All-kept P items n test size all =
     let is : get_or (range_with_len 0 n) i d ≡ i = get_or-range_with_len 0 n i d below ∙ zero-add i in
     subst (λ (k : ℕ). P (slice_index items k)) (sym is) (all i 0 (subst (λ (k : ℕ). i < k) (sym size) below))))
 
--- a test of the items before an index and of those up to a later index is a test of both parts
+-- all items up to a later index pass a test if and only if those before the earlier index and those between the two do
 pub all_up_to : {X : Type 0} (p : X → Bool) (xs : List X) (at end : ℕ) → at ≤ end → list_all p (take end xs) ≡ (list_all p (take at xs) && list_all p (take (end - at) (drop at xs)))
 all_up_to p xs at end order =
     let sum : end ≡ at + (end - at) = omega arith in

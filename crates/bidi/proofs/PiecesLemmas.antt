@@ -6,7 +6,7 @@ use Rattle.std.proofs.lemmas.List.{append-nil, take-append-drop, drop_more, take
 use Rattle.bidi.specs.Cuts.{paragraphs}
 use Rattle.bidi.specs.Pieces.{IsPiece, ArePieces, ParagraphsArePieces}
 
--- putting a character before a text does not change the text's last character
+-- prepending a character to a text does not change the text's last character
 last-cons : (a b : ℕ) (text : List ℕ) → slice_index (a ∷ b ∷ text) (length (a ∷ b ∷ text) - 1) ≡ slice_index (b ∷ text) (length (b ∷ text) - 1)
 last-cons a b text = rw (sub-one (length (a ∷ b ∷ text)), sub-one (length (b ∷ text))) refl
 
@@ -15,8 +15,7 @@ concat-onto_first a [] = refl
 concat-onto_first a (part ∷ parts) = refl
 
 module _ (is_cut : ℕ → ℕ → Bool) where
-  -- how putting a character before a text changes its paragraphs, with and without a boundary after the
-  -- character
+  -- how prepending a character to a text changes its paragraphs, with and without a boundary after the character
   paragraphs-cut : (a b : ℕ) (text : List ℕ) → is_cut a b ≡ true → paragraphs is_cut (a ∷ b ∷ text) ≡ (a ∷ []) ∷ paragraphs is_cut (b ∷ text)
   paragraphs-cut a b text = cond-true (is_cut a b) ((a ∷ []) ∷ paragraphs is_cut (b ∷ text)) (onto_first a (paragraphs is_cut (b ∷ text)))
 
@@ -89,7 +88,7 @@ module _ (is_cut : ℕ → ℕ → Bool) where
         | inr joined ↦ let next = paragraphs-cons b text in (b ∷ next.0, next.1, paragraphs-uncut a b text joined ∙ ap (onto_first a) next.2)
       ]
 
-  -- putting a character before the first part keeps the parts valid if there is no boundary after the character
+  -- prepending a character to the first part keeps the parts valid if there is no boundary after the character
   ArePieces-onto_first : (a b : ℕ) (rest : List ℕ) (parts : List (List ℕ)) → is_cut a b ≡ false → ArePieces is_cut ((b ∷ rest) ∷ parts) → ArePieces is_cut ((a ∷ b ∷ rest) ∷ parts)
   ArePieces-onto_first a b rest [] joined piece = IsPiece-cons a b rest joined piece
   ArePieces-onto_first a b rest (next ∷ parts) joined pieces = (IsPiece-cons a b rest joined pieces.0, rw (last-cons a b rest) pieces.1, pieces.2)

@@ -19,7 +19,7 @@ use Rattle.ucd.specs.Classes.{is_removed}
 use Rattle.bidi.specs.Sequences.{changes, direction, eos, first_of, last_of, level_before, level_after, sequences, sequences_from, sos, stayed}
 use Rattle.bidi.proofs.RunLemmas.{first_of-range, last_of-range, runs_from-end, runs_from-run}
 
--- mapping each index to the item there gives the list itself
+-- mapping each index to the item there yields the list itself
 pub range-read : {X : Type 0} (f : ℕ → X) (xs : List X) (d : X) → ((k : ℕ) → k < length xs → f k ≡ get_or xs k d) → map f (range_with_len 0 (length xs)) ≡ xs
 range-read f xs d reads =
     let sizes = length-map-range_with_len f 0 (length xs) in

@@ -113,7 +113,7 @@ match_at-above classes l within =
       | inr other ↦ rw (cond-false (is_initiator (class_at classes l)) (unwrap_or (match_of classes l) (length classes)) (length classes) other) within
     ]
 
--- the list of matches has the match of the last character of a run
+-- the list of matches contains the match of the last character of a run
 pub last_match : (classes : List BidiClass) (matches : List ℕ) (end len : ℕ) → matches ≡ matches_of classes
     → length classes ≡ len → 0 < end → end ≤ len → get_or matches (end - 1) 0 ≡ match_at classes (end - 1)
 last_match classes matches end len e size some within = ap (λ found. get_or found (end - 1) 0) e ∙ get_or-matches_of classes (end - 1) 0 (omega arith)

@@ -79,8 +79,8 @@ module _ (sos : BidiClass) (old current : List BidiClass) (before strong : BidiC
   beyond : drop (at + 1) current ≡ drop (at + 1) old
   beyond = sym (drop-drop 1 at current) ∙ ap (drop 1) so_far.rest ∙ drop-drop 1 at old
 
-  -- the types written so far, followed by those that the pass gives for the type just read and the later
-  -- types, are the final types
+  -- the types written so far, followed by those that the pass will write for the type just read and the later types,
+  -- are the final types
   opened : take start current ++ types_after row (at - start) (w3_type strong) (type ∷ later) ≡ whole
   opened =
       let item : drop at old ≡ get_or current at d ∷ drop (at + 1) old =
@@ -149,8 +149,8 @@ module _ (sos : BidiClass) (old current : List BidiClass) (before strong : BidiC
             ∙ opened;
       }
 
-  -- the types written so far, including those that waited, followed by those that the pass gives for the
-  -- later types, are the final types
+  -- the types written so far, including those that waited, followed by those that the pass will write for the later
+  -- types, are the final types
   passed : lengthens row type ≡ false
       → take at filled ++ (if waits (row_after row type) then types_after (row_after row type) 1 (w3_type nearest_strong) later
       else value ∷ types_after (row_after row type) 0 (w3_type nearest_strong) later) ≡ whole
@@ -334,7 +334,7 @@ module _ (sos : BidiClass) (old current : List BidiClass) (before strong : BidiC
       (sym (ap (λ n. take at current ++ replicate n marker) none ∙ append-nil (take at current)))
       (at + 1) (sym (ap (λ r. if waits r then at else at + 1) (simple-row Nothing type stays)))))
 
--- where the pending types start is at most the next index
+-- the start of the pending types is at most the next index
 pub start-low : (row : Row) (type : BidiClass) (start at : ℕ) → start ≤ at → start_after row type start at ≤ at + 1
 start-low row type start at order =
     elim (lengthens row type) as (λ b. (if b then start else (if waits (row_after row type) then at else at + 1)) ≤ at + 1) [
@@ -342,7 +342,7 @@ start-low row type start at order =
       | false ↦ elim (waits (row_after row type)) as (λ b. (if b then at else at + 1) ≤ at + 1) [ true ↦ omega arith | false ↦ omega arith ]
     ]
 
--- where the pending types start is at most the index
+-- the start of the pending types is at most the index
 pub pending-low : (row : Row) (start at : ℕ) → (waits row ≡ true → start ≤ at) → (if waits row then start else at) ≤ at
 pending-low row start at order =
     elim (cases_Bool (waits row)) [

@@ -170,7 +170,7 @@ later-row (suc n) strong types =
     ∙ ap (λ b. (if b then number_type (is_left strong) else ON) ∷ later ON ON strong (replicate n ET ++ types)) same
     ∙ ap (λ xs. value ∷ xs) (later-row n strong types)
 
--- whatever type is before the list, the pass gives the same types as W4 to W7
+-- whatever type is before the list, the pass finds the same types as W4 to W7
 record IsWalked (types : List BidiClass) : Type 0 where
   nothing : (strong : BidiClass) → types_after Nothing 0 strong types ≡ later ON ON strong types
   european : (strong : BidiClass) → types_after European 0 strong types ≡ later EN EN strong types

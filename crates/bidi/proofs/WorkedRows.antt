@@ -7,8 +7,8 @@ use Rattle.bidi.specs.Base.{match_of, base_level_of}
 use Rattle.bidi.specs.Cuts.{cut, paragraphs, first_cut}
 use Rattle.bidi.specs.declared.explicit.TheConstants.{MAX_ENTRIES}
 
--- the first strong character gives the base level; the default of `WeakLtr` and `WeakRtl` counts only if
--- there is none
+-- the first strong character determines the base level; the default of `WeakLtr` and `WeakRtl` counts only if there is
+-- none
 strong_right : base_level_of (R ∷ B ∷ []) WeakLtr ≡ 1
 strong_right = refl
 

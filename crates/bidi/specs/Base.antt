@@ -1,4 +1,4 @@
--- Isolates and the base level of a paragraph, from the classes of its characters (UAX #9, BD9, P2, P3 and HL1).
+-- Isolates and the base level of a paragraph, given the classes of its characters (UAX #9, BD9, P2, P3 and HL1).
 use Rattle.std.specs.Prelude.{ℕ, ◌+◌, ◌-◌, nat_lt, ◌==◌, ◌&&◌, not, Bool, true, List, length, Option, Some, None, option_map, unwrap_or, count_by}
 use Rattle.std.specs.List.{list_all, range_with_len, slice_range}
 use Rattle.ucd.specs.declared.bidi_class.BidiClass.{BidiClass}

@@ -1,4 +1,4 @@
--- Bracket pairs and their directions in one isolating run sequence, by index (UAX #9, BD14 to BD16 and N0).
+-- Bracket pairs, as indices, and their directions in one isolating run sequence (UAX #9, BD14 to BD16 and N0).
 use Rattle.std.specs.Prelude.{ℕ, zero, suc, ◌+◌, ◌==◌, nat_lt, nat_le, Bool, true, false, ◌&&◌, ◌||◌, not, List, [], ◌∷◌, ◌++◌, length, map, fold, reverse, take, slice_index, slice_range, Option, Some, None, unwrap_or, count_by, if◌then◌else◌}
 use Rattle.std.specs.List.{list_any, list_all, range_with_len}
 use Rattle.ucd.specs.declared.bidi_class.BidiClass.{BidiClass}
@@ -42,7 +42,7 @@ pub record Pair : Type 0 where
   pub opener : ℕ
   pub closer : ℕ
 
--- the brackets of a sequence, from its characters and their current types
+-- the brackets of a sequence, given its characters and their current types
 module _ (bracket_of : ℕ → Option Bracket) (characters : List ℕ) (types : List BidiClass) where
   -- BD14 and BD15: only a character whose current type is ON can be an opening or closing bracket
   abbrev pub is_opener : ℕ → Bool
@@ -98,7 +98,7 @@ is_direction type = false
 abbrev pub is_toward : Bool → BidiClass → Bool
 is_toward left type = is_direction type && agree left (is_left type)
 
--- whether a strong type of the given direction is between two indices
+-- whether a strong type of the given direction occurs between two indices
 abbrev pub stands : Bool → List BidiClass → ℕ → ℕ → Bool
 stands left types a b = list_any (is_toward left) (slice_range types (a + 1) b)
 
@@ -108,7 +108,7 @@ context sos types a = nearest is_direction sos (reverse (take a types))
 
 -- N0: the direction of a pair, if it gets one. If a strong type inside the pair has the embedding direction,
 -- the pair gets that direction. Otherwise, if a strong type inside has the opposite direction, the nearest
--- strong type before the pair decides. If that type has the opposite direction, so has the pair; if not, the
+-- strong type before the pair decides. If that type has the opposite direction, so does the pair; if not, the
 -- pair gets the embedding direction. A pair with no strong type inside gets no direction.
 abbrev pub pair_direction : Bool → BidiClass → List BidiClass → ℕ → ℕ → Option BidiClass
 pair_direction left sos types a b =
@@ -137,7 +137,7 @@ module _ (embedding : BidiClass) (sos : BidiClass) (marks : List Bool) where
   abbrev pub resolve_pairs : (ℕ → Option ℕ) → List BidiClass → List BidiClass
   resolve_pairs closer types = fold (λ current a. pair_step current a (closer a)) types (range_with_len 0 (length types))
 
--- N0 on a sequence: `explicit` has the types before W1, `types` the current ones
+-- N0 on a sequence: `explicit` holds the types before W1, and `types` holds the current types
 abbrev pub brackets : (ℕ → Option Bracket) → BidiClass → BidiClass → List ℕ → List BidiClass → List BidiClass → List BidiClass
 brackets bracket_of embedding sos characters explicit types =
     resolve_pairs embedding sos (map is_mark explicit) (closer_of (pairs_of bracket_of characters types)) types

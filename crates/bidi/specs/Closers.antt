@@ -23,8 +23,7 @@ pub record AreNested (types : List BidiClass) (closers : List ℕ) : Type 0 wher
   pub apart : (a b : ℕ) → a < b → b < length closers → slice_index closers a < length closers → slice_index closers b < length closers
       → (slice_index closers a < b) ⊎ (slice_index closers b < slice_index closers a)
 
--- the list of closers that the program's list of opening brackets gives, in which `len` is the closer of an
--- unpaired bracket
+-- the list of closers, made from the program's list of opening brackets; an unpaired bracket has the closer `len`
 
 abbrev pub as_pair : BracketPair → Pair
 as_pair pair = record { opener = pair.opener; closer = pair.closer }

@@ -30,10 +30,10 @@ SplitsAt is_cut text (Some k) =
     (0 < k) × (k < length text) × (paragraphs is_cut text ≡ take k text ∷ paragraphs is_cut (drop k text))
 SplitsAt is_cut text None = 0 < length text → paragraphs is_cut text ≡ text ∷ []
 
--- whether a character ends no paragraph in Unicode's files
+-- a character is not a paragraph separator in Unicode's files
 abbrev pub MayNotSeparate : ℕ → Type 0
 MayNotSeparate c = (c < 1114112) × (may_separate c ≡ false)
 
--- whether none of the first n characters of a text ends a paragraph in Unicode's files
+-- none of the first n characters of a text is a paragraph separator in Unicode's files
 abbrev pub AreNoSeparators : List ℕ → ℕ → Type 0
 AreNoSeparators text n = (k : ℕ) → k < n → MayNotSeparate (slice_index text k)

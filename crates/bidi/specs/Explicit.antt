@@ -1,4 +1,4 @@
--- The explicit level and type of each character of a paragraph, from the openers that are open at the
+-- The explicit level and type of each character of a paragraph, given the openers that are open at the
 -- character (UAX #9, X1 to X8). An opener is an embedding, an override or an isolate initiator.
 use Rattle.std.specs.Prelude.{ℕ, ◌+◌, ◌-◌, ◌%◌, ◌==◌, nat_lt, Bool, true, false, ◌||◌, not, List, [], ◌∷◌, length, take, drop, fold, map, slice_range, Option, Some, None, unwrap_or, if◌then◌else◌}
 use Rattle.std.specs.List.{list_any, prefix_len, range_with_len}
@@ -11,7 +11,7 @@ use Rattle.bidi.specs.Base.{match_of, first_strong_level}
 abbrev pub span_of : List BidiClass → ℕ → List BidiClass
 span_of classes k = slice_range classes (k + 1) (unwrap_or (match_of classes k) (length classes))
 
--- X5c: an FSI acts as RLI if P2 and P3 give level 1 for the characters inside it, and otherwise as LRI
+-- X5c: an FSI acts as RLI if P2 and P3 determine level 1 for the characters inside it, and otherwise as LRI
 abbrev pub is_first_strong : BidiClass → Bool
 is_first_strong FSI = true
 is_first_strong class = false
@@ -60,7 +60,7 @@ opens_odd class = false
 abbrev pub level_above : BidiClass → ℕ → ℕ
 level_above opener level = if opens_odd opener then level + 1 + level % 2 else level + 2 - level % 2
 
--- the type that an override gives to the characters inside it
+-- the type that an override assigns to the characters inside it
 abbrev pub override_of : BidiClass → Option BidiClass
 override_of RLO = Some R
 override_of LRO = Some L

@@ -20,7 +20,7 @@ abbrev pub sequence_levels : (ℕ → Option Bracket) → ℕ → BidiClass → 
 sequence_levels bracket_of level sos eos characters types =
     map (implicit_level level) (neutral (direction level) sos eos (brackets bracket_of (direction level) sos characters types (weak sos types)))
 
--- writes each value to `levels`, at the index that the corresponding item of `places` gives
+-- writes each value to `levels`, at the index in the corresponding item of `places`
 abbrev pub put : List ℕ → List ℕ → List ℕ → List ℕ
 put levels (place ∷ places) (value ∷ values) = put (slice_set levels place value) places values
 put levels places values = levels
@@ -43,8 +43,8 @@ put_back before (class ∷ classes) [] = before ∷ put_back before classes []
 put_back before (class ∷ classes) (level ∷ levels) =
     if is_removed class then before ∷ put_back before classes (level ∷ levels) else level ∷ put_back level classes levels
 
--- The levels of a paragraph, from its characters, their classes and the paragraph level. In the classes, each
--- FSI has been replaced by LRI or RLI.
+-- The levels of a paragraph, given its characters, their classes and the paragraph level. In the classes,
+-- each FSI has been replaced by LRI or RLI.
 abbrev pub levels_by : (ℕ → Option Bracket) → List ℕ → List BidiClass → ℕ → List ℕ
 levels_by bracket_of text classes base =
     let places = stayed classes in

@@ -17,8 +17,7 @@ is_neutral FSI = true
 is_neutral PDI = true
 is_neutral type = false
 
--- N1: whether two sides have the same direction, and the type for a direction. `true` stands for L; numbers
--- count as R.
+-- N1: whether two sides have the same direction, and the type for a direction. `true` means L. Numbers count as R.
 abbrev pub agree : Bool → Bool → Bool
 agree true other = other
 agree false other = not other
@@ -41,7 +40,7 @@ neutral_at embedding sos eos before type after =
 abbrev pub neutral : BidiClass → BidiClass → BidiClass → List BidiClass → List BidiClass
 neutral embedding sos eos types = each_by (neutral_at embedding sos eos) [] types
 
--- I1 and I2: by how much a type raises an even level, and by how much it raises an odd level
+-- I1 and I2: how far a type raises an even level, and how far it raises an odd level
 abbrev pub rise_even : BidiClass → ℕ
 rise_even R = 1
 rise_even AN = 2

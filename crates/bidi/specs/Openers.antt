@@ -43,7 +43,7 @@ module _ (base : ℕ) where
       if not (is_initiator opener) && ((inside base (opener ∷ outer)).is_void && overflowed_isolates outer == 0) then overflowed_embeddings outer + 1
       else overflowed_embeddings outer
 
-  -- `openers` has the stack entries and counts of the chain
+  -- `openers` holds the stack entries and counts of the chain
   pub record Holds (openers : Openers) (chain : List BidiClass) : Type 0 where
     pub statuses_are : openers.statuses.items ≡ statuses chain
     pub isolates_are : openers.isolates ≡ isolates chain
@@ -66,7 +66,7 @@ pub record AreOpeners (openers : Openers) : Type 0 where
   pub short : length chain < 2 ^ 63
   pub holds : Holds base openers chain
 
--- `front` has the entries below the last isolate
+-- `front` holds the entries below the last isolate
 pub record AreBeforeIsolate (front entries : List Status) : Type 0 where
   pub isolate : Status
   pub inner : List Status

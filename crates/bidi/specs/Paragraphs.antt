@@ -19,7 +19,7 @@ use Rattle.bidi.specs.declared.sequence_levels.Brackets.{Brackets}
 abbrev pub AreFor : Brackets → ℕ → Type 0
 AreFor brackets n = brackets.has_any ≡ true → length brackets.types.now ≡ n
 
--- `brackets` has the bracket types of a text of n characters
+-- `brackets` holds the bracket types of a text of n characters
 pub record AreBracketsOf (brackets : Brackets) (n : ℕ) (look : ℕ → Option Bracket) (text : List ℕ) : Type 0 where
   pub size : length text ≡ n
   pub types : brackets.has_any ≡ true → brackets.types.now ≡ bracket_types look text
@@ -29,7 +29,7 @@ pub record AreBracketsOf (brackets : Brackets) (n : ℕ) (look : ℕ → Option 
 abbrev pub OfAllTexts : Brackets → ℕ → ((ℕ → Option Bracket) → List ℕ → Type 0) → Type 0
 OfAllTexts brackets n holds = (look : ℕ → Option Bracket) (text : List ℕ) → AreBracketsOf brackets n look text → holds look text
 
--- the paragraph has all data on each kept character, and the matches of all initiators
+-- the paragraph holds all data on each kept character, and the matches of all initiators
 pub record IsReady (p : Paragraph) : Type 0 where
   pub stayed : HasAll p.stayed.now
   pub matches : p.matches.now ≡ matches_of p.stayed.now.classes.items
@@ -39,7 +39,7 @@ pub record IsReady (p : Paragraph) : Type 0 where
 abbrev pub sequence_in : Paragraph → ℕ → List ℕ
 sequence_in p start = sequence_at p.stayed.now.classes.items p.stayed.now.levels.items start
 
--- the levels `done`, after the levels of the sequence that begins at `start` have been written into them
+-- the levels `done`, overwritten with those of the sequence that begins at `start`
 abbrev pub write_by : (ℕ → Option Bracket) → List ℕ → Paragraph → List ℕ → ℕ → List ℕ
 write_by look text p done start =
     put done (sequence_in p start)
@@ -49,8 +49,7 @@ write_by look text p done start =
 abbrev pub resolved_by : (ℕ → Option Bracket) → List ℕ → Paragraph → List ℕ
 resolved_by look text p = resolved look p.base text p.stayed.now.classes.items p.stayed.now.levels.items p.stayed.now.types.items
 
--- `sides` has the level, sos and eos of the sequence whose first and last characters are at `first` and
--- `last`
+-- `sides` holds the level, sos and eos of the sequence whose first and last characters are at `first` and `last`
 pub record AreSidesBetween (p : Paragraph) (first last : ℕ) (sides : Sides) : Type 0 where
   pub level_is : sides.level ≡ slice_index p.stayed.now.levels.items first
   pub sos_is : sides.sos ≡ direction (max (slice_index p.stayed.now.levels.items first) (level_before p.base p.stayed.now.levels.items first))

@@ -6,7 +6,7 @@ use Rattle.bidi.specs.Neutral.{agree, between, implicit_level, is_neutral}
 use Rattle.bidi.specs.Sequences.{direction}
 use Rattle.bidi.specs.Weak.{is_left}
 
--- the level of a run of neutrals, from the types on both sides
+-- the level of a run of neutrals, given the types on both sides
 abbrev pub row_level : ℕ → BidiClass → BidiClass → ℕ
 row_level level before after = implicit_level level (between (direction level) before after)
 
@@ -28,7 +28,7 @@ pub record AreLevelsSoFar (level : ℕ) (sos eos : BidiClass) (types : List Bidi
 abbrev pub is_opposite : ℕ → BidiClass → Bool
 is_opposite level type = not (agree (is_left (direction level)) (is_left type))
 
--- the level of neutrals between types that have the same direction, and by how much it is raised
+-- the level of neutrals between types that have the same direction, and how far it is above the sequence's level
 abbrev pub raised : ℕ → Bool → ℕ
 raised level opposite = if opposite then level + 1 else level
 
@@ -42,14 +42,14 @@ turn level type = if is_neutral type then 1 else (if is_opposite level type then
 abbrev pub above : ℕ → BidiClass → ℕ
 above level type = if is_neutral type then 1 else (implicit_level level type + 1) - (level + beside level type)
 
--- The types from `start` up to `at` are neutral, and the type before them is not, if there is one.
+-- The types from `start` up to `at` are neutral, and the type before them, if any, is not.
 pub record IsRun (types : List BidiClass) (start at : ℕ) : Type 0 where
   pub order : start ≤ at
   pub neutrals : (k : ℕ) (d : BidiClass) → start ≤ k → k < at → is_neutral (get_or types k d) ≡ true
   pub bounded : (k : ℕ) (d : BidiClass) → k + 1 ≡ start → is_neutral (get_or types k d) ≡ false
 
--- The state of the pass at the index `at`. The latest run of neutrals has the levels that it has if the type
--- after it has the same direction as the type before it.
+-- The state of the pass at the index `at`. The levels of the latest run of neutrals are provisional: they are
+-- right if the types before and after the run have the same direction.
 pub record AreGuessed (level : ℕ) (sos eos : BidiClass) (types : List BidiClass) (levels : List ℕ) (opposite : Bool) (at : ℕ) : Type 0 where
   pub before : BidiClass
   pub start : ℕ
@@ -58,7 +58,7 @@ pub record AreGuessed (level : ℕ) (sos eos : BidiClass) (types : List BidiClas
   pub direction_is : is_opposite level before ≡ opposite
   pub guessed : take at levels ≡ take start levels ++ replicate (at - start) (raised level opposite)
 
--- Writing the embedding level for the run of neutrals that ends at `at` gives `put`.
+-- `put` is the result of writing the embedding level for the run of neutrals that ends at `at`.
 abbrev pub LowersRun : ℕ → List BidiClass → List ℕ → ℕ → List ℕ → Type 0
 LowersRun level types levels at put =
     (start : ℕ) → IsRun types start at → take at put ≡ take start levels ++ replicate (at - start) level

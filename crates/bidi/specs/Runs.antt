@@ -1,4 +1,4 @@
--- Level runs as ranges of indices, as a pass over a list of levels finds them.
+-- Level runs as ranges of indices, found by a pass over a list of levels.
 use Rattle.std.specs.Prelude.{◌≡◌, ◌≢◌, ℕ, ◌-◌, ◌<◌, ◌≤◌, Bool, true, nat_lt, ◌==◌, ◌&&◌, not, List, [], ◌∷◌, length, slice_index, slice_set, Option, Some, None, if◌then◌else◌}
 use Rattle.std.specs.List.{range_with_len}
 use Rattle.ucd.specs.declared.bidi_class.BidiClass.{BidiClass}

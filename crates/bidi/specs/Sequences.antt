@@ -1,6 +1,6 @@
 -- Level runs and isolating run sequences (UAX #9, X9, X10, BD7 and BD13). An index refers to the list of
--- characters that X9 keeps. This list has all isolate initiators and PDIs of the paragraph, so they match in
--- the same way as in the paragraph.
+-- characters that X9 keeps. This list contains all isolate initiators and PDIs of the paragraph, so they
+-- match in the same way as in the paragraph.
 use Rattle.std.specs.Prelude.{ℕ, ◌+◌, ◌-◌, ◌%◌, ◌==◌, max, Bool, false, ◌&&◌, not, List, [], ◌∷◌, ◌++◌, length, filter, slice_index, Option, Some, None, is_none, if◌then◌else◌}
 use Rattle.std.specs.List.{list_any, range_with_len}
 use Rattle.ucd.specs.declared.bidi_class.BidiClass.{BidiClass}
@@ -55,7 +55,7 @@ module _ (classes : List BidiClass) where
 abbrev pub direction : ℕ → BidiClass
 direction level = if level % 2 == 1 then R else L
 
--- X10: sos and eos, from the higher of the two levels at each end of a sequence
+-- X10: sos and eos, determined by the higher of the two levels at each end of a sequence
 module _ (base : ℕ) (levels : List ℕ) where
   abbrev pub level_before : ℕ → ℕ
   level_before k = if k == 0 then base else slice_index levels (k - 1)

@@ -1,4 +1,4 @@
--- The state of the single pass for the weak rules. It has the types that wait for a later type, and the
+-- The state of the single pass for the weak rules. It includes the types that wait for a later type, and the
 -- earlier types that W1 to W3 and W7 look back at.
 use Rattle.std.specs.Prelude.{◌≡◌, ℕ, ◌+◌, ◌-◌, ◌≤◌, Bool, true, false, ◌&&◌, not, List, [], ◌∷◌, ◌++◌, length, map, take, drop, replicate, if◌then◌else◌}
 use Rattle.ucd.specs.declared.bidi_class.BidiClass.{BidiClass}
@@ -15,7 +15,7 @@ abbrev pub carry : {T : Type 0} → (T → T → List T → T) → (T → Bool) 
 carry rule test before [] = []
 carry rule test before (item ∷ after) = rule before item after ∷ carry rule test (if test item then item else before) after
 
--- W1 and W2 for one type, from the earlier type that each rule looks back at
+-- W1 and W2 for one type, given the earlier type that each rule looks back at
 abbrev pub mark_type : BidiClass → BidiClass → BidiClass
 mark_type before type = if is_mark type then mark_after before else type
 
@@ -40,7 +40,7 @@ is_weak AN = true
 is_weak CS = true
 is_weak type = false
 
--- whether an ET that comes next is in a run of ET that follows a European number
+-- whether an ET at the next index would be part of a run of ETs after a European number
 abbrev pub is_after_number : Row → Bool
 is_after_number European = true
 is_after_number EuropeanTerminators = true
@@ -65,7 +65,7 @@ completes ArabicSeparator AN = true
 completes Terminators EN = true
 completes row type = false
 
--- what the pass writes for a type; for a type that waits, it writes ON (W6)
+-- what the pass writes for a type, which is ON (W6) for a type that waits
 abbrev pub written : Row → Bool → BidiClass → BidiClass
 written row left EN = number_type left
 written row left ET = if is_after_number row then number_type left else ON

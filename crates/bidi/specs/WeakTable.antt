@@ -1,5 +1,5 @@
--- The entries of the tables of the pass for the weak rules. A state has a run that ends before an index, and the
--- last strong type.
+-- The entries of the tables of the pass for the weak rules. A state consists of the run that ends before an
+-- index and the last strong type.
 use Rattle.std.specs.Prelude.{ℕ, ◌+◌, ◌*◌, ◌/◌, ◌%◌, Bool, true, false, ◌&&◌, not, [], ◌∷◌, get_or, if◌then◌else◌}
 use Rattle.ucd.specs.Classes.{is_strong}
 use Rattle.ucd.specs.declared.bidi_class.BidiClass.{BidiClass}
@@ -16,7 +16,7 @@ is_side L = true
 is_side R = true
 is_side _ = false
 
--- the run and the last strong type of each state, and the state that has them
+-- the run and the last strong type of each state, and the state with a given run and strong type
 abbrev pub run_at : ℕ → Row
 run_at state = get_or (Nothing ∷ European ∷ Arabic ∷ EuropeanTerminators ∷ EuropeanSeparator ∷ ArabicSeparator ∷ Terminators ∷ []) (state / 3) Nothing
 
@@ -60,7 +60,7 @@ next_by state class =
 abbrev pub value_by : ℕ → BidiClass → BidiClass
 value_by state class = written (run_at state) (is_left (strong_at state)) (turned (strong_at state) class)
 
--- where the pending types of a state start; if none are pending, at the index itself
+-- where the pending types of a state start, or the index itself if none are pending
 abbrev pub pending : ℕ → ℕ → ℕ → ℕ
 pending state start at = if waits (run_at state) then start else at
 

@@ -7,7 +7,7 @@ ghost use Rattle.ucd.specs.Classes.{class_in, is_initiator, is_pdi, is_strong};
 
 use ucd::{BidiClass, Classes, KnownClasses, ListedClasses, Properties, Tables, TextClasses};
 
-/// How the base level of a paragraph is found.
+/// How the base level of a paragraph is determined.
 #[derive(Clone, Copy, Debug, PartialEq, Eq)]
 pub enum Base {
     /// Always level 1.
@@ -51,14 +51,14 @@ pub fn base_level_in_text(tables: &Tables, text: &str, base: Base) -> u8
     }
 }
 
-/// Returns the base level of one paragraph, 0 or 1, from the properties of its characters.
+/// Returns the base level of one paragraph, 0 or 1, given the properties of its characters.
 pub fn base_level_by(properties: &[Properties], base: Base) -> u8
     ensures { result ≡ base_level_of (map class_in properties.now) base }
 {
     base_level_in(&KnownClasses { properties }, base)
 }
 
-/// Returns the base level of one paragraph, 0 or 1, from the classes of its characters.
+/// Returns the base level of one paragraph, 0 or 1, given the classes of its characters.
 pub fn base_level_of(classes: &[BidiClass], base: Base) -> u8
     ensures { result ≡ base_level_of classes.now base }
 {
@@ -94,7 +94,7 @@ pub fn first_strong_level<C: Classes>(classes: &C) -> Option<u8>
     None
 }
 
-// Does the work of `first_strong_level` for UTF-8 text.
+// Implements `first_strong_level` for UTF-8 text.
 fn first_strong_level_in_text(tables: &Tables, text: &str) -> Option<u8>
     ensures { result ≡ first_strong_level (map (class_of tables.now) (chars text.now)) }
 {

@@ -8,7 +8,7 @@ ghost use Rattle.bidi.specs.Plain.{has_bracket_in};
 use ucd::{Properties, Tables};
 
 /// The bracket type of a character. An opening and a closing bracket form a pair if they have the same
-/// number. In bracket types made from tables, the number is the code point of the pair's closing bracket.
+/// number. In bracket types derived from tables, the number is the code point of the pair's closing bracket.
 /// U+2329 counts as U+3008, and U+232A as U+3009. Other callers may use any numbers, provided that both
 /// brackets of a pair have the same number.
 #[derive(Clone, Copy, Debug, PartialEq, Eq)]
@@ -95,7 +95,7 @@ pub(crate) fn next_bracket<T: MaybeBracket>(items: &[T], from: usize) -> usize
 // The number of items that are tested together.
 const AT_ONCE: usize = 8;
 
-// Returns the index after groups of items at and after `from` in which there is no bracket.
+// Skips groups of items that contain no bracket, starting at `from`. Returns the index after them.
 fn after_groups<T: MaybeBracket>(items: &[T], from: usize) -> usize
     requires { from ≤ length items.now }
     ensures reached { from ≤ result }
@@ -110,7 +110,7 @@ fn after_groups<T: MaybeBracket>(items: &[T], from: usize) -> usize
     at
 }
 
-// Returns whether any of the items is a bracket. The loop has no branches, so that the compiler tests several
+// Returns whether any of the items is a bracket. The loop has no branches, so the compiler can test several
 // items at a time.
 #[inline(always)] // so that the loop over a group knows its length
 fn has_bracket<T: MaybeBracket>(items: &[T]) -> bool

@@ -77,8 +77,8 @@ fn matching(openers: &[Opener], closer: u32) -> Option<usize>
     None
 }
 
-// Pairs the closing bracket at `place` with the newest opening bracket that it matches, if there is one, and
-// removes that one and all newer ones from the stack. Returns whether there is one.
+// Pairs the closing bracket at `place` with the newest opening bracket that it matches, if any, and removes
+// that bracket and all newer ones from the stack. Returns whether a match was found.
 fn close(openers: &mut Vec<Opener>, pairs: &mut [BracketPair], closer: u32, place: usize) -> bool
     requires { (m : ℕ) → m < length openers.old.items → index_of openers.old.items m < length pairs.old }
     ensures openers { openers.new.items ≡ left_by (newest openers.old.items closer) openers.old.items }
@@ -147,8 +147,8 @@ pub(crate) fn copy_types(from: &[BidiClass], to: &mut Vec<BidiClass>) -> Result<
     to.extend_from_slice(from)
 }
 
-// Replaces the contents of `pairs` with the opening brackets in text order, up to one that finds the stack
-// full, and with their closing brackets. Returns whether any of them has a closing bracket.
+// Replaces the contents of `pairs` with the opening brackets in text order, and with their closing brackets.
+// Stops at an opening bracket that no longer fits on the stack. Returns whether any pair was found.
 fn find_pairs(
     kinds: &[BracketType],
     types: &[BidiClass],
@@ -221,8 +221,8 @@ fn is_toward(left: bool, class: BidiClass) -> bool
     }
 }
 
-// Gives each pair its direction, in the order of the opening brackets (N0). `before` holds the types before
-// N0.
+// Sets the types of each pair to its direction, in the order of the opening brackets (N0). `before` holds the
+// types before N0.
 fn resolve_brackets(
     types: &mut [BidiClass],
     before: &[BidiClass],
@@ -280,7 +280,8 @@ fn stands_inside(
     if is_other(types[place]) {
         *next < closer
     } else {
-        // This bracket is one of the marks after an earlier bracket, whose types have changed.
+        // This bracket is one of the marks after an earlier bracket, and the types of those marks have
+        // changed.
         next_toward(types, left, place + 1, closer) < closer
     }
 }

@@ -27,8 +27,7 @@ fn may_separate(c: char) -> bool
     (c < ' ') | (c == '\u{85}') | (c == '\u{2029}')
 }
 
-// Returns whether any character may end a paragraph. All are tested, so that the compiler turns the loop into
-// vector instructions.
+// Returns whether any character may end a paragraph. All are tested, so the compiler can vectorize the loop.
 #[inline(always)]
 fn any_may_separate(text: &[char]) -> bool
     ensures { result ≡ false → AreNoSeparators text.now (length text.now) }
@@ -71,7 +70,7 @@ fn plain_len(text: &[char]) -> usize
     at + first_separator(&text[at..])
 }
 
-// Returns the length of a prefix of the text, none of whose characters is before a paragraph boundary.
+// Returns the length of a prefix of the text in which no character is followed by a paragraph boundary.
 fn uncut_len(tables: &Tables, text: &[char]) -> usize
     ensures within { result ≤ length text.now }
     ensures uncut { (k next : ℕ) → k < result

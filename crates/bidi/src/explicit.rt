@@ -1,4 +1,4 @@
-//! Finds explicit levels and types (UAX #9, X1 to X9) in one pass, with a stack of the open embeddings,
+//! Finds explicit levels and types (UAX #9, X1 to X9) in one pass, using a stack of the open embeddings,
 //! overrides and isolates.
 ghost use Rattle.std.specs.Prelude.{◌≡◌, ◌≤◌, ◌∷◌, [], ◌++◌, OnOk, unwrap_or, if◌then◌else◌};
 ghost use Rattle.ucd.specs.Classes.{is_pdi, is_separator};
@@ -61,8 +61,8 @@ impl Stayed {
     }
 }
 
-// The state inside an embedding, override or isolate: its level, the type that an override gives, and whether
-// it is an isolate.
+// The state inside an embedding, override or isolate: its level, the type that an override assigns, and
+// whether it is an isolate.
 #[derive(Clone, Copy, Default, PartialEq, Eq)]
 struct Status {
     level: u8,
@@ -71,8 +71,8 @@ struct Status {
 }
 
 // The open embeddings, overrides and isolates. The stack holds the paragraph's status, and above it one
-// status for each of these that did not overflow. The overflow counts are those of X2 to X5c: embeddings
-// inside an isolate that overflowed are not counted.
+// status for each open embedding, override and isolate that did not overflow. The overflow counts are those
+// of X2 to X5c: embeddings inside an isolate that overflowed are not counted.
 #[derive(Drop)]
 struct Openers {
     statuses: ArrayVec<Status, MAX_ENTRIES>,
@@ -213,7 +213,7 @@ fn level_above(opener: BidiClass, level: u8) -> u8
     }
 }
 
-// Returns the type that an override gives to the characters inside it (X4 and X5), or `None` for other
+// Returns the type that an override assigns to the characters inside it (X4 and X5), or `None` for other
 // openers.
 fn override_of(opener: BidiClass) -> Option<BidiClass>
     ensures { result ≡ override_of opener }

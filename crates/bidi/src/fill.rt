@@ -1,4 +1,4 @@
-//! Fills a range of a slice with a value, and lengthens lists that are reused.
+//! Fills a range of a slice with a value, and extends lists that are reused.
 ghost use Rattle.std.specs.Prelude.{◌≡◌, ◌-◌, ◌≤◌, ◌++◌, length, take, drop, replicate, OnOk};
 
 use std::alloc::AllocError;

@@ -5,9 +5,9 @@ use crate::fill::lengthen;
 use std::alloc::AllocError;
 use ucd::BidiClass;
 
-/// The number of characters in a group. The compiler knows how often a loop over a group runs, and turns it
-/// into vector instructions without a branch. If a length is not a multiple of `GROUP`, the last group
-/// overlaps the group before it: visiting a few characters twice costs less than a mispredicted branch.
+/// The number of characters in a group. The compiler knows how often a loop over a group runs, so it can
+/// vectorize the loop without a branch. If a length is not a multiple of `GROUP`, the last group overlaps the
+/// group before it: visiting a few characters twice costs less than a mispredicted branch.
 pub(crate) const GROUP: usize = 16;
 
 /// Writes classes to the front of a reused list, which is never shortened.

@@ -16,7 +16,7 @@ use ucd::BidiClass;
 
 /// Reused lists for matching isolate initiators with PDIs. `found` has an item for each index: the index of
 /// the PDI that matches the initiator there, or the length if there is no initiator or no match. `pending`
-/// has the indices of the initiators that are not matched yet.
+/// holds the indices of the initiators that are not matched yet.
 #[derive(Drop)]
 pub(crate) struct Isolates {
     pub found: Vec<usize>,

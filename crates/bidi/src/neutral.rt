@@ -9,10 +9,9 @@ use crate::neutral_table::{above, turn};
 use ucd::BidiClass;
 
 /// Applies N1, N2, I1 and I2 in one pass. A run of neutrals gets the direction of the types on both sides if
-/// they have the same direction, or else the embedding direction. To have few branches that depend on the
-/// types, the pass writes the level of a neutral at once, as if the type after the run had the direction of
-/// the type before it. If it has the other direction, the levels of the run may be too high, and the pass
-/// writes them again.
+/// they have the same direction, or else the embedding direction. To avoid most data-dependent branches, the
+/// pass writes the level of a neutral at once, as if the types before and after its run had the same
+/// direction. If they do not, the levels of the run may be too high, and the pass writes them again.
 #[inline(never)] // so that the loop has all registers
 pub(crate) fn resolve_neutral(
     types: &[BidiClass],
@@ -25,7 +24,7 @@ pub(crate) fn resolve_neutral(
     requires bounded { level ≤ 125 }
     ensures { levels.new ≡ map (implicit_level level) (neutral (direction level) sos eos types.now) }
 {
-    // By how much neutrals are raised between two types of the last direction.
+    // How far neutrals are raised between two types of the last direction.
     let mut rise = rise_beside(level, sos);
     let mut at = 0;
     while at < types.len() {
@@ -58,7 +57,7 @@ fn lower_run(types: &[BidiClass], level: u8, end: usize, levels: &mut [u8])
     }
 }
 
-// Returns by how much neutrals are raised if the types on both sides have the direction of `class`.
+// Returns how far neutrals are raised if the types on both sides have the direction of `class`.
 fn rise_beside(level: u8, class: BidiClass) -> u8
     ensures { result ≡ beside level class }
 {

@@ -1,18 +1,18 @@
 //! The tables of the pass for the neutral and implicit rules (UAX #9, N1, N2, I1 and I2). Each has a row for
-//! even levels and one for odd levels. A row has an entry for each bidi class. Each entry is proved right.
+//! even levels and one for odd levels. A row has an entry for each bidi class. Each entry is proved correct.
 ghost use Rattle.std.specs.Prelude.{◌≡◌, ◌≤◌};
 ghost use Rattle.bidi.specs.Rows.{above, turn};
 
 use crate::weak_table::ROW_LEN;
 use ucd::BidiClass;
 
-/// 1 for a neutral type, or else twice the rise of the neutrals beside the type.
+/// 1 for a neutral type, or else twice the rise of the neutrals next to the type.
 pub static TURNS: [u8; 2 * ROW_LEN] = [
     0, 2, 2, 2, 2, 2, 2, 2, 2, 2, 1, 1, 1, 1, 2, 2, 2, 2, 2, 1, 1, 1, 1, 0, 0, 0, 0, 0, 0, 0, 0, 0,
     2, 0, 0, 0, 0, 0, 0, 0, 0, 0, 1, 1, 1, 1, 0, 0, 0, 0, 0, 1, 1, 1, 1, 2, 2, 2, 2, 2, 2, 2, 2, 2,
 ];
 
-/// How far the level of a type is above the level of the neutrals beside it, plus 1.
+/// How far the level of a type is above the level of the neutrals next to it, plus 1.
 pub static ABOVE: [u8; 2 * ROW_LEN] = [
     1, 1, 0, 2, 0, 0, 2, 0, 0, 0, 1, 1, 1, 1, 0, 0, 0, 0, 0, 1, 1, 1, 1, 1, 1, 1, 1, 1, 1, 1, 1, 1,
     1, 1, 1, 2, 1, 1, 2, 1, 1, 1, 1, 1, 1, 1, 1, 1, 1, 1, 1, 1, 1, 1, 1, 1, 1, 1, 1, 1, 1, 1, 1, 1,

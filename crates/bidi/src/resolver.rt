@@ -27,8 +27,8 @@ use std::fmt;
 use std::fmt::{Debug, Formatter};
 use ucd::{BidiClass, Properties, Tables};
 
-// The loops over classes below have no branches, so that the compiler tests many characters at a time. That
-// is why the next three functions compare and do not match.
+// The loops over classes below have no branches, so the compiler can test many characters at a time. For the
+// same reason, the next three functions use comparisons instead of a `match`.
 
 // Returns whether a character of this class is kept by X9, and neither opens nor closes an embedding,
 // override or isolate.
@@ -38,7 +38,7 @@ fn is_plain(class: BidiClass) -> bool
     (class as u8 <= BidiClass::ON as u8) & (class as u8 != BidiClass::BN as u8)
 }
 
-// Returns whether a character of this class raises no level above 0.
+// Returns whether a character of this class does not raise any level above 0.
 fn is_flat(class: BidiClass) -> bool
     ensures { result ≡ is_flat class }
 {
@@ -48,7 +48,7 @@ fn is_flat(class: BidiClass) -> bool
             & ((number != BidiClass::AL as u8) & (number != BidiClass::AN as u8)))
 }
 
-// Returns whether a character of this class raises no level above 1.
+// Returns whether a character of this class does not raise any level above 1.
 fn is_flat_rtl(class: BidiClass) -> bool
     ensures { result ≡ is_flat_rtl class }
 {
@@ -58,7 +58,7 @@ fn is_flat_rtl(class: BidiClass) -> bool
             & ((number != BidiClass::EN as u8) & (number != BidiClass::AN as u8)))
 }
 
-// Returns whether a character of this class raises no level above the base level, 0 or 1.
+// Returns whether a character of this class does not raise any level above the base level, 0 or 1.
 #[inline(always)] // so that a loop tests the base level once
 fn is_flat_at(class: BidiClass, base: u8) -> bool
     ensures { result ≡ is_flat_at base class }
@@ -110,8 +110,8 @@ fn are_classes_flat(classes: &[BidiClass], base: u8) -> bool
     flat
 }
 
-// The number of characters in a group of a paragraph that is shorter than `GROUP`. Fewer characters than
-// these are tested one after another.
+// The group size for paragraphs shorter than `GROUP`. In even shorter paragraphs, characters are tested one
+// by one.
 const SMALL_GROUP: usize = 8;
 
 // Returns whether no character raises a level above the base level, given the properties of the characters.
@@ -409,7 +409,7 @@ fn fill_any_brackets(
     fill_brackets(tables, text, properties, brackets)
 }
 
-// Replaces the contents of `levels` with `len` times the base level.
+// Replaces the contents of `levels` with `len` copies of the base level.
 fn put_base(levels: &mut Vec<u8>, len: usize, base: u8) -> Result<(), AllocError>
     ensures ok { OnOk result (levels.new.items ≡ replicate len base) }
     ensures full { OnErr result (vec_capacity levels.old < len) }

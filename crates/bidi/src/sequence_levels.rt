@@ -28,7 +28,7 @@ pub(crate) struct Brackets<'a> {
     pub has_any: bool,
 }
 
-/// The characters that X9 keeps, with what is known about them before their sequences are resolved.
+/// The characters that X9 keeps, and the data on them that is known before their sequences are resolved.
 #[derive(Clone, Copy)]
 pub(crate) struct Paragraph<'a> {
     pub brackets: Brackets<'a>,
@@ -76,7 +76,7 @@ fn sides_between(paragraph: &Paragraph<'_>, first: usize, last: usize) -> Sides
     }
 }
 
-/// Finds the levels of a sequence from its types, using the rules W1 to I2.
+/// Finds the levels of a sequence, given its types, using the rules W1 to I2.
 pub(crate) fn resolve_types(
     brackets: &Brackets<'_>,
     explicit: &[BidiClass],

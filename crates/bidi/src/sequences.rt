@@ -38,8 +38,8 @@ pub(crate) fn run_end(levels: &[u8], start: usize) -> usize
     end
 }
 
-/// Returns the start of the run that continues the run ending at `end`, if there is one. This is the match of
-/// the character before `end`, if a level run begins there.
+/// Returns the start of the run that continues the run ending at `end`, if there is one. The continuing run
+/// starts at the match of the character before `end`, if a level run begins there.
 pub(crate) fn next_run(levels: &[u8], matches: &[usize], end: usize) -> Option<usize>
     requires within { (0 < end) × (end ≤ length levels.now) }
     requires matches { length matches.now ≡ length levels.now }

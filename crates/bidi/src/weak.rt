@@ -14,7 +14,7 @@ use crate::fill::fill;
 use crate::weak_table::{COMPLETES, KEEPS, LEFT, PARTS, RIGHT, ROW_LEN, RUN_LEN, next, value};
 use ucd::BidiClass;
 
-// What the pass knows about the types that it has read.
+// The state of the pass after the types that it has read.
 #[derive(Clone, Copy)]
 struct State {
     // The last type that was not NSM.
@@ -110,8 +110,8 @@ fn read_simple(types: &mut [BidiClass], begin: usize, end: usize, state: State) 
     }
 }
 
-// Returns whether only W3 changes the types. The loop has no branches, so that the compiler tests several
-// types at a time.
+// Returns whether only W3 changes the types. The loop has no branches, so the compiler can test several types
+// at a time.
 #[inline(always)]
 fn are_simple(types: &[BidiClass]) -> bool
     ensures { result ≡ list_all is_simple types.now }
@@ -199,7 +199,8 @@ fn is_left(class: BidiClass) -> bool
     matches!(class, BidiClass::L)
 }
 
-// Returns the type of a mark after a type. Marks are rare, and a call keeps their case out of the loop.
+// Returns the type of a mark after a type. Marks are rare, and a separate function keeps them out of the
+// loop.
 #[cold]
 #[inline(never)]
 fn mark_after(before: BidiClass) -> BidiClass

@@ -1,6 +1,6 @@
 //! The tables of the pass for the weak rules (UAX #9, W1 to W7). Each table has a row of 32 entries for each
 //! state, with one entry for each bidi class. The state is what the rules need to know about the types before
-//! an index: the last strong type, and which run ends at the index. Each entry is proved right.
+//! an index: the last strong type, and which run ends at the index. Each entry is proved correct.
 ghost use Rattle.std.specs.Prelude.{◌≡◌, ◌+◌, ◌≤◌, slice_index, slice_index_or};
 ghost use Rattle.ucd.specs.Answers.{bidi_tag};
 ghost use Rattle.ucd.specs.declared.bidi_class.BidiClass.TheVariants.{ON};

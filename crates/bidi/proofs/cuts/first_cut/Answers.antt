@@ -8,7 +8,7 @@ use Rattle.bidi.proofs.PiecesLemmas.{paragraphs-at_cut, paragraphs-no_cut}
 use Rattle.bidi.proofs.cuts.first_cut.Goals as goal
 use Rattle.bidi.proofs.cuts.first_cut.Goals.{else-at-last-via-then-at-last+else-is_cut, else-at-last-via-else-at-last}
 
--- the result for the two characters that were read at k and k + 1 tells whether there is a boundary between them
+-- the result for the two characters that were read at k and k + 1 says whether there is a boundary between them
 answer_is : (is_cut : ℕ → ℕ → Bool) (text : List ℕ) (k before after : ℕ) (answer : Bool) → k + 1 < length text
     → before ≡ get_or text k before → after ≡ get_or text (k + 1) after → answer ≡ is_cut before after
     → is_cut (slice_index text k) (slice_index text (k + 1)) ≡ answer
@@ -17,7 +17,7 @@ answer_is is_cut text k before after answer within first second e =
     let at_second : after ≡ slice_index text (k + 1) = get_or_read text (k + 1) after within second 0 in
     rw (← at_first, ← at_second) (sym e)
 
--- the same, by the index of the character after the boundary
+-- the same, in terms of the index of the character after the boundary
 answer_before : (is_cut : ℕ → ℕ → Bool) (text : List ℕ) (k : ℕ) (answer : Bool) → is_cut (slice_index text k) (slice_index text (k + 1)) ≡ answer
     → is_cut (slice_index text (k + 1 - 1)) (slice_index text (k + 1)) ≡ answer
 answer_before is_cut text k answer e =

@@ -33,7 +33,7 @@ whole classes base left low kept =
       ];
     }
 
--- putting back the characters that X9 removed gives the levels of the paragraph
+-- putting back the characters that X9 removed results in the levels of the paragraph
 all_levels : (bracket : ℕ → Option Bracket) (text : List ℕ) (classes : List BidiClass) (base : ℕ) (characters : List ℕ) (left : Stayed) (done : List ℕ) → IsStayed classes base left
     → characters ≡ map (slice_index text) (stayed classes) → done ≡ resolved bracket base characters left.classes.items left.levels.items left.types.items
     → put_back base classes done ≡ levels_by bracket text classes base

@@ -3,7 +3,7 @@ use Rattle.std.proofs.lemmas.List.{drop_more}
 use Rattle.bidi.specs.Levels.{put}
 use Rattle.bidi.proofs.sequence_levels.put_levels.Goals as goal
 
--- after one more level has been written, writing the rest still gives the same result
+-- after one more level has been written, writing the rest still yields the same result
 stepped : (levels places values : List ℕ) (at : ℕ) (whole : List ℕ) → at < length places → length values ≡ length places
     → put levels (drop at places) (drop at values) ≡ whole
     → put (set levels (get_or places at 0) (get_or values at 0)) (drop (at + 1) places) (drop (at + 1) values) ≡ whole

@@ -9,7 +9,7 @@ use Rattle.bidi.proofs.BracketLemmas.{Resolved-skip, Resolved-start}
 use Rattle.bidi.proofs.PairLemmas.{closer_in-pairs_of, closers_of-at, fold-same, length-closers_of}
 use Rattle.bidi.proofs.brackets.Pairs.resolve.Goals as goal
 
--- resolving the pairs in the list of closers gives the same types as resolving the pairs of the text
+-- resolving the pairs in the list of closers yields the same types as resolving the pairs of the text
 by_pairs : (look : ℕ → Option Bracket) (text : List ℕ) (types : List BidiClass) (embedding sos : BidiClass) (marks : List Bool) (closers : List ℕ)
     → closers ≡ closers_of (pairs_of look text types) (length types)
     → resolve_pairs embedding sos marks (closer_in closers) types ≡ resolve_pairs embedding sos marks (closer_of (pairs_of look text types)) types
