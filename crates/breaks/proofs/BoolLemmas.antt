@@ -45,7 +45,7 @@ below (suc n) test all k lt =
     let parts = both (test n) (all_below n test) all in
     below_more (λ k. test k ≡ true) n (below n test parts.1) parts.0 k (omega arith)
 
--- if the Boolean comparison of two numbers is true, the numbers compare in that way
+-- if the Boolean comparison of two numbers is true, the corresponding relation holds
 pub is_below : (a b : ℕ) → nat_lt a b ≡ true → a < b
 is_below a b h = grind (arith, nat_tests)
 
@@ -96,7 +96,7 @@ next_of symbols states row next test tested =
     let next_and : (nat_lt next states ≡ true) × (test next ≡ true) = both _ _ row_and.1 in
     record { next = next; below = is_below _ _ next_and.0; row = is_equal _ _ row_and.0; leads = next_and.1 }
 
--- the same for another test with the same results
+-- the same holds for another test with the same results
 pub next_as : (symbols states row : ℕ) (test other : ℕ → Bool) → ((next : ℕ) → test next ≡ other next) → Next symbols states row test → Next symbols states row other
 next_as symbols states row test other same entry_next =
     record { next = entry_next.next; below = entry_next.below; row = entry_next.row; leads = sym (same entry_next.next) ∙ entry_next.leads }

@@ -58,8 +58,8 @@ is_mark _ _ = false
 abbrev pub stays : ℕ → ℕ → Bool
 stays state symbol = is_one_of (CM ∷ ZWJ ∷ []) (shown symbol).class && not (is unattached (bases_at state))
 
--- whether the outcome of an entry gives the same mark as the rules, given the results of their conditions
--- before and after
+-- whether the outcome of an entry has the same mark as the rules, given the results of their conditions before and
+-- after
 module _ (whole_numbers : Bool) (answered : List Bool) (after digit_after : List Bool) (outcome : ℕ) where
   abbrev pub gives : List Bool → Bool → Bool → Bool → Bool
   gives after is_joined is_pictograph before_digit =
@@ -83,7 +83,7 @@ gives_each whole_numbers state symbol outcome =
 abbrev pub waits_for_base : ℕ → ℕ → Bool
 waits_for_base symbol outcome = not (outcome == WAITS) || is_one_of (OP ∷ []) (shown symbol).class
 
--- whether an entry is right, given the results of the conditions on the example bases of its state and of the next
+-- whether an entry is correct, given the results of the conditions on the example bases of its state and of the next
 -- state, and on the bases after the position
 abbrev pub leads_by : Bool → Bool → ℕ → ℕ → ℕ → ℕ → List Bool → List Bool → List Bool → List Bool → Bool
 leads_by whole_numbers true state symbol outcome next here there after digit_after =
@@ -119,7 +119,7 @@ pub after_at : (whole_numbers before_digit : Bool) (symbol : ℕ) → get_or (af
 unfolding afters
 after_at whole_numbers before_digit symbol = get_or-map (λ c. answers_after whole_numbers c before_digit) symbols symbol (narrow XX)
 
--- whether the start of the next row and the outcome are right for a state and a symbol, given the shared results
+-- whether the start of the next row and the outcome are correct for a state and a symbol, given the shared results
 module _ (whole_numbers : Bool) (heres after digit_after : List (List Bool)) where
   abbrev pub leads_at : List Bool → ℕ → ℕ → ℕ → ℕ → Bool
   leads_at here state symbol outcome next =

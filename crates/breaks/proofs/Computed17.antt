@@ -59,7 +59,7 @@ abbrev pub kind : List Base → ℕ
 kind [] = 0
 kind (b ∷ bases) = kind_of (is_east_asian b) (is (NU ∷ []) bases) (class_of b)
 
--- whether a rule may ask what follows a base that begins with this character
+-- whether a rule may depend on what follows a base that begins with this character
 abbrev pub asks : Character → Bool
 asks c = is_one_of (AK ∷ AS ∷ IS ∷ OP ∷ QU ∷ []) c.class || is_dotted_circle (alone c)
 
@@ -94,10 +94,10 @@ with_width c is_wide = record c { is_wide = is_wide }
 abbrev pub may_have : Character → Bool → Bool
 may_have c is_wide = not (is_one_of (CP ∷ OP ∷ []) c.class) || same c.is_wide is_wide
 
--- Whether the outcome of an entry gives the same mark as the rules. `befores` are the results of the conditions on the
+-- Whether the outcome of an entry has the same mark as the rules. `befores` are the results of the conditions on the
 -- bases before the position, for each value of the bits. `after` are those on a character of each width and the example
--- bases after it, and `marks` the marks of each outcome before these examples. A character can be a ZWJ that joins the
--- last base only if characters may join that.
+-- bases after it, and `marks` are the marks of each outcome before these examples. A character can be a ZWJ that joins
+-- the last base only if characters may join that.
 module _ (befores : List (List Bool)) (by_row : List Mark) (after : Bool → ℕ → List Bool) (marks : ℕ → List Mark) (outcome : ℕ) (is_unattached asked : Bool) (c_is_wide : Bool) where
   abbrev pub gives_bits : List Bool → List Mark → ℕ → Bool
   gives_bits after marks index =
@@ -128,8 +128,8 @@ befores_at state = befores_from (answers_17 (bases_at_17 state))
 abbrev pub stays_17 : ℕ → ℕ → Bool
 stays_17 state symbol = is_one_of (CM ∷ ZWJ ∷ []) (shown_17 symbol).class && not (is unattached (bases_at_17 state))
 
--- What many entries share: the results of the conditions on the example bases of each state, and on a character of each
--- symbol and width before each example of the bases after it, and the marks before these examples.
+-- The results that many entries share: those of the conditions on the example bases of each state, and on a character
+-- of each symbol and width before each example of the bases after it, and the marks before these examples.
 unfoldable pub heres_17 : List (List Bool)
 heres_17 = map answers_17 states_17
 
@@ -143,7 +143,7 @@ pub here_at_17 : (state : ℕ) → get_or heres_17 state (answers_17 []) ≡ ans
 unfolding heres_17
 here_at_17 state = get_or-map answers_17 states_17 state []
 
--- the results at a place of the shared lists
+-- the results at one index of the shared lists
 abbrev pub after_in : Bool → List (List (List Bool)) → ℕ → ℕ → List Bool
 after_in is_wide lists symbol kind =
     get_or (get_or lists symbol (map (answers_after_17 (with_width (narrow XX) is_wide)) rests)) kind (answers_after_17 (with_width (shown_17 symbol) is_wide) [])
@@ -166,7 +166,7 @@ abbrev pub by_is_wide : List (List (List Bool)) → List (List (List Bool)) → 
 by_is_wide narrow wide true = wide
 by_is_wide narrow wide false = narrow
 
--- the entries of a table are right, given what they share
+-- the entries of a table are correct, given the results that they share
 module _ (heres : List (List Bool)) (by_row : List Mark) (narrow_after wide_after : List (List (List Bool))) (rest_marks : List (List Mark)) where
   abbrev pub leads_by_17 : Bool → List (List Bool) → List Bool → ℕ → ℕ → ℕ → ℕ → Bool
   leads_by_17 true befores there state symbol outcome next = (outcome == STAYS) && (next == state)
@@ -182,7 +182,7 @@ module _ (heres : List (List Bool)) (by_row : List Mark) (narrow_after wide_afte
   leads_at_17 befores state symbol outcome next =
       leads_by_17 (stays_17 state symbol) befores (get_or heres next (answers_17 [])) state symbol outcome next
 
-  -- whether the start of the next row and the outcome are right for a state and a symbol
+  -- whether the start of the next row and the outcome are correct for a state and a symbol
   abbrev pub row_leads_17 : List (List Bool) → ℕ → ℕ → ℕ → ℕ → ℕ → Bool
   row_leads_17 befores state symbol row outcome next =
       (row == next * SYMBOL_COUNT) && (nat_lt next STATE_COUNT && leads_at_17 befores state symbol outcome next)
@@ -206,7 +206,7 @@ module _ (heres : List (List Bool)) (by_row : List Mark) (narrow_after wide_afte
 abbrev pub part : ℕ → Bool
 part k = right_by_17 heres_17 marks_by_row_17 (afters_17 false) (afters_17 true) rest_marks_17 k
 
--- the same, with what the entries share computed for each
+-- the same, with the shared results computed for each entry
 abbrev pub leads_17 : Bool → ℕ → ℕ → ℕ → ℕ → Bool
 leads_17 stay state symbol outcome next =
     leads_by_17 heres_17 marks_by_row_17 (afters_17 false) (afters_17 true) rest_marks_17 stay (befores_at state) (answers_17 (bases_at_17 next)) state symbol outcome next

@@ -23,7 +23,7 @@ narrow_table = refl
 pub narrow_is : (outcome : ℕ) → outcome < 15 → get_or NARROW outcome 0 ≡ decided_narrow outcome
 narrow_is outcome lt = is_equal _ _ (below 15 (λ outcome. get_or NARROW outcome 0 == decided_narrow outcome) narrow_table outcome lt)
 
--- what is known of a narrow character
+-- what is known about a narrow character
 record IsNarrow (p : Properties) : Type 0 where
   no_joiner : is_same (character_by V17_0 p).class ZWJ ≡ false
   no_pictograph : p.is_future_pictograph ≡ false

@@ -17,7 +17,7 @@ use Rattle.breaks.proofs.PassLemmas.{not_true}
 use Rattle.breaks.proofs.PassLemmas17.{Passes17, passes_begin_17, passes_stay_17, starts_17}
 use Rattle.breaks.proofs.SymbolLemmas17.{is_joiner_17}
 
--- what is known of an ordinary character
+-- what is known about an ordinary character
 record IsOrdinary (p : Properties) : Type 0 where
   no_joiner : is_same (character_by V17_0 p).class ZWJ ≡ false
   no_pictograph : p.is_future_pictograph ≡ false
@@ -72,7 +72,7 @@ begins_ordinary_17 walk symbol next_row outcome decided p lt shows reads_row rea
     (passes_begin_17 (full_walk walk) symbol next_row outcome decided false (begins_wide p) c lt shows reads_row reads_outcome begin
     (sym is.no_pictograph) refl decides last others stands)
 
--- the same for a walk with the parts of that one
+-- the same for a walk with the same parts
 pub begun_ordinary_17 : (walk new : OrdinaryWalk17) (symbol next_row outcome decided : ℕ) (p : Properties) → symbol < SYMBOL_COUNT
     → shown_17 symbol ≡ told_17 (character_by V17_0 p) → next_row ≡ get_or NEXT_ROWS (walk.row + symbol) 0 → outcome ≡ get_or OUTCOMES (walk.row + symbol) 0
     → (outcome == STAYS) ≡ false → is_ordinary_17 p ≡ true → decided ≡ decided_17 outcome (bits_in (full_walk walk)) (begins_wide p)

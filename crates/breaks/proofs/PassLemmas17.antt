@@ -39,11 +39,11 @@ part_is (suc (suc (suc (suc (suc zero))))) lt = part_5
 part_is (suc (suc (suc (suc (suc (suc zero)))))) lt = part_6
 part_is (suc (suc (suc (suc (suc (suc (suc n))))))) lt = absurd (omega arith)
 
--- the entry for a state and a symbol is right
+-- the entry for a state and a symbol is correct
 abbrev pub Leads17 : ℕ → ℕ → ℕ → ℕ → Type 0
 Leads17 state symbol next_row outcome = Next SYMBOL_COUNT STATE_COUNT next_row (leads_17 (stays_17 state symbol) state symbol outcome)
 
--- the entry is right if the table is, given what its entries share
+-- the entry is correct if the table is, given the results that its entries share
 entry_of_17 : (heres : List (List Bool)) (by_row : List Mark) (narrow wide : List (List (List Bool))) (marks : List (List Mark))
     (state symbol row next_row outcome : ℕ) → state < STATE_COUNT → symbol < SYMBOL_COUNT
     → row ≡ state * SYMBOL_COUNT → next_row ≡ get_or NEXT_ROWS (row + symbol) 0 → outcome ≡ get_or OUTCOMES (row + symbol) 0
@@ -71,12 +71,12 @@ entry_is_right_17 state symbol row next_row outcome state_lt symbol_lt begins re
     (entry_of_17 heres_17 marks_by_row_17 (afters_17 false) (afters_17 true) rest_marks_17 state symbol row next_row outcome
     state_lt symbol_lt begins reads_row reads_outcome (part_is (state / 7) (omega arith)))
 
--- whether the outcome gives the marks of the rules, from what the entries share
+-- whether the outcome has the marks of the rules, given the results that the entries share
 abbrev pub given_by_17 : (befores : List (List Bool)) (symbol outcome : ℕ) (is_unattached : Bool) → Character → Bool
 given_by_17 befores symbol outcome is_unattached c =
     gives_17 befores marks_by_row_17 (λ is_wide. after_in is_wide (by_is_wide (afters_17 false) (afters_17 true) is_wide) symbol) (marks_in rest_marks_17) outcome is_unattached c
 
--- the entry is right for a character that begins a base
+-- the entry is correct for a character that begins a base
 record Begins17 (state symbol outcome next : ℕ) : Type 0 where
   answered : answers_17 (alone (shown_17 symbol) ∷ bases_at_17 state) ≡ answers_17 (bases_at_17 next)
   carries : carried_17 (alone (shown_17 symbol) ∷ bases_at_17 state) ≡ carried_17 (bases_at_17 next)
@@ -202,7 +202,7 @@ kind_below : (rest : List Base) → nat_lt (kind rest) 11 ≡ true
 kind_below [] = refl
 kind_below (b ∷ bases) = kind_is_below (is_east_asian b) (is (NU ∷ []) bases) (class_of b)
 
--- Two lists of bases with the same facts are the same to the conditions.
+-- The conditions have the same results for two lists of bases with the same facts.
 module _ (p q : List Base) (alike : facts p ≡ facts q) where
   final : or_edge (is after_final) p ≡ or_edge (is after_final) q
   unfolding facts
@@ -232,7 +232,7 @@ module _ (p q : List Base) (alike : facts p ≡ facts q) where
   unfolding rows_17 rows_before_numbers rows_of_numbers rows_after_numbers
   after_alike c attached = rw (final, digit, narrow, stop, vowel) refl
 
--- if no rule asks what follows it, a character gives the same results whatever follows
+-- if no rule depends on what follows a character, the results are the same whatever follows
 asks_nothing : (class : LineClass) (circle : Bool) → (is_one_of (AK ∷ AS ∷ IS ∷ OP ∷ QU ∷ []) class || circle) ≡ false
     → (is_same (base_class class) QU ≡ false) × (is_one_of (QU ∷ []) (base_class class) ≡ false) × (is_one_of (IS ∷ []) (base_class class) ≡ false)
     × (is_one_of (OP ∷ []) (base_class class) ≡ false) × ((is_one_of (AK ∷ AS ∷ []) (base_class class) || circle) ≡ false)
@@ -250,7 +250,7 @@ after_any c attached rest h =
     let no = asks_nothing c.class (is_dotted_circle (alone c)) h in
     rw (no.0, no.1, no.2, no.3, no.4) refl
 
--- marks can join a character if a rule asks what follows it
+-- marks can join a character if a rule depends on what follows it
 asked_attaches : (class : LineClass) (detail : LineDetail)
     → (is_one_of (AK ∷ AS ∷ IS ∷ OP ∷ QU ∷ []) class || (is_same class AL && is_detail detail DottedCircle)) ≡ true → is_one_of unattached class ≡ false
 asked_attaches AK detail h = refl
@@ -326,7 +326,7 @@ unjoined : (is_unattached is_joined : Bool) → (is_joined ≡ true → is_unatt
 unjoined is_unattached true free = ap (λ b. b && true) (free refl)
 unjoined is_unattached false free = and_false is_unattached
 
--- the outcome of an entry gives the mark of the rules before each example of the bases after the next one
+-- the outcome of an entry has the mark of the rules before each example of the bases after the next one
 given_17 : (state symbol outcome : ℕ) (b : Bits) (wide : Bool) (place : ℕ)
     → AtBits state b
     → may_have (shown_17 symbol) wide ≡ true
@@ -349,7 +349,7 @@ given_17 state symbol outcome b wide place here may free gives lt =
     let parts = both _ _ (rw (unjoined un b.is_joined free) at said) in
     (parts.0, is_mark_is _ _ parts.1)
 
--- before a character that begins a base, the outcome gives the mark of the rules
+-- before a character that begins a base, the outcome has the mark of the rules
 module _ (walk : Walk17) (last : Base) (others : List Base) (stands : Stands17 walk last others) (symbol next_row outcome : ℕ) (c : Character)
     (shows : shown_17 symbol ≡ told_17 c) (entry_leads : Leads17 stands.state symbol next_row outcome) (begun : stays_17 stands.state symbol ≡ false) where
   free : (bits_in walk).is_joined ≡ true → is unattached (bases_at_17 stands.state) ≡ false
@@ -366,7 +366,7 @@ module _ (walk : Walk17) (last : Base) (others : List Base) (stands : Stands17 w
       (at_bits stands.state walk.is_joined walk.is_pictograph walk.is_wide walk.was_wide)
       (may_have_told c (shown_17 symbol) shows) free says.gives lt
 
-  -- what the rules say, from what the table was computed from
+  -- the mark of the rules, from the examples from which the table was computed
   ruled : (place : ℕ) (attached : List Character) (rest : List Base)
       → map (λ row. row.after (record { first = c; attached = attached } ∷ rest)) rows_17 ≡ answers_after_17 c (rest_at place)
       → decide_17 marks_by_row_17 (answered_17 (bits_in walk) (answers_17 (bases_at_17 stands.state)))

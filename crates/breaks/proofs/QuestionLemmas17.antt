@@ -64,7 +64,7 @@ right_at question symbol answer c ge lt begins begin shows reads =
     both _ _ (rw (begin, ← reads, whole) at entry) in
     right_by question (shown_17 symbol) answer c.is_wide (may_be c (shown_17 symbol) shows) parts.0 parts.1
 
--- the next base decides a question as far as the facts about it do
+-- the facts about the next base depend only on its symbol, its width and whether a base of class NU follows it
 same_bases : (c shown : Character) (attached : List Character) (rest : List Base) → shown ≡ told_17 c
     → facts (record { first = c; attached = attached } ∷ rest) ≡ facts (alone (with_width shown c.is_wide) ∷ digit_or_none (is (NU ∷ []) rest))
 unfolding facts
@@ -129,7 +129,7 @@ answered question symbol answer result c ge lt within before shows reads equals 
       says.2,
     )
 
--- a character that joins the base before it answers nothing
+-- a character that joins the base before it answers no question
 pub passed_over : (question symbol : ℕ) (c : Character) (text : List Character) → symbol < SYMBOL_COUNT → ATTACHED ≤ symbol → shown_17 symbol ≡ told_17 c
     → mark_of_17 question (bases_after (c ∷ text)) ≡ mark_of_17 question (bases_after text)
 passed_over question symbol c text within ge shows =

@@ -44,7 +44,7 @@ pub chosen : (b : Bool) (mark one other : Mark) → one ≡ other → (if b then
 chosen true mark one other same = refl
 chosen false mark one other same = same
 
--- the rows give the mark that `decide` gives for the results of their conditions
+-- the mark of the rows is the result of `decide` for the results of their conditions
 decides : (some : List Row) (before after : List Base) → row_mark some May before after ≡ decide (map (λ row. row.mark) some) (map (λ row. row.before before) some) (map (λ row. row.after after) some)
 decides [] before after = refl
 decides (row ∷ some) before after = chosen (row.before before && row.after after) row.mark _ _ (decides some before after)
@@ -56,14 +56,14 @@ four false false true d mark = refl
 four false false false true mark = refl
 four false false false false mark = refl
 
--- the rule on whole numbers gives the same mark as its rows
+-- the rule on whole numbers has the same mark as its rows
 number_mark : (mark : Mark) (before after : List Base) → (if is_in_number before after then Never else mark) ≡ row_mark (number_rows true) mark before after
 number_mark mark before after =
     ap (λ whole. if whole then Never else mark) (in_number_is before after)
     ∙ four (is affix before && begins_unaffixed after) (is opening before && is (NU ∷ []) after)
     (ends_in_digits before && is goes_on_after_digits after) (ends_in_closed_digits before && is affix after) mark
 
--- all rules together give the same mark as their rows
+-- all rules together have the same mark as their rows
 rows_mark : (whole_numbers : Bool) (before after : List Base) → mark_by (rules V15_0 whole_numbers) before after
     ≡ row_mark (rows_before_numbers V15_0)
     (row_mark (number_rows whole_numbers) (row_mark (rows_after_numbers V15_0) May before after) before after) before after

@@ -17,13 +17,13 @@ use Rattle.breaks.proofs.Computed17.{answers_after_17, decide_17, marks_by_row_1
 
 -- ---- the rules as rows
 
--- the rows give the mark that `decide_17` gives for the results of their conditions
+-- the mark of the rows is the result of `decide_17` for the results of their conditions
 decides_17 : (some : List Row) (before after : List Base) → row_mark some May before after
     ≡ decide_17 (map (λ row. row.mark) some) (map (λ row. row.before before) some) (map (λ row. row.after after) some)
 decides_17 [] before after = refl
 decides_17 (row ∷ some) before after = chosen (row.before before && row.after after) row.mark _ _ (decides_17 some before after)
 
--- all rules together give the same mark as their rows
+-- all rules together have the same mark as their rows
 rows_mark_17 : (before after : List Base) → mark_by (rules V17_0 false) before after
     ≡ row_mark (rows_before_numbers V17_0) (row_mark (rows_of_numbers V17_0) (row_mark (rows_after_numbers V17_0) May before after) before after) before after
 unfolding rules

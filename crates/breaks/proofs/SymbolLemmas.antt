@@ -59,7 +59,7 @@ answers_after_told true c false = rw (narrow_after c.class c.is_wide) refl
 answers_after_told false c true = rw (narrow_after c.class c.is_wide) refl
 answers_after_told false c false = rw (narrow_after c.class c.is_wide) refl
 
--- the symbol in the table represents all that the rules read of the character
+-- the symbol in the table represents everything that the rules read of the character
 pub symbol_shown : (p : Properties) (index symbol : ℕ) → index < 448 → line_answers p ≡ line_answers_at index → symbol ≡ get_or SYMBOLS index 0
     → shown symbol ≡ told (character_by V15_0 p)
 symbol_shown p index symbol lt is reads =

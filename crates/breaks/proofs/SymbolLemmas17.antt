@@ -29,7 +29,7 @@ pub wide_by_symbol : (c : Character) (symbol : ℕ) (is_wide : Bool) → symbol 
 wide_by_symbol c symbol is_wide lt shows wide =
     rw wide (ap (λ b. c.is_wide && b) (is_not_attached_17 symbol lt ∙ ap (λ d. not (is_one_of (CM ∷ ZWJ ∷ []) d.class)) shows))
 
--- the symbol in the table represents all that the rules read of the character
+-- the symbol in the table represents everything that the rules read of the character
 pub symbol_shown_17 : (p : Properties) (index symbol : ℕ) → index < 448 → line_answers p ≡ line_answers_at index → symbol ≡ get_or SYMBOLS index 0
     → shown_17 symbol ≡ told_17 (character_by V17_0 p)
 symbol_shown_17 p index symbol lt is reads =

@@ -1,4 +1,4 @@
--- The walk over the characters gives the marks of the bases.
+-- The walk over the characters finds the marks of the bases.
 use Rattle.std.proofs.Common.{◌≡◌, ℕ, Bool, true, false, suc, ◌+◌, ◌-◌, ◌<◌, ◌≤◌, Some, length, get_or, take, drop, arith, List, [], ◌∷◌, ◌++◌, map, if◌then◌else◌, refl, sym, ap, subst, ◌∙◌, append_assoc, append-nil, inl, inr}
 use Rattle.ucd.specs.declared.version.Version.TheVariants.{V15_0, V17_0}
 use Rattle.ucd.specs.declared.version.Version.{Version}
@@ -59,7 +59,7 @@ nevers_attached (a ∷ attached) c marks = ap (λ ms. Never ∷ ms) (nevers_atta
 same_tail : (front : List Mark) (m n : Mark) (ms ns : List Mark) → m ≡ n → ms ≡ ns → front ++ m ∷ ms ≡ front ++ n ∷ ns
 same_tail front m n ms ns mark marks = rw (mark, marks) refl
 
--- the recursion from the base `last` on gives the marks of the bases
+-- the recursion from the base `last` on finds the marks of the bases
 walk_is : (v : Version) (whole_numbers : Bool) (others : List Base) (last : Base) (text : List Character) (end : Character)
     → end_of last ≡ end → nevers last.attached ++ walk (rules v whole_numbers) others last text
     ≡ marks_after (rules v whole_numbers) others (grown last (bases_of (end ∷ text)))
@@ -78,18 +78,18 @@ walk_is v whole_numbers others last (c ∷ text) end is =
           ∙ ap (marks_after (rules v whole_numbers) others) (sym (grown_end last end (bases_of (c ∷ text)))))
     ]
 
--- the recursion over a text gives the marks of its bases
+-- the recursion over a text finds the marks of its bases
 pub walk_from_start : (v : Version) (whole_numbers : Bool) (c : Character) (text : List Character) → walk (rules v whole_numbers) [] (alone c) text ≡ marks_after (rules v whole_numbers) [] (bases_of (c ∷ text))
 walk_from_start v whole_numbers c text = walk_is v whole_numbers [] (alone c) text c refl ∙ ap (marks_after (rules v whole_numbers) []) (grown_alone c text)
 
--- a text of no characters has no marks
+-- a text without characters has no marks
 pub none_at_all : (v : Version) (whole_numbers : Bool) (all : List Properties) (marks : List Mark) → length all ≡ 0 → length marks ≡ length all → marks ≡ marks_by v whole_numbers all
 unfolding marks_by
 none_at_all v whole_numbers [] [] none len = refl
 none_at_all v whole_numbers [] (m ∷ marks) none len = absurd (omega arith)
 none_at_all v whole_numbers (p ∷ all) marks none len = absurd (omega arith)
 
--- the recursion from the second character on gives the marks of all characters
+-- the recursion from the second character on finds the marks of all characters
 pub begins_walk : (v : Version) (whole_numbers : Bool) (all rest : List Properties) (p : Properties) → all ≡ p ∷ rest
     → walk (rules v whole_numbers) [] (alone (character_by v p)) (map (character_by v) rest) ≡ marks_by v whole_numbers all
 unfolding marks_by
@@ -145,7 +145,7 @@ module _ {X : Type 0} (read : X → Character) (rest : List X) (whole : List Mar
       (omega (arith, length-set marks (length rest) Must)) in
       sym all_of_it ∙ written ∙ ap (λ n. take n marks ++ Must ∷ []) (sym last_place) ∙ rw none at so_far
 
--- Reading on for a question: `asked` gives the mark of what is asked at a character, given the bases after the next one.
+-- Reading on for a question: `asked` is the mark of the question at a character, given the bases after the next one.
 module _ {X : Type 0} (read : X → Character) (rest : List X) where
   -- one step
   pub asks_on : (asked answer : List Base → Mark) (i : ℕ) (x : X) (whole : Mark) → i < length rest → x ≡ get_or rest i x
@@ -157,7 +157,7 @@ module _ {X : Type 0} (read : X → Character) (rest : List X) where
   pub ends_asking : (asked : List Base → Mark) (i : ℕ) → length rest ≤ i → asked (bases_after (map read (drop i rest))) ≡ asked []
   ends_asking asked i ge = ap (λ xs. asked (bases_after (map read xs))) (drop_all i rest ge)
 
--- the recursion gives a mark for each position
+-- the recursion finds a mark for each position
 length-walk : (rs : List Rule) (others : List Base) (last : Base) (text : List Character) → length (walk rs others last text) ≡ suc (length text)
 length-walk rs others last [] = refl
 length-walk rs others last (c ∷ text) =
@@ -203,7 +203,7 @@ marks_read v t whole_numbers text all version is =
     subst (λ v. marks_by v whole_numbers all ≡ marks_of t whole_numbers text) version
     (ap (λ all. marks_by t.version whole_numbers all) is ∙ ap (λ cs. marks_after (rules t.version whole_numbers) [] (bases_of cs)) (read_once t text))
 
--- With 17.0, whole numbers change nothing.
+-- In 17.0, whole numbers have no effect.
 same_rules : (whole_numbers : Bool) → rules V17_0 whole_numbers ≡ rules V17_0 false
 unfolding rules
 same_rules whole_numbers = refl

@@ -29,7 +29,7 @@ opening_quote : marks (quote Initial ∷ narrow SP ∷ narrow AL ∷ []) ≡ Nev
 unfolding rules rows_before_numbers rows_of_numbers rows_after_numbers
 opening_quote = refl
 
--- LB15b: no break before a quotation mark that ends a text, or is before one of the classes that the rule names
+-- LB15b: no break before a quotation mark at the end of a text, or before one of the classes that the rule lists
 closing_quote : marks (narrow SP ∷ quote Final ∷ []) ≡ Never ∷ Must ∷ []
 unfolding rules rows_before_numbers rows_of_numbers rows_after_numbers
 closing_quote = refl
@@ -38,7 +38,7 @@ quote_before_letter : marks (narrow SP ∷ quote Final ∷ narrow AL ∷ []) ≡
 unfolding rules rows_before_numbers rows_of_numbers rows_after_numbers
 quote_before_letter = refl
 
--- a CM after a space is no part of the space, and not attached to the quotation mark before it
+-- a CM after a space is neither part of the space nor attached to the quotation mark before it
 quote_before_space_and_mark : marks (narrow SP ∷ quote Final ∷ narrow CM ∷ narrow SP ∷ narrow CM ∷ []) ≡ Never ∷ Never ∷ Never ∷ May ∷ Must ∷ []
 unfolding rules rows_before_numbers rows_of_numbers rows_after_numbers
 quote_before_space_and_mark = refl

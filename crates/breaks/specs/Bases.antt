@@ -22,8 +22,8 @@ resolved SA false = AL
 resolved CJ is_mark = NS
 resolved class is_mark = class
 
--- The classes and details that a version knows. Tables of Unicode 15.0 never have the others, which would count as
--- XX here.
+-- The classes and details that exist in a version. Tables of Unicode 15.0 never contain the others. Other classes
+-- would count as XX here.
 abbrev pub known : Version → LineClass → LineClass
 known V17_0 class = class
 known V15_0 AK = XX
@@ -38,14 +38,14 @@ abbrev pub known_detail : Version → LineDetail → LineDetail
 known_detail V15_0 detail = Plain
 known_detail V17_0 detail = detail
 
--- what the rules need to know about a character, with the class that LB1 gives it
+-- what the rules need to know about a character, including its class after LB1
 pub record Character : Type 0 where
   pub class : LineClass
   pub detail : LineDetail
   pub is_wide : Bool
   pub is_future_pictograph : Bool
 
--- the character with code point c, from the tables
+-- the character with code point c, with its properties in the tables
 abbrev pub character : Tables → ℕ → Character
 character t c = record {
   class = resolved (known t.version (line_class_of t c)) (is_mark_in t c);
@@ -59,13 +59,12 @@ pub record Base : Type 0 where
   pub first : Character
   pub attached : List Character
 
--- LB9: a CM or ZWJ joins the character before it, unless that is BK, CR, LF, NL, SP or ZW
+-- LB9: a CM or ZWJ joins the character before it, unless that character is BK, CR, LF, NL, SP or ZW
 abbrev pub stays_with : Character → Character → Bool
 stays_with before c =
     is_one_of (CM ∷ ZWJ ∷ []) c.class && not (is_one_of (BK ∷ CR ∷ LF ∷ NL ∷ SP ∷ ZW ∷ []) before.class)
 
--- Puts a character before some bases. It becomes a base of its own, or the new first character of the first
--- base.
+-- Adds a character before some bases. It forms a base of its own, or becomes the first character of the first base.
 abbrev pub alone : Character → Base
 alone c = record { first = c; attached = [] }
 
@@ -88,7 +87,7 @@ base_class class = class
 abbrev pub class_of : Base → LineClass
 class_of b = base_class b.first.class
 
--- whether a base has East Asian width F, W or H. LB10: a CM or ZWJ that is AL has not.
+-- whether a base has East Asian width F, W or H; a CM or ZWJ that LB10 treats as AL does not count as wide
 abbrev pub is_east_asian : Base → Bool
 is_east_asian b = b.first.is_wide && not (is_one_of (CM ∷ ZWJ ∷ []) b.first.class)
 

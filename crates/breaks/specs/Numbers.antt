@@ -20,7 +20,7 @@ middle = NU ∷ SY ∷ IS ∷ []
 abbrev pub closing : List LineClass
 closing = CL ∷ CP ∷ []
 
--- a list without its first item, if that is one of `classes`, and a list without all such items at its front
+-- a list without its first item, if that is in `classes`, and a list without all leading items that are in `classes`
 abbrev pub after_one : List LineClass → List LineClass → List LineClass
 after_one classes [] = []
 after_one classes (class ∷ rest) = if is_one_of classes class then rest else class ∷ rest

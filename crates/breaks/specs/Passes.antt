@@ -1,4 +1,4 @@
--- One step of the walk over the characters of a paragraph, with the rules of any version.
+-- One step of the walk over the characters of a paragraph, for the rules of any version.
 use Rattle.std.specs.Prelude.{◌≡◌, Bool, List, [], ◌∷◌, ◌++◌, MatchBool, map, if◌then◌else◌}
 use Rattle.ucd.specs.declared.line_class.LineClass.TheVariants.{CM, ZWJ}
 use Rattle.ucd.specs.declared.properties.Properties.{Properties}
@@ -15,14 +15,14 @@ use Rattle.breaks.specs.declared.mark.Mark.TheVariants.{Never}
 abbrev pub with_attached : Base → Character → Base
 with_attached last c = record { first = last.first; attached = last.attached ++ c ∷ [] }
 
--- the bases in these characters, without the first ones that join the base before them
+-- the bases in these characters, without the leading characters that join the base before them
 abbrev pub bases_after : List Character → List Base
 bases_after [] = []
 bases_after (c ∷ text) = if is_one_of (CM ∷ ZWJ ∷ []) c.class then bases_after text else bases_of (c ∷ text)
 
--- The outcome before the character c gives the mark of the rules, and the new state belongs to the bases that include c.
--- `mark` is the mark of the outcome, given the bases after the next one. `stands` says to which bases the new state
--- belongs.
+-- The outcome before the character c has the mark that the rules determine, and the new state belongs to the bases that
+-- include c. `mark` is the mark of the outcome, given the bases after the next one. `stands` says which bases the new
+-- state belongs to.
 abbrev pub Passes : List Rule → (List Base → Mark) → (Base → List Base → Type 0) → Base → List Base → Character → Type 0
 Passes some mark stands last others c =
     MatchBool (stays_with (end_of last) c)

@@ -16,8 +16,8 @@ use Rattle.breaks.specs.Numbers.{is_in_number}
 use Rattle.breaks.specs.declared.mark.Mark.{Mark}
 use Rattle.breaks.specs.declared.mark.Mark.TheVariants.{Never, May, Must}
 
--- A rule: a condition on the bases before a position, the nearest first, and the bases after it, and the mark
--- that the rule gives.
+-- A rule: a condition on the bases before a position, nearest first, and on the bases after it, and the mark
+-- if the condition holds.
 pub record Rule : Type 0 where
   pub holds : List Base → List Base → Bool
   pub mark : Mark
@@ -41,7 +41,7 @@ may before after = record { before = before; after = after; mark = May }
 abbrev must : (List Base → Bool) → (List Base → Bool) → Row
 must before after = record { before = before; after = after; mark = Must }
 
--- the condition that is always true, and the one that is true at the end
+-- the condition that is always true, and the one that is true if there are no bases
 abbrev pub any : List Base → Bool
 any bases = true
 
@@ -78,7 +78,7 @@ without_spaces (b ∷ bases) = if is_same (class_of b) SP then without_spaces ba
 abbrev pub is_spaced : List LineClass → List Base → Bool
 is_spaced classes bases = is classes (without_spaces bases)
 
--- the same after spaces, which the rules write as `SP*`
+-- whether the bases meet the condition after any spaces, which the rules write as `SP*`
 abbrev pub spaced : (List Base → Bool) → List Base → Bool
 spaced condition bases = condition (without_spaces bases)
 
@@ -87,7 +87,7 @@ abbrev pub followed : (List Base → Bool) → (List Base → Bool) → List Bas
 followed first others [] = false
 followed first others (b ∷ bases) = first (b ∷ bases) && others bases
 
--- whether there are no bases, or the nearest one meets the condition: the rules write `sot` or `eot` beside its classes
+-- whether there are no bases, or the nearest one meets the condition: the rules list `sot` or `eot` among its classes
 abbrev pub or_edge : (List Base → Bool) → List Base → Bool
 or_edge condition [] = true
 or_edge condition (b ∷ bases) = condition (b ∷ bases)
@@ -97,7 +97,7 @@ abbrev pub is_not_east_asian : List Base → Bool
 is_not_east_asian [] = false
 is_not_east_asian (b ∷ bases) = not (is_east_asian b)
 
--- whether the nearest base is QU with this detail, or QU with another
+-- whether the nearest base is QU with this detail, or QU with another detail
 abbrev pub is_quote : LineDetail → List Base → Bool
 is_quote detail [] = false
 is_quote detail (b ∷ bases) = is_same (class_of b) QU && is_detail b.first.detail detail
@@ -140,7 +140,7 @@ letters = AL ∷ HL ∷ []
 abbrev syllables : List LineClass
 syllables = H2 ∷ H3 ∷ JL ∷ JT ∷ JV ∷ []
 
--- ---- LB3 to LB24. A list is named after its rules, and has a version if the versions differ.
+-- ---- LB3 to LB24. Each list is named after its rules, and after its version if the versions differ.
 
 abbrev LB3_to_LB12 : List Row
 LB3_to_LB12 =
@@ -330,7 +330,7 @@ LB29_to_LB30b =
 unfoldable pub rows_after_numbers : Version → List Row
 rows_after_numbers v = LB26_to_LB28 ++ (LB28a v ++ LB29_to_LB30b)
 
--- LB25: one rule on whole numbers, or the rows. In 17.0, the rows themselves are on whole numbers.
+-- LB25: one rule on whole numbers, or the rows. In 17.0, the rows themselves cover whole numbers.
 abbrev pub numbers : Version → Bool → List Rule
 numbers V15_0 true = record { holds = is_in_number; mark = Never } ∷ []
 numbers V15_0 false = map rule_of (rows_of_numbers V15_0)

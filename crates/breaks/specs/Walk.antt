@@ -1,5 +1,5 @@
--- The state of the walk over the characters with the rules of Unicode 15.0: what the rules need to know about the bases before a
--- position. A state belongs to all bases that the rules cannot distinguish from its example bases
+-- The state of the walk over the characters with the rules of Unicode 15.0: what the rules need to know about the bases
+-- before a position. A state belongs to all bases that the rules cannot distinguish from its example bases
 -- (`bases_at`). Only the code depends on states. The contract of `marks` refers to Marks.antt instead.
 use Rattle.std.specs.Prelude.{◌≡◌, ℕ, ◌*◌, ◌<◌, Bool, true, false, not, ◌||◌, ◌&&◌, ◌==◌, ◌++◌, List, [], ◌∷◌, map, get_or, if◌then◌else◌}
 use Rattle.ucd.specs.declared.line_class.LineClass.{LineClass}
@@ -81,12 +81,12 @@ bases_at number = get_or states number []
 abbrev pub decided_at : ℕ → Bool → Bool → ℕ
 decided_at outcome is_joined is_pictograph = if is_joined || ((outcome == UNLESS) && is_pictograph) then NEVER else outcome
 
--- whether a character is neither a ZWJ nor a future pictograph, so that LB8a and LB30b for pictographs say nothing about the position
--- after it
+-- whether a character is neither a ZWJ nor a future pictograph, so that LB8a and LB30b for pictographs do not apply to
+-- the position after it
 abbrev pub is_ordinary : Properties → Bool
 is_ordinary p = not (is_same (character_by V15_0 p).class class.ZWJ) && not p.is_future_pictograph
 
--- the walk over ordinary characters in this row, with all that a walk over any characters knows
+-- the walk over ordinary characters in this row, converted to a walk over any characters
 abbrev pub full_walk : ℕ → Walk15
 full_walk row = record { row = row; is_joined = false; is_pictograph = false }
 
@@ -99,7 +99,7 @@ abbrev pub mark_of : Bool → ℕ → Bool → Mark
 mark_of whole_numbers decided before_digit =
     if whole_numbers && ((decided == WAITS) && before_digit) then Never else get_or (marks_alone whole_numbers) decided Never
 
--- the same, given the bases after the next one
+-- the mark of an outcome, given the bases after the next one
 abbrev pub mark_given : Bool → ℕ → List Base → Mark
 mark_given whole_numbers decided rest = mark_of whole_numbers decided (is (class.NU ∷ []) rest)
 

@@ -1,6 +1,6 @@
--- The state of the walk over the characters with the rules of Unicode 17.0, as Walk.antt has it for 15.0. In
--- addition, the walk knows whether the last two bases are wide (LB19a). The outcome of an entry is a mark or a
--- question about the bases after the next one.
+-- The state of the walk over the characters with the rules of Unicode 17.0, similar to that in Walk.antt for
+-- 15.0. In addition, the walk records whether the last two bases are wide (LB19a). The outcome of an entry is
+-- a mark or a question about the bases after the next one.
 use Rattle.std.specs.Prelude.{◌≡◌, ℕ, Option, None, Some, ◌*◌, ◌<◌, ◌==◌, Bool, false, not, ◌||◌, ◌&&◌, ◌++◌, List, [], ◌∷◌, map, get_or, set, if◌then◌else◌}
 use Rattle.ucd.specs.declared.line_class.LineClass.TheVariants as class
 use Rattle.ucd.specs.declared.line_detail.LineDetail.TheVariants.{Final, Initial}
@@ -61,8 +61,8 @@ states_17 =
 abbrev pub bases_at_17 : ℕ → List Base
 bases_at_17 number = get_or states_17 number []
 
--- what a walk knows about the last bases beside its state: whether the last character is a ZWJ, whether the last base
--- is a future pictograph, and whether the last base and the base before it are wide
+-- what a walk records about the last bases besides its state: whether the last character is a ZWJ, whether the last
+-- base is a future pictograph, and whether the last base and the base before it are wide
 pub record Bits : Type 0 where
   pub is_joined : Bool
   pub is_pictograph : Bool
@@ -141,7 +141,7 @@ answers_17 bases =
     set (set (set (set (map (λ row. row.before bases) rows_17) LB8a_row false) LB19a_first_row false) LB19a_last_row (is (class.QU ∷ []) bases))
     LB30b_row false
 
--- the same with the bits of a walk
+-- the results of all conditions, given the bits of a walk
 abbrev pub answered_17 : Bits → List Bool → List Bool
 answered_17 bits answers =
     set (set (set (set answers LB8a_row bits.is_joined) LB19a_first_row (not bits.is_wide))
@@ -160,14 +160,14 @@ carried_17 bases =
 abbrev pub bits_in : Walk17 → Bits
 bits_in walk = record { is_joined = walk.is_joined; is_pictograph = walk.is_pictograph; is_wide = walk.is_wide; was_wide = walk.was_wide }
 
--- whether a character is neither wide nor a ZWJ nor a future pictograph, so that no bit of a walk says anything about it
+-- whether a character is neither wide nor a ZWJ nor a future pictograph, so that it sets no bit of a walk
 abbrev pub is_narrow_17 : Properties → Bool
 is_narrow_17 p = not (is_same (character_by V17_0 p).class class.ZWJ) && (not p.is_future_pictograph && not p.is_wide)
 
 abbrev pub narrow_bits : Bits
 narrow_bits = record { is_joined = false; is_pictograph = false; is_wide = false; was_wide = false }
 
--- the walk over narrow characters in this row, with all that a walk over any characters knows
+-- the walk over narrow characters in this row, converted to a walk over any characters
 abbrev pub narrow_walk : ℕ → Walk17
 narrow_walk row = record { row = row; is_joined = false; is_pictograph = false; is_wide = false; was_wide = false }
 
@@ -187,7 +187,7 @@ abbrev pub begins_wide_if_any : Option Properties → Bool
 begins_wide_if_any None = false
 begins_wide_if_any (Some p) = begins_wide p
 
--- what a walk over ordinary characters knows, given the first characters of the last base and of the base before it
+-- the bits of a walk over ordinary characters, given the first characters of the last base and of the base before it
 abbrev pub ordinary_bits : Properties → Option Properties → Bits
 ordinary_bits last before =
     record { is_joined = false; is_pictograph = false; is_wide = begins_wide last; was_wide = begins_wide_if_any before }

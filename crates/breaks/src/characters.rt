@@ -7,7 +7,7 @@ ghost use Rattle.ucd.specs.declared.properties.Properties.{Properties};
 use ucd::{Properties, Tables};
 
 pub trait Characters: Copy {
-    /// Whether reading a character again costs little.
+    /// Whether it is cheap to read a character again.
     const ARE_KNOWN: bool;
 
     ghost all: { Self → List Properties };

@@ -33,7 +33,7 @@ pub enum Mark {
 /// Returns the break mark after each character of a paragraph (UAX #14, LB1 to LB31, as in
 /// docs/reference.md), with the rules of the tables' Unicode version. The last mark is `Must`. With
 /// `whole_numbers`, another rule replaces LB25 of Unicode 15.0: no line ends inside a number (section 8.2,
-/// example 7). LB25 of 17.0 says that itself.
+/// example 7). LB25 of 17.0 already requires this.
 ///
 /// Allocates only the list of marks.
 pub fn marks(
@@ -95,7 +95,7 @@ fn mark_all<C: Characters>(
     }
 }
 
-// Does the same with the rules of one version: in fewer steps if the first walk can pass all characters.
+// Does the same with the rules of one version, using the first and faster walk if it can pass all characters.
 fn mark_by<R: Rules, O: Walk<R>, W: Walk<R>, C: Characters>(
     characters: C,
     rules: R,
@@ -124,7 +124,7 @@ fn mark_all_17<C: Characters>(characters: C, marks: &mut [Mark])
     }
 }
 
-// Returns whether a walk can pass all characters. The loop has no branches, so that the compiler tests many
+// Returns whether a walk can pass all characters. The loop has no branches, so the compiler can test many
 // characters at a time.
 fn are_accepted<R: Rules, W: Walk<R>, C: Characters>(characters: C) -> bool
     ensures { result ≡ list_all W.accepts (C.all characters) }
@@ -169,7 +169,8 @@ fn mark_before<R: Rules, C: Characters>(characters: C, after: usize, outcome: u8
     }
 }
 
-// Returns the mark of a question: reads on until it is answered, past the marks of one or two bases.
+// Returns the mark that answers a question. Reads on until the answer is known, past the combining marks of
+// one or two bases.
 #[cold]
 #[inline(never)] // so that the loop over the characters has all registers
 fn mark_asked<R: Rules, C: Characters>(characters: C, after: usize, question: u8, rules: R) -> Mark
@@ -201,7 +202,7 @@ pub fn paragraphs_end_at_must()
         → slice_get (marks_of tables whole_numbers text) (length text - 1) ≡ Some Must }
 {}
 
-/// States, as a theorem, that with tables of Unicode 17.0 whole numbers change nothing.
+/// States, as a theorem, that `whole_numbers` has no effect with tables of Unicode 17.0.
 pub fn numbers_are_whole()
     ensures { (tables : Tables) (text : List ℕ) → tables.version ≡ V17_0
         → marks_of tables true text ≡ marks_of tables false text }

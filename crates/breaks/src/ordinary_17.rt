@@ -1,6 +1,6 @@
-//! The walk over ordinary characters with the rules of Unicode 17.0: those that are neither a ZWJ nor a
-//! future pictograph. The table decides nearly all marks between them alone, so whether a base is wide
-//! (LB19a) is looked up only for an outcome that depends on it.
+//! The walk over ordinary characters, which are neither a ZWJ nor a future pictograph, with the rules of
+//! Unicode 17.0. The table alone decides nearly all marks between them, so the width of a base (LB19a) is
+//! looked up only for an outcome that depends on it.
 ghost use Rattle.std.specs.Prelude.{◌≡◌, ◌<◌, ◌≤◌, Some};
 ghost use Rattle.breaks.specs.Walk17.{Stands17, decided_17, full_walk, is_ordinary_17};
 ghost use Rattle.breaks.specs.Walk17.{begins_wide, begins_wide_if_any, ordinary_bits};
@@ -14,7 +14,7 @@ use crate::table_17::{
 use crate::walk_17::{Rules17, is_wide};
 use ucd::Properties;
 
-/// The state of the walk, as `Walk17` has it for all characters.
+/// The state of the walk. `Walk17` is the state for all characters.
 #[derive(Clone, Copy)]
 pub struct OrdinaryWalk17 {
     // The start of the state's row in the table.
@@ -48,7 +48,7 @@ impl Walk<Rules17> for OrdinaryWalk17 {
         let symbol = symbol_17(next);
         let outcome = outcome(self.row, symbol);
         self.row = next_row(self.row, symbol);
-        // Most outcomes are marks, so one test sets all others apart.
+        // Most outcomes are marks, so they are tested first.
         if NEVER <= outcome && outcome <= MUST {
             return self.begin(outcome, next);
         }

@@ -33,8 +33,8 @@ pub trait Rules: Copy {
         ensures cases { MatchOption result (is_question self outcome ≡ true)
             (λ mark. (rest : List Base) → mark ≡ mark_of self outcome rest) };
 
-    /// Returns the answer to a question, given the character after the next one or its marks: a mark, or a
-    /// question about the bases after that character.
+    /// Returns the answer to a question, given the next unread character: a mark, or a question about the
+    /// bases after that character.
     fn answer(self, question: u8, next: Properties) -> u8
         requires below { question < outcome_count }
         requires question { is_question self question ≡ true }

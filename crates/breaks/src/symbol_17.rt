@@ -30,7 +30,7 @@ enum Symbol {
     OP,
     /// A wide OP.
     WideOP,
-    /// A QU of another category than Pi and Pf.
+    /// A QU whose category is neither Pi nor Pf.
     QU,
     B2,
     CB,
@@ -93,9 +93,9 @@ fn symbol_at(index: usize) -> u8
     SYMBOLS[index]
 }
 
-// The four symbols of each line number: for a narrow character, a narrow mark, a wide character and a wide
-// mark. Each symbol occurs twice, because a future pictograph has the same symbol as other characters of its
-// class.
+// The four symbols of each line-breaking number: for a narrow character, a narrow mark, a wide character and
+// a wide mark. Each symbol occurs twice, because a future pictograph has the same symbol as other characters
+// of its class.
 macro_rules! symbols {
     ($($narrow:ident $narrow_mark:ident $wide:ident $wide_mark:ident;)*) => {
         [$(
@@ -112,7 +112,7 @@ macro_rules! symbols {
 }
 
 // The symbol for each value of `Properties::line_index`: four for each class, in the order of `LineClass`,
-// four for each class with a detail, and four for each of the 8 numbers that mean nothing.
+// four for each class with a detail, and four for each of the 8 unused numbers.
 static SYMBOLS: [u8; LINE_INDEX_COUNT] = symbols! {
     BK BK BK BK; CM CM CM CM; CR CR CR CR; GL GL GL GL; LF LF LF LF; NL NL NL NL; SP SP SP SP;
     WJ WJ WJ WJ; ZW ZW ZW ZW; ZWJ ZWJ ZWJ ZWJ; B2 B2 B2 B2; BA BA BA BA; BB BB BB BB; CB CB CB CB;

@@ -1,6 +1,6 @@
 //! The break table of Unicode 17.0. For each state and each symbol of the next character, it has the outcome
-//! before that character and the next state. It implements LB4 to LB31, except for what the walk decides with
-//! one bit each: LB8a, the width in LB19a, and LB30b for future pictographs. The entries are in
+//! before that character and the next state. It implements LB4 to LB31, except for the parts that the walk
+//! decides with one bit each: LB8a, the width in LB19a, and LB30b for future pictographs. The entries are in
 //! entries_17.rt.
 ghost use Rattle.std.specs.Prelude.{◌≡◌, ◌<◌, ◌≤◌, ◌+◌, slice_index};
 ghost use Rattle.breaks.specs.declared.table_17.TheConstants.{ENTRY_COUNT, OUTCOME_COUNT};
@@ -46,9 +46,9 @@ pub enum State {
     FinalQU,
     B2,
     CB,
-    /// BA, or HH that is in none of the other states.
+    /// BA, or an HH that has no state of its own.
     BA,
-    /// HY that is in none of the next states.
+    /// An HY that is in none of the next states.
     HY,
     /// LB20a: HY at the start of a word.
     WordHY,
@@ -106,11 +106,11 @@ pub const MAY: u8 = 2;
 /// A line must end before the next character.
 pub const MUST: u8 = 3;
 
-/// LB15b: no line ends there if the base after the next one is one of those that the rule names, or if there
+/// LB15b: no line ends there if the base after the next one is one of those that the rule lists, or if there
 /// is none.
 pub const LB15B: u8 = 4;
 
-/// LB15c: a line may end there if the base after the next one is NU, and otherwise not.
+/// LB15c: a line may end there only if the base after the next one is NU.
 pub const LB15C: u8 = 5;
 
 /// LB19a: no line ends there if the base after the next one is not wide, or if there is none.
@@ -119,7 +119,7 @@ pub const LB19A: u8 = 6;
 /// LB25 before OP: no line ends there if the bases after the next one are `NU` or `IS NU`.
 pub const LB25: u8 = 7;
 
-/// LB25 before OP IS: no line ends there if the base after these is NU.
+/// LB25 before OP IS: no line ends there if the base after the IS is NU.
 pub const LB25_IS: u8 = 8;
 
 /// LB28a: no line ends there if the base after the next one is VF.

@@ -26,7 +26,7 @@ pub struct Rules17;
 impl Rules for Rules17 {
     ghost version = { V17_0 };
 
-    // With and without whole numbers, the rules of 17.0 are the same.
+    // The rules of 17.0 are the same with and without whole numbers.
     ghost whole_numbers = { λ _. false };
 
     ghost outcome_count = { DECIDED_COUNT };
@@ -137,8 +137,8 @@ impl Walk17 {
     }
 }
 
-/// The state of the walk over narrow characters, between which the table decides alone. These are neither
-/// wide nor a ZWJ nor a future pictograph.
+/// The state of the walk over narrow characters, which are neither wide nor a ZWJ nor a future pictograph.
+/// Between these, the table alone decides.
 #[derive(Clone, Copy)]
 pub struct NarrowWalk17 {
     row: usize,

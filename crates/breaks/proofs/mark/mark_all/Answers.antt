@@ -7,7 +7,7 @@ pub returns-in-V15_0 : goal.returns-in-V15_0
 returns-in-V15_0 g c =
     c.mark_by.ensures ∙ marks_read V15_0 c.args.tables.now c.args.whole_numbers c.args.text.now _ (sym c.version.ensures ∙ c.in-V15_0.is) c.requires.characters
 
--- with 17.0, whole numbers change nothing
+-- in 17.0, whole numbers have no effect
 pub returns-in-V17_0 : goal.returns-in-V17_0
 returns-in-V17_0 g c =
     let version = sym c.version.ensures ∙ c.in-V17_0.is in

@@ -3,7 +3,7 @@ use Rattle.breaks.specs.Passes.{bases_after}
 use Rattle.breaks.specs.Symbols.{character_by}
 use Rattle.breaks.proofs.mark.mark_asked.Given as goal
 
--- what is asked at a character has the answer of the question
+-- the question at a character has the same answer as the original question
 abbrev pub invariant-loop-i : goal.invariant-loop-i
 invariant-loop-i g l =
     let read = map (character_by g.R.Rules.version) in

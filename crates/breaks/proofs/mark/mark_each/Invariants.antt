@@ -6,7 +6,7 @@ use Rattle.breaks.specs.Symbols.{character_by}
 use Rattle.breaks.proofs.WalkLemmas.{Walks}
 use Rattle.breaks.proofs.mark.mark_each.Given as goal
 
--- the marks so far, followed by those that the recursion gives for the rest, are the marks of the text
+-- the marks so far, followed by those that the recursion finds for the rest, are the marks of the text
 abbrev pub invariant-loop-i : goal.invariant-loop-i
 invariant-loop-i g l =
     let v = g.R.Rules.version in
