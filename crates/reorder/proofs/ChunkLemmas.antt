@@ -199,8 +199,7 @@ module _ (classes : List BidiClass) (levels : List ℕ) where
     same_position j k first second same =
         sym (inverse.at_vtol j first) ∙ ap (λ p. get_or (ltov_of false classes levels) p 0) same ∙ inverse.at_vtol k second
 
-    -- reversing each group and then ordering by L2 gives the same item at each visual position as ordering
-    -- with L3
+    -- reversing each group and then ordering by L2 puts the same item at each visual position as ordering with L3
     read_at : (old current : List ℕ) (k : ℕ) → k < length levels → IsTurned old current (get_or (vtol_of false classes levels) k 0)
         → get_or current (get_or (vtol_of false classes levels) k 0) 0 ≡ get_or old (get_or (vtol_of true classes levels) k 0) 0
     read_at old current k within t =

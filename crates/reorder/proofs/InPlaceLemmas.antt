@@ -1,4 +1,4 @@
--- Reversing intervals of an array in place gives the order of L2.
+-- Reversing intervals of an array in place results in the order of L2.
 use Rattle.std.proofs.Common.{◌≡◌, ℕ, zero, suc, ◌+◌, ◌-◌, ◌<◌, ◌≤◌, Bool, true, false, if◌then◌else◌, List, [], ◌∷◌, ◌++◌, length}
 use Rattle.std.proofs.Common.{get_or, map, take, drop, replicate, reverse, Some, refl, sym, ap, subst, ◌∙◌, inl, inr, arith, add-one, append_assoc}
 use Rattle.std.specs.Prelude.{nat_le}
@@ -188,7 +188,7 @@ TurnedInPlace-start levels old top low same below =
       done = items_at_places levels old same ∙ ap (λ count. map (λ k. get_or old k 0) (reversed_from levels (top + 1) count (places levels))) (sym e);
     }
 
--- reversing the intervals of `level` gives the state for the next lower level
+-- reversing the intervals of `level` leads to the state for the next lower level
 pub TurnedInPlace-next : (levels old : List ℕ) (top low : ℕ) (current : List ℕ) (level before : ℕ) (after : List ℕ) → TurnedInPlace levels old top low current level
     → before + 1 ≡ level → low ≤ level → length after ≡ length current → after ≡ reverse_flagged (flags_at level levels) [] current
     → TurnedInPlace levels old top low after before

@@ -77,7 +77,7 @@ permuted_places n vtol p =
           (found.0, omega (arith, found.1), sym (get_or_default vtol found.0 k 0 found.1) ∙ found.2);
     }
 
--- for each of the first k items of `vtol`, `ltov` has the index of the item
+-- for each of the first k items of `vtol`, `ltov` holds the index of the item
 pub record Placed (vtol ltov : List ℕ) (k : ℕ) : Type 0 where
   pub sizes : length ltov ≡ length vtol
   pub done : (m : ℕ) → m < k → get_or ltov (get_or vtol m 0) 0 ≡ m
@@ -100,7 +100,7 @@ Placed-next n vtol ltov k p w within =
       ];
     }
 
--- at the end, `ltov` has the index of every item of `vtol`
+-- at the end, `ltov` holds the index of every item of `vtol`
 at_place : (n : ℕ) (vtol ltov : List ℕ) (k i j : ℕ) → Placed vtol ltov k → n ≤ k → i < n → get_or vtol i 0 ≡ j → get_or ltov j 0 ≡ i
 at_place n vtol ltov k i j w past within here = ap (λ m. get_or ltov m 0) (sym here) ∙ w.done i (omega arith)
 

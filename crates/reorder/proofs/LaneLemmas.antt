@@ -1,4 +1,4 @@
--- From the bits of the levels that are compared together to the levels.
+-- What the bits of levels that are compared together say about the levels.
 use Rattle.std.proofs.Common.{◌≡◌, ℕ, zero, suc, ◌+◌, ◌-◌, ◌*◌, ◌/◌, ◌^◌, ◌<◌, ◌≤◌, ◌==◌, Bool, true, false, not, cond, List, [], ◌∷◌, map, length, get_or, drop, sym, ap, ap₂, ◌∙◌, arith}
 use Rattle.std.proofs.lemmas.Bool.{both_ways, eqb-true, eq-eqb, not-true, not-false}
 use Rattle.std.proofs.lemmas.List.{drop-map, drop-drop, take_all, length-drop}
@@ -39,7 +39,7 @@ half : (b : Bool) (n : ℕ) → (cond b 1 0 + 2 * n) / 2 ≡ n
 half true n = omega arith
 half false n = omega arith
 
--- shifting to the right takes off lanes at the front
+-- shifting to the right removes lanes at the front
 mask-drop : (k : ℕ) (ms : List Bool) → mask_l ms / 2 ^ k ≡ mask_l (drop k ms)
 mask-drop zero ms = div-one (mask_l ms)
 mask-drop (suc k) [] = zero-div (2 ^ suc k)

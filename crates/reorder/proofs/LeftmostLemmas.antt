@@ -28,7 +28,7 @@ module _ (levels : List ℕ) where
   abbrev level_at : ℕ → ℕ
   level_at k = get_or levels k 0
 
-  -- ---- a character more in a range
+  -- ---- one more character in a range
 
   pushed : (a b u : ℕ) → a ≤ b → IsLowest levels a b u → IsLowest levels a (suc b) (min u (level_at (suc b)))
   pushed a b u from l =
@@ -276,7 +276,8 @@ module _ (levels : List ℕ) where
     inside : end ≤ length levels
     inside = w.within
 
-    -- the characters that adjoin those passed, at the level or higher, have the level as the lowest one up to `place`
+    -- from characters at the level or higher that adjoin those passed, the lowest level up to `place` is the level
+    -- itself
     lowest_on : (k : ℕ) → end ≤ k → k < length levels → AreAtLeast levels level place k → IsLowest levels place k level
     lowest_on k past within least =
         let l : HasLowest levels place k = lowest_of levels place k (omega (arith, to, past)) in

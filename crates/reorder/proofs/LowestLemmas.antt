@@ -1,4 +1,4 @@
--- Which of two characters L2 puts to the left, by the lowest level between them.
+-- Which of two characters L2 puts to the left, determined by the lowest level between them.
 use Rattle.std.proofs.Common.{◌≡◌, ◌≢◌, ℕ, zero, suc, ◌+◌, ◌-◌, ◌<◌, ◌≤◌, min, Bool, true, false, not, List, get_or}
 use Rattle.std.proofs.Common.{◌⊎◌, refl, sym, ap, subst, ◌∙◌, inl, inr, arith}
 use Rattle.std.proofs.lemmas.Bool.{both_ways, cases_Bool, cases_eq, cases_lt, cases_order}
@@ -43,7 +43,7 @@ module _ (levels : List ℕ) where
             record { all = all; at = m.at; from = omega (arith, inside); to = m.to; is = m.is ∙ omega arith }
       ]
 
-  -- a range whose lowest level is not in its back, or not in its front
+  -- a range whose lowest level does not occur in its back, or not in its front
   pub in_front : (a b c u v : ℕ) → a ≤ b → IsLowest levels a c u → IsLowest levels b c v → u < v → IsLowest levels a b u
   in_front a b c u v from l m less =
       let last : l.at ≤ c = l.to in

@@ -102,7 +102,7 @@ Turned-start levels items top low below =
     let e : top - top ≡ 0 = omega arith in
     record { from = omega arith; to = omega arith; done = ap (λ count. reversed_from levels (top + 1) count items) (sym e) }
 
--- reversing the intervals of `level` gives the state for the next lower level
+-- reversing the intervals of `level` leads to the state for the next lower level
 pub Turned-next : (levels items : List ℕ) (top low : ℕ) (current : List ℕ) (level before : ℕ) (after : List ℕ) → Turned levels items top low current level
     → before + 1 ≡ level → low ≤ level → after ≡ reverse_runs (is_at_least levels level) [] current → Turned levels items top low after before
 Turned-next levels items top low current level before after w e more is =

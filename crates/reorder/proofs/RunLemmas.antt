@@ -1,4 +1,4 @@
--- Applying L2 to level runs, each represented by its start, gives the same order as applying it to characters.
+-- Applying L2 to level runs, each represented by its start, results in the same order as applying it to characters.
 use Rattle.std.proofs.Common.{◌≡◌, ℕ, zero, suc, ◌+◌, ◌-◌, ◌%◌, ◌<◌, ◌≤◌, ◌==◌, max, Bool, true, false, List, [], ◌∷◌, ◌++◌, length}
 use Rattle.std.proofs.Common.{◌≡◌, ℕ, zero, suc, ◌+◌, ◌-◌, ◌%◌, ◌<◌, ◌≤◌, ◌==◌, nat_le, max, min, Bool, true, false, List, [], ◌∷◌, ◌++◌, length}
 use Rattle.std.proofs.Common.{get_or, set, map, take, drop, reverse, Option, Some, None, unwrap_or, if◌then◌else◌}
@@ -25,7 +25,7 @@ use Rattle.reorder.specs.Order.{has_odd, highest, is_at_least, is_odd, lowest_od
 use Rattle.reorder.proofs.LevelLemmas.{Extremes, Extremes-next}
 use Rattle.reorder.proofs.OrderLemmas.{reversed_permute}
 
--- ---- lists whose items all give a test the same result
+-- ---- lists whose items all have the same result in a test
 
 abbrev pub Each : (ℕ → Bool) → Bool → List ℕ → Type 0
 Each test b [] = Unit {0}
@@ -62,8 +62,8 @@ block_ends test run (x ∷ xs) ys each some =
     cond-false (test x) (reverse_runs test (x ∷ run) (xs ++ ys)) (run ++ x ∷ reverse_runs test [] (xs ++ ys)) each.0
     ∙ ap (λ zs. run ++ x ∷ zs) (none_pass test xs ys each.1)
 
--- In each block, all items pass the test or all fail it. `new` has the blocks that pass reversed, and the
--- others unchanged.
+-- In each block, all items pass the test or all fail it. In `new`, the blocks that pass are reversed, and the others
+-- are unchanged.
 record Blocks (test : ℕ → Bool) (old new : ℕ → List ℕ) : Type 0 where
   some : (s : ℕ) → 0 < length (old s)
   each : (s : ℕ) → Each test (test s) (old s)
@@ -185,8 +185,7 @@ module _ (levels : List ℕ) where
         below k s low ∙ sym (below (suc k) s (omega arith));
   }
 
-  -- reversing the runs, and then the positions in each run, gives the same list as reversing the positions of
-  -- all runs
+  -- reversing the runs, and then the positions in each run, yields the same list as reversing the positions of all runs
   all_turned : (k count : ℕ) (items : List ℕ) → ((s : ℕ) → get_or levels s 0 < k + count)
       → flat_map (shown_from k) (reversed_from levels k count items) ≡ reversed_from levels k count (flat_map (run_at levels) items)
   all_turned k zero items most = flat_map-ext (shown_from k) (run_at levels) items (λ s. below k s (omega (arith, most s)))
@@ -566,7 +565,7 @@ AlongRun-end levels start level «end» w other =
 
 -- ---- the characters of a run
 
--- two functions that agree at all positions of a run's level give the same results on the run
+-- two functions that agree at all positions of a run's level have the same results on the run
 module _ (levels : List ℕ) (f g : ℕ → ℕ) where
   map_same : (level s count : ℕ) → ((i : ℕ) → get_or levels i 0 ≡ level → f i ≡ g i)
       → map f (range_with_len s (same_len levels level s count)) ≡ map g (range_with_len s (same_len levels level s count))

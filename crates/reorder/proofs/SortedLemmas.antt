@@ -1,4 +1,4 @@
--- L2's order is sorted: each character is to the left of all later ones, by the lowest level between them.
+-- L2's order is sorted: each character is to the left of all later ones, as the lowest level between them determines.
 use Rattle.std.proofs.Common.{◌≡◌, ℕ, zero, suc, ◌+◌, ◌-◌, ◌<◌, ◌≤◌, Bool, true, false, List, [], ◌∷◌, ◌++◌, length, get_or, reverse}
 use Rattle.std.proofs.Common.{◌⊎◌, Option, Some, None, refl, sym, ap, subst, ◌∙◌, inl, inr, arith, append_assoc}
 use Rattle.std.specs.List.{filter, range_with_len, All}
@@ -14,7 +14,7 @@ use Rattle.reorder.proofs.LowestLemmas.{lowest_of, HasLowest}
 use Rattle.reorder.proofs.OrderLemmas.{reversed_permute}
 use Rattle.reorder.proofs.RunLemmas.{all_pass, even_next, level_within, least_is, no_odd, odd_next, odd_turned, range_append, Each}
 
--- ---- what holds of each item, and of each pair of items
+-- ---- what holds for each item, and for each pair of items
 
 abbrev pub EachOf : (ℕ → Type 0) → List ℕ → Type 0
 EachOf P [] = ⊤

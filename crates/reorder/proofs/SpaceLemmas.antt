@@ -10,8 +10,8 @@ use Rattle.ucd.specs.Classes.{class_at}
 use Rattle.reorder.specs.NoEnds.{AreNoEnds}
 use Rattle.reorder.specs.Spaces.{ends_segment, is_blank, is_reset, line_levels}
 
--- The state of the scan at the index `at`. The levels from `at` on are final, and `resets` tells whether a
--- blank directly before `at` is reset.
+-- The state of the scan at the index `at`. The levels from `at` on are final, and `resets` says whether a blank
+-- directly before `at` is reset.
 pub record Walked (base : ℕ) (classes : List BidiClass) (old current : List ℕ) (resets : Bool) (at : ℕ) : Type 0 where
   pub within : at ≤ length classes
   pub blank : resets ≡ is_reset (drop at classes)

@@ -193,7 +193,7 @@ module _ (levels : List ℕ) where
       let at : s + 1 + same_len levels (level_at s) (s + 1) (length levels - (s + 1)) ≡ end_of s = omega arith in
       λ e. same_stops (level_at s) (s + 1) (length levels - (s + 1)) (omega arith) (ap level_at at ∙ e)
 
-  -- a character where a run begins is not at the level of the one before it
+  -- the first character of a run is not at the level of the one before it
   pub begins_apart : (t k : ℕ) → begins_run levels t ≡ true → suc k ≡ t → level_at t ≡ level_at k → ⊥
   begins_apart zero k begins e same = absurd (omega arith)
   begins_apart (suc t) k begins e same =

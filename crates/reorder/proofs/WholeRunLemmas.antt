@@ -58,7 +58,7 @@ sum_in f run =
 abbrev bit : Bool → ℕ
 bit b = cond b 1 0
 
--- a range has each of its numbers once
+-- a range contains each of its numbers once
 abbrev one : ℕ → ℕ → ℕ
 one k x = cond (x == k) 1 0
 

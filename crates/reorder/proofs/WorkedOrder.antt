@@ -101,7 +101,7 @@ no_base : vtol_of true (NSM ∷ NSM ∷ R ∷ NSM ∷ []) (1 ∷ 1 ∷ 1 ∷ 1 �
 unfolding vtol_of order_of
 no_base = refl
 
--- the order has only the characters of the shown part
+-- the order contains only the characters of the shown part
 shown_part : vtol_of true (R ∷ NSM ∷ NSM ∷ []) (1 ∷ 1 ∷ []) ≡ 0 ∷ 1 ∷ []
 unfolding vtol_of order_of
 shown_part = refl

@@ -1,5 +1,5 @@
--- The visual order in which the characters of each grapheme cluster at an odd level are in logical order. To this order, a character that
--- continues a cluster, at the level of the character before it, is what a mark is to L3.
+-- The visual order that keeps the characters of each grapheme cluster at an odd level in logical order. A character
+-- that continues a cluster, at the level of the character before it, is treated like a mark in L3.
 use Rattle.std.specs.Prelude.{◌≡◌, ℕ, zero, suc, ◌+◌, ◌<◌, ◌≤◌, ◌==◌, Bool, true, false, ◌&&◌, not, ◌⊎◌, List, length, map, slice_index, slice_index_or, if◌then◌else◌}
 use Rattle.std.specs.List.{range_with_len}
 use Rattle.ucd.specs.declared.bidi_class.BidiClass.{BidiClass}
@@ -13,7 +13,7 @@ module _ (ends : List Bool) (levels : List ℕ) where
   is_joined zero = false
   is_joined (suc i) = not (slice_index_or ends i false) && (slice_index levels (suc i) == slice_index levels i)
 
-  -- the classes by which L3 keeps clusters together: joined characters count as marks
+  -- the classes with which L3 keeps clusters together: joined characters count as marks
   abbrev pub joined_class : ℕ → BidiClass
   joined_class i = if is_joined i then NSM else ON
 
@@ -27,6 +27,6 @@ module _ (ends : List Bool) (levels : List ℕ) where
     pub joined : (k : ℕ) → 0 < k → k ≤ n → is_joined (first + k) ≡ true
     pub whole : is_joined (first + n + 1) ≡ false
 
-  -- a character that is the only one of its cluster at its level, or at an even level
+  -- a character that is the only one of its cluster at its level, or that is at an even level
   abbrev pub IsSingle : ℕ → Type 0
   IsSingle place = (is_odd (slice_index levels place) ≡ false) ⊎ ((is_joined place ≡ false) × (is_joined (suc place) ≡ false))

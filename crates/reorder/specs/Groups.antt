@@ -13,7 +13,7 @@ module _ (classes : List BidiClass) (levels : List ℕ) where
     pub same : (k : ℕ) → k ≤ n → slice_index levels (base + k) ≡ slice_index levels base
     pub whole : is_mark_at classes (base + n + 1) ≡ true → slice_index levels (base + n + 1) ≢ slice_index levels base
 
-  -- the base and its marks are adjacent: in reverse logical order by L2, and in logical order with L3
+  -- the base and its marks are adjacent: in reverse logical order with L2 alone, and in logical order with L3
   pub record StandsTogether (base n : ℕ) : Type 0 where
     pub at : ℕ
     pub within : at + n < length levels

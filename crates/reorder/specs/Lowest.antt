@@ -1,5 +1,5 @@
--- Which of two characters L2 puts to the left, by the lowest level between them. Only the code uses these
--- definitions.
+-- Which of two characters L2 puts to the left, determined by the lowest level between them. Only the code
+-- uses these definitions.
 use Rattle.std.specs.Prelude.{◌≡◌, ◌≢◌, ℕ, ◌-◌, ◌<◌, ◌≤◌, Bool, true, false, List, length, slice_index, Option, Some, None, ◌⊎◌}
 use Rattle.reorder.specs.Order.{is_odd}
 
@@ -38,7 +38,7 @@ module _ (levels : List ℕ) where
   abbrev pub AreAtLeast : ℕ → ℕ → ℕ → Type 0
   AreAtLeast level start last = (k : ℕ) → start ≤ k → k ≤ last → level ≤ slice_index levels k
 
-  -- the same, above the level
+  -- the characters from `start` up to and including `last` are above the given level
   abbrev pub AreAbove : ℕ → ℕ → ℕ → Type 0
   AreAbove level start last = (k : ℕ) → start ≤ k → k ≤ last → level < slice_index levels k
 
@@ -67,7 +67,7 @@ module _ (levels : List ℕ) where
     pub leftmost : (k : ℕ) → k < end → AreAtLeast level k (end - 1) → k ≢ first → IsLeft first k
 
   -- The characters from `start` up to `end`, `place` among them, are at the given level or higher, and none of
-  -- the others is to the right of `place`. The characters above the level that adjoin `place` are among them.
+  -- the others is to the right of `place`. They include the characters above the level that adjoin `place`.
   pub record IsPassed (place level start end : ℕ) : Type 0 where
     pub from : start ≤ place
     pub to : place < end
@@ -77,7 +77,7 @@ module _ (levels : List ℕ) where
     pub above_back : (k : ℕ) → k < place → AreAbove level k place → start ≤ k
     pub above_on : (k : ℕ) → place < k → k < length levels → AreAbove level place k → k < end
 
-  -- `start` is where the longest range of characters up to `end` starts that are all at the level or higher
+  -- `start` is the start of the longest range of characters before `end` that are all at the level or higher
   pub record IsExtentBack (level end start : ℕ) : Type 0 where
     pub back : start ≤ end
     pub high : (k : ℕ) → start ≤ k → k < end → level ≤ slice_index levels k

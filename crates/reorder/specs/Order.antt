@@ -1,4 +1,4 @@
--- The visual order of the characters of a line (UAX #9, L2 and optionally L3), from their levels after L1.
+-- The visual order of the characters of a line (UAX #9, L2 and optionally L3), given their levels after L1.
 use Rattle.std.specs.Prelude.{◌≡◌, ℕ, zero, suc, ◌-◌, ◌%◌, ◌<◌, nat_le, ◌==◌, max, Bool, false, ◌&&◌, ◌||◌, not, List, [], ◌∷◌, ◌++◌, length, map, fold, slice_index, Option, Some, None, if◌then◌else◌}
 use Rattle.std.specs.List.{list_any, position_or_len, range_with_len}
 use Rattle.ucd.specs.declared.bidi_class.BidiClass.{BidiClass}
@@ -55,7 +55,7 @@ abbrev pub reverse_with_next : (ℕ → Bool) → List ℕ → List ℕ → List
 reverse_with_next test run [] = run
 reverse_with_next test run (i ∷ items) = if test i then reverse_with_next test (i ∷ run) items else i ∷ (run ++ reverse_with_next test [] items)
 
--- whether a character is a mark, by its class in the tables
+-- whether a character is a mark, according to its class in the tables
 abbrev pub is_mark_at : List BidiClass → ℕ → Bool
 is_mark_at classes i = is_mark (class_at classes i)
 
@@ -71,7 +71,7 @@ module _ (classes : List BidiClass) (levels : List ℕ) where
   has_base zero = false
   has_base (suc i) = precedes_mark i && (not (is_mark_at classes i) || has_base i)
 
--- The logical position of each visual position. By L2, marks with a base are to the left of the base, the last one
+-- The logical position of each visual position. L2 puts marks with a base to the left of the base, the last one
 -- first. With `reordernsm`, they are to its right, in logical order (L3).
 unfoldable pub vtol_of : Bool → List BidiClass → List ℕ → List ℕ
 vtol_of reordernsm classes levels = if reordernsm then reverse_with_next (has_base classes levels) [] (order_of levels) else order_of levels

@@ -48,7 +48,7 @@ module _ (levels : List ℕ) where
     pub after : run.start + run.len < length levels → slice_index levels (run.start + run.len) ≢ run.level
 
   -- Whether runs are those of the line from left to right: each is maximal, each character is in exactly one, and their
-  -- characters, one run after the other, are in visual order. So what the characters add up to, the runs do too.
+  -- characters, one run after the other, are in visual order. So sums over all characters equal sums over the runs.
   pub record AreRuns (runs : List Run) : Type 0 where
     pub maximal : All IsMaximal runs
     pub once : (place : ℕ) → place < length levels → count_by (has_place place) runs ≡ 1
@@ -61,7 +61,7 @@ module _ (levels : List ℕ) where
     pub level : (k : ℕ) → start ≤ k → k ≤ place → slice_index levels k ≡ slice_index levels place
     pub begins : begins_run start ≡ true
 
-  -- the runs that are left, the first of which begins at a position
+  -- the remaining runs, the first of which begins at a position
   unfoldable pub runs_left : Option ℕ → List Run
   runs_left None = []
   runs_left (Some start) = map run_from (items_from start run_starts)

@@ -1,4 +1,4 @@
--- The levels of a line after L1 (UAX #9, section 3.4), from the classes of the tables.
+-- The levels of a line after L1 (UAX #9, section 3.4), given the classes in the tables.
 use Rattle.std.specs.Prelude.{ℕ, Bool, true, false, ◌&&◌, ◌||◌, List, [], ◌∷◌, if◌then◌else◌}
 use Rattle.ucd.specs.declared.bidi_class.BidiClass.{BidiClass}
 use Rattle.ucd.specs.declared.bidi_class.BidiClass.TheVariants.{B, S, WS}

@@ -1,4 +1,4 @@
-//! The classes by which L3 keeps the characters of grapheme clusters in logical order.
+//! The classes with which L3 keeps the characters of grapheme clusters in logical order.
 ghost use Rattle.std.specs.Prelude.{◌≡◌, ◌<◌, ◌≤◌, ℕ, Bool, List, length, slice_index, slice_index_or};
 ghost use Rattle.std.specs.Prelude.{false, true};
 ghost use Rattle.reorder.specs.Clusters.{cluster_classes, is_joined, IsSequence, IsSingle};
@@ -8,8 +8,9 @@ ghost use Rattle.reorder.specs.Order.{vtol_of};
 use ucd::{BidiClass, Classes};
 
 /// Classes for [`visual_order`](crate::visual_order) and [`visual_places`](crate::visual_places) with
-/// `reordernsm`, by which L3 keeps grapheme clusters in logical order instead of marks. A character that
-/// continues a cluster, at the level of the character before it, is a mark, and all others are bases.
+/// `reordernsm`. With these classes, L3 keeps grapheme clusters in logical order, instead of bases and marks.
+/// A character that continues a cluster, at the level of the character before it, counts as a mark, and all
+/// others count as bases.
 #[derive(Clone, Copy)]
 pub struct ClusterClasses<'a> {
     /// Whether a cluster ends after each character of the line.
@@ -49,16 +50,16 @@ fn ends_after(ends: &[bool], place: usize) -> bool
     place < ends.len() && ends[place]
 }
 
-/// States, as a theorem, that the characters of a cluster that are at one odd level, one after another, are
-/// adjacent in visual order. With `ClusterClasses` they are in logical order, and by L2 alone in reverse
-/// order. Costs nothing at run time.
+/// States, as a theorem, that adjacent characters of a cluster at the same odd level are adjacent in visual
+/// order, too. With `ClusterClasses` they are in logical order, and with L2 alone in reverse order. Costs
+/// nothing at run time.
 pub fn clusters_stand_together()
     ensures { (ends : List Bool) (levels : List ℕ) (first n : ℕ) → IsSequence ends levels first n
         → StandsTogether (cluster_classes ends levels) levels first n }
 {}
 
 /// States, as a theorem, that `ClusterClasses` move only characters at odd levels that have others of their
-/// cluster beside them at the same level. Costs nothing at run time.
+/// cluster next to them at the same level. Costs nothing at run time.
 pub fn single_characters_stay()
     ensures { (ends : List Bool) (levels : List ℕ) (k : ℕ) → k < length levels
         → IsSingle ends levels (slice_index (vtol_of false (cluster_classes ends levels) levels) k)

@@ -31,7 +31,7 @@ pub fn visual_chars(
     }
 }
 
-/// Writes the characters of a line in visual order. `runs` has the logical position at which each level run
+/// Writes the characters of a line in visual order. `runs` holds the logical position at which each level run
 /// starts, in visual order. Left-to-right runs are copied.
 pub fn visual_runs(
     tables: &Tables,

@@ -184,7 +184,7 @@ pub fn level_run_len(levels: &[u8], start: usize) -> usize
     end - start
 }
 
-// Returns how many of the next `LANES` levels are `level` before the first one that is not.
+// Returns how many of the next `LANES` levels equal `level`, up to the first one that does not.
 #[inline(always)]
 fn same_len(levels: &[u8], start: usize, level: u8) -> usize
     requires { start + LANES ≤ length levels.now }
@@ -195,7 +195,7 @@ fn same_len(levels: &[u8], start: usize, level: u8) -> usize
     first_set(others(levels, start, level), LANES)
 }
 
-// Returns how many levels from `start` on are `level` before the first one that is not. Compares the last
+// Returns how many levels from `start` on equal `level`, up to the first one that does not. Compares the last
 // `LANES` levels of the list, so that no levels are left to be compared one by one.
 #[inline(always)]
 fn last_same_len(levels: &[u8], start: usize, level: u8) -> usize
@@ -212,7 +212,7 @@ fn last_same_len(levels: &[u8], start: usize, level: u8) -> usize
     first_set(others, levels.len() - start)
 }
 
-// Returns a bit for each of `LANES` levels, which is set if the level is not `level`.
+// Returns a bit for each of `LANES` levels, which is set if the level differs from `level`.
 #[inline(always)]
 fn others(levels: &[u8], start: usize, level: u8) -> u64
     requires { start + LANES ≤ length levels.now }
@@ -284,8 +284,7 @@ fn reverse_groups<C: Classes>(line: &C, levels: &[u8], vtol: &mut [u32])
 }
 
 // Reverses the group at the front of a list, if there is one. Returns the number of positions that are then
-// final. Before the call, item `result - 1` is a base,
-// or a mark without a base.
+// final. Before the call, item `result - 1` is a base, or a mark without a base.
 fn reverse_group<C: Classes>(line: &C, levels: &[u8], items: &mut [u32]) -> usize
     requires line { length levels.now ≤ length (C.all line.now) }
     requires items { (start : ℕ) × (items.old ≡ drop start (order_of levels.now)) }

@@ -39,9 +39,9 @@ impl<'a> Model for Runs<'a> {
         (start < length r.levels.now) × (begins_run r.levels.now start ≡ true)) };
 }
 
-/// Returns the level runs of a line, from left to right, by the levels after L1. L3 moves characters only
-/// inside runs. Each call of `next` costs at most the length of the line, and all together the length times
-/// the highest level. Allocates nothing.
+/// Returns the level runs of a line, from left to right, given its levels after L1. L3 moves characters only
+/// inside runs. The cost of each call of `next` is at most linear in the length of the line, and that of all
+/// calls together in the length times the highest level. Allocates nothing.
 pub fn level_runs(levels: &[u8]) -> Runs<'_>
     ensures runs { result ≡ runs_of levels.now }
     ensures are { AreRuns levels.now result }
@@ -107,8 +107,8 @@ fn run_start(levels: &[u8], place: usize) -> usize
     start
 }
 
-// Returns the character directly to the right of another one. Passes over the characters that adjoin it and
-// are to its left, level by level.
+// Returns the character directly to the right of another one. Skips the characters that adjoin it and are to
+// its left, level by level.
 fn right_of(levels: &[u8], place: usize) -> Option<usize>
     requires { place < length levels.now }
     ensures { IsNext levels.now place result }
@@ -135,7 +135,7 @@ fn right_of(levels: &[u8], place: usize) -> Option<usize>
     }
 }
 
-// Returns how far back the characters before `end` are at `level` or higher.
+// Returns the start of the characters directly before `end` that are at `level` or higher.
 fn extent_back(levels: &[u8], level: u8, end: usize) -> usize
     requires { end ≤ length levels.now }
     ensures { IsExtentBack levels.now level end result }
@@ -147,7 +147,7 @@ fn extent_back(levels: &[u8], level: u8, end: usize) -> usize
     start
 }
 
-// Returns how far the characters from `start` on are at `level` or higher.
+// Returns the end of the characters from `start` on that are at `level` or higher.
 fn extent_on(levels: &[u8], level: u8, start: usize) -> usize
     requires { start ≤ length levels.now }
     ensures { IsExtentOn levels.now level start result }

@@ -1,5 +1,5 @@
-//! Applies L1 (UAX #9): separators, the blanks before them, and the blanks at the end of a line get the
-//! paragraph level.
+//! Applies L1 (UAX #9): separators, the blanks before them, and the blanks at the end of a line are reset to
+//! the paragraph level.
 ghost use Rattle.std.specs.Prelude.{◌≡◌, ◌≤◌, ◌&&◌, ◌||◌, false, true, length};
 ghost use Rattle.reorder.specs.Spaces.{ends_segment, is_blank, line_levels};
 ghost use Rattle.reorder.specs.NoEnds.{AreNoEnds};
@@ -62,7 +62,7 @@ fn separator_end<C: Classes>(line: &C, end: usize) -> usize
     at
 }
 
-// Returns whether there is a separator in a range. Reads the whole range, which is faster than leaving the
+// Returns whether there is a separator in a range. Reads the whole range, which is faster than exiting the
 // loop early.
 fn has_separator<C: Classes>(line: &C, start: usize, end: usize) -> bool
     requires { end ≤ length (C.all line.now) }
