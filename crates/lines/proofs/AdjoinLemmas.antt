@@ -1,4 +1,5 @@
--- The characters of a level run are next to each other: the columns between two of them are those of the characters between.
+-- The characters of a level run are next to each other: the columns between two of them are those of the characters in
+-- between.
 use Rattle.std.proofs.Common.{◌≡◌, ◌≢◌, ℕ, zero, suc, ◌+◌, ◌-◌, ◌<◌, ◌≤◌, ◌==◌, Bool, true, false, ◌&&◌, ◌||◌, not, List, [], ◌∷◌, ◌++◌, length, get_or, drop, take, if◌then◌else◌}
 use Rattle.std.proofs.Common.{refl, sym, ap, ◌∙◌, inl, inr, ◌⊎◌, arith}
 use Rattle.std.specs.Prelude.{slice_range, sum, sum_by, All, None, Option}
@@ -147,7 +148,7 @@ module _ (ws levels : List ℕ) (size : length ws ≡ length levels) where
   unfolding vtol_of
   inverse = inverse_maps false [] levels
 
-  -- the columns to the left of a character, by L2
+  -- the columns to the left of a character in the order of L2
   pub left : ℕ → ℕ
   left i = sum_before (at ws) i (order_of levels)
 
@@ -217,11 +218,11 @@ module _ (ws levels : List ℕ) (size : length ws ≡ length levels) where
 
 -- ---- the order of a line
 
--- whether the marks that L3 moves take no columns
+-- whether the marks that L3 moves occupy no columns
 abbrev pub Still : Bool → List BidiClass → List ℕ → List ℕ → Type 0
 Still nsm classes levels ws = (nsm ≡ false) ⊎ ((i : ℕ) → has_base classes levels i ≡ true → at ws i ≡ 0)
 
--- L3 changes nothing to the left of a character that takes columns
+-- L3 changes nothing to the left of a character that occupies columns
 pub same_left : (nsm : Bool) (classes : List BidiClass) (ws levels : List ℕ) (size : length ws ≡ length levels) → Still nsm classes levels ws → (i : ℕ) → 0 < at ws i
     → sum_before (at ws) i (vtol_of nsm classes levels) ≡ left ws levels size i
 unfolding vtol_of left

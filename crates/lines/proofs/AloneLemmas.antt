@@ -25,7 +25,7 @@ stands_apart Lf = true
 stands_apart Other = true
 stands_apart _ = false
 
--- part of no conjunct
+-- whether a character is part of no conjunct
 abbrev is_unjoined : IndicConjunctBreak → Bool
 is_unjoined InCb.None = true
 is_unjoined _ = false

@@ -62,7 +62,7 @@ module _ (line : Visual) where
       (cond-false (is_tab line.tab_width (get_or line.text k 0)) (replicate (width_at line k) 32) (x ∷ []) (plain 0 (omega arith)))
       (plain_cells xs ks (omega (arith, same)) (λ i below. plain (suc i) (omega (arith, below))))
 
-  -- all characters that have a position are printed
+  -- all characters with a position are printed
   expanded-take : (n : ℕ) (xs ks : List ℕ) → min (length xs) (length ks) ≤ n → expanded line (take n xs) (take n ks) ≡ expanded line xs ks
   expanded-take zero [] ks most = refl
   expanded-take (suc n) [] ks most = refl

@@ -16,8 +16,7 @@ use Rattle.lines.specs.Words.{word_ends}
 abbrev ends_of_piece : List ℕ → List Bool
 ends_of_piece piece = replicate (length piece - 1) false ++ true ∷ []
 
--- a list of pieces with a character put in front: as a piece of its own, or as the first character of the
--- first piece
+-- a list of pieces with a character prepended: as a piece of its own, or as the first character of the first piece
 abbrev attach : Bool → ℕ → List (List ℕ) → List (List ℕ)
 attach is_break c pieces = cond is_break ((c ∷ []) ∷ pieces) (prepend (c ∷ []) pieces)
 
@@ -32,8 +31,8 @@ cut_begins : (rule : Rule) (before : List ℕ) (c : ℕ) (cs after : List ℕ)
 unfolding cut
 cut_begins rule before c cs after = attach_begins (rule (c ∷ before) (cs ++ after)) c (cut rule (c ∷ before) cs after)
 
--- if `attach` puts a character before pieces, a cluster ends after that character if and only if it is a piece of
--- its own
+-- if `attach` prepends a character to pieces, a cluster ends after that character if and only if it is a piece of its
+-- own
 ends_attach : (b : Bool) (c d : ℕ) (p : List ℕ) (ps : List (List ℕ))
     → flat_map ends_of_piece (attach b c ((d ∷ p) ∷ ps)) ≡ b ∷ flat_map ends_of_piece ((d ∷ p) ∷ ps)
 ends_attach true c d p ps = refl
@@ -55,7 +54,7 @@ ends_of_cut rule last before (c ∷ (d ∷ cs)) =
     ap (λ rest. flat_map ends_of_piece (attach b c rest)) inner.2 ∙ ends_attach b c d inner.0 inner.1
     ∙ ap₂ ◌∷◌ (ap (rule (c ∷ before)) (append-nil (d ∷ cs))) (ap (flat_map ends_of_piece) (sym inner.2) ∙ ends_of_cut rule last (c ∷ before) (d ∷ cs))
 
--- concatenating the pieces gives the original characters
+-- concatenating the pieces yields the original characters
 concat_attach : (b : Bool) (c : ℕ) (pieces : List (List ℕ)) → concat (attach b c pieces) ≡ c ∷ concat pieces
 concat_attach true c pieces = refl
 concat_attach false c [] = refl
@@ -67,8 +66,7 @@ concat_cut rule before [] after = refl
 concat_cut rule before (c ∷ cs) after =
     concat_attach (rule (c ∷ before) (cs ++ after)) c (cut rule (c ∷ before) cs after) ∙ ap (λ t. c ∷ t) (concat_cut rule (c ∷ before) cs after)
 
--- if all characters of the pieces are Unicode scalar values, the pieces' UTF-8 bytes give the same cluster
--- ends
+-- if all characters of the pieces are Unicode scalar values, the pieces' UTF-8 bytes have the same cluster ends
 scalars_parts : (xs ys : List ℕ) → scalars (xs ++ ys) ≡ true → (scalars xs ≡ true) × (scalars ys ≡ true)
 scalars_parts [] ys h = (refl, h)
 scalars_parts (x ∷ xs) ys h =
@@ -96,7 +94,7 @@ pub ends_of_words : (bs : List ℕ) → IsUtf8 bs → flat_map ends_of (word_bou
 unfolding word_ends
 ends_of_words bs u = ends_of_segments is_word_break (λ before c. unfold is_word_break in refl) bs u
 
--- decoding the UTF-8 bytes of characters gives these characters
+-- decoding the UTF-8 bytes of characters yields these characters
 bytes_of_each : (cs : List ℕ) → flat_map encode_utf8 cs ≡ encode_utf8_all cs
 bytes_of_each [] = refl
 bytes_of_each (c ∷ cs) = ap (◌++◌ (encode_utf8 c)) (bytes_of_each cs)

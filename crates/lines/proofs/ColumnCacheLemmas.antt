@@ -10,7 +10,7 @@ use Rattle.unicode_width.specs.Width.{char_width}
 use Rattle.lines.specs.CharInfos.{columns_of}
 use Rattle.lines.specs.ColumnCache.{is_right}
 
--- the entry of a character is right
+-- the entry of a character is correct
 pub entry_right : (c columns : ℕ) → columns ≡ columns_of c → columns ≤ 3 → is_right (4 * c + columns) ≡ true
 entry_right c columns is few =
     let code : (4 * c + columns) / 4 ≡ c = omega (arith, few) in
@@ -25,7 +25,7 @@ new_right : (n : ℕ) → list_all is_right (replicate n 0) ≡ true
 new_right zero = refl
 new_right (suc n) = ap (λ b. b && list_all is_right (replicate n 0)) zero_right ∙ new_right n
 
--- an entry that is right can take the place of any other
+-- a correct entry can replace any other
 pub set_right : (entries : List ℕ) (at entry : ℕ) → list_all is_right entries ≡ true → is_right entry ≡ true → list_all is_right (set entries at entry) ≡ true
 set_right [] at entry all one = refl
 set_right (first ∷ entries) zero entry all one =
@@ -41,7 +41,7 @@ take_right (first ∷ entries) (suc n) all =
     let parts = and_parts (is_right first) (list_all is_right entries) all in
     ap (λ b. b && list_all is_right (take n entries)) parts.0 ∙ take_right entries n parts.1
 
--- the entries of a list that has been made longer
+-- the entries of a list that has been lengthened are correct
 pub longer_right : (entries : List ℕ) (n more : ℕ) → list_all is_right entries ≡ true → list_all is_right (take n entries ++ replicate more 0) ≡ true
 longer_right entries n more all =
     list_all-append is_right (take n entries) (replicate more 0)

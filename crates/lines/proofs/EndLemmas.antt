@@ -7,7 +7,7 @@ use Rattle.lines.proofs.SegmentLemmas.{ends_same as same_ends}
 use Rattle.lines.proofs.SplitLemmas.{window_at}
 use Rattle.lines.specs.Clusters.{cluster_ends, ends_at, ends_in, IsSplitPoint}
 
--- whether the part ends at k, or a cluster of it does
+-- whether the part or one of its clusters ends at k
 abbrev pub is_end : List Bool → ℕ → ℕ → ℕ → Bool
 is_end ends start len k = k == len || ends_at ends (start + k - 1)
 
@@ -39,7 +39,7 @@ filter_by p q a (suc n) same =
     ap₂ (λ b rest. cond b (a ∷ rest) rest) (same a (omega arith) (omega arith))
     (filter_by p q (a + 1) n (λ k from to. same k (omega (arith, from)) (omega (arith, to))))
 
--- the ends of a part are those by the clusters between two split points around it
+-- the ends of a part are determined by the clusters between two split points around it
 pub ends_in_window : (text : List ℕ) (from to start len : ℕ) → IsSplitPoint text from → IsSplitPoint text to
     → from ≤ start → start + len ≤ to → to ≤ length text
     → ends_in (cluster_ends (slice_range text from to)) (start - from) len ≡ ends_in (cluster_ends text) start len
@@ -52,7 +52,7 @@ ends_in_window text from to start len opens closes first past within =
     (ap (ends_at near) place
     ∙ sym (window_at text from to (start + k - 1) opens closes (omega (arith, some, first)) (omega (arith, some, most, past)) within)))
 
--- the ends of a part of a text are those by the ends of the whole text
+-- the ends of a part of a text are determined by the ends of the whole text
 pub ends_in_whole : (front ends after_it : List Bool) (start len : ℕ) → start + len ≤ length ends
     → ends_in (front ++ (ends ++ after_it)) (length front + start) len ≡ ends_in ends start len
 ends_in_whole front ends after_it start len within =

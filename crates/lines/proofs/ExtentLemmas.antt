@@ -22,7 +22,7 @@ pub in_pairs-append : (parts more : List Shown) → in_pairs (parts ++ more) ≡
 in_pairs-append [] more = refl
 in_pairs-append (part ∷ parts) more = ap (λ (xs : List ℕ). part.len ∷ part.columns ∷ xs) (in_pairs-append parts more)
 
--- appending the pair of part k to those of the first k parts gives those of the first k + 1
+-- appending the pair of part k to those of the first k parts yields those of the first k + 1
 pub pairs_more : (starts items more : List ℕ) (parts : List Shown) (k : ℕ) (part : Shown) → k < length parts → part ≡ get_or parts k part
     → items ≡ starts ++ in_pairs (take k parts) → more ≡ (items ++ part.len ∷ []) ++ part.columns ∷ [] → more ≡ starts ++ in_pairs (take (k + 1) parts)
 pairs_more starts items more parts k part below is so_far put =
@@ -32,7 +32,7 @@ pairs_more starts items more parts k part below is so_far put =
     ap in_pairs (take_more parts k part below ∙ ap (λ (p : Shown). take k parts ++ p ∷ []) (sym is)) ∙ in_pairs-append (take k parts) (part ∷ []) in
     put ∙ append_assoc items (part.len ∷ []) (part.columns ∷ []) ∙ ap (λ (xs : List ℕ). xs ++ pair) so_far ∙ append_assoc starts pairs pair ∙ ap (λ (xs : List ℕ). starts ++ xs) (sym next)
 
--- the extents in a list that was made of starts and shown parts
+-- the extents in a list that consists of starts and shown parts
 pub unpacked_is : (starts : List ℕ) (parts : List Shown) → length parts ≡ length starts
     → unpacked (starts ++ in_pairs parts) ≡ record { starts = starts; shown = parts }
 unpacked_is starts parts same =

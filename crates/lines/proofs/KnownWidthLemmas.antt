@@ -96,7 +96,7 @@ narrow_columns c lies =
 
 -- ---- characters tested together
 
--- Lamed has a rule of its own in `unicode_width`, which gives it one column.
+-- Lamed has a rule of its own in `unicode_width`, which assigns it one column.
 abbrev is_single : Kind → Bool
 is_single kinds.Single = true
 is_single other = false

@@ -19,8 +19,7 @@ pub same_layout : (rules : Rules) (width : ℕ) (text seen : List ℕ) (advances
     → record { text = text; advances = advances; base = base; tab_width = tab_width; levels = levels; marks = marks; ends = ends; lines = lines } ≡ layout_of rules width text
 same_layout rules width text seen advances base tab_width levels marks ends lines e a b t l m n s = rw (a, b, t, l, m, n, s, e) refl
 
--- if `same` equals `rules`, a fresh layout by `rules` satisfies `IsLaidOut`, and its lines satisfy
--- `AreLinesOf`
+-- if `same` equals `rules`, a fresh layout under `rules` satisfies `IsLaidOut`, and its lines satisfy `AreLinesOf`
 pub laid_out_by : (rules same : Rules) (width : ℕ) (text : List ℕ) (laid : Layout) → same ≡ rules → IsParagraph rules text → laid ≡ layout_of rules width text → IsLaidOut same laid
 laid_out_by rules same width text laid e paragraph is =
     rw (e, is) (record { width = width; paragraph = paragraph; from_scratch = refl })
@@ -38,7 +37,7 @@ pub filled_as : (lines seen : List Line) (len size : ℕ) → lines ≡ seen →
     → let here : Filled = record { lines = lines; len = len } in here ≡ record { lines = seen; len = size }
 filled_as lines seen len size e f = rw (e, f) refl
 
--- the lines that an exchange takes out of a layout
+-- the lines that an exchange removes from a layout
 abbrev left_of : Layout → Filled
 left_of l = record { lines = l.lines; len = length l.text }
 
@@ -61,7 +60,7 @@ pub exchanged_by : (old new : Layout) (fill_old fill_new : Filled) → new ≡ r
     → fill_new ≡ record { lines = old.lines; len = length old.text } → Exchanges old new fill_old fill_new
 exchanged_by old new fill_old fill_new put taken = rw (put, taken) (exchanged old fill_old)
 
--- reflowing a layout by its extents at a width gives its fresh layout at that width
+-- reflowing a layout with its extents at a width yields its fresh layout at that width
 pub reflowed_by : (rules : Rules) (width : ℕ) (old : Layout) (extents : LineExtents) → IsLaidOut rules old → extents ≡ extents_of rules width old.text
     → reflowed rules old extents ≡ layout_of rules width old.text
 reflowed_by rules width old extents laid is =
@@ -82,12 +81,12 @@ reflowed_laid_out rules width old new extents laid is put =
 pub own_rules : (rules : Rules) → rules.advances ≡ None → with_advances rules None ≡ rules
 own_rules rules none = ap (with_advances rules) (sym none)
 
--- the same lines by equal rules
+-- equal rules yield the same lines
 pub lines_with : (advances : Option (List ℕ)) {rules same : Rules} (width : ℕ) (text : List ℕ) (lines : List Line) → rules ≡ same
     → lines ≡ lines_of (with_advances rules advances) width text → lines ≡ lines_of (with_advances same advances) width text
 lines_with advances width text lines e is = is ∙ ap (λ (r : Rules). lines_of (with_advances r advances) width text) e
 
--- a paragraph with other advances, and with the lines that are found with these, is laid out
+-- a paragraph with other advances, and with the lines found with those advances, is laid out
 pub remeasured : (rules : Rules) (width : ℕ) (old : Layout) (list : List ℕ) (fill : Filled) → IsLaidOut (with_advances rules old.advances) old
     → fill ≡ fill_of (with_advances rules (Some list)) width old.text → record old { advances = Some list; lines = fill.lines } ≡ layout_of (with_advances rules (Some list)) width old.text
 remeasured rules width old list fill laid is =

@@ -76,7 +76,7 @@ pub next_written : (are written : List ℕ) (k width : ℕ) → k < length writt
 next_written are written k width below inside so_far is =
     take_more_set written k width below ∙ ap₂ (λ (xs : List ℕ) x. xs ++ x ∷ []) so_far is ∙ sym (take_more are k 0 inside)
 
--- the width of a character, given the widths that are known
+-- the width of a character, given the known widths
 pub known_width : (known : Option (List ℕ)) {line same : Visual} (k : ℕ) {v : ℕ} → line ≡ same → known_or known (widths_of same.tab_width None same.text) ≡ widths same
     → v ≡ get_or (known_or known (widths_of line.tab_width None line.text)) k 0 → v ≡ width_at same k
 known_width known {line} {same} k {v} e are is =
@@ -84,7 +84,7 @@ known_width known {line} {same} k {v} e are is =
 
 -- ---- line after line
 
--- what holds once the widths of the first n lines are written
+-- the state after the widths of the first n lines have been written
 pub record AreWritten (tab_width : ℕ) (text advances : List ℕ) (lines : List Line) (n : ℕ) (widths : List ℕ) : Type 0 where
   pub low : ℕ
   pub ended : All (λ line. line.start + length line.levels ≤ low) (take n lines)
@@ -102,7 +102,7 @@ none_written tab_width text advances lines widths follow size = record {
   size = size;
 }
 
--- a write after the ends of lines leaves their widths
+-- a write after the ends of lines leaves their widths unchanged
 still_widths : (tab_width low a m : ℕ) (text advances widths piece : List ℕ) (lines : List Line) → All (λ line. line.start + length line.levels ≤ low) lines → low ≤ a → a ≤ length widths
     → AreWidthsOf tab_width text advances widths lines → AreWidthsOf tab_width text advances (put_mid a m widths piece) lines
 still_widths tab_width low a m text advances widths piece [] ended after within done =
@@ -165,7 +165,7 @@ pub kept_untabbed : (tab_width : ℕ) (text sizes : List ℕ) (lines : List Line
 kept_untabbed tab_width text sizes lines none within inside =
     rw none (untabbed_lines (take (length text) sizes) text lines (length-take-le (length text) sizes within) inside)
 
--- the widths that it keeps behind the advances
+-- the widths that it keeps after the advances
 pub kept_tabbed : (tab_width : ℕ) (text sizes advances widths rest : List ℕ) (lines : List Line) → 0 < tab_width → sizes ≡ advances ++ (widths ++ rest) → length advances ≡ length text
     → length widths ≡ length text → AreWidthsOf tab_width text advances widths lines
     → AreWidthsOf tab_width text (take (length text) sizes) (kept_widths tab_width text sizes) lines
@@ -189,7 +189,7 @@ pub whole_items : (len : ℕ) (new old : List ℕ) → length new ≡ length old
 whole_items len new old same size =
     ap (λ (xs : List ℕ). take len (new ++ xs)) (drop_all (length new) old (omega (arith, same))) ∙ ap (take len) (append-nil new) ∙ take_all len new (omega (arith, same, size))
 
--- the sizes that a paragraph keeps stay right when the widths are written
+-- the sizes that a paragraph keeps stay correct when the widths are written
 pub sizes_kept : (tab_width : ℕ) (text old new : List ℕ) (lines : List Line) → kept_len tab_width text ≤ length old → sum (take (length text) old) < 2 ^ 32
     → take (length text) new ≡ take (length text) old → length new ≡ length old
     → AreWidthsOf tab_width text (take (length text) new) (kept_widths tab_width text new) lines → KeepsSizes tab_width text new lines
@@ -212,7 +212,7 @@ sizes_after tab_width len text seen old found new lines e f g room few front siz
     (subst (λ (t : List ℕ). take (length t) new ≡ take (length t) found) e front ∙ ap (take (length text)) f) same
     (subst (λ (t : List ℕ). AreWidthsOf tab_width t (take (length t) new) (kept_widths tab_width t new) lines) e widths))
 
--- the advances stay
+-- the advances are unchanged
 pub advances_stay : (is_measured : Bool) (len : ℕ) (text seen old found new : List ℕ) → seen ≡ text → found ≡ old → len ≡ length old
     → take (length seen) new ≡ take (length seen) found → length new ≡ length found
     → kept_advances is_measured text (take len (new ++ drop (length new) old)) ≡ kept_advances is_measured text old

@@ -37,7 +37,7 @@ pub layout_by_lines : (width : ℕ) (print : Print) (layout : Layout) → layout
 layout_by_lines width print layout =
     sym (flat_map-map (line_bytes width print) (λ (nth : ℕ × Line). visual_of layout.base layout.tab_width layout.advances layout.text layout.lines nth.0 nth.1) (enumerate_from 0 layout.lines))
 
--- the lines of a layout with what they share are its printed bytes
+-- the lines of a layout, with the data that they share, are its printed bytes
 pub laid_bytes : (width : ℕ) (print : Print) (base tab_width : ℕ) (advances : Option (List ℕ)) (text : List ℕ) (lines : List Line) (layout : Layout)
     → base ≡ layout.base → tab_width ≡ layout.tab_width → advances ≡ layout.advances → text ≡ layout.text → lines ≡ layout.lines
     → lines_bytes width print base tab_width advances text lines ≡ layout_bytes width print layout

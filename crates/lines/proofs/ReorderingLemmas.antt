@@ -1,4 +1,4 @@
--- The visual order of a line by the options of its layout.
+-- The visual order of a line, given the options of its layout.
 use Rattle.std.proofs.Common.{◌≡◌, ℕ, ◌-◌, ◌≤◌, Bool, true, false, ◌||◌, List, [], length, take, drop, sym, ap, ap₂, ◌∙◌, inl, inr, arith}
 use Rattle.std.specs.Prelude.{min, slice_range, if◌then◌else◌}
 use Rattle.std.proofs.lemmas.Bool.{cases_Bool, cases_lt}
@@ -39,7 +39,7 @@ module _ (options : Options) (classes : List BidiClass) (ends : List Bool) (leve
   unfolding vtol_of
   not_reordered off = ap (λ b. vtol_of b (classes_by options classes ends levels) levels) (sym off)
 
--- a range that is cut at the length of a list
+-- a range that is clipped to the length of a list
 pub cut_range : {X : Type 0} (xs : List X) (s e : ℕ) → s ≤ e → slice_range xs (min s (length xs)) (min e (length xs)) ≡ slice_range xs s e
 cut_range xs s e order =
     let n : ℕ = length xs in

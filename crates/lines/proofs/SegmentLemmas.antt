@@ -1,4 +1,4 @@
--- The segment of a character, from the places where segments end.
+-- The segment of a character, given the places where segments end.
 use Rattle.std.proofs.Common.{◌≡◌, ℕ, zero, suc, ◌+◌, ◌-◌, ◌<◌, ◌≤◌, Bool, true, false, List, ◌++◌, length, length-append, Option, Some, if◌then◌else◌, ◌⊎◌, inl, inr, refl, sym, ap, ◌∙◌, arith}
 use Rattle.std.proofs.lemmas.Bool.{cases_eq}
 use Rattle.std.proofs.lemmas.List.{get_or-append-add, get_or_append_left}
@@ -28,7 +28,7 @@ module _ (p q : ℕ → Bool) (front : ℕ) where
   begin_step true x y j same = omega arith
   begin_step false x y j same = same
 
-  -- if a segment ends just before the second list, a segment begins at the same place by both
+  -- if a segment ends just before the second list, a segment begins at the same place according to both
   pub begin_shift : (j : ℕ) → (front ≡ 0) ⊎ (p (front - 1) ≡ true) → ((i : ℕ) → i < j → p (front + i) ≡ q i)
       → after (greatest p (front + j)) 0 ≡ front + after (greatest q j) 0
   begin_shift zero opens same =
@@ -50,7 +50,8 @@ module _ (p q : ℕ → Bool) (front : ℕ) where
         | inr ne ↦ next (omega (arith, within, ne))
       ]
 
-  -- if a segment ends at the end of the second list, the segment of a character of it ends at the same place by both
+  -- if a segment ends at the end of the second list, the segment of a character in it ends at the same place according
+  -- to both
   pub end_shift : (total len count n j : ℕ) → j + n ≡ len → n ≤ count → j < len → q (len - 1) ≡ true
       → ((i : ℕ) → i < len → p (front + i) ≡ q i)
       → after (least p (front + j) count) total ≡ front + after (least q j n) len

@@ -1,4 +1,4 @@
--- The columns that the selected characters of a line cover, as an iterator passes over them.
+-- The columns that the selected characters of a line cover, as an iterator traverses them.
 use Rattle.std.proofs.Common.{◌≡◌, ℕ, zero, suc, ◌+◌, ◌-◌, ◌*◌, ◌<◌, ◌≤◌, Bool, true, false, not, List, [], ◌∷◌, length, nat_lt}
 use Rattle.std.proofs.Common.{Option, Some, refl, sym, ap, ap₂, subst, ◌∙◌, inl, inr, arith, add-one}
 use Rattle.std.specs.Option.{option_map_or}
@@ -31,7 +31,7 @@ module _ (line : Visual) where
       let e : i + (j - i) ≡ j = omega arith in
       omega (arith, left_rises i (j - i) (omega arith), ap (columns_left line) e)
 
-  -- the search for a column passes over the characters to its left
+  -- the search for a column skips the characters to its left
   searched : (column k : ℕ) → k ≤ length line.vtol → columns_left line k ≤ column → IsLeft line column k
   searched column zero within over =
       let none : length line.vtol ≡ length line.vtol - 0 = omega arith in
@@ -91,7 +91,7 @@ module _ (s : Selection) where
       → covered column ≡ is_selected line s.start s.end k
   covered_by column k within from to = ap (λ o. option_map_or (is_selected line s.start s.end) o false) (covering_is line column k within from to)
 
-  -- the columns that are passed over are covered if and only if `inside` holds
+  -- the skipped columns are covered if and only if `inside` holds
   covered_in : (inside : Bool) (i j column : ℕ) → Passes s inside i j → j ≤ length s.vtol.now → columns_left line i ≤ column → column < columns_left line j
       → covered column ≡ inside
   covered_in inside i j column p within from to =
@@ -104,13 +104,13 @@ module _ (s : Selection) where
       let takes : 0 < columns_on line w.place = omega (arith, left, right, next_left line w.place (omega (arith, before))) in
       covered_by column w.place (omega (arith, before)) left right ∙ p.passed w.place w.from (omega (arith, before)) takes
 
-  -- the column where passing stops is the other way
+  -- the column at which skipping stops is the opposite
   covered_at : (inside : Bool) (i j : ℕ) → Passes s inside i j → j < length s.vtol.now → covered (columns_left line j) ≡ not inside
   covered_at inside i j p within =
       let takes : 0 < columns_on line j = p.takes within in
       covered_by (columns_left line j) j within (omega arith) (omega (arith, takes, next_left line j within)) ∙ p.stops within
 
-  -- what is left to find from a visual position on
+  -- the spans that remain to be found from a visual position on
   abbrev rest : ℕ → List Span
   rest place = intervals_from covered width (columns_left line place)
 
@@ -123,7 +123,7 @@ module _ (s : Selection) where
   ends : (j : ℕ) → j ≡ length s.vtol.now → rest j ≡ []
   ends j e = ap rest e ∙ none_from covered width
 
-  -- at the first selected character that takes columns, a span begins
+  -- at the first selected character that occupies columns, a span begins
   edge_at : (i j : ℕ) → is_left_edge covered (columns_left line i) ≡ covered (columns_left line i) → Passes s false i j → j < length s.vtol.now
       → is_left_edge covered (columns_left line j) ≡ true
   edge_at i j fresh p within =

@@ -1,4 +1,4 @@
--- Writing the lines of a paragraph one at a time gives all its lines.
+-- Writing the lines of a paragraph one at a time results in all its lines.
 use Rattle.std.proofs.Common.{◌≡◌, ℕ, zero, suc, ◌+◌, ◌*◌, ◌-◌, ◌<◌, ◌≤◌, Bool, Option, List, [], ◌∷◌, ◌++◌, length, map, take}
 use Rattle.std.proofs.Common.{drop, get_or, refl, sym, ap, ap₂, subst, ◌∙◌, take-take, drop-drop, below_more, length-append, arith, inl, inr}
 use borrow.Rule.Slice.PartMut.{put_mid}
@@ -80,8 +80,8 @@ shown_at margin n infos (s ∷ []) (suc k) d h = absurd (omega (arith, h))
 shown_at margin n infos (s ∷ t ∷ starts) zero d h = refl
 shown_at margin n infos (s ∷ t ∷ starts) (suc k) d h = shown_at margin n infos (t ∷ starts) k d (omega (arith, h))
 
--- if `parts` are the shown parts of the first k lines, appending the shown part of line k gives those of the
--- first k + 1
+-- if `parts` are the shown parts of the first k lines, appending the shown part of line k yields those of the first k +
+-- 1
 pub shown_more : (margin : Option ℕ) (n : ℕ) (infos : List CharInfo) (starts : List ℕ) (k e : ℕ) (part : Shown) (parts more : List Shown) → k < length starts → e ≡ end_of n starts k
     → part.len ≡ length (shown margin (slice_range infos (get_or starts k 0) e)) → part.columns ≡ columns (shown margin (slice_range infos (get_or starts k 0) e))
     → parts ≡ take k (shown_from margin n infos starts) → more ≡ parts ++ part ∷ [] → more ≡ take (k + 1) (shown_from margin n infos starts)
@@ -93,7 +93,7 @@ shown_more margin n infos starts k e part parts more below e_is len columns_are 
     is ∙ ap (λ (ps : List Shown). ps ++ part ∷ []) so_far ∙ ap (λ (p : Shown). take k (shown_from margin n infos starts) ++ p ∷ []) (sym item)
     ∙ sym (take_more (shown_from margin n infos starts) k part here)
 
--- `shown_from` gives equal shown parts for equal text lengths and equal starts
+-- `shown_from` returns equal shown parts for equal text lengths and equal starts
 pub taken_shown : (margin : Option ℕ) (n m : ℕ) (infos : List CharInfo) (starts seen : List ℕ) {parts : List Shown} → n ≡ m → seen ≡ starts → parts ≡ shown_from margin m infos seen
     → parts ≡ shown_from margin n infos starts
 taken_shown margin n m infos starts seen e same is = is ∙ ap₂ (λ (j : ℕ) (ss : List ℕ). shown_from margin j infos ss) (sym e) same

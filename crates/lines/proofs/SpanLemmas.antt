@@ -25,7 +25,7 @@ first test low (suc count) end b e from to fails passes =
           ∙ first test (suc low) count end b (omega arith) (omega arith) to (λ c above below. fails c (omega arith) below) passes
     ]
 
--- it is no greater than any number that passes, and none before it passes
+-- the result is no greater than any number that passes, and no smaller number passes
 first_most : (test : ℕ → Bool) (low count end b : ℕ) → low + count ≡ end → low ≤ b → b < end → test b ≡ true → unwrap_or (least test low count) end ≤ b
 first_most test low zero end b e from to passes = omega arith
 first_most test low (suc count) end b e from to passes =
@@ -93,7 +93,7 @@ module _ (is_covered : ℕ → Bool) (width : ℕ) where
   is_edge : ℕ → Bool
   is_edge = is_left_edge is_covered
 
-  -- a column that is not covered, or whose left neighbour is covered, is no left edge
+  -- a column that is not covered, or whose left neighbour is covered, is not a left edge
   uncovered : (c : ℕ) → is_covered c ≡ false → is_left_edge is_covered c ≡ false
   uncovered zero off = off
   uncovered (suc c) off = and_left (is_covered (suc c)) (not (is_covered c)) off
@@ -112,7 +112,7 @@ module _ (is_covered : ℕ → Bool) (width : ℕ) where
   pub starts_fresh : (c : ℕ) → is_covered c ≡ false → is_left_edge is_covered c ≡ is_covered c
   starts_fresh c off = uncovered c off ∙ sym off
 
-  -- columns without left edges are passed over
+  -- columns without left edges are skipped
   over : (a b : ℕ) → a ≤ b → b ≤ width → ((c : ℕ) → a ≤ c → c < b → is_left_edge is_covered c ≡ false) → intervals_from is_covered width a ≡ intervals_from is_covered width b
   over a b forward inside none =
       let n : width - a ≡ (b - a) + (width - b) = omega arith in
@@ -125,7 +125,7 @@ module _ (is_covered : ℕ → Bool) (width : ℕ) where
       (none_left (is_left_edge is_covered) a (b - a) (λ c from to. none c from (omega arith)))
       ∙ ap (λ k. filter (is_left_edge is_covered) (range_with_len k (width - b))) at)
 
-  -- columns that are not covered are passed over
+  -- columns that are not covered are skipped
   pub over_gap : (a b : ℕ) → a ≤ b → b ≤ width → ((c : ℕ) → a ≤ c → c < b → is_covered c ≡ false) → intervals_from is_covered width a ≡ intervals_from is_covered width b
   over_gap a b forward inside off = over a b forward inside (λ c from to. uncovered c (off c from to))
 
@@ -172,7 +172,7 @@ module _ (is_covered : ℕ → Bool) (width : ℕ) where
   ends_by left c from below off =
       first_most (λ k. not (is_covered k)) left (width - left) width c (omega arith) from below (not_from_false (is_covered c) off)
 
-  -- a span goes on as long as columns are covered
+  -- a span continues as long as columns are covered
   goes_on : (left c : ℕ) → left ≤ c → c < width → ((k : ℕ) → left ≤ k → k ≤ c → is_covered k ≡ true) → c < (span left).right
   goes_on left c from below on =
       let found = first_found (λ k. not (is_covered k)) left (width - left) width (omega arith) in

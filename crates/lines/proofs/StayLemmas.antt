@@ -1,4 +1,4 @@
--- If a paragraph is one line at some width, it is the same line at every width that the line fits.
+-- If a paragraph is one line at some width, it is the same line at every width in which the line fits.
 use Rattle.std.proofs.Common.{◌≡◌, ◌∙◌, ℕ, zero, suc, ◌+◌, ◌-◌, ◌<◌, ◌≤◌, Bool, true, false, ◌&&◌, ◌||◌, Option, Some}
 use Rattle.std.specs.Option.{option_map_or}
 use Rattle.std.proofs.Common.{None, not, nat_le, ap₂, unwrap_or, List, [], ◌∷◌, length, get_or, take, drop, refl, sym, ap, subst, inl, inr, arith}
@@ -111,7 +111,7 @@ all_left nobreak width place (suc left) [] within = refl
 all_left nobreak width place zero (p ∷ rest) within = absurd (omega (arith, within))
 all_left nobreak width place (suc left) (p ∷ rest) within = all_left nobreak width (suc place) left rest (omega (arith, within))
 
--- if the first line has all characters at one width, it has all of them at every width that they fit
+-- if the first line has all characters at one width, it has all of them at every width in which they fit
 whole_again : (nobreak : Bool) (old width : ℕ) (p : CharInfo) (rest : List CharInfo) → (place_at (p ∷ rest) (length rest)).mark ≡ Must → columns (before_tail (p ∷ rest)) ≤ width
     → length rest ≤ line_len nobreak old (p ∷ rest) - 1 → length rest ≤ line_len nobreak width (p ∷ rest) - 1
 whole_again true old width p rest ends fit was = was
@@ -178,7 +178,7 @@ unfolding line_starts_of
 first_zero nobreak width s [] e = cc
 first_zero nobreak width s (p ∷ rest) e = sym (ap (λ xs. get_or xs 0 0) e)
 
--- what is known of the `CharInfo` of a character of some size
+-- what is known about the `CharInfo` of a character of some size
 abbrev IsInfoOf : Tables → ℕ → ℕ → ℕ → CharInfo → Type 0
 IsInfoOf t tab_width c size p =
     (p.trailing ≡ trailing_with t tab_width c) × ((column : ℕ) → advance column p ≡ column + width_from tab_width column c size)

@@ -127,7 +127,7 @@ module _ (rules : Rules) (text : List ℕ) where
         ∙ ap (λ (ss : List ℕ). Some (record (seen (k == 0) (slice_index at.starts k) (end_of (length text) at.starts k) (slice_index_or at.shown k nothing_shown)) { len = end_of (length text) ss k - slice_index at.starts k }))
         (ap (λ (e : LineExtents). e.starts) (extents-lines width))
 
-    -- as many characters are shown as the line has levels
+    -- the number of shown characters is the number of the line's levels
     shown_count : (k : ℕ) → k < length at.starts
         → length (seen (k == 0) (slice_index at.starts k) (end_of (length text) at.starts k) (slice_index_or at.shown k nothing_shown)).levels ≡ (slice_index_or at.shown k nothing_shown).len
     shown_count k below =

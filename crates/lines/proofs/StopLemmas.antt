@@ -1,4 +1,4 @@
--- Each tab ends at a tab stop, seen from the edge at which its line starts.
+-- Each tab ends at a tab stop, counted from the edge at which its line starts.
 use Rattle.std.proofs.Common.{◌≡◌, ◌≢◌, ◌∙◌, ℕ, zero, suc, ◌+◌, ◌-◌, ◌%◌, ◌<◌, ◌≤◌, ◌==◌, nat_lt, max, Bool, true, false, ◌&&◌, ◌||◌, not, ◌⊎◌, Option, Some, None, List, [], ◌∷◌, ◌++◌}
 use Rattle.std.proofs.Common.{if◌then◌else◌, length, take, drop, fold, get_or, reverse, sum, sum_by, unwrap_or, refl, sym, ap, subst, inl, inr, arith}
 use Rattle.std.specs.Prelude.{All}
@@ -42,7 +42,7 @@ use Rattle.lines.proofs.WidthLemmas.{length-widths, sum_next, tab_ends, width_ta
 -- ---- the sum of the items before an item
 
 module _ (f : ℕ → ℕ) (i : ℕ) where
-  -- whether i is no item
+  -- whether i is not an item
   abbrev Without : List ℕ → Type 0
   Without [] = Unit {0}
   Without (x ∷ xs) = (x ≢ i) × Without xs
@@ -97,7 +97,7 @@ module _ (f : ℕ → ℕ) (i : ℕ) where
         kept levels (suc low) count xs (omega (arith, below)),
       )
 
-  -- ---- reversing intervals that do not have i, each with the item after it
+  -- ---- reversing intervals that do not contain i, each with the item after it
 
   module _ (test : ℕ → Bool) (fails : test i ≡ false) where
     -- whether the item before i fails the test; `after` says whether the item before the list passes
@@ -237,7 +237,7 @@ module _ (ws levels : List ℕ) (i : ℕ) (within : i < length levels) where
   abbrev order : List ℕ
   order = order_of levels
 
-  -- the columns before a character at level 0, by L2
+  -- the columns before a character at level 0 in the order of L2
   pub at_zero : get_or levels i 0 ≡ 0 → sum_before (at ws) i order ≡ sum_by (at ws) (range_with_len 0 i)
   unfolding order_of
   at_zero level = go (lowest_odd levels) refl
@@ -273,7 +273,7 @@ module _ (ws levels : List ℕ) (i : ℕ) (within : i < length levels) where
             omega (arith, here));
       }
 
-  -- the columns before a character at level 1, by L2, if no character is at level 0
+  -- the columns before a character at level 1 in the order of L2, if no character is at level 0
   module _ (level : get_or levels i 0 ≡ 1) (above : (k : ℕ) → k < length levels → 1 ≤ get_or levels k 0) where
     high : 1 ≤ highest levels
     high = omega (arith, level, max_at 0 levels i within)
@@ -324,7 +324,7 @@ module _ (ends : List Bool) (levels : List ℕ) (i : ℕ) (begins : is_joined en
       and_left (precedes_mark classes levels k) (not (is_mark_at classes k) || is_moved k)
       (and_left (is_mark_at classes (suc k)) (is_odd (get_or levels k 0) && (get_or levels (suc k) 0 == get_or levels k 0)) (unmarked ends levels (suc k) none))
 
-  -- nor is the character to the left of i moved
+  -- the character to the left of i is not moved either
   beside : (m z : ℕ) → suc m < length levels → get_or (order_of levels) (suc m) 0 ≡ i → get_or (order_of levels) m 0 ≡ z → is_moved z ≡ false
   beside m zero within here left = refl
   beside m (suc j) within here left =
@@ -337,7 +337,7 @@ module _ (ends : List Bool) (levels : List ℕ) (i : ℕ) (begins : is_joined en
         | inr none ↦ none
       ]
 
-  -- L3 by clusters changes nothing to the left of a character that is joined to no other
+  -- with clusters, L3 changes nothing to the left of a character that is joined to no other
   pub same_by_clusters : (ws : List ℕ) → sum_before (at ws) i (vtol_of true classes levels) ≡ sum_before (at ws) i (order_of levels)
   unfolding vtol_of
   same_by_clusters ws =
@@ -345,7 +345,7 @@ module _ (ends : List Bool) (levels : List ℕ) (i : ℕ) (begins : is_joined en
 
 -- ---- a line
 
--- whether the columns to the left of each tab are those by L2
+-- whether the columns to the left of each tab are those in the order of L2
 abbrev StayByL2 : Visual → Type 0
 StayByL2 line = (k : ℕ) → IsTab line k → sum_before (at (widths line)) k line.vtol ≡ sum_before (at (widths line)) k (order_of line.levels)
 

@@ -23,7 +23,7 @@ use Rattle.lines.specs.declared.char_info.CharInfo.{CharInfo}
 use Rattle.lines.proofs.WidthLemmas.{length-sized}
 use Rattle.bidi.specs.Levels.{levels_of}
 
--- whether the numbers rise strictly, start at `low` or above, and are below n
+-- whether the numbers are strictly ascending, start at `low` or above, and are below n
 abbrev pub Rise : ℕ → ℕ → List ℕ → Type 0
 Rise low n [] = ⊤
 Rise low n (x ∷ xs) = (low ≤ x) × (x < n) × Rise (suc x) n xs
@@ -36,7 +36,7 @@ rise_to : (low n m : ℕ) (xs : List ℕ) → n ≤ m → Rise low n xs → Rise
 rise_to low n m [] below rise = tt
 rise_to low n m (x ∷ xs) below rise = (rise.0, omega (arith, below, rise.1), rise_to (suc x) n m xs below rise.2)
 
--- line starts rise strictly
+-- line starts are strictly ascending
 starts_rise : (nobreak : Bool) (width place left n : ℕ) (rest : List CharInfo) → place + length rest ≡ n → Rise (place + left) n (starts nobreak width place left rest)
 starts_rise nobreak width place zero n [] e = tt
 starts_rise nobreak width place (suc left) n [] e = tt
@@ -91,7 +91,7 @@ few_infos rules text =
       length-infos rules.tables tab_width text marks (cluster_ends text),
     )
 
--- the line starts of a paragraph rise strictly
+-- the line starts of a paragraph are strictly ascending
 pub starts_in : (rules : Rules) (width : ℕ) (text : List ℕ) → Rise 0 (length text) (line_starts_of rules.options.nobreak width (infos_of rules.tables rules.options rules.advances text))
 unfolding line_starts_of
 starts_in rules width text =

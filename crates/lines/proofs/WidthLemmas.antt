@@ -176,7 +176,7 @@ advance_info t n column c mark ends =
       | inr other ↦ rw other (rw (stays (resolved (line_class_of t c) (is_mark_in t c))) refl)
     ]
 
--- the same with an advance in place of the columns
+-- the same, with an advance in place of the columns
 pub advance_measured : (t : Tables) (n column c size : ℕ) (mark : Mark) (ends : Bool)
     → advance column (record (info t n c mark ends) { columns = size }) ≡ column + width_from n column c size
 advance_measured t n column c size mark ends =
@@ -278,7 +278,7 @@ columns_take k ps = from_take 0 k ps
 
 -- ---- ranges
 
--- a range is that of its indices within the list
+-- a range is the same as the range of its indices within the list
 pub range_clipped : (xs : List ℕ) (start end first past : ℕ) → first ≡ min start past → past ≡ min end (length xs) → slice_range xs first past ≡ slice_range xs start end
 range_clipped xs start end first past is_first is_past =
     elim (cases_lt past start) [

@@ -56,7 +56,7 @@ front = refl
 nothing_shown : before_tail (space ∷ space ∷ last_space ∷ []) ≡ []
 nothing_shown = refl
 
--- With a margin, spaces that end within it are shown: none after a text that is wider, and none after a separator.
+-- With a margin, spaces that end within it are shown, but none after a wider text, and none after a separator.
 abbrev separator : CharInfo
 separator = record { columns = 0; trailing = Separator; mark = Must; ends_cluster = true }
 
@@ -161,7 +161,7 @@ tab_after_spaces : starts 3 (letter ∷ space ∷ tab 4 ∷ last ∷ []) ≡ 0 �
 unfolding line_starts_of
 tab_after_spaces = refl
 
--- a work counter is capped at 2^64−1
+-- a work counter saturates at 2^64−1
 count_stays : counted (2 ^ 64 - 3) 7 ≡ 2 ^ 64 - 1
 count_stays = refl
 

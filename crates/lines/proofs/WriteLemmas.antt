@@ -60,7 +60,7 @@ stopped-before {old = old} {new = new} {xs = xs} {before = before} {w = w} ys st
   );
 }
 
--- if the first part was written, writing the last part gives the result of writing both
+-- if the first part was written, writing the last part has the result of writing both
 module _ {old mid : Device} {xs : List ℕ} {before n : ℕ} (first : PassedOn xs before old mid n) (new : Device) (ys : List ℕ) where
   pub last_passed : (r : Result ℕ WriteFault) → IfOk r (λ m. PassedOn ys n mid new m) → IfOk r (λ m. PassedOn (xs ++ ys) before old new m)
   last_passed (Ok m) second = passed-append first second
@@ -70,7 +70,7 @@ module _ {old mid : Device} {xs : List ℕ} {before n : ℕ} (first : PassedOn x
   last_stopped (Ok m) second = tt
   last_stopped (Err fault) second = stopped-after first second
 
--- concatenating the first k + 1 lists gives the first k concatenated, followed by list k
+-- concatenating the first k + 1 lists yields the first k concatenated, followed by list k
 concat-more : (xs : List (List ℕ)) (k : ℕ) → k < length xs → concat (take (suc k) xs) ≡ concat (take k xs) ++ get_or xs k []
 concat-more [] k short = absurd (omega arith)
 concat-more (x ∷ xs) zero short = append-nil x

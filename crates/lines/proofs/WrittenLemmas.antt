@@ -29,8 +29,8 @@ use Rattle.lines.specs.declared.printing.print.Print.{Print}
 use Rattle.lines.proofs.PageLemmas.{piece_at, pieces}
 use Rattle.lines.proofs.ShowLemmas.{length_range}
 
--- Taking n items from a list that starts with n new items gives these items. Taking the next n items gives
--- the n new items that follow. If all items of a list are 0, so are the first n.
+-- Taking n items from a list that starts with n new items yields these items. Taking the next n items yields the n new
+-- items that follow. If all items of a list are 0, so are the first n.
 pub front_is : {X : Type 0} (n : ℕ) (new rest : List X) → length new ≡ n → take n (new ++ rest) ≡ new
 front_is n new rest size = ap (λ (m : ℕ). take m (new ++ rest)) (sym size) ∙ take-append_seam new rest
 

@@ -1,9 +1,9 @@
--- Parts of a line that are printed at once. No contract of an exported function uses this definition.
+-- Parts of a line that are printed in one step. No contract of an exported function uses this definition.
 use Rattle.std.specs.Prelude.{◌≡◌, ℕ, ◌+◌, ◌<◌, ◌≤◌, true, false, slice_index}
 use Rattle.lines.specs.Tabs.{is_tab}
 use Rattle.lines.specs.Visual.{Visual}
 
--- whether the characters from one visual position up to another are one tab, or none of them is a tab
+-- whether the characters from one visual position up to another are a single tab, or include no tab
 pub record AreCells (line : Visual) (start end : ℕ) : Type 0 where
   pub tab : is_tab line.tab_width (slice_index line.text (slice_index line.vtol start)) ≡ true → end ≡ start + 1
   pub others : is_tab line.tab_width (slice_index line.text (slice_index line.vtol start)) ≡ false

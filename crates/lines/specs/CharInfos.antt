@@ -16,27 +16,28 @@ use Rattle.lines.specs.declared.char_info.Trailing.{Trailing}
 use Rattle.lines.specs.declared.char_info.Trailing.TheVariants.{No, Space, Separator, Tab}
 use Rattle.lines.specs.declared.options.Options.{Options}
 
--- the columns of a character according to the crate `unicode_width`, or 0 if that crate gives no width
+-- the columns of a character according to the crate `unicode_width`, or 0 if that crate defines no width for it
 abbrev pub columns_of : ℕ → ℕ
 columns_of c = unwrap_or (char_width false c) 0
 
--- the size of a character, from which its width follows: its columns, or for a tab that moves to tab stops their distance
+-- the size of a character, which determines its width: its columns, or the distance between tab stops for a tab that
+-- moves to one
 abbrev pub size_in : ℕ → ℕ → ℕ
 size_in tab_width c = if is_tab tab_width c then tab_width else columns_of c
 
--- what a character of a class, after LB1, is in a tail: a space if the class is SP, and a separator if it is BK, CR, LF or NL; other
--- characters are in no tail
+-- the role in a tail of a character with this class after LB1: SP is a space, and BK, CR, LF and NL are separators;
+-- other characters are in no tail
 abbrev pub trailing_by : LineClass → Trailing
 trailing_by class = if is_one_of (SP ∷ []) class then Space else if is_one_of (BK ∷ CR ∷ LF ∷ NL ∷ []) class then Separator else No
 
 abbrev pub trailing_in : Tables → ℕ → Trailing
 trailing_in t c = trailing_by (resolved (line_class_of t c) (is_mark_in t c))
 
--- the same, given the tab width of the line
+-- the role of a character in a tail, given the tab width of its line
 abbrev pub trailing_with : Tables → ℕ → ℕ → Trailing
 trailing_with t tab_width c = if is_tab tab_width c then Tab else trailing_in t c
 
--- whether such a character may be in a tail, and whether it is a space
+-- whether a character with this role may be in a tail, and whether it is a space
 abbrev pub may_trail : Trailing → Bool
 may_trail No = false
 may_trail Tab = false
@@ -46,7 +47,7 @@ abbrev pub is_space : Trailing → Bool
 is_space Space = true
 is_space other = false
 
--- whether such a character moves to a tab stop
+-- whether a character with this role moves to a tab stop
 abbrev pub moves : Trailing → Bool
 moves Tab = true
 moves other = false
@@ -65,7 +66,8 @@ abbrev pub infos : Tables → ℕ → List ℕ → List Mark → List Bool → L
 infos t tab_width (c ∷ text) (mark ∷ marks) (ends ∷ clusters) = info t tab_width c mark ends ∷ infos t tab_width text marks clusters
 infos t tab_width text marks clusters = []
 
--- the same with the advances of a measured paragraph, in the caller's unit, in place of its columns; a character without an advance has 0
+-- the characters of a measured paragraph, with advances in the caller's unit in place of columns; a character without
+-- an advance has 0
 abbrev pub measured : List ℕ → List CharInfo → List CharInfo
 measured advances [] = []
 measured [] (p ∷ infos) = record p { columns = 0 } ∷ measured [] infos

@@ -14,8 +14,8 @@ use Rattle.ucd_derived.specs.declared.IndicConjunctBreak.TheVariants as InCb
 use Rattle.unicode_segmentation.specs.Grapheme.{is_grapheme_break}
 use Rattle.unicode_segmentation.specs.Segments.{Rule}
 
--- whether a segment by a rule, such as a cluster or a word, ends after each character of a text; `before` has the characters
--- before the text, the nearest first
+-- whether a segment by a rule, such as a cluster or a word, ends after each character of a text; `before` holds the
+-- characters before the text, nearest first
 abbrev pub ends_after : Rule → List ℕ → List ℕ → List Bool
 ends_after rule before [] = []
 ends_after rule before (c ∷ text) = rule (c ∷ before) text ∷ ends_after rule (c ∷ before) text
@@ -39,8 +39,8 @@ cluster_begin ends k = after (greatest (ends_at ends) k) 0
 abbrev pub cluster_end : List Bool → ℕ → ℕ
 cluster_end ends k = after (least (ends_at ends) k (length ends - k)) (length ends)
 
--- Where the clusters of a part of a text end, from its start. The part has `len` characters from `start` on. Its end is the last of
--- these ends, even if it splits a cluster.
+-- Where the clusters of a part of a text end, counted from the start of the part. The part has `len` characters from
+-- `start` on. The last of these ends is the end of the part, even if that splits a cluster.
 abbrev pub ends_in : List Bool → ℕ → ℕ → List ℕ
 ends_in ends start len = filter (λ k. k == len || ends_at ends (start + k - 1)) (range_with_len 1 len)
 
@@ -69,10 +69,11 @@ is_alone c =
     || (lies_in 0xFF00 0xFF9D c
     || lies_in 0x20000 0x2FFFF c)))))))))))
 
--- Split points: the text before and the text after have the same clusters as the whole text. A split point is the start of the
--- text, its end, or a place between two characters at which a cluster ends, whatever comes before and after them.
+-- At a split point, the text before and the text after have the same clusters as the whole text. A split point is the
+-- start of the text, its end, or a place between two characters at which a cluster ends, whatever comes before and
+-- after them.
 
--- no rule joins such a character to the next one if that one starts a cluster, with the exception of GB9c
+-- no rule except GB9c joins such a character to the next one, if that one may start a cluster
 abbrev pub may_end : GraphemeClusterBreak → Bool
 may_end Control = true
 may_end Extend = true
@@ -81,7 +82,7 @@ may_end Other = true
 may_end SpacingMark = true
 may_end _ = false
 
--- no rule joins such a character to the one before it if that one ends a cluster, with the exception of GB9c; and no rule looks
+-- no rule except GB9c joins such a character to the one before it, if that one may end a cluster, and no rule looks
 -- further back
 abbrev pub may_start : GraphemeClusterBreak → Bool
 may_start Extend = false

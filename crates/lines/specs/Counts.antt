@@ -1,4 +1,4 @@
--- How the work counters rise. No contract of an exported function uses these definitions.
+-- How the work counters increase. No contract of an exported function uses these definitions.
 use Rattle.std.specs.Prelude.{◌≡◌, ℕ}
 use Rattle.lines.specs.Engine.{counted, RisesBy}
 use Rattle.lines.specs.declared.counts.Counts.{Counts}

@@ -21,11 +21,11 @@ written_of engine = engine.written
 abbrev pub SameRules : Engine → Engine → Type 0
 SameRules old new = rules_of new ≡ rules_of old
 
--- a count raised by n, capped at 2^64−1
+-- a count increased by n, saturating at 2^64−1
 abbrev pub counted : ℕ → ℕ → ℕ
 counted count n = min (count + n) (2 ^ 64 - 1)
 
--- a count rises by at most n
+-- a count increases by at most n
 pub record RisesBy (n old new : ℕ) : Type 0 where
   pub least : old ≤ new
   pub most : new ≤ old + n
@@ -63,7 +63,7 @@ pub record FindsExtentsAtMost (n : ℕ) (old new : Engine) : Type 0 where
   pub filled : RisesBy n (filled_of old) (filled_of new)
   pub written : written_of new ≡ written_of old
 
--- lines of n characters were written again; no character was analysed or filled
+-- the lines of n characters were written again; no character was analysed or filled
 pub record Rewrites (n : ℕ) (old new : Engine) : Type 0 where
   pub analysed : analysed_of new ≡ analysed_of old
   pub filled : filled_of new ≡ filled_of old

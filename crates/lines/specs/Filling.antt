@@ -73,9 +73,9 @@ module _ (rest : List CharInfo) where
 abbrev pub fits_to : ℕ → List CharInfo → ℕ → Bool
 fits_to width rest k = fits width (take (suc k) rest)
 
--- A line ends at the last break opportunity up to which it fits, and no later than its first mandatory break.
--- If no break opportunity fits, the line ends at the last cluster end up to which it fits. If no cluster end
--- fits either, the line ends at its first break opportunity or cluster end.
+-- A line ends at the last break opportunity at which it fits, and no later than its first mandatory break. If
+-- no break opportunity fits, the line ends at the last cluster end at which it fits. If no cluster end fits
+-- either, the line ends at its first break opportunity or cluster end.
 abbrev pub by_break : ℕ → List CharInfo → Option ℕ
 by_break width rest = greatest (λ k. may_end rest k && fits_to width rest k) (suc (stop rest))
 

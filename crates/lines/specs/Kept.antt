@@ -21,7 +21,7 @@ module _ (levels ltov vtol chars : List ℕ) where
   lines_by (s ∷ starts) (shown ∷ others) = line_in s shown ∷ lines_by starts others
   lines_by starts others = []
 
--- the first half of `maps` is ltov, the second is vtol
+-- the first half of `maps` is ltov, and the second half is vtol
 abbrev pub lines_in : List ℕ → List Shown → List ℕ → List ℕ → List ℕ → List Line
 lines_in starts shown levels maps chars = lines_by levels (take (length levels) maps) (drop (length levels) maps) chars starts shown
 
@@ -34,7 +34,7 @@ pub record IsSound (starts : List ℕ) (shown : List Shown) (levels maps chars :
   pub places : All (λ line. AreWithin (length line.levels) line.vtol) (lines_in starts shown levels maps chars)
   pub within : (k : ℕ) → k < length starts → slice_index starts k + (slice_index_or shown k (record { len = 0; columns = 0 })).len ≤ length levels
 
--- each line starts before the next one, and before the end at n
+-- each line starts before the next one, and before n, the end of the paragraph
 pub record AreStarts (n : ℕ) (starts : List ℕ) : Type 0 where
   pub below : (k : ℕ) → k < length starts → slice_index starts k < n
   pub rising : (k : ℕ) → k + 1 < length starts → slice_index starts k < slice_index starts (k + 1)

@@ -6,7 +6,7 @@ abbrev pub lies_in_any : List (ℕ × ℕ) → ℕ → Bool
 lies_in_any [] c = false
 lies_in_any (range ∷ ranges) c = lies_in range.0 range.1 c || lies_in_any ranges c
 
--- Latin, Greek, Cyrillic, Hebrew and Arabic letters, and what is between them in Unicode
+-- Latin, Greek, Cyrillic, Hebrew and Arabic letters, and the code points between them
 abbrev pub narrow_ranges : List (ℕ × ℕ)
 narrow_ranges = (0xAE, 0x2FF) ∷ (0x370, 0x482) ∷ (0x5D0, 0x5DB) ∷ (0x5DD, 0x5EA) ∷ (0x620, 0x64A) ∷ []
 

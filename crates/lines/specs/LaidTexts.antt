@@ -1,4 +1,4 @@
--- The text of a paragraph whose lines are found. No contract of an exported function uses these definitions.
+-- The text of a paragraph whose lines have been found. No contract of an exported function uses these definitions.
 use Rattle.std.specs.Prelude.{◌≡◌, ℕ, true, List, length, Option}
 use Rattle.lines.specs.Measures.{given_if, AreWidthsOf}
 use Rattle.lines.specs.Visual.{Line}

@@ -38,8 +38,8 @@ with_advances rules advances = record rules { advances = advances }
 abbrev pub HaveRoom : Option (List ℕ) → Type 0
 HaveRoom advances = IfSome advances (λ list. sum list < 2 ^ 32)
 
--- a paragraph: its characters, their advances if it is measured, its base level, its tab width, the level and the mark of each character, its
--- cluster ends if its lines are ordered by clusters, and its lines
+-- a paragraph: its characters, advances if it is measured, base level, tab width, levels, break marks, cluster ends if
+-- its lines are ordered by clusters, and lines
 pub record Layout : Type 0 where
   pub text : List ℕ
   pub advances : Option (List ℕ)
@@ -95,14 +95,15 @@ abbrev pub is_line_within : ℕ → List Line → Bool
 is_line_within width (line ∷ []) = nat_le line.columns width
 is_line_within width lines = false
 
--- whether the first character that a paragraph's first line does not show is a space that fits the width, too
+-- whether the first hidden character of a paragraph's first line is a space that would also fit in the width
 abbrev pub hides_space_within : Tables → ℕ → Option (List ℕ) → ℕ → List ℕ → Line → Bool
 hides_space_within tables tab_width advances width text line =
     let size = slice_index (sizes_of tab_width advances text) (length line.levels) in
     option_map_or (λ c. is_space (trailing_with tables tab_width c) && nat_le (line.columns + width_from tab_width line.columns c size) width)
     (slice_get text (length line.levels)) false
 
--- whether a paragraph keeps its lines at a width: it has one line, which fits, and if spaces are shown, it hides none that fits
+-- whether a paragraph keeps its lines at a width: it has one line, which fits and, if spaces are shown, hides none that
+-- would fit
 abbrev pub keeps_lines : Rules → ℕ → Layout → Bool
 keeps_lines rules width layout =
     is_line_within width layout.lines
@@ -128,7 +129,7 @@ pub record AreLinesOf (rules : Rules) (text : List ℕ) (fill : Filled) : Type 0
   pub width : ℕ
   pub from_scratch : fill ≡ fill_of rules width text
 
--- A layout and a fill exchange their lines, and with the lines their widths.
+-- A layout and a fill exchange their lines, along with the widths on these lines.
 pub record Exchanges (old new : Layout) (fill_old fill_new : Filled) : Type 0 where
   pub put : new ≡ record old { lines = fill_old.lines }
   pub taken : fill_new ≡ record { lines = old.lines; len = length old.text }

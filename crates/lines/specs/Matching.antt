@@ -4,14 +4,14 @@ use Rattle.lines.specs.Extents.{LineExtents}
 use Rattle.lines.specs.Showing.{nothing_shown}
 use Rattle.lines.specs.Visual.{Visual, end_of, is_measured}
 
--- The first n items of two lists are the same. If both lists have another item, these two differ.
+-- The first n items of two lists are the same. If both lists have a next item, these two items differ.
 pub record MatchAtStart {A : Type 0} (xs ys : List A) (n : ℕ) : Type 0 where
   pub in_first : n ≤ length xs
   pub in_second : n ≤ length ys
   pub same : take n xs ≡ take n ys
   pub most : n < length xs → n < length ys → slice_get xs n ≢ slice_get ys n
 
--- The last n items of two lists are the same. If both lists have another item before these, these two differ.
+-- The last n items of two lists are the same. If both lists have an item before these, the two items differ.
 pub record MatchAtEnd {A : Type 0} (xs ys : List A) (n : ℕ) : Type 0 where
   pub in_first : n ≤ length xs
   pub in_second : n ≤ length ys
@@ -27,7 +27,8 @@ pub record HaveSameForm (a b : Visual) : Type 0 where
   pub columns : a.columns ≡ b.columns
   pub measured : is_measured a ≡ is_measured b
 
--- line k by some extents and line m by others have the same place in a paragraph of n characters, and show as much
+-- line k of the extents `a` and line m of `b` have the same place in a paragraph of n characters, and equally
+-- large shown parts
 pub record HaveSamePlace (n : ℕ) (a b : LineExtents) (k m : ℕ) : Type 0 where
   pub is_first : (k == 0) ≡ (m == 0)
   pub start : slice_index a.starts k ≡ slice_index b.starts m

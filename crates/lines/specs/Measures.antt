@@ -1,4 +1,4 @@
--- What is kept of the characters of a measured paragraph: their advances, and their widths on its lines.
+-- What is stored about the characters of a measured paragraph: their advances, and their widths on its lines.
 use Rattle.std.specs.Prelude.{◌≡◌, ℕ, ◌+◌, ◌*◌, ◌^◌, ◌<◌, ◌≤◌, nat_lt, Bool, true, List, [], ◌∷◌, length, take, drop, sum, slice_range, All, ⊤, Option, None, Some, if◌then◌else◌}
 use Rattle.lines.specs.Visual.{Line}
 use Rattle.lines.specs.Widths.{widths_of}
@@ -7,7 +7,7 @@ use Rattle.lines.specs.Widths.{widths_of}
 abbrev pub given_if : Bool → List ℕ → Option (List ℕ)
 given_if is_given items = if is_given then Some items else None
 
--- the widths that are known, or else others
+-- the known widths if there are any, and otherwise the others
 abbrev pub known_or : Option (List ℕ) → List ℕ → List ℕ
 known_or None others = others
 known_or (Some widths) others = widths
@@ -16,7 +16,7 @@ known_or (Some widths) others = widths
 abbrev pub AreMeasured : ℕ → List ℕ → Bool → List ℕ → List ℕ → Type 0
 AreMeasured tab_width text is_measured advances widths = is_measured ≡ true → widths ≡ widths_of tab_width (Some advances) text
 
--- the shown characters of a line, of a list with an item for each character of the paragraph
+-- the items for the shown characters of a line, from a list with an item for each character of the paragraph
 abbrev pub on_line : Line → List ℕ → List ℕ
 on_line line items = slice_range items line.start (line.start + length line.levels)
 
@@ -24,8 +24,8 @@ on_line line items = slice_range items line.start (line.start + length line.leve
 abbrev pub AreWidthsOf : ℕ → List ℕ → List ℕ → List ℕ → List Line → Type 0
 AreWidthsOf tab_width text advances widths lines = All (λ line. on_line line widths ≡ widths_of tab_width (Some (on_line line advances)) (on_line line text)) lines
 
--- How a paragraph keeps them, in one list: the advances, and with tab stops the widths behind them. Without tab stops, the widths are the
--- advances.
+-- A paragraph stores both in one list: the advances and, if there are tab stops, the widths after them. Without tab
+-- stops, the widths are the advances.
 abbrev pub kept_advances : Bool → List ℕ → List ℕ → Option (List ℕ)
 kept_advances is_measured text sizes = given_if is_measured (take (length text) sizes)
 
@@ -40,7 +40,7 @@ pub record KeepsSizes (tab_width : ℕ) (text sizes : List ℕ) (lines : List Li
   pub room : sum (take (length text) sizes) < 2 ^ 32
   pub widths : AreWidthsOf tab_width text (take (length text) sizes) (kept_widths tab_width text sizes) lines
 
--- whether the shown parts of lines follow one another, the first one from `low` on
+-- whether the shown parts of lines are in order and do not overlap, and the first one starts at or after `low`
 abbrev pub FollowFrom : ℕ → List Line → Type 0
 FollowFrom low [] = ⊤
 FollowFrom low (line ∷ lines) = (low ≤ line.start) × FollowFrom (line.start + length line.levels) lines

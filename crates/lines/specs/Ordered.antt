@@ -1,4 +1,4 @@
--- What holds of the order of each visual line.
+-- Properties of the order of each visual line.
 use Rattle.std.specs.Prelude.{◌≡◌, ℕ, suc, ◌+◌, ◌<◌, ◌≤◌, Bool, false, true, ◌⊎◌, List, length, slice_index, All, None}
 use Rattle.reorder.specs.Order.{is_odd, AreInverse}
 use Rattle.ucd.specs.Classes.{is_mark}
@@ -17,12 +17,12 @@ pub record IsOrdered (line : Visual) : Type 0 where
   pub inverse : AreInverse (length line.levels) line.vtol line.ltov
   pub within : length line.levels ≤ line.len
 
--- whether the characters of class NSM stay where L2 puts them, or take no columns in a paragraph that is not measured
+-- whether the characters of class NSM stay where L2 puts them, or occupy no columns in a paragraph that is not measured
 abbrev pub MarksStay : Rules → List ℕ → Type 0
 MarksStay rules text =
     (rules.options.reordernsm ≡ false) ⊎ ((rules.advances ≡ None) × All (λ c. is_mark (class_of rules.tables c) ≡ true → columns_of c ≡ 0) text)
 
--- two characters of one level run, both of which take columns
+-- two characters of one level run, both of which occupy columns
 pub record AreInRun (line : Visual) (j k : ℕ) : Type 0 where
   pub order : j ≤ k
   pub within : k < length line.levels
@@ -30,16 +30,18 @@ pub record AreInRun (line : Visual) (j k : ℕ) : Type 0 where
   pub first : 0 < columns_between line j (suc j)
   pub last : 0 < columns_between line k (suc k)
 
--- Whether the characters of each level run are next to each other, from left to right at an even level, and from right to left at an odd
--- one. So from the leading edge of one of them to that of a later one are the columns of the characters between.
+-- Whether the characters of each level run are next to each other, from left to right at an even level, and from right
+-- to left at an odd one. So the distance between the leading edges of two of them is the total width of the characters
+-- from the first up to the second.
 pub record RunsAdjoin (line : Visual) : Type 0 where
   pub even : (j k : ℕ) → AreInRun line j k → is_odd (slice_index line.levels j) ≡ false
       → columns_left line (slice_index line.ltov k) ≡ columns_left line (slice_index line.ltov j) + columns_between line j k
   pub odd : (j k : ℕ) → AreInRun line j k → is_odd (slice_index line.levels j) ≡ true
       → columns_left line (slice_index line.ltov k + 1) + columns_between line j k ≡ columns_left line (slice_index line.ltov j + 1)
 
--- Whether the characters of each level run at an even level are next to each other in logical order, and so are those of each part of a
--- cluster in a level run at an odd level. `ends` says where the clusters of the line's paragraph end. The line starts at `start`.
+-- Whether the characters of each level run at an even level, and those of each part of a cluster in a level run at an
+-- odd level, are next to each other in logical order. `ends` says where the clusters of the line's paragraph end. The
+-- line starts at `start`.
 pub record ClustersAdjoin (line : Visual) (ends : List Bool) (start : ℕ) : Type 0 where
   pub even : (j k : ℕ) → AreInRun line j k → is_odd (slice_index line.levels j) ≡ false
       → columns_left line (slice_index line.ltov k) ≡ columns_left line (slice_index line.ltov j) + columns_between line j k

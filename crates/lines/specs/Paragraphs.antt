@@ -48,7 +48,7 @@ advances_in paragraph = option_map (λ advances. advances.now) paragraph.advance
 abbrev pub rules_by : Paragraph → Rules
 rules_by paragraph = with_advances (rules_in paragraph.text.rules) (advances_in paragraph)
 
--- a paragraph with its base level, its levels before L1, its break marks, and if it is measured its advances
+-- a paragraph with its base level, its levels before L1, its break marks and, if it is measured, its advances
 pub record IsPrepared (paragraph : Paragraph) : Type 0 where
   pub text : IsResolved paragraph.text paragraph.levels.now
   pub room : HaveRoom (advances_in paragraph)

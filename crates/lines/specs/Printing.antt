@@ -5,7 +5,7 @@ use Rattle.lines.specs.declared.printing.print.Print.{Print}
 use Rattle.lines.specs.declared.printing.print.PrintFault.{PrintFault}
 use Rattle.lines.specs.declared.printing.print.PrintFault.TheVariants.{Memory, Write}
 
--- whether nothing but the base direction is printed
+-- whether at most the base direction is printed
 abbrev pub skips_lines : Print → Bool
 skips_lines print = print.novisual && (not print.ltov && (not print.vtol && not print.levels))
 

@@ -1,4 +1,4 @@
--- The visual order of a line's shown part, by the options of its layout.
+-- The visual order of a line's shown part, under the options of its layout.
 use Rattle.std.specs.Prelude.{ℕ, Bool, ◌||◌, List, [], if◌then◌else◌}
 use Rattle.reorder.specs.Clusters.{cluster_classes}
 use Rattle.reorder.specs.Order.{ltov_of, vtol_of}
@@ -11,11 +11,12 @@ abbrev pub ends_by : Options → List ℕ → List Bool
 ends_by options text = if options.reorder_clusters then cluster_ends text else []
 
 module _ (options : Options) where
-  -- whether L3 is applied: to clusters, or else to marks
+  -- whether L3 is applied, either to clusters or to marks
   abbrev pub reorders : Bool
   reorders = options.reorder_clusters || options.reordernsm
 
-  -- the classes by which L3 is applied to a line with these classes and cluster ends, given the levels of its shown part
+  -- the classes with which L3 is applied to a line with these classes and cluster ends, given the levels of its shown
+  -- part
   abbrev pub classes_by : List BidiClass → List Bool → List ℕ → List BidiClass
   classes_by classes ends levels = if options.reorder_clusters then cluster_classes ends levels else classes
 

@@ -9,7 +9,7 @@ use Rattle.lines.specs.declared.engine.TheConstants.{PARAGRAPH_LIMIT}
 use Rattle.lines.specs.declared.spans.Reached.{Reached}
 use Rattle.lines.specs.declared.spans.Selection.{Selection}
 
--- the line of a selection, as far as spans depend on it
+-- the parts of a selection's line that spans depend on
 abbrev pub selected_in : Selection → Visual
 selected_in s = record {
   is_first = false;
@@ -33,15 +33,16 @@ IsMeasured s = AreMeasured s.tab_width s.text.now s.is_measured s.advances.now s
 abbrev pub columns_on : Visual → ℕ → ℕ
 columns_on line place = width_at line (slice_index line.vtol place)
 
--- whether a visual position is in the line, which is no longer than a paragraph may be, and the columns to its left have been counted
+-- whether a visual position is in the line, the columns to its left have been counted, and the line is no longer than a
+-- paragraph may be
 pub record IsReached (line : Visual) (at : Reached) : Type 0 where
   pub within : at.place ≤ length line.vtol
   pub column : at.column ≡ columns_left line at.place
   pub few : at.column ≤ 4294967295 * at.place
   pub limit : length line.vtol ≤ PARAGRAPH_LIMIT
 
--- whether the characters from one visual position to the next, if they take columns, are selected or not as
--- told, and the character there takes columns and is the other way
+-- whether all characters from one visual position up to another that occupy columns are selected, or none if
+-- `inside` is false, and the character at the other position occupies columns and is the opposite
 pub record Passes (s : Selection) (inside : Bool) (old new : ℕ) : Type 0 where
   pub forward : old ≤ new
   pub passed : (place : ℕ) → old ≤ place → place < new → 0 < columns_on (selected_in s) place → is_selected (selected_in s) s.start s.end place ≡ inside

@@ -22,7 +22,7 @@ abbrev pub is_left_edge : (ℕ → Bool) → ℕ → Bool
 is_left_edge is_covered zero = is_covered zero
 is_left_edge is_covered (suc column) = is_covered (suc column) && not (is_covered column)
 
--- which columns are covered, of the columns below `width`
+-- which of the columns below `width` are covered
 module _ (is_covered : ℕ → Bool) (width : ℕ) where
   -- the interval from a column up to the first one that is not covered
   abbrev pub span_at : ℕ → Span
@@ -35,8 +35,8 @@ module _ (is_covered : ℕ → Bool) (width : ℕ) where
   abbrev pub intervals_from : ℕ → List Span
   intervals_from column = map span_at (filter (is_left_edge is_covered) (range_with_len column (width - column)))
 
-  -- Whether spans are the maximal intervals of covered columns, from left to right: none is empty, they have the
-  -- covered columns and no others, and no two of them touch.
+  -- Whether spans are the maximal intervals of covered columns, from left to right: none is empty, they contain
+  -- the covered columns and no others, and no two of them touch.
   pub record AreMaximal (spans : List Span) : Type 0 where
     pub some : All (λ span. span.left < span.right) spans
     pub covered : (column : ℕ) → column < width → list_any (has_column column) spans ≡ is_covered column

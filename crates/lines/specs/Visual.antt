@@ -11,9 +11,9 @@ use Rattle.reorder.specs.Spaces.{line_levels}
 use Rattle.lines.specs.declared.options.Options.{Options}
 use Rattle.lines.specs.declared.char_info.CharInfo.{CharInfo}
 
--- A line of a paragraph: where it starts, and its shown part. `levels` are the levels after L1 in logical order, `ltov`
--- and `vtol` the position maps. `chars` are the characters in visual order, mirrored. Positions count from the start of
--- the line.
+-- A line of a paragraph: where it starts, and its shown part. `levels` are the levels after L1 in logical order, and
+-- `ltov` and `vtol` are the position maps. `chars` are the characters in visual order, mirrored. Positions are counted
+-- from the start of the line.
 pub record Line : Type 0 where
   pub start : ℕ
   pub columns : ℕ
@@ -56,8 +56,9 @@ end_of n (s ∷ []) k = n
 end_of n (s ∷ t ∷ starts) zero = t
 end_of n (s ∷ t ∷ starts) (suc k) = end_of n (t ∷ starts) k
 
--- A visual line: whether it is the first of its paragraph, the base level, the tab width, the length including the tail, and the
--- shown part. `text` has the shown characters in logical order, and `advances` their advances if the paragraph is measured.
+-- A visual line: whether it is the first of its paragraph, the base level, the tab width, the length including the
+-- tail, and the shown part. `text` holds the shown characters in logical order, and `advances` holds their advances if
+-- the paragraph is measured.
 pub record Visual : Type 0 where
   pub is_first : Bool
   pub base : ℕ

@@ -14,11 +14,11 @@ use Rattle.lines.specs.CharInfos.{may_trail, trailing_in}
 abbrev pub ends_line : LineClass → Bool
 ends_line class = is_one_of (BK ∷ []) (base_class class) || is_one_of (CR ∷ LF ∷ NL ∷ []) (base_class class)
 
--- whether no line must end after a character with these properties; the exception for CR LF is not covered
+-- whether a character with these properties has no mandatory break after it; the exception for CR LF is not covered
 abbrev pub may_go_on : Properties → Bool
 may_go_on p = not (ends_line (resolved p.line_class p.is_mark))
 
--- whether no character except the last requires a line to end after it
+-- whether no character except the last has a mandatory break after it
 abbrev pub IsWhole : Tables → List ℕ → Type 0
 IsWhole t text = (j : ℕ) → j + 1 < length text → ends_line (character t (slice_index text j)).class ≡ false
 

@@ -9,7 +9,7 @@ advances_on advances [] = []
 advances_on [] (c ∷ text) = 0 ∷ advances_on [] text
 advances_on (size ∷ advances) (c ∷ text) = size ∷ advances_on advances text
 
--- the size of each character: its advance in a measured paragraph
+-- the size of each character, which is its advance in a measured paragraph
 abbrev pub sizes_of : ℕ → Option (List ℕ) → List ℕ → List ℕ
 sizes_of tab_width None text = map (size_in tab_width) text
 sizes_of tab_width (Some advances) text = advances_on advances text

@@ -20,7 +20,7 @@ pub(crate) struct VisualBuffers {
 }
 
 impl VisualBuffers {
-    /// Makes empty buffers. Allocates nothing.
+    /// Creates empty buffers. Allocates nothing.
     pub(crate) fn new(alloc: Global) -> VisualBuffers {
         VisualBuffers {
             levels: Vec::new(alloc),
@@ -52,7 +52,7 @@ pub(crate) struct LineBuffers {
 }
 
 impl LineBuffers {
-    /// Makes empty buffers. Allocates nothing.
+    /// Creates empty buffers. Allocates nothing.
     pub(crate) fn new(alloc: Global) -> LineBuffers {
         LineBuffers {
             extents: Extents::new(alloc),
@@ -71,7 +71,7 @@ pub(crate) struct LayoutBuffers {
 }
 
 impl LayoutBuffers {
-    /// Makes empty buffers. Allocates nothing.
+    /// Creates empty buffers. Allocates nothing.
     pub(crate) fn new(alloc: Global) -> LayoutBuffers {
         LayoutBuffers {
             levels: Vec::new(alloc),

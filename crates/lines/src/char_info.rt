@@ -21,7 +21,7 @@ use breaks::{Mark, marks_are_as_many};
 use std::alloc::{AllocError, Global};
 use ucd::{LineClass, Properties, Tables};
 
-/// What a character is in a tail, which is what follows the text of a line.
+/// The role of a character in a tail, which is what follows the text of a line.
 #[derive(Clone, Copy, Debug, PartialEq, Eq)]
 pub enum Trailing {
     /// The character is in no tail.
@@ -37,9 +37,9 @@ pub enum Trailing {
 /// What filling needs to know about a character.
 #[derive(Clone, Copy, Debug)]
 pub struct CharInfo {
-    /// The width of the character in columns, or for a tab the distance of tab stops.
+    /// The width of the character in columns, or for a tab, the distance between tab stops.
     pub columns: u8,
-    /// What the character is in a tail.
+    /// The role of the character in a tail.
     pub trailing: Trailing,
     /// The break mark after the character.
     pub mark: Mark,
@@ -59,7 +59,7 @@ impl CharInfo {
     ghost use Rattle.std.specs.Prelude.{ℕ, ◌+◌, ◌^◌, ◌<◌, ◌≤◌, ◌&&◌, nat_le};
     ghost use Rattle.lines.specs.CharInfos.{advance, is_space};
 
-    /// Returns the info for a character of these columns, with `ends_cluster` set to `false`.
+    /// Returns the info for a character with this many columns, with `ends_cluster` set to `false`.
     pub(crate) fn of(
         columns: u8,
         properties: Properties,
@@ -81,7 +81,7 @@ impl CharInfo {
         CharInfo::of_other(columns, properties, mark)
     }
 
-    // Returns the info for a character that moves to no tab stop, with `ends_cluster` set to `false`.
+    // Returns the info for a character that does not move to a tab stop, with `ends_cluster` set to `false`.
     fn of_other(columns: u8, properties: Properties, mark: Mark) -> CharInfo
         ensures { (t : Tables) (tab_width c : ℕ) → columns ≡ columns_of c → properties ≡ properties_of t c
             → is_tab tab_width c ≡ false → result ≡ info t tab_width c mark false }
@@ -107,7 +107,7 @@ impl CharInfo {
         before + size as usize
     }
 
-    /// Returns whether the character is a space, and the line is no wider than the margin up to its end,
+    /// Returns whether the character is a space, and the line up to its end is no wider than the margin,
     /// given the character's size and the width before it.
     pub(crate) fn is_space_within(self, size: u32, before: u32, margin: u32) -> bool
         ensures { result ≡ (is_space self.trailing
@@ -117,7 +117,7 @@ impl CharInfo {
     }
 }
 
-/// Returns what characters of a class are in a tail.
+/// Returns the role of characters of a class in a tail.
 pub(crate) fn trailing_of(class: LineClass) -> Trailing
     ensures { (is_mark : Bool) → result ≡ trailing_by (resolved class is_mark) }
 {
@@ -134,21 +134,21 @@ pub(crate) fn trailing_of(class: LineClass) -> Trailing
 impl Trailing {
     ghost use Rattle.lines.specs.CharInfos.{is_space, may_trail, moves};
 
-    /// Returns whether such characters may be in a tail.
+    /// Returns whether characters with this role may be in a tail.
     pub(crate) fn may_trail(self) -> bool
         ensures { result ≡ may_trail self }
     {
         matches!(self, Trailing::Space | Trailing::Separator)
     }
 
-    /// Returns whether such a character moves to a tab stop.
+    /// Returns whether a character with this role moves to a tab stop.
     pub(crate) fn moves(self) -> bool
         ensures { result ≡ moves self }
     {
         self == Trailing::Tab
     }
 
-    /// Returns whether such characters are spaces.
+    /// Returns whether characters with this role are spaces.
     pub(crate) fn is_space(self) -> bool
         ensures { result ≡ is_space self }
     {
@@ -163,10 +163,10 @@ pub(crate) fn is_must(mark: Mark) -> bool
     mark == Mark::Must
 }
 
-/// What some characters that follow one another have together.
+/// A summary of some consecutive characters.
 #[derive(Clone, Copy)]
 pub(crate) struct Sum {
-    /// Their columns, if there is no tab among them that moves to a tab stop.
+    /// Their total columns, if none of them is a tab that moves to a tab stop.
     pub(crate) columns: u32,
     pub(crate) has_tab: bool,
     /// Whether a line must end after one of them.
@@ -190,7 +190,7 @@ impl Sum {
         ensures tab { result.has_tab ≡ list_any (λ p. moves p.trailing) piece.now }
         ensures must { result.has_must ≡ list_any (λ p. is_must p.mark) piece.now }
     {
-        // The loop has no branches, so that the compiler adds up several characters at a time.
+        // The loop has no branches, so the compiler can add up several characters at a time.
         let mut columns = 0;
         let mut has_tab = false;
         let mut has_must = false;
@@ -215,7 +215,7 @@ pub(crate) struct InfoBuffers {
 }
 
 impl InfoBuffers {
-    /// Makes empty buffers. Allocates nothing.
+    /// Creates empty buffers. Allocates nothing.
     pub(crate) fn new(alloc: Global) -> InfoBuffers {
         InfoBuffers {
             infos: Vec::new(alloc),
@@ -375,14 +375,14 @@ fn put_each(
 {
     let mut k = 0;
     while k < text.len() {
-        // The columns come first, so that less must be kept while they are looked up.
+        // The columns come first, so that fewer values must be kept during the lookup.
         let columns = cache.columns(text[k]);
         infos[k] = CharInfo::of_other(columns, properties[k], marks[k]);
         k += 1;
     }
 }
 
-// Does the work of `put_each` for characters that have one column.
+// Implements `put_each` for characters that have one column.
 #[inline(always)]
 fn put_narrow(
     _tables: &Tables,

@@ -26,7 +26,7 @@ pub(crate) struct ClusterBuffers {
 }
 
 impl ClusterBuffers {
-    /// Makes empty buffers. Allocates nothing.
+    /// Creates empty buffers. Allocates nothing.
     pub(crate) fn new(alloc: Global) -> ClusterBuffers {
         ClusterBuffers {
             utf8: String::new(alloc),
@@ -229,8 +229,8 @@ fn window_end(text: &[char], k: usize) -> usize
     text.len()
 }
 
-// Returns whether the two characters at index `k` show that the texts before and after it have the same
-// clusters as the whole text.
+// Returns whether the characters on both sides of index `k` show that the texts before and after it have the
+// same clusters as the whole text.
 fn is_split_point(text: &[char], k: usize) -> bool
     requires some { 0 < k }
     requires within { k < length text.now }
@@ -252,8 +252,8 @@ fn can_split(last: char, next: char) -> bool
         )
 }
 
-// Returns whether no rule joins a character of this class to the first one of a cluster, with the exception
-// of GB9c.
+// Returns whether no rule except GB9c joins a character of this class to the next one, if that one may start
+// a cluster.
 fn may_end(last: GraphemeClusterBreak) -> bool
     ensures { result ≡ may_end last }
 {
@@ -267,8 +267,8 @@ fn may_end(last: GraphemeClusterBreak) -> bool
     )
 }
 
-// Returns whether no rule joins a character of this class to the last one of a cluster, with the exception of
-// GB9c. No rule looks at what comes before such a character.
+// Returns whether no rule except GB9c joins a character of this class to the one before it, if that one may
+// end a cluster. No rule looks further back from such a character.
 fn may_start(next: GraphemeClusterBreak) -> bool
     ensures { result ≡ may_start next }
 {
@@ -278,8 +278,8 @@ fn may_start(next: GraphemeClusterBreak) -> bool
     )
 }
 
-// Returns whether GB9c does not join two characters, and no later match of it reaches back past the second
-// one.
+// Returns whether GB9c does not join two characters, and no later match of the rule extends back past the
+// second one.
 fn no_conjunct(last: IndicConjunctBreak, next: IndicConjunctBreak) -> bool
     ensures { result ≡ no_conjunct last next }
 {

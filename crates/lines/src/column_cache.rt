@@ -8,11 +8,11 @@ use crate::widths::columns;
 use std::alloc::{AllocError, Global};
 use std::marker::Model;
 
-// The number of entries. Characters whose numbers differ by a multiple of it share an entry.
+// The number of entries. Characters whose code points differ by a multiple of this number share an entry.
 const ENTRIES: usize = 1_024;
 
-/// The columns of some characters. An entry is the number of a character, times 4, plus its columns. A new
-/// entry is 0, which says that U+0000 has no columns.
+/// The columns of some characters. An entry is a code point, times 4, plus the columns of its character. A
+/// new entry is 0, which says that U+0000 has no columns.
 pub(crate) struct ColumnCache {
     entries: Vec<u32>,
 }
@@ -40,14 +40,14 @@ impl ColumnCache {
     ghost use Rattle.lines.specs.CharInfos.{columns_of};
     ghost use Rattle.lines.specs.declared.engine.TheConstants.{PARAGRAPH_LIMIT};
 
-    /// Makes a cache without entries. Allocates nothing.
+    /// Creates a cache without entries. Allocates nothing.
     pub(crate) fn new(alloc: Global) -> ColumnCache {
         ColumnCache {
             entries: Vec::new(alloc),
         }
     }
 
-    /// Allocates the entries, at the first call.
+    /// Allocates the entries on the first call.
     pub(crate) fn prepare(&mut self) -> Result<(), AllocError> {
         if self.entries.is_empty() {
             reserve(&mut self.entries, ENTRIES)?;
@@ -82,7 +82,7 @@ impl ColumnCache {
         sum
     }
 
-    // Finds the columns of a character that has no entry, and replaces an entry with the character's.
+    // Finds the columns of a character that has no entry, and overwrites an entry with them.
     #[inline(never)]
     fn look_up(&mut self, c: char) -> u8
         ensures { result ≡ columns_of c }

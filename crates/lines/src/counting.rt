@@ -1,10 +1,10 @@
-//! Counts the characters of UTF-8 text without decoding them, which is several times as fast.
+//! Counts the characters of UTF-8 text without decoding them, which is several times faster.
 ghost use Rattle.std.specs.Prelude.{◌≡◌, ◌≤◌, length, count_by};
 ghost use Rattle.std.specs.Str.{chars};
 ghost use Rattle.lines.specs.Counting.{is_lead_byte};
 
-// The number of bytes in a block. The count of a block fits a `u8`, so vector instructions add 16 counts at a
-// time.
+// The number of bytes in a block. The count of a block fits in a `u8`, so vector instructions add 16 counts
+// at a time.
 const BLOCK: usize = 240;
 
 /// Returns the number of characters of a text.

@@ -101,7 +101,7 @@ impl Counts {
         Counted { len }
     }
 
-    /// Counts `len` characters as analysed and filled, although there was no memory to do so.
+    /// Counts `len` characters as analysed and filled, although an allocation for this work failed.
     pub(crate) fn count_refused(&mut self, len: usize)
         ensures analysed { self.new.analysed ≡ counted self.old.analysed len }
         ensures filled { self.new.filled ≡ counted self.old.filled len }

@@ -38,7 +38,7 @@ use ucd::Tables;
 /// The maximum number of characters in a paragraph.
 pub const PARAGRAPH_LIMIT: usize = 1_048_576;
 
-// The limit that the documents name. Contracts name the constant.
+// The limit that the documents state. Contracts refer to the constant.
 const _: () = prove!(PARAGRAPH_LIMIT == 1_048_576);
 
 /// Lays out paragraphs using its tables and options, and counts the work. The engine never lends its tables
@@ -107,7 +107,7 @@ impl Engine {
     ghost use Rattle.lines.specs.Engine.{LaysOut, LaysOutAtMost, Prints, Rewrites, RewritesAtMost};
     ghost use Rattle.lines.specs.Engine.{SameRules};
 
-    /// Makes an engine whose counters are 0. Allocates nothing.
+    /// Creates an engine whose counters are 0. Allocates nothing.
     pub fn new(tables: Tables, options: Options) -> Engine
         ensures rules { rules_of result ≡ unmeasured tables options }
         ensures analysed { analysed_of result ≡ 0 }
@@ -156,8 +156,8 @@ impl Engine {
         swap(&mut self.work, &mut other.work);
     }
 
-    /// Keeps the lists of a layout that is no longer needed, and uses them for the next paragraph that is
-    /// laid out if their capacity fits. Only the lists of one layout are kept, until `free_buffers`.
+    /// Keeps the lists of a layout that is no longer needed. The next paragraph that is laid out uses them if
+    /// their capacity is suitable. Only the lists of one layout are kept, until `free_buffers`.
     pub fn recycle(&mut self, laid: Laid)
         ensures { self.new ≡ self.old }
     {
@@ -244,9 +244,9 @@ impl Engine {
         self.counts.written.get()
     }
 
-    /// Returns whether a paragraph has exactly one line, which is the same at this width, because it fits. If
-    /// spaces at the end of lines are shown, it also hides no space that fits. The paragraph must have been
-    /// laid out with this engine's tables and options.
+    /// Returns whether a paragraph has exactly one line, which stays the same at this width because it fits.
+    /// If spaces at the end of lines are shown, the line must not hide a space that would fit, either. The
+    /// paragraph must have been laid out with this engine's tables and options.
     pub fn keeps_lines(&self, laid: &Laid, width: u32) -> bool
         ensures value { result ≡ keeps_lines (rules_of self.now) width laid.now }
         ensures lines { (advances : Option (List ℕ)) → IsTrue result
@@ -258,7 +258,7 @@ impl Engine {
         self.is_kept(laid, width)
     }
 
-    // Returns whether a paragraph's only line fits and, if spaces are shown, hides none that fits.
+    // Returns whether a paragraph's only line fits and, if spaces are shown, hides none that would fit.
     fn is_kept(&self, laid: &Laid, width: u32) -> bool
         ensures { result ≡ keeps_lines (rules_of self.now) width laid.now }
     {
@@ -309,8 +309,9 @@ impl Engine {
         }
     }
 
-    /// Lays out one paragraph that is measured: each character has an advance in a unit of the caller's, and
-    /// the width is in that unit. The width must not be 0, and the advances must add up to less than 2^32.
+    /// Lays out one paragraph that is measured: each character has an advance in a unit that the caller
+    /// chooses, and the width is in that unit. The width must not be 0, and the advances must add up to less
+    /// than 2^32.
     pub fn lay_out_measured(
         &mut self,
         alloc: Global,
@@ -581,7 +582,7 @@ impl Engine {
         base_level(&self.tables, text, self.options.base)
     }
 
-    // Does the work of `find_base` for UTF-8 text.
+    // Implements `find_base` for UTF-8 text.
     fn find_base_in_text(&mut self, text: &str) -> u8
         ensures base { result ≡ base_of (rules_of self.old) (chars text.now) }
         ensures counts { self.new ≡ record self.old {

@@ -42,7 +42,7 @@ impl Model for Extents {
 }
 
 impl Extents {
-    /// Makes the extents of no lines. Allocates nothing.
+    /// Creates extents without lines. Allocates nothing.
     pub(crate) fn new(alloc: Global) -> Extents {
         Extents {
             items: Vec::new(alloc),
@@ -129,7 +129,7 @@ impl Extents {
         }
     }
 
-    // Does the work of `find`.
+    // Implements `find`.
     fn find_by<S: Sizes>(
         &mut self,
         clusters: &mut ClusterBuffers,

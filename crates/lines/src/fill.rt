@@ -81,7 +81,7 @@ impl Fill {
     ghost use Rattle.lines.specs.Visual.{visual_of};
     ghost use Rattle.lines.specs.Writing.{PassedOn, StoppedIn};
 
-    /// Makes a `Fill` of the lines in the buffers.
+    /// Creates a `Fill` from the lines in the buffers.
     pub(crate) fn of(lines: LineBuffers) -> Fill
         requires { AreSound lines }
         ensures { result ≡ held_in lines }

@@ -190,8 +190,8 @@ fn last_cluster_end(rest: &[CharInfo], len: usize) -> Option<usize>
     None
 }
 
-// Returns the number of characters at the start of the paragraph up to each of which the first line fits, and
-// after none of which it must end, except after the last one.
+// Returns the largest number of characters with which the first line fits in the width. Stops after the first
+// mandatory break.
 fn fitting_len<S: Sizes>(rest: &[CharInfo], ruler: Ruler<S>) -> usize
     requires { (0 < length rest.now) × (length rest.now ≤ PARAGRAPH_LIMIT) }
     ensures last { (test : ℕ → Bool)
@@ -203,8 +203,8 @@ fn fitting_len<S: Sizes>(rest: &[CharInfo], ruler: Ruler<S>) -> usize
     fitting_after(rest, ruler, len, columns)
 }
 
-// Reads groups of characters as long as they fit in the first line, which must end after none of them.
-// Returns the number of characters and their columns.
+// Reads groups of characters while they fit in the first line and contain no mandatory break. Returns the
+// number of characters and their columns.
 fn fitting_groups<S: Sizes>(rest: &[CharInfo], ruler: Ruler<S>) -> (usize, usize)
     requires { length rest.now ≤ PARAGRAPH_LIMIT }
     ensures { FitsUpTo ruler.width (sized (S.given ruler.sizes) rest.now) result.0 result.1 }
@@ -227,7 +227,7 @@ fn fitting_groups<S: Sizes>(rest: &[CharInfo], ruler: Ruler<S>) -> (usize, usize
     (k, columns)
 }
 
-// Does the work of `fitting_len`, given the number of characters already read, and their columns.
+// Implements `fitting_len`, given the number of characters already read, and their columns.
 fn fitting_after<S: Sizes>(rest: &[CharInfo], ruler: Ruler<S>, len: usize, columns: usize) -> usize
     requires some { (0 < length rest.now) × (length rest.now ≤ PARAGRAPH_LIMIT) }
     requires fits { FitsUpTo ruler.width (sized (S.given ruler.sizes) rest.now) len columns }

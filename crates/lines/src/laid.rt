@@ -31,8 +31,8 @@ pub struct Laid {
     pub(crate) base: u8,
     pub(crate) tab_width: u8,
     pub(crate) is_measured: bool,
-    // In a measured paragraph the advance of each character, and with tab stops behind them the width of each
-    // shown character on its line. One list saves memory in each paragraph.
+    // In a measured paragraph, the advance of each character. If there are tab stops, the width of each shown
+    // character on its line follows. Using one list saves memory in each paragraph.
     pub(crate) sizes: Vec<u32>,
     pub(crate) levels: Vec<u8>,
     pub(crate) marks: Vec<Mark>,
@@ -95,7 +95,7 @@ impl Laid {
     ghost use Rattle.lines.specs.Visual.{visual_of};
     ghost use Rattle.lines.specs.Writing.{PassedOn, StoppedIn};
 
-    /// Returns the text's list, and those that any paragraph has, to be used again.
+    /// Returns the list of the text, and the lists that every paragraph has, to be used again.
     pub(crate) fn into_lists(self) -> (Vec<char>, LayoutBuffers) {
         let Laid {
             text,
@@ -187,8 +187,8 @@ impl Laid {
         self.lines.is_line_within(width)
     }
 
-    // Returns whether the first character that the first line does not show is a space that fits the width,
-    // too.
+    // Returns whether the first hidden character of the first line is a space that would also fit in the
+    // width.
     pub(crate) fn hides_space_within(&self, tables: &Tables, width: u32) -> bool
         ensures { result ≡ option_map_or
             (hides_space_within tables.now self.now.tab_width self.now.advances width self.now.text)
@@ -263,7 +263,7 @@ impl Laid {
             .write_after(&self.laid_text(), writer, before, width, print)
     }
 
-    // Returns the characters of the paragraph with what its lines share.
+    // Returns the characters of the paragraph, and the data that its lines share.
     fn laid_text(&self) -> LaidText<'_>
         ensures text { result.text.now ≡ self.now.text }
         ensures base { result.base ≡ self.now.base }
@@ -329,7 +329,7 @@ impl Laid {
         );
     }
 
-    // Copies the paragraph with other advances, and with the lines that were found with these.
+    // Copies the paragraph with other advances, and with the lines found with those advances.
     pub(crate) fn with_lines(
         &self,
         alloc: Global,
@@ -410,10 +410,10 @@ impl Laid {
 
     /// Returns the start and the end of the grapheme cluster of character `k` (UAX #29).
     ///
-    /// Reads the characters back to the nearest place where a cluster ends regardless of other characters,
-    /// such as before most letters and emoji, and on to the next such place. At worst, as in a paragraph of
-    /// flags, reads the paragraph. Allocates a copy of these characters if there is more than one, and
-    /// otherwise cannot fail.
+    /// Reads backward and forward from the character to the nearest places where a cluster ends regardless of
+    /// other characters, such as before most letters and emoji. At worst, as in a paragraph of flags, reads
+    /// the whole paragraph. Allocates a copy of these characters if there is more than one, and otherwise
+    /// cannot fail.
     pub fn cluster(
         &self,
         alloc: std::alloc::Global,
@@ -458,7 +458,7 @@ impl Laid {
     }
 }
 
-/// Returns the list that a measured paragraph keeps: its advances, with room for widths if there are tab
+/// Returns the list that a measured paragraph keeps: its advances, and space for widths if there are tab
 /// stops.
 pub(crate) fn with_room(advances: Vec<u32>, tab_width: u8) -> Result<Vec<u32>, AllocError>
     requires { length advances.items ≤ PARAGRAPH_LIMIT }
@@ -498,7 +498,7 @@ pub(crate) fn put_all_widths(
     put_each_width(text, tab_width, lines, advances, &mut rest[..text.len()]);
 }
 
-// Replaces `widths` with the widths of the shown characters of each line. Other items stay.
+// Replaces `widths` with the widths of the shown characters of each line. Other items are unchanged.
 fn put_each_width(text: &[char], tab_width: u8, lines: &Fill, advances: &[u32], widths: &mut [u32])
     requires limit { length text.now ≤ PARAGRAPH_LIMIT }
     requires advances { length advances.now ≡ length text.now }

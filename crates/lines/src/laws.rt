@@ -56,7 +56,7 @@ pub fn lines_are_ordered()
 {}
 
 /// States, as a theorem, that the characters of a level run are next to each other, at any width, without
-/// `reorder_clusters`. The rules must leave marks in place, or marks must take no columns. Costs nothing at
+/// `reorder_clusters`. The rules must leave marks in place, or marks must occupy no columns. Costs nothing at
 /// run time.
 pub fn runs_adjoin()
     ensures { (rules : Rules) (width : ℕ) (text : List ℕ)
@@ -74,9 +74,10 @@ pub fn clusters_adjoin()
         (slice_index (map start_of (lines_of rules width text)) n) }
 {}
 
-/// States, as a theorem, that each tab ends at a tab stop, at any width: seen from the left edge of its
-/// line's shown part, or in a right-to-left paragraph from the right one. Without `reorder_clusters`, the
-/// rules must leave marks in place, or marks must take no columns. Costs nothing at run time.
+/// States, as a theorem, that each tab ends at a tab stop, at any width. Tab stops are counted from the left
+/// edge of the line's shown part, or from the right edge in a right-to-left paragraph. Without
+/// `reorder_clusters`, the rules must leave marks in place, or marks must occupy no columns. Costs nothing at
+/// run time.
 pub fn tabs_end_at_stops()
     ensures { (rules : Rules) (width : ℕ) (text : List ℕ)
         → (rules.options.reorder_clusters ≡ true) ⊎ MarksStay rules text

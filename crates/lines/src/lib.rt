@@ -1,6 +1,6 @@
 //! Lines of a paragraph: where each line starts at a given width, and how it is shown.
 //!
-//! An `Engine` has the tables and the options, and lays out one paragraph at a time:
+//! An `Engine` holds the tables and the options, and lays out one paragraph at a time:
 //!
 //! ```rust
 //! if text.is_empty() || text.len() > PARAGRAPH_LIMIT || engine.first_cut(&text).is_some() {

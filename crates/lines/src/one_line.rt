@@ -11,8 +11,8 @@ use crate::paragraph::Text;
 use crate::whole::{is_whole, shown_len};
 use breaks::{marks_are_as_many, paragraphs_end_at_must};
 
-/// Returns how much of a paragraph is shown, if a quick test shows that the paragraph is one line: it has no
-/// mandatory break before its end, and its shown part fits in the width.
+/// Returns how much of a paragraph is shown, if a quick test finds that it is one line: it has no mandatory
+/// break before its end, and its shown part fits in the width.
 pub(crate) fn one_line(text: &Text<'_>, width: u32, cache: &mut ColumnCache) -> Option<Shown>
     requires text { IsLookedUp text.now }
     requires limit { length text.now.characters.now ≤ PARAGRAPH_LIMIT }

@@ -7,7 +7,7 @@ use bidi::Base;
 /// What a layout depends on, besides the tables and the width.
 #[derive(Clone, Copy, Debug, PartialEq, Eq)]
 pub struct Options {
-    /// How base levels are found.
+    /// How base levels are determined.
     pub base: Base,
     /// Whether lines end at mandatory breaks only.
     pub nobreak: bool,
@@ -16,13 +16,13 @@ pub struct Options {
     pub reordernsm: bool,
     /// Whether no line ends inside a number (replaces UAX #14, LB25).
     pub whole_numbers: bool,
-    /// Whether the characters of a grapheme cluster that are shown at one odd level, one after another, are
-    /// in logical order instead of reversed. `reordernsm` then has no effect.
+    /// Whether adjacent characters of a grapheme cluster that are shown at the same odd level are in logical
+    /// order instead of reversed. `reordernsm` then has no effect.
     pub reorder_clusters: bool,
     /// Whether spaces at the end of a line are shown, as far as they fit in the width.
     pub show_spaces: bool,
-    /// The distance of tab stops in columns, or 0 for none. A tab, U+0009 of bidi class S, moves to the next
-    /// tab stop, counted from the start of its line. Without tab stops it has no columns.
+    /// The distance between tab stops in columns, or 0 for none. A tab, U+0009 of bidi class S, moves to the
+    /// next tab stop, counted from the start of its line. Without tab stops it has no columns.
     pub tab_width: u8,
 }
 

@@ -40,8 +40,8 @@ pub(crate) struct Text<'a> {
     pub(crate) base: u8,
 }
 
-/// A paragraph with what filling needs: the level of each character before L1, the break mark after each
-/// character, and in a measured paragraph the advances.
+/// A paragraph and the data that filling needs: the level of each character before L1, the break mark after
+/// each character, and the advances if the paragraph is measured.
 #[derive(Clone, Copy)]
 pub(crate) struct Paragraph<'a> {
     pub(crate) text: Text<'a>,

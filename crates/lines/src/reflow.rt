@@ -161,7 +161,7 @@ impl Workspace {
     }
 }
 
-// Returns the extents of a single line, of which `shown` is shown.
+// Returns the extents of a single line whose shown part is `shown`.
 fn extents_of_line(alloc: Global, shown: Shown, filled: Counted) -> Result<Extents, AllocError>
     ensures { IfOk result (λ extents. extents ≡ record { starts = 0 ∷ []; shown = shown ∷ [] }) }
 {

@@ -134,7 +134,7 @@ pub(crate) fn show_all(
     show_each(text, extents, levels, ltov, vtol, chars, written);
 }
 
-// Does the work of `show_all`, with one list per position map.
+// Implements `show_all`, with one list per position map.
 fn show_each(
     text: &Text<'_>,
     extents: &Extents,
@@ -232,8 +232,8 @@ pub(crate) fn reset_line(properties: &[Properties], base: u8, levels: &mut [u8])
     false
 }
 
-// The number of levels that are tested together. The last group overlaps the one before it if the number of
-// levels is no multiple of it, so that no levels are left to be tested one by one.
+// The number of levels that are tested together. If the number of levels is not a multiple of it, the last
+// group overlaps the one before it, so that no levels have to be tested one by one.
 const AT_ONCE: usize = 16;
 
 // Returns whether all levels are 0.
@@ -394,14 +394,15 @@ fn place_part(line: &Text<'_>, levels: &[u8], places: &mut [u32])
     }
 }
 
-// Returns whether L3 is applied: to clusters, or else to marks.
+// Returns whether L3 is applied, either to clusters or to marks.
 fn reorders(options: Options) -> bool
     ensures { result ≡ reorders options }
 {
     options.reorder_clusters || options.reordernsm
 }
 
-/// Returns what `ends` says of the characters from `start` up to `end`, or an empty list if `ends` is empty.
+/// Returns the items of `ends` for the characters from `start` up to `end`, or an empty list if `ends` is
+/// empty.
 pub(crate) fn ends_between(ends: &[bool], start: usize, end: usize) -> &[bool]
     requires { start ≤ end }
     ensures { result.now ≡ slice_range ends.now start end }

@@ -16,8 +16,8 @@ use crate::reserve::reserve;
 use crate::sizes::Sizes;
 use std::alloc::AllocError;
 
-/// Appends to the starts of the lines the length and the columns of each line's shown part: all but the tail,
-/// and the spaces of the tail that end within the margin.
+/// Appends the length and the columns of each line's shown part to the starts of the lines. The shown part is
+/// all but the tail, and the spaces of the tail that end within the margin.
 pub(crate) fn fill_shown<S: Sizes>(
     infos: &[CharInfo],
     sizes: S,
@@ -63,7 +63,7 @@ fn shown_at<S: Sizes>(
     shown_of(&infos[start..end], sizes.from(start), margin)
 }
 
-// Returns how much of a line is shown, with the spaces of its tail up to the margin.
+// Returns how much of a line is shown, including the spaces of its tail up to the margin.
 fn shown_of<S: Sizes>(line: &[CharInfo], sizes: S, margin: Option<u32>) -> Shown
     requires len { length line.now ≤ PARAGRAPH_LIMIT }
     requires room { (k : ℕ) → k ≤ length line.now → S.most sizes k < 2 ^ 32 }
@@ -82,7 +82,7 @@ fn shown_of<S: Sizes>(line: &[CharInfo], sizes: S, margin: Option<u32>) -> Shown
     }
 }
 
-// Adds to the characters before the tail the spaces that follow them, as many as end within the margin.
+// Extends the characters before the tail by the spaces that follow them and end within the margin.
 fn with_spaces<S: Sizes>(line: &[CharInfo], sizes: S, text: Shown, margin: u32) -> Shown
     requires limit { length line.now ≤ PARAGRAPH_LIMIT }
     requires room { (k : ℕ) → k ≤ length line.now → S.most sizes k < 2 ^ 32 }
@@ -145,7 +145,7 @@ fn columns<S: Sizes>(line: &[CharInfo], sizes: S, len: usize) -> u32
     columns_after(line, sizes, len, k, columns)
 }
 
-// Does the work of `columns`, given the width of the first `known` characters.
+// Implements `columns`, given the width of the first `known` characters.
 fn columns_after<S: Sizes>(
     line: &[CharInfo],
     sizes: S,

@@ -1,4 +1,4 @@
-//! The sizes of characters, from which their widths follow: their columns, or the advances that the caller
+//! The sizes of characters, which determine their widths: their columns, or the advances that the caller
 //! measured.
 ghost use Rattle.std.specs.Prelude.{◌≡◌, ◌+◌, ◌*◌, ◌^◌, ◌<◌, ◌≤◌, nat_lt, ℕ, false, List, None, Option, Some};
 ghost use Rattle.std.specs.Prelude.{drop, fold, length, slice_range, sum, take, IfSome};
@@ -23,12 +23,13 @@ pub fn advances_fit(advances: &[u32]) -> bool
     sum < 1 << 32
 }
 
-/// The sizes of the characters of a paragraph, or of its end. `infos` are those of the same characters.
+/// The sizes of the characters of a paragraph, or of its end. `infos` must be the infos of the same
+/// characters.
 pub(crate) trait Sizes: Copy {
     // The advances, if the paragraph is measured.
     ghost given: { Self → Option (List ℕ) };
 
-    // An upper bound of the sizes of the first characters together.
+    // An upper bound on the total size of the first characters.
     ghost most: { Self → ℕ → ℕ };
 
     /// Returns the sizes from a character on.
@@ -44,8 +45,7 @@ pub(crate) trait Sizes: Copy {
             ≡ record (place_at infos.now k) { columns = result } }
         ensures most { most self k + result ≤ most self (k + 1) };
 
-    /// Returns what the `GROUP` characters from `k` on have together, or `None` if they must be read one by
-    /// one.
+    /// Returns a summary of the `GROUP` characters from `k` on, or `None` if they must be read one by one.
     fn group(self, infos: &[CharInfo], k: usize) -> Option<Sum>
         requires { k + GROUP ≤ length infos.now }
         ensures columns { IfSome result (λ group. group.has_tab ≡ false → (before : ℕ)
@@ -56,7 +56,7 @@ pub(crate) trait Sizes: Copy {
         ensures most { IfSome result (λ group. most self k + group.columns ≤ most self (k + GROUP)) };
 }
 
-/// The columns of the characters, which are in their infos.
+/// The columns of the characters, which are stored in their infos.
 #[derive(Clone, Copy)]
 pub(crate) struct ByColumns;
 

@@ -7,8 +7,8 @@ ghost use Rattle.lines.specs.Spans.{is_selected};
 use crate::visual_line::columns_at;
 use std::marker::Model;
 
-/// An interval of columns, counted from the left edge of a line's shown part: `left`, and the columns to its
-/// right up to but not including `right`.
+/// An interval of columns, counted from the left edge of a line's shown part: from `left` up to but not
+/// including `right`.
 #[derive(Clone, Copy, Debug, PartialEq, Eq)]
 pub struct Span {
     pub left: usize,
@@ -126,8 +126,8 @@ impl<'a> Iterator for Spans<'a> {
     }
 }
 
-// Returns the first visual position, from `at` on, of a character that takes columns and is selected, or is
-// not selected if `inside` is true.
+// Returns the first visual position, from `at` on, whose character occupies columns and is not selected if
+// `inside` is true, or is selected if `inside` is false. If there is none, returns the end of the line.
 fn pass(selection: &Selection<'_>, at: Reached, inside: bool) -> Reached
     requires within { AreWithin (length selection.now.text.now) selection.now.vtol.now }
     requires measures { IsMeasured selection.now }

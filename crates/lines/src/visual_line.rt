@@ -26,7 +26,7 @@ use device::Sink;
 use reorder::{Runs, level_runs};
 use std::marker::Model;
 
-/// A visual line. All methods except `is_first`, `base` and `len` are about the shown part, which is the line
+/// A visual line. All methods except `is_first`, `base` and `len` refer to the shown part, which is the line
 /// without the spaces and separators at its end. Positions are counted from the start of the shown part.
 /// Columns are the caller's units in a measured paragraph.
 #[derive(Debug, Drop)]
@@ -146,9 +146,9 @@ impl<'a> VisualLine<'a> {
         self.columns
     }
 
-    /// Returns whether two lines are the same in all that their methods return: the characters, the levels,
-    /// the maps, the columns, the base level, the length, and whether they are the first of their paragraph.
-    /// In a measured paragraph, also the advances.
+    /// Returns whether all methods return the same for both lines: the characters, the levels, the maps, the
+    /// columns, the base level, the length, and whether they are the first of their paragraph. In a measured
+    /// paragraph, compares the advances, too.
     pub fn is_same(&self, other: &VisualLine<'_>) -> bool
         ensures yes { result ≡ true → self.now ≡ other.now }
         ensures no { self.now ≡ other.now → result ≡ true }
@@ -162,7 +162,7 @@ impl<'a> VisualLine<'a> {
             && (!self.is_measured || self.advances == other.advances)
     }
 
-    // Returns whether two lines are the same but for their lists.
+    // Returns whether two lines are the same except for their lists.
     fn has_form_of(&self, other: &VisualLine<'_>) -> bool
         ensures yes { result ≡ true → HaveSameForm self.now other.now }
         ensures no { HaveSameForm self.now other.now → result ≡ true }
@@ -235,7 +235,7 @@ impl<'a> VisualLine<'a> {
 
     /// Returns the columns that the characters from position `start` up to `end` cover, as maximal intervals
     /// from left to right: no span is empty, and no two spans touch. Positions past the last one are ignored.
-    /// All spans together cost the length of the line. Allocates nothing.
+    /// Finding all spans is linear in the length of the line. Allocates nothing.
     pub fn spans(&self, start: usize, end: usize) -> Spans<'a>
         ensures spans { result ≡ spans_of self.now start end }
         ensures maximal { AreMaximal (is_covered self.now start end)
@@ -255,7 +255,7 @@ impl<'a> VisualLine<'a> {
 
     /// Returns the level runs of the shown part, from left to right: the longest ranges of characters at one
     /// level after L1, in L2's order. They do not depend on `reordernsm` and `reorder_clusters`, since L3
-    /// moves characters only inside runs. Costs as `reorder::level_runs`. Allocates nothing.
+    /// moves characters only inside runs. Has the same cost as `reorder::level_runs`. Allocates nothing.
     pub fn runs(&self) -> Runs<'a>
         ensures runs { result ≡ runs_of self.now.levels }
         ensures are { AreRuns self.now.levels result }

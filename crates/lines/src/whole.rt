@@ -1,6 +1,6 @@
-//! A fast path for paragraphs without a mandatory break before their end, used if lines end only at mandatory
-//! breaks, no spaces at the end of lines are shown, there are no tab stops, and no characters are printed.
-//! Such a paragraph is one line. Neither its break marks nor its columns are computed.
+//! A fast path for paragraphs without a mandatory break before their end. It requires that lines end only at
+//! mandatory breaks, no spaces at the end of lines are shown, there are no tab stops, and no characters are
+//! printed. Such a paragraph is one line. Neither its break marks nor its columns are computed.
 ghost use Rattle.std.specs.Prelude.{◌≡◌, ◌<◌, ◌≤◌, Bool, true, false, length, None, IfOk, IfErr};
 ghost use Rattle.std.specs.List.{list_all};
 ghost use Rattle.breaks.specs.Bases.{resolved};
@@ -34,11 +34,11 @@ pub(crate) fn is_whole(text: &Text<'_>) -> bool
     end_no_line(&properties[..properties.len().saturating_sub(1)])
 }
 
-// The number of characters that are tested together. The last group overlaps the one before it if the number
-// of characters is no multiple of it, so that no characters are left to be tested one by one.
+// The number of characters that are tested together. If the number of characters is not a multiple of it, the
+// last group overlaps the one before it, so that no characters have to be tested one by one.
 const AT_ONCE: usize = 16;
 
-// Returns whether no line must end after any of the characters, except between CR and LF.
+// Returns whether none of the characters has a mandatory break after it, except between CR and LF.
 fn end_no_line(properties: &[Properties]) -> bool
     ensures { result ≡ list_all may_go_on properties.now }
 {
@@ -55,8 +55,7 @@ fn end_no_line(properties: &[Properties]) -> bool
     end_none(&properties[properties.len() - AT_ONCE..])
 }
 
-// Does the work of `end_no_line`. The loop has no branches, so that the compiler tests several characters at
-// a time.
+// Implements `end_no_line`. The loop has no branches, so the compiler can test several characters at a time.
 #[inline(always)] // so that the loop over a group knows its length
 fn end_none(properties: &[Properties]) -> bool
     ensures { result ≡ list_all may_go_on properties.now }
@@ -68,8 +67,8 @@ fn end_none(properties: &[Properties]) -> bool
     none
 }
 
-// Returns whether a line must end after a character of a class, except between CR and LF. Compares and does
-// not match, so that the loop above has no branches.
+// Returns whether a line must end after a character of a class, except between CR and LF. Uses comparisons
+// instead of a `match`, so that the loop above has no branches.
 fn ends_line(class: LineClass) -> bool
     ensures { (is_mark : Bool) → result ≡ ends_line (resolved class is_mark) }
 {

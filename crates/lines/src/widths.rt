@@ -18,7 +18,7 @@ pub(crate) fn columns(c: char) -> u8
     ensures value { result ≡ columns_of c }
     ensures few { result ≤ 3 }
 {
-    // Most characters are ASCII, which needs one test.
+    // Most characters are ASCII, for which one test is enough.
     let code = c as u32;
     if code >= 0x20 && code < 0x7f {
         return 1;
@@ -52,7 +52,7 @@ pub(crate) fn put_widths(text: &[char], tab_width: u8, advances: &[u32], widths:
 }
 
 /// Returns the width of the character at index `k` of a line. `known` are the widths of a measured line. For
-/// a tab of another line, reads the characters back to the tab before it.
+/// a tab of a line that is not measured, reads the characters back to the tab before it.
 pub(crate) fn width_at(text: &[char], tab_width: u8, known: Option<&[u32]>, k: usize) -> usize
     requires within { k < length text.now }
     requires known { IfSome known (λ list. length list.now ≡ length text.now) }
@@ -66,7 +66,7 @@ pub(crate) fn width_at(text: &[char], tab_width: u8, known: Option<&[u32]>, k: u
     }
 }
 
-// Does the work of `width_at` for a line that is not measured.
+// Implements `width_at` for a line that is not measured.
 fn columns_at(text: &[char], tab_width: u8, k: usize) -> usize
     requires { k < length text.now }
     ensures value { result ≡ slice_index (widths_of tab_width None text.now) k }
@@ -118,7 +118,7 @@ pub(crate) fn next_stop(column: usize, tab_width: usize) -> usize
     }
 }
 
-// The loops of these two functions have no branches, so that the compiler tests several characters at a time.
+// The loops of these two functions have no branches, so the compiler can test several characters at a time.
 
 /// Returns whether all characters are printable ASCII.
 #[inline(always)]
@@ -133,7 +133,7 @@ pub(crate) fn are_printable(text: &[char]) -> bool
 }
 
 /// Returns whether all characters are printable ASCII, or Latin, Greek, Cyrillic, Hebrew or Arabic letters,
-/// or between these in Unicode. All of them have one column.
+/// or code points between these. All of them have one column.
 #[inline(always)]
 pub(crate) fn are_common(text: &[char]) -> bool
     ensures { result ≡ list_all is_common text.now }

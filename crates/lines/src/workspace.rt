@@ -51,7 +51,7 @@ impl Drop for Workspace {
 }
 
 impl Workspace {
-    /// Makes empty buffers. Allocates nothing.
+    /// Creates empty buffers. Allocates nothing.
     pub(crate) fn new(alloc: Global) -> Workspace {
         Workspace {
             analysis: Analysis {
@@ -94,13 +94,13 @@ impl Workspace {
     }
 }
 
-// Returns whether a list of this capacity is worth using for `len` items. At most an eighth of the length and
-// 16 items may stay unused.
+// Returns whether a list of this capacity is worth using for `len` items. At most an eighth of the length
+// plus 16 items may stay unused.
 fn fits(capacity: usize, len: usize) -> bool {
     capacity >= len && capacity - len <= len / 8 + 16
 }
 
-/// Returns an engine's workspace, which is made for its first paragraph.
+/// Returns an engine's workspace, which is allocated for its first paragraph.
 pub(crate) fn ready(
     work: &mut Option<Box<Workspace>>,
     alloc: Global,
