@@ -13,7 +13,7 @@ Appends-append (Some all) None new xs ys first second = absurd first
 Appends-append (Some all) (Some more) None xs ys first second = absurd second
 Appends-append (Some all) (Some more) (Some last) xs ys first second = second ∙ ap (λ zs. zs ++ ys) first ∙ append_assoc all xs ys
 
--- if a sink took the first w bytes and then n more, it took the first w + n bytes
+-- if a sink accepted the first w bytes and then n more, it accepted the first w + n bytes
 pub Took-more : (old mid new : Device) (bytes : List ℕ) (w n : ℕ) (part : List ℕ) → part ≡ drop w bytes
     → w + n ≤ length bytes → Took old mid (take w bytes) → Takes mid new n part → Took old new (take (w + n) bytes)
 Took-more old mid new bytes w n part part_is within first next =
@@ -26,6 +26,6 @@ Took-more old mid new bytes w n part part_is within first next =
           omega (arith, next.passes.passed, first.passed);
     }
 
--- a write that took at least one byte did not fail
+-- a write that accepted at least one byte did not fail
 pub Takes-some : (old new : Device) (n : ℕ) (given : List ℕ) → (n ≡ 0 → ⊥) → MatchBool (n == 0) (Fails old new) (Takes old new n given) → Takes old new n given
 Takes-some old new n given some which = let not_none : (n == 0) ≡ false = grind (arith, nat_tests) in rw not_none at which

@@ -2,7 +2,7 @@
 use Rattle.std.specs.Prelude.{◌≡◌, ℕ, ◌+◌, ◌-◌, ◌^◌, ◌<◌, ◌≤◌, ◌==◌, min, List, length, take, Option, Result, MatchResult, MatchBool}
 use Rattle.std.specs.Io.KnownBytes.{Keeps, Appends, Consumes, IsAtEnd}
 
--- The state of a source or sink. `bytes` are those that a source still has or a sink holds, if it reports
+-- The state of a source or sink. `bytes` are the bytes left in a source or stored in a sink, if it reports
 -- them. `passed` counts all bytes that were transferred. `failures` counts failed calls, up to 2^64 - 1.
 -- `failed_at` is the value of `passed` at the last failure.
 pub record Device : Type 0 where
@@ -32,7 +32,7 @@ pub record Fails (old new : Device) : Type 0 where
   pub failures : new.failures ≡ min (old.failures + 1) greatest
   pub failed_at : new.failed_at ≡ old.passed
 
--- A read put n bytes at the front of a buffer. It put none only if the source has no bytes left.
+-- A read wrote n bytes to the front of a buffer. It wrote none only if the source had no bytes left.
 pub record Gives (old new : Device) (n : ℕ) (buffer : List ℕ) : Type 0 where
   pub bytes : Consumes old.bytes new.bytes (take n buffer)
   pub end : n ≡ 0 → IsAtEnd new.bytes
@@ -41,7 +41,7 @@ pub record Gives (old new : Device) (n : ℕ) (buffer : List ℕ) : Type 0 where
 abbrev pub Reads : {E : Type 0} → Device → Device → Result ℕ E → List ℕ → Type 0
 Reads old new result buffer = MatchResult result (λ n. Gives old new n buffer) (λ _. Fails old new)
 
--- a write took the first n of the given bytes
+-- a write accepted the first n of the given bytes
 pub record Takes (old new : Device) (n : ℕ) (given : List ℕ) : Type 0 where
   pub bytes : Appends old.bytes new.bytes (take n given)
   pub passes : Passes old new n
@@ -50,18 +50,18 @@ abbrev pub Writes : {E : Type 0} → Device → Device → Result ℕ E → List
 Writes old new result given =
     MatchResult result (λ n. MatchBool (n == 0) (Fails old new) (Takes old new n given)) (λ _. Fails old new)
 
--- A call failed between two states, and no bytes were transferred after it. The count of failures rose, or is
--- already at its maximum.
+-- A call failed between two states, and no bytes were transferred after it. The count of failures increased,
+-- or is already at its maximum.
 pub record FailedLast (old new : Device) : Type 0 where
   pub failures : new.failures ≡ min (old.failures + 1) greatest
   pub last : new.failed_at ≡ new.passed
 
--- a sink took these bytes and no others
+-- a sink accepted these bytes and no others
 pub record Took (old new : Device) (given : List ℕ) : Type 0 where
   pub bytes : Appends old.bytes new.bytes given
   pub passed : new.passed ≡ old.passed + length given
 
--- all bytes were taken without a failure, or the sink failed after the first n bytes
+-- all bytes were accepted without a failure, or the sink failed after the first n bytes
 abbrev pub Wrote : List ℕ → Device → Device → Type 0
 Wrote given old new = Took old new given × (new.failures ≡ old.failures)
 

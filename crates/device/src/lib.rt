@@ -1,4 +1,4 @@
-//! Sources and sinks of bytes. Each counts the bytes that passed and the calls that failed, so a contract can
+//! Sources and sinks of bytes. Each counts the bytes transferred and the calls that failed, so a contract can
 //! say that an error is returned only if a call failed.
 //!
 //! A `Source` is read from and a `Sink` is written to. `FromRead` and `ToWrite` wrap std's readers and
@@ -53,7 +53,7 @@ pub trait Sink {
         ensures writes { Writes (state self.old) (state self.new) result bytes.now };
 }
 
-// Returns how many of `len` bytes can still pass without exceeding the maximum count.
+// Returns how many of `len` bytes can still be transferred without exceeding the maximum count.
 fn countable(passed: u64, len: usize) -> usize
     ensures { result ≡ min len (2 ^ 64 - 1 - passed) }
 {

@@ -5,8 +5,8 @@ use crate::{Sink, countable};
 use std::io;
 use std::io::ErrorKind;
 
-/// A sink that wraps a writer of std. It reports the bytes that the writer reports, passes at most 2^64 - 1
-/// bytes and then fails.
+/// A sink that wraps a writer of std. It reports the bytes that the writer reports. After 2^64 - 1 bytes, it
+/// fails.
 #[derive(Drop)]
 pub struct ToWrite<W> {
     inner: W,
