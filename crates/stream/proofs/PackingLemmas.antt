@@ -1,4 +1,5 @@
--- Each row of the shuffles keeps the first bytes of each lane, as many as its bits of the two masks say.
+-- Each row of the shuffles keeps the first bytes of each lane; their number is encoded in the lane's bits of the two
+-- masks.
 use Rattle.std.proofs.Common.{◌≡◌, ℕ, zero, suc, ◌+◌, ◌-◌, ◌*◌, ◌/◌, ◌%◌, ◌^◌, ◌<◌, ◌≤◌, Bool, true, ◌&&◌, w8, w32, Fits, List, [], ◌∷◌, ◌++◌, length, get_or, map, take, drop, T, cond, false, bit_and, bit_xor, encode_utf8, encode_utf8_all, ap₂, replicate, inl, inr, eqb, leb, leb→le, ltb, ltb→lt, eqb→eq, div-one, length-take-le, refl, sym, ap, subst, zero-add, ◌∙◌, arith}
 use Rattle.std.proofs.lemmas.Bool.{and_parts, cases_lt, le-leb, lt-leb, ltb-true}
 use Rattle.std.proofs.lemmas.List.{append_assoc, ext_get_or, length-drop, take_all, take-append-drop, take-append-le}
@@ -19,7 +20,7 @@ use Rattle.stream.specs.declared.packing.TheConstants.{LENGTHS, SHUFFLES}
 abbrev listed : (ℕ → ℕ) → ℕ → List ℕ
 listed f n = map f (range_with_len 0 n)
 
--- the first bytes of n lanes that start at index p, where f gives the bytes of all lanes
+-- the first bytes of n lanes that start at index p, where f maps an index to a byte of the lanes
 abbrev gathered : (ℕ → ℕ) → ℕ → ℕ → ℕ → ℕ → List ℕ
 gathered f low high zero p = []
 gathered f low high (suc n) p = take (kept (low % 2) (high % 2)) (f p ∷ f (p + 1) ∷ f (p + 2) ∷ f (p + 3) ∷ []) ++ gathered f (low / 2) (high / 2) n (p + 4)
@@ -57,7 +58,7 @@ each_below n (x ∷ xs) all =
     let parts = and_parts (ltb x n) (all_below n xs) all in
     (ltb→lt x n (is_true (ltb x n) parts.0), each_below n xs parts.1)
 
--- a fact of each list of n numbers, from the same of n numbers written out
+-- a fact about each list of n numbers, from the same fact about n numbers written out
 pub spelled : (P : List ℕ → Type 0) (n : ℕ) → ((f : ℕ → ℕ) → P (listed f n)) → (xs : List ℕ) → length xs ≡ n → P xs
 spelled P n h xs long =
     let f = λ (k : ℕ). get_or xs k 0 in
@@ -111,7 +112,7 @@ module _ {low high : ℕ} (few : low < 16) (some : high < 16) where
   pub length-ok : get_or LENGTHS row 0 ≤ 16
   length-ok = leb→le (get_or LENGTHS row 0) 16 (is_true _ (all_at (λ n. leb n 16) LENGTHS row 0 lengths-ok row-below))
 
-  -- what the vector that was shuffled leaves in the buffer
+  -- the contents of the buffer after the shuffled vector has been written
   module _ (words : List ℕ) (long : length words ≡ 4) (fits : Each1 (Fits w32) words) where
     kept-bytes : take (get_or LENGTHS row 0) (swz_l w8 16 (digits_l 256 16 (number_l 4294967296 words)) 0 (get_or SHUFFLES row [])) ≡ packed words low high
     kept-bytes =

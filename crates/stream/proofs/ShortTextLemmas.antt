@@ -118,8 +118,8 @@ picked_chars (c ∷ cs) front more is all few = go (λ few_2. picked_chars cs (e
 
 -- ---- where a character ends
 
--- if all bytes up to index n are in characters of one or two bytes, and no character of two bytes begins with the byte
--- at n, then a character ends with it
+-- if all bytes up to index n are in characters of one or two bytes, and no two-byte character begins with the byte at
+-- n, then a character ends with that byte
 ends_after : (cs bytes : List ℕ) → encodes cs ≡ bytes → scalars cs ≡ true → (n : ℕ) → n < length bytes → ((k : ℕ) → k ≤ n → get_or bytes k 0 < 224)
     → get_or bytes n 0 < 192 → IsUtf8 (drop (suc n) bytes)
 ends_after [] bytes is all n within few last = absurd (omega (arith, ap length is))

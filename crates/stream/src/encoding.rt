@@ -7,7 +7,7 @@ ghost use Rattle.stream.specs.Packing.{fits_two_bytes};
 
 use crate::packing::{LANES, lanes, pack_any, pack_ascii, pack_short};
 
-// The number of characters in a group. All are encoded by the function that the highest of them needs.
+// The number of characters in a group. All of them are encoded by the function that the highest one requires.
 const GROUP: usize = 16;
 
 /// Encodes characters as UTF-8 at the front of a buffer, and returns the number of bytes written.
@@ -42,7 +42,7 @@ fn encode_group(group: &[char], buffer: &mut [u8], at: usize) -> usize
     }
 }
 
-// Does the work of `encode_group`, one character after another.
+// Implements `encode_group`, one character at a time.
 #[inline(always)]
 fn encode_each(piece: &[char], buffer: &mut [u8], at: usize) -> usize
     requires { at + 4 * length piece.now ≤ length buffer.old }
@@ -56,8 +56,8 @@ fn encode_each(piece: &[char], buffer: &mut [u8], at: usize) -> usize
     len
 }
 
-// Returns the highest character. The loop has no branches, so that the compiler compares several characters
-// at a time.
+// Returns the highest character. The loop has no branches, so the compiler can compare several characters at
+// a time.
 #[inline(always)]
 fn highest(piece: &[char]) -> char
     ensures { (k : ℕ) → k < length piece.now → slice_index piece.now k ≤ result }
@@ -69,7 +69,7 @@ fn highest(piece: &[char]) -> char
     highest
 }
 
-// Does the work of `encode_group` for ASCII characters.
+// Implements `encode_group` for ASCII characters.
 #[inline(always)]
 fn encode_ascii(piece: &[char], buffer: &mut [u8], at: usize) -> usize
     requires ascii { list_all is_ascii piece.now ≡ true }
@@ -105,7 +105,7 @@ fn put_ascii(piece: &[char], buffer: &mut [u8], at: usize) -> usize
 }
 
 /// Encodes a character at an index of a buffer, and returns the index after its bytes. Always writes four
-/// bytes, which is faster than a branch. What is after the returned index does not matter.
+/// bytes, which is faster than a branch. The bytes after the returned index are unspecified.
 #[inline(always)]
 pub fn encode_at(c: char, buffer: &mut [u8], at: usize) -> usize
     requires { at + 4 ≤ length buffer.old }
@@ -133,7 +133,7 @@ pub fn encode_at(c: char, buffer: &mut [u8], at: usize) -> usize
     end
 }
 
-// Does the work of `encode_group` for characters that have one or two bytes.
+// Implements `encode_group` for characters that have one or two bytes.
 #[inline(always)]
 fn encode_short(piece: &[char], buffer: &mut [u8], at: usize) -> usize
     requires short { list_all fits_two_bytes piece.now ≡ true }
@@ -150,7 +150,7 @@ fn encode_short(piece: &[char], buffer: &mut [u8], at: usize) -> usize
     encode_each(&piece[k..], buffer, len)
 }
 
-// Does the work of `encode_group` for all characters.
+// Implements `encode_group` for all characters.
 #[inline(always)]
 fn encode_any(piece: &[char], buffer: &mut [u8], at: usize) -> usize
     requires { at + 4 * length piece.now ≤ length buffer.old }

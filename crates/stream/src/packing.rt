@@ -11,8 +11,8 @@ use std::simd::prelude::*;
 pub const LANES: usize = 4;
 
 // The indices of the bytes to keep, then zeros: one row for each combination of lengths of four lanes. Bits k
-// and k + 4 of the row's index encode the length of lane k: bit k alone is two bytes, both are three, bit
-// k + 4 alone is four, and neither is one. Each row is proved right.
+// and k + 4 of the row's index encode the length of lane k: bit k alone means two bytes, both bits mean
+// three, bit k + 4 alone means four, and neither means one. Each row is proved correct.
 static SHUFFLES: [[u8; 16]; 256] = [
     [0, 4, 8, 12, 0, 0, 0, 0, 0, 0, 0, 0, 0, 0, 0, 0],
     [0, 1, 4, 8, 12, 0, 0, 0, 0, 0, 0, 0, 0, 0, 0, 0],
@@ -302,7 +302,7 @@ pub fn lanes(group: &[char], from: usize) -> u32x4
 }
 
 /// Encodes ASCII characters at an index of a buffer, and returns the index after their bytes. Always writes
-/// 16 bytes. What is after the returned index does not matter.
+/// 16 bytes. The bytes after the returned index are unspecified.
 #[inline(always)]
 pub fn pack_ascii(codes: u32x4, buffer: &mut [u8], at: usize) -> usize
     requires ascii { list_all is_ascii codes ≡ true }

@@ -10,21 +10,21 @@ use std::io::ErrorKind;
 #[derive(Debug, Drop)]
 pub struct Page {
     pub bytes: Vec<u8>,
-    // What the first write reserves, or 0 after it.
+    // The capacity that the first write reserves, or 0 after that write.
     room: usize,
     failures: u64,
     failed_at: u64,
 }
 
 impl Page {
-    /// Makes an empty page. Allocates nothing.
+    /// Creates an empty page. Allocates nothing.
     pub fn new(alloc: Global) -> Page
         ensures { result.bytes.items ≡ [] }
     {
         Page::with_room(alloc, 0)
     }
 
-    /// Makes an empty page whose first write reserves at least `room` bytes. Allocates nothing.
+    /// Creates an empty page whose first write reserves at least `room` bytes. Allocates nothing.
     pub fn with_room(alloc: Global, room: usize) -> Page
         ensures { result.bytes.items ≡ [] }
     {
@@ -63,7 +63,8 @@ fn append(bytes: &[u8], room: &mut usize, list: &mut Vec<u8>) -> Result<(), Allo
     list.extend_from_slice(bytes)
 }
 
-// Before the first `len` bytes of a list, reserves `room` bytes if these need less. Then sets `room` to 0.
+// Called before the first `len` bytes are appended to a list. Reserves `room` bytes if `len` is less than
+// `room`, and then sets `room` to 0.
 #[inline(never)] // so that later bytes are appended by short code
 fn reserve_first(len: usize, room: &mut usize, list: &mut Vec<u8>) -> Result<(), AllocError>
     ensures items { list.new.items ≡ list.old.items }

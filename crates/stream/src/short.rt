@@ -102,7 +102,7 @@ pub fn push_ascii(bytes: &[u8], characters: &mut Vec<char>)
     }
 }
 
-/// Adds the characters that begin with the marked bytes, which must be in characters of one or two bytes.
+/// Adds the characters that begin with the marked bytes. These characters must have one or two bytes.
 #[inline(always)]
 pub fn push_marked(bytes: u8x16, marks: usize, characters: &mut Vec<char>)
     requires marks { marks < 2 ^ 16 }
@@ -111,7 +111,7 @@ pub fn push_marked(bytes: u8x16, marks: usize, characters: &mut Vec<char>)
     ensures capacity { vec_capacity characters.new ≡ vec_capacity characters.old }
 {
     let len = characters.len();
-    // Making room first and removing what is left of it needs no branch on the number of characters.
+    // Appending a whole group and then removing the excess needs no branch on the number of characters.
     push_ascii(&[0; LANES], characters);
     let count = write_marked(bytes, marks, &mut characters[len..]);
     characters.truncate(len + count);

@@ -62,7 +62,8 @@ fn push_lanes<'a>(text: &'a str, characters: &mut Vec<char>) -> &'a str
     let bytes = u8x16::from_slice(text.as_bytes());
     if is_ascii(bytes) {
         let (_, rest) = text.split_at(LANES);
-        // The text itself would be read again after each character, since the list might overlap it.
+        // Passes a copy. Otherwise, the text would be read again after each character, since the list might
+        // overlap it.
         push_ascii(&bytes.to_array(), characters);
         return rest;
     }
@@ -75,8 +76,8 @@ fn push_lanes<'a>(text: &'a str, characters: &mut Vec<char>) -> &'a str
     rest
 }
 
-// Returns how many of the first `LANES` bytes are whole characters, if these have one or two bytes each: all,
-// or all but the first byte of a character at the end.
+// Returns how many of the first `LANES` bytes form whole characters, if all of these have one or two bytes.
+// That is all bytes, or all but the first byte of a character at the end.
 #[inline(always)]
 fn short_len(text: &str) -> usize
     requires long { LANES ≤ length text.now }
@@ -163,7 +164,7 @@ pub fn front(bytes: &[u8]) -> (&str, bool)
     }
 }
 
-// Does the work of `front` for any bytes, which may be validated twice.
+// Implements `front` for any bytes, which may be validated twice.
 fn checked(bytes: &[u8]) -> (&str, bool)
     ensures text { result.0.now ≡ take (utf8_valid_len bytes.now) bytes.now }
     ensures bad { result.1 ≡ is_bad bytes.now }
