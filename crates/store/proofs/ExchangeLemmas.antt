@@ -96,7 +96,7 @@ set_one [] y l = absurd (omega arith)
 set_one (x ∷ []) y l = refl
 set_one (x ∷ z ∷ xs) y l = absurd (omega arith)
 
--- raising a count by n and then by m raises it by n + m
+-- increasing a count by n and then by m increases it by n + m
 pub raised_twice : (count n m k once twice : ℕ) → once ≡ raised count n → twice ≡ raised once m → k ≡ n + m → twice ≡ raised count k
 raised_twice count n m k once twice first second sum = omega (arith, first, second, sum)
 

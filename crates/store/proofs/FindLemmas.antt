@@ -23,7 +23,7 @@ module _ {P : Type 0} (G : Ghosts P) (unit : Counted) where
         utf16_before = is.sums.each Utf16 ∙ ap (sum_by G.utf16) (sym front);
       }
 
-  -- the place of an item, from the items before it
+  -- the place of an item, given the items before it
   pub place_of : (before : List P) (item : P) (after items : List P) (n : ℕ) (g : Place) → items ≡ before ++ item ∷ after → g.index ≡ length before
       → sum_by (measure G unit) before + g.rest ≡ n → g.rest < measure G unit item → AreSums G before g.before → IsPlace G unit items n g
   place_of before item after items n g place_is index_is rest_is within_is sums_are = record {

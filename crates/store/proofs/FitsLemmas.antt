@@ -7,11 +7,11 @@ use Rattle.store.specs.declared.measured.Measured.{Ghosts}
 use Rattle.store.specs.declared.sums.Unit.{Unit as Counted}
 
 module _ {P : Type 0} (G : Ghosts P) where
-  -- if the sums of a list fit, so do those of a list with at most as large sums
+  -- if the sums of a list fit, so do those of a list whose sums are no larger
   pub sums_less : (xs ys : List P) → ((size : P → ℕ) → sum_by size ys ≤ sum_by size xs) → SumsFit G xs → SumsFit G ys
   sums_less xs ys less f = record { each = λ (u : Counted). omega (arith, less (measure G u), f.each u) }
 
-  -- if a list fits, so does any list with at most as many items and at most as large sums
+  -- if a list fits, so does any list that has no more items and no larger sums
   pub fits_less : (xs ys : List P) → length ys ≤ length xs → ((size : P → ℕ) → sum_by size ys ≤ sum_by size xs) → Fits G xs → Fits G ys
   fits_less xs ys n less f = record { count = omega (arith, f.count); sums = sums_less xs ys less f.sums }
 

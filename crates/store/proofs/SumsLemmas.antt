@@ -24,7 +24,7 @@ abbrev pub AreAdded : Sums → Sums → Sums → Type 0
 AreAdded a b sums = (unit : Counted) → part sums unit ≡ part a unit + part b unit
 
 module _ {P : Type 0} (G : Ghosts P) where
-  -- numbers that are sums show that the sums fit
+  -- if the sums are given as bounded numbers, they fit
   pub fit_by : (items : List P) (sums : Sums) → AreSums G items sums → AreBounded sums → SumsFit G items
   fit_by items sums are fit = record { each = λ (u : Counted). omega (arith, are.each u, fit u) }
 

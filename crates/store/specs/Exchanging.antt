@@ -9,6 +9,6 @@ pairwise f items parts = map (λ p. f p.0 p.1) (zip items parts)
 abbrev pub total_cost : {P Part : Type 0} → (P → Part → ℕ) → List P → List Part → ℕ
 total_cost cost items parts = sum_by (λ n. n) (pairwise cost items parts)
 
--- a count raised by n units of work; it stops at 2^64 - 1
+-- a count increased by n units of work, saturating at 2^64 - 1
 abbrev pub raised : ℕ → ℕ → ℕ
 raised count n = max count (min (count + n) (2 ^ 64 - 1))

@@ -6,7 +6,7 @@ use Rattle.store.specs.declared.found.Place.{Place}
 use Rattle.store.specs.declared.measured.Measured.{Ghosts}
 use Rattle.store.specs.declared.sums.Unit.{Unit as Counted}
 
--- The character, line, byte or code unit with number n, counted from 0 through all items, is number `rest`
+-- The character, line, byte or code unit with number n, counted from 0 across all items, is number `rest`
 -- within the item at `index`.
 pub record Finds {P : Type 0} (size chars lines : P → ℕ) (items : List P) (n : ℕ) (found : Found) : Type 0 where
   pub before : List P
@@ -43,12 +43,12 @@ found_at place = record {
   visits = place.visits;
 }
 
--- whether a search by a unit finds the place, with all sums of the items before it
+-- whether a search in a unit finds the place, including all sums of the items before it
 pub record IsPlace {P : Type 0} (G : Ghosts P) (unit : Counted) (items : List P) (n : ℕ) (place : Place) : Type 0 where
   pub finds : Finds (measure G unit) G.chars G.lines items n (found_at place)
   pub sums : AreSums G finds.before place.before
 
--- whether a place is that of the item at an index, with all sums of the items before it
+-- whether a place is that of the item at an index, including all sums of the items before it
 pub record IsItemPlace {P : Type 0} (G : Ghosts P) (items : List P) (index : ℕ) (place : Place) : Type 0 where
   pub index_is : place.index ≡ index
   pub rest : place.rest ≡ 0

@@ -23,7 +23,7 @@ pub struct Found {
     pub visits: usize,
 }
 
-/// A `Found` under construction. `before` has the sums over all items before this one.
+/// A `Found` under construction. `before` holds the sums over all items before this one.
 #[derive(Clone, Copy)]
 pub(crate) struct Place {
     pub(crate) index: usize,

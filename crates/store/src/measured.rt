@@ -32,10 +32,10 @@ pub trait Exchange: Measured {
     /// The type of the parts that are exchanged.
     type Part;
 
-    // Whether a part may be put into an item.
+    // Whether a part fits an item.
     ghost fits: { Self → Self.Part → Type 0 };
 
-    // The item after an exchange, and the part that comes out of it.
+    // The item after an exchange, and the part that is taken out of it.
     ghost exchanged: { Self → Self.Part → Self };
 
     ghost handed_out: { Self → Self.Part → Self.Part };
@@ -68,10 +68,10 @@ pub trait Exchanger<P: Measured> {
 
     ghost kind: { Self → Kind };
 
-    // Whether a part may be put into an item.
+    // Whether a part fits an item.
     ghost fits: { Kind → P → Self.Part → Type 0 };
 
-    // The item after an exchange, and the part that comes out of it.
+    // The item after an exchange, and the part that is taken out of it.
     ghost exchanged: { Kind → P → Self.Part → P };
 
     ghost handed_out: { Kind → P → Self.Part → Self.Part };

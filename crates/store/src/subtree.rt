@@ -200,7 +200,7 @@ impl<P: Measured> DetachedNode<P> {
 }
 
 impl<P: Measured> Node<P> {
-    // Puts two trees, whose heights differ by at most 1, below a node without subtrees, and computes the
+    // Attaches two trees, whose heights differ by at most 1, to a node without subtrees, and computes the
     // node's sums.
     fn hang(&mut self, left: Subtree<P>, right: Subtree<P>)
         requires empty { (self.old.left ≡ Empty) × (self.old.right ≡ Empty) }

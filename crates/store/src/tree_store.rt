@@ -65,7 +65,7 @@ impl<P: Measured> TreeStore<P> {
         let _height = self.root.height();
     }
 
-    // Looks at the nodes from the root to the item found.
+    // Visits the nodes from the root to the item found.
     fn find(&self, unit: Unit, n: usize) -> Found
         requires { n < sum_by (measure P.Measured unit) (in_order self.now) }
         ensures found { Finds (measure P.Measured unit) P.chars P.lines (in_order self.now) n result }
@@ -216,7 +216,7 @@ impl<P: Measured> ParagraphStore<P> for TreeStore<P> {
         self.find(Unit::Line, n)
     }
 
-    /// Looks at the nodes from the root to the item found.
+    /// Visits the nodes from the root to the item found.
     fn find_byte(&self, byte: usize) -> Found
         requires { byte < sum_by P.bytes (in_order self.now) }
         ensures found { Finds P.bytes P.chars P.lines (in_order self.now) byte result }
@@ -227,7 +227,7 @@ impl<P: Measured> ParagraphStore<P> for TreeStore<P> {
         self.find(Unit::Byte, byte)
     }
 
-    /// Looks at the nodes from the root to the item found.
+    /// Visits the nodes from the root to the item found.
     fn find_utf16(&self, unit: usize) -> Found
         requires { unit < sum_by P.utf16 (in_order self.now) }
         ensures found { Finds P.utf16 P.chars P.lines (in_order self.now) unit result }

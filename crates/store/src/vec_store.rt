@@ -16,7 +16,7 @@ use std::alloc::{AllocError, Global};
 use std::marker::Model;
 use std::ops::Range;
 
-/// A store that is a list. A search walks over the items, and `replace` moves the items after the range.
+/// A store that is a list. A search scans the items, and `replace` moves the items after the range.
 #[derive(Debug)]
 pub struct VecStore<P: Measured> {
     items: Vec<P>,
@@ -57,8 +57,7 @@ fn sums<P: Measured>(items: &[P]) -> Sums
     sums
 }
 
-// Finds the item that contains the character, line, byte or code unit with number `n`, by walking over the
-// items.
+// Finds the item that contains the character, line, byte or code unit with number `n`, by scanning the items.
 fn find<P: Measured>(items: &[P], unit: Unit, n: usize) -> Place
     requires within { n < sum_by (measure P.Measured unit) items.now }
     requires fit { SumsFit P.Measured items.now }
@@ -171,7 +170,7 @@ impl<P: Measured> VecStore<P> {
         self.sums.total(unit)
     }
 
-    // Looks at each item up to the one found.
+    // Visits each item up to the one found.
     fn find(&self, unit: Unit, n: usize) -> Found
         requires { n < sum_by (measure P.Measured unit) self.now }
         ensures found { Finds (measure P.Measured unit) P.chars P.lines self.now n result }
@@ -245,7 +244,7 @@ impl<P: Measured> ParagraphStore<P> for VecStore<P> {
         self.find(Unit::Line, n)
     }
 
-    /// Looks at each item up to the one found.
+    /// Visits each item up to the one found.
     fn find_byte(&self, byte: usize) -> Found
         requires { byte < sum_by P.bytes self.now }
         ensures found { Finds P.bytes P.chars P.lines self.now byte result }
@@ -255,7 +254,7 @@ impl<P: Measured> ParagraphStore<P> for VecStore<P> {
         self.find(Unit::Byte, byte)
     }
 
-    /// Looks at each item up to the one found.
+    /// Visits each item up to the one found.
     fn find_utf16(&self, unit: usize) -> Found
         requires { unit < sum_by P.utf16 self.now }
         ensures found { Finds P.utf16 P.chars P.lines self.now unit result }
