@@ -19,7 +19,7 @@ struct Pair {
     closer: usize,
 }
 
-/// Applies N0 to the types of a sequence, by its characters and their classes.
+/// Applies N0 to the types of a sequence, given its characters and their classes.
 pub fn resolve_brackets(
     alloc: Global,
     tables: &Tables,
@@ -37,7 +37,8 @@ pub fn resolve_brackets(
     Ok(())
 }
 
-// BD16: returns the pairs. Pairing stops at the first opening bracket that finds 63 brackets on the stack.
+// BD16: returns the pairs. Pairing stops at the first opening bracket at which 63 brackets are already on the
+// stack.
 fn pairs_of(
     alloc: Global,
     tables: &Tables,

@@ -2,8 +2,8 @@
 use crate::levels::weak::type_or;
 use ucd::BidiClass;
 
-/// Applies N1 and N2: neutrals get the direction of both their sides if it is the same, and otherwise the
-/// embedding direction. This direction is also sos and eos.
+/// Applies N1 and N2: neutrals get the direction of the types on both sides if these agree, and otherwise the
+/// embedding direction. The embedding direction is also sos and eos.
 pub fn resolve_neutral(types: &mut [BidiClass], side: BidiClass) {
     let mut before = side;
     // The index after the current run of neutrals. It is found once per run.

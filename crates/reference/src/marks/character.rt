@@ -1,7 +1,7 @@
 //! The properties of a character that line breaking needs (UAX #14, LB1, LB9 and LB10).
 use ucd::{LineClass, Tables};
 
-/// The properties of a character that the rules need. The class is the one that LB1 gives.
+/// The properties of a character that the rules need. The class is the one after LB1.
 #[derive(Clone, Copy, Debug)]
 pub struct Character {
     pub class: LineClass,
@@ -29,7 +29,7 @@ impl Character {
     }
 }
 
-// LB1: returns the class with which the rules replace AI, SG, XX, SA and CJ. Other classes stay.
+// LB1: returns the class that replaces AI, SG, XX, SA or CJ. Other classes are unchanged.
 fn resolved(class: LineClass, is_mark: bool) -> LineClass {
     match class {
         LineClass::AI | LineClass::SG | LineClass::XX => LineClass::AL,
