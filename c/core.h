@@ -2,7 +2,7 @@
  * same name, but relies on hordguli.c to check that pointers are not NULL, widths are below 65,536, and arrays do not
  * overlap.
  *
- * The parameters have the names of the crate's, as tests/c/exports checks. `n` is the index of a line. An array is a
+ * The parameters are named as in the crate, which tests/c/exports checks. `n` is the index of a line. An array is a
  * pointer and a length. The pointer is never NULL and is aligned for its type, even if the length is 0. A status is one
  * of the numbers 0 to 12 in hordguli.h, or 16. */
 #ifndef HORDGULI_CORE_H

@@ -24,7 +24,7 @@ static inline int overlap_2(part a, part b) {
 
 static inline int overlap_3(part a, part b, part c) { return overlap_2(a, b) || overlap_2(a, c) || overlap_2(b, c); }
 
-/* The same for any number of parts. */
+/* Does the same as overlap_2 for any number of parts. */
 static int overlap(const part *parts, size_t count) {
     for (size_t i = 0; i < count; i++) {
         if (parts[i].size == 0) continue;

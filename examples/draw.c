@@ -109,7 +109,7 @@ static void read_paragraph(size_t index, hordguli_paragraph_info *info) {
     choose_fonts();
 }
 
-/* Whether two characters that follow each other are shaped together */
+/* Whether two adjacent characters are shaped together */
 static int is_one_part(size_t first, size_t second) {
     return font_of[first] == font_of[second] && script_of[first] == script_of[second] && levels[first] == levels[second];
 }
@@ -144,8 +144,8 @@ static void find_advances(size_t from, size_t to) {
     is_unsafe[from] = is_unsafe[count] = 0;
 }
 
-/* If a line begins or ends where that is unsafe, shapes the line and the rest of the paragraph apart. Then the line may
- * end elsewhere, so this is done again, at most three times. */
+/* If a line begins or ends where that is unsafe, shapes the line and the rest of the paragraph separately. The line may
+ * then end elsewhere, so this is repeated, at most three times. */
 static void measure_line(size_t line) {
     for (int times = 0; times < 3; times++) {
         hordguli_line_info info;

@@ -58,7 +58,7 @@ static hordguli_counts counts(void) {
     return found;
 }
 
-/* Returns whether a call has succeeded, and notes why not. It is no error to go past an end of the text. */
+/* Returns whether a call has succeeded, and records why not. Going past an end of the text is not an error. */
 static int succeeds(hordguli_status status) {
     if (status != HORDGULI_OK && status != HORDGULI_OUT_OF_RANGE) note = hordguli_status_text(status);
     return status == HORDGULI_OK;

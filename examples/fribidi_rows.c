@@ -1,4 +1,4 @@
-/* Prints a text in the rows of a terminal, as rows.c does, by FriBidi's functions: fribidi_rows COLUMNS < TEXT
+/* Prints a text in the rows of a terminal, as rows.c does, with FriBidi's functions: fribidi_rows COLUMNS < TEXT
  *
  * A terminal breaks a line where it is full, not between words. So the levels are found for the whole paragraph, and
  * then each row is reordered separately. The functions come from the library that is linked first:

@@ -113,17 +113,20 @@ class Field(Gtk.DrawingArea):
 
     # ---- Keys ----
 
-    def replace(self, start, end, content):
+    def replace(self, start, end, content, side=Side.AFTER):
+        """Replaces a range. The caret is then on this side of the position after `content`, or before it where a paragraph starts."""
         self.session.replace(start, end - start, content)
         place = start + len(content)
-        self.go(Edge(place, Side.AFTER) if content not in ("", "\n") else Edge(place), False)
+        is_start = place == 0 or self.session.text(place - 1, 1) == "\n"
+        self.go(Edge(place) if is_start else Edge(place, side), False)
 
     def delete(self, pos):
         """Deletes the selection, or else the grapheme cluster that contains the character at `pos`, if there is one."""
         start, end = self.selection()
+        side = Side.AFTER if pos < start else Side.BEFORE
         if start == end and 0 <= pos < self.session.counts.characters:
             start, end = self.session.cluster(pos)
-        self.replace(start, end, "")
+        self.replace(start, end, "", side)
 
     def key_pressed(self, _, key, code, state):
         start, end = self.selection()

@@ -30,8 +30,8 @@
  *
  * A line ends at the end of its paragraph, after U+000B, U+000C or U+2028, or at a break opportunity (UAX #14). If none
  * of these fits the width, the line ends inside a word, at the last grapheme cluster boundary that fits. If no such
- * boundary fits either, the line ends at the first boundary, and is wider than the width. What follows is on another
- * line, even a separator alone: an emoji family of 6 columns and U+000A are two lines at width 5.
+ * boundary fits either, the line ends at the first boundary, and is wider than the width. What follows is on the next
+ * line, even if it is only a separator: an emoji family of 6 columns and U+000A are two lines at width 5.
  *
  * The tail of a line is all U+0020, U+000A to U+000D, U+0085, U+2028 and U+2029 at its end. It is not shown. The rest
  * of the line is its shown part, to which HORDGULI_SHOW_SPACES adds spaces of the tail.
@@ -40,8 +40,8 @@
  *
  * A column is a terminal cell. The width of a line, in columns, is the sum of the widths of its shown characters. Some
  * terminals draw a grapheme cluster, such as an emoji family, narrower than this sum. Widths follow Unicode 18.0.
- * Characters of ambiguous East Asian width have width 1. Control characters have width 0 and are written unchanged, also
- * tabs without HORDGULI_TAB_WIDTH. A program that writes to a terminal must remove or replace them.
+ * Characters of ambiguous East Asian width have width 1. Control characters have width 0 and are written unchanged,
+ * including tabs without HORDGULI_TAB_WIDTH. A program that writes to a terminal must remove or replace them.
  *
  * MEASURED TEXT
  *
@@ -54,9 +54,9 @@
  *     PARAGRAPH_TOO_LONG.
  *   - With HORDGULI_TAB_WIDTH, a tab moves to the next multiple of its own advance, or stays where it is if that is 0. It
  *     is written as itself.
- *   - Lines are written without padding. `hordguli_line` stores what aligns a line right.
+ *   - Lines are written without padding. `hordguli_line` stores the padding that aligns a line right.
  *
- * Give a ligature, or another glyph of several characters, its advance at the first of them, and 0 at the others.
+ * For a ligature, or another glyph of several characters, set its advance at the first of them, and 0 at the others.
  * Alternatively, divide the advance among them, so that a caret can be inside a ligature of several grapheme clusters.
  *
  * ERRORS
@@ -85,11 +85,11 @@
  *   - `hordguli_layout`, `hordguli_lines_utf8`, `hordguli_text`, `hordguli_text_utf32`, `hordguli_runs`,
  *     `hordguli_row_runs`, `hordguli_spans`, `hordguli_line_clusters`, `hordguli_clusters` and `hordguli_script_runs`
  *     have one array, and store its size in their last parameter. If the array is too small, they return NO_ROOM, leave
- *     it unchanged, and store the required size. So NULL with capacity 0 is not skipped: it asks for the size.
+ *     it unchanged, and store the required size. So NULL with capacity 0 is not skipped: it requests the size.
  *   - `hordguli_line`, `hordguli_paragraph`, `hordguli_row` and `hordguli_decode` have several arrays. They skip those
- *     that are NULL. If another one is too small, they return NO_ROOM. If all are NULL, nothing needs room, and the call
- *     succeeds with any capacity. In both cases, `hordguli_line` and `hordguli_paragraph` store the size in `*info`, and
- *     `hordguli_decode` in `*count`.
+ *     that are NULL. If another one is too small, they return NO_ROOM. If all are NULL, no room is needed, and the call
+ *     succeeds with any capacity. In both cases, `hordguli_line` and `hordguli_paragraph` store the size in `*info`,
+ *     and `hordguli_decode` in `*count`.
  *   - `hordguli_levels` and `hordguli_marks` need `count` elements. NULL is not skipped.
  *
  * Call a function of the first kind in a loop, until the buffer is large enough. Keep the buffer, which is NULL at first,
@@ -110,9 +110,10 @@
  *     back, and the proof of the library depends on this. This is why handles are not `const`.
  *   - Different handles may be used in different threads at the same time. Sessions and tables share only memory that
  *     is never written, and an atomic reference count.
- *   - The same handle may be used in different threads, one after another. Hand it over by a lock, by a queue, or by
- *     creating or joining a thread. So a worker may lay out a long text and pass its session on, and another thread may
- *     close it. Nothing in the library depends on the thread: it has no global and no thread-local variables.
+ *   - The same handle may be used in different threads, one after another. Hand it over with a lock, through a queue,
+ *     or by creating or joining a thread. So a worker may lay out a long text and pass its session on, and another
+ *     thread may close it. Nothing in the library depends on the thread: it has no global and no thread-local
+ *     variables.
  *   - Do not call the library from a signal handler that can interrupt the library or malloc.
  *   - After `fork`, the child has its own handles. It must not use a handle that another thread was using during the
  *     fork.
@@ -126,7 +127,7 @@
  * A session keeps 0.1 KB for itself, 0.5 KB for each paragraph, 12 bytes for each further line of a paragraph, and 19
  * bytes for each character. From its first edit on, its buffers keep 5 KB more, and up to 26 bytes for each character of
  * its longest paragraph. Opening it uses buffers that the handle of the tables keeps. Tables keep 112 KB, which their
- * sessions share. `bench/memory` in the sources has measured this, with glibc's malloc. */
+ * sessions share. These numbers were measured with `bench/memory` in the sources and glibc's malloc. */
 #ifndef HORDGULI_H
 #define HORDGULI_H
 
@@ -184,8 +185,8 @@ const char *hordguli_status_text(hordguli_status status);
 /* ---- Version ---- */
 
 /* The version of this header. A release that adds functions, options or statuses raises the minor version. `Since` in
- * a comment is the first version that has the function. 0.6 is the next release. Until then, this header has its
- * functions, but the version 0.5.0. From 0.6.0 on, a program can test for them:
+ * a comment is the first version that has the function. 0.6 is the next release. Until then, this header declares its
+ * functions, but has the version 0.5.0. From 0.6.0 on, a program can test for them:
  *
  *     #if HORDGULI_VERSION_MAJOR > 0 || HORDGULI_VERSION_MINOR >= 6 */
 #define HORDGULI_VERSION_MAJOR 0
@@ -199,8 +200,8 @@ const char *hordguli_version(void);
  * `hordguli_tables_read` open. */
 const char *hordguli_unicode_version(void);
 
-/* Returns the Unicode version of column widths, grapheme clusters and scripts, such as "18.0". It is that of the library,
- * and does not depend on the tables.
+/* Returns the Unicode version of column widths, grapheme clusters and scripts, such as "18.0". It belongs to the
+ * library, and does not depend on the tables.
  * Since: 0.6. */
 const char *hordguli_width_unicode_version(void);
 
@@ -210,8 +211,8 @@ const char *hordguli_width_unicode_version(void);
  * are refused with UNKNOWN_OPTION. Options without a direction are HORDGULI_WEAK_LTR. `hordguli_row` and `hordguli_marks`
  * accept no direction.
  *
- * Bits 0 and 1 are the direction. Bit 24 says that bit 0 is given as 0, and bit 25 says so of bit 1. Both may be left
- * out, so the numbers 0 to 3 are directions too. Bits 16 to 23 are reserved. */
+ * Bits 0 and 1 are the direction. Bit 24 states that bit 0 is 0, and bit 25 that bit 1 is 0. Both may be left out, so
+ * the numbers 0 to 3 are directions too. Bits 16 to 23 are reserved. */
 
 /* The direction of a paragraph's first strong character, or LTR if there is none. */
 #define HORDGULI_WEAK_LTR UINT32_C(0x3000000)
@@ -230,15 +231,14 @@ const char *hordguli_width_unicode_version(void);
 /* Does not break inside a number, such as `$(1,200)`. This replaces LB25 (UAX #14): there is no break inside a match of
  * `(PR|PO)? (OP|HY)? NU (NU|SY|IS)* (CL|CP)? (PR|PO)?`. It changes nothing with tables of Unicode 17.0. */
 #define HORDGULI_WHOLE_NUMBERS UINT32_C(16)
-/* Keeps the characters of a grapheme cluster that follow each other at one odd level in logical order. By default they
- * are reversed, as is all RTL text. Use it if the terminal draws clusters as units, such as emoji families, skin
- * tones, flags, and letters with marks. HORDGULI_REORDER_NSM then has no effect. For example, RLO `man ZWJ woman` is
- * written as RLO `woman ZWJ man` by default, which no terminal draws as one emoji. Choose this option, unless the
- * terminal draws only marks, and not emoji sequences, in the cell of their base; then choose HORDGULI_REORDER_NSM.
- * Since 0.6. */
+/* Keeps adjacent characters of a grapheme cluster at the same odd level in logical order. By default they are reversed,
+ * as is all RTL text. Use it if the terminal draws clusters as units, such as emoji families, skin tones, flags, and
+ * letters with marks. HORDGULI_REORDER_NSM then has no effect. For example, RLO `man ZWJ woman` is written as RLO
+ * `woman ZWJ man` by default, which no terminal draws as one emoji. Choose this option, unless the terminal draws only
+ * marks, and not emoji sequences, in the cell of their base; then choose HORDGULI_REORDER_NSM. Since 0.6. */
 #define HORDGULI_REORDER_CLUSTERS UINT32_C(32)
-/* Shows the spaces with which the tail of a line begins, as many as fit in the width. So they have carets, hits and
- * spans. Lines end where they end without this option. A line that is wider than the width shows none of these spaces,
+/* Shows the spaces at the start of a line's tail, as many as fit in the width. So they have carets, hits and spans.
+ * Lines end at the same places as without this option. A line that is wider than the width shows none of these spaces,
  * even with HORDGULI_NOBREAK. In RTL paragraphs, they are to the left of the text. Since 0.6. */
 #define HORDGULI_SHOW_SPACES UINT32_C(64)
 /* Sets a tab stop every `n` columns, from 1 to 255. Columns are counted along each line in logical order. A tab (U+0009 of
@@ -311,7 +311,7 @@ typedef struct hordguli_session {
 /* The number of files. */
 #define HORDGULI_TABLE_FILES 7
 
-/* The index of each file, and that of an image in a fault. */
+/* The index of each file, and of an image in a fault. */
 #define HORDGULI_BIDI_CLASS 0        /* DerivedBidiClass.txt */
 #define HORDGULI_BIDI_BRACKETS 1     /* BidiBrackets.txt */
 #define HORDGULI_BIDI_MIRRORING 2    /* BidiMirroring.txt */
@@ -336,12 +336,12 @@ typedef struct hordguli_bytes {
 
 /* Why bytes are not an image. If several causes apply, the first in this order is reported, but TRUNCATED comes after
  * VERSION if the image has a whole header. */
-#define HORDGULI_CAUSE_TRUNCATED 8     /* fewer bytes than the header has or its counts say */
-#define HORDGULI_CAUSE_MAGIC 9         /* other first bytes than those of an image */
+#define HORDGULI_CAUSE_TRUNCATED 8     /* fewer bytes than the header has or its counts state */
+#define HORDGULI_CAUSE_MAGIC 9         /* the first bytes are not those of an image */
 #define HORDGULI_CAUSE_FORMAT 10       /* another version of the format */
 #define HORDGULI_CAUSE_VERSION 11      /* a version of Unicode that is not supported */
-#define HORDGULI_CAUSE_EXCESS 12       /* more bytes than the counts say */
-#define HORDGULI_CAUSE_CHECKSUM 13     /* another checksum */
+#define HORDGULI_CAUSE_EXCESS 12       /* more bytes than the counts state */
+#define HORDGULI_CAUSE_CHECKSUM 13     /* the checksum does not match */
 #define HORDGULI_CAUSE_PAGE_NUMBER 14  /* a page number out of range */
 #define HORDGULI_CAUSE_ENTRY 15        /* invalid properties */
 #define HORDGULI_CAUSE_BRACKET 16      /* an invalid bracket */
@@ -357,13 +357,13 @@ typedef struct hordguli_table_fault {
 
 /* Opens the tables of Unicode 15.0 that the library contains. Reads no file.
  * Errors: NULL, ALREADY_OPEN, NO_MEMORY.
- * Cost: as `hordguli_tables_open_image`.
+ * Cost: as for `hordguli_tables_open_image`.
  * Since: 0.6. */
 hordguli_status hordguli_tables_open_builtin(hordguli_tables *tables);
 
 /* Opens the tables of `version` that the library contains, such as those of HORDGULI_UNICODE_17_0. Reads no file.
  * Errors: NULL, UNKNOWN_OPTION (another version), ALREADY_OPEN, NO_MEMORY.
- * Cost: as `hordguli_tables_open_image`.
+ * Cost: as for `hordguli_tables_open_image`.
  * Since: 0.6. */
 hordguli_status hordguli_tables_open_builtin_version(hordguli_tables *tables, uint32_t version);
 
@@ -384,9 +384,9 @@ hordguli_status hordguli_tables_open_image(hordguli_tables *tables, const void *
 hordguli_status hordguli_tables_read(hordguli_tables *tables, const hordguli_bytes files[HORDGULI_TABLE_FILES],
                                      hordguli_table_fault *fault);
 
-/* As `hordguli_tables_read`, with the files of `version`.
+/* Like `hordguli_tables_read`, with the files of `version`.
  * Errors: NULL, OVERLAP, UNKNOWN_OPTION (another version), ALREADY_OPEN, TABLE_FAULT, NO_MEMORY.
- * Cost: as `hordguli_tables_read`.
+ * Cost: as for `hordguli_tables_read`.
  * Since: 0.6. */
 hordguli_status hordguli_tables_read_version(hordguli_tables *tables, uint32_t version,
                                              const hordguli_bytes files[HORDGULI_TABLE_FILES],
@@ -396,12 +396,12 @@ hordguli_status hordguli_tables_read_version(hordguli_tables *tables, uint32_t v
  * is set only on UNREAD_FILE or TABLE_FAULT. On UNREAD_FILE, `errno` is that of the failed `open` or `read`, such as
  * ENOENT. If memory runs out before either fault is found, NO_MEMORY is returned.
  * Errors: NULL, OVERLAP, ALREADY_OPEN, UNREAD_FILE, TABLE_FAULT, NO_MEMORY.
- * Cost: as `hordguli_tables_read`. */
+ * Cost: as for `hordguli_tables_read`. */
 hordguli_status hordguli_tables_open_folder(hordguli_tables *tables, const char *folder, hordguli_table_fault *fault);
 
-/* As `hordguli_tables_open_folder`, with the files of `version`. Sets `errno` likewise.
+/* Like `hordguli_tables_open_folder`, with the files of `version`. Sets `errno` likewise.
  * Errors: NULL, OVERLAP, UNKNOWN_OPTION (another version), ALREADY_OPEN, UNREAD_FILE, TABLE_FAULT, NO_MEMORY.
- * Cost: as `hordguli_tables_read`.
+ * Cost: as for `hordguli_tables_read`.
  * Since: 0.6. */
 hordguli_status hordguli_tables_open_folder_version(hordguli_tables *tables, uint32_t version, const char *folder,
                                                     hordguli_table_fault *fault);
@@ -419,16 +419,16 @@ void hordguli_tables_close(hordguli_tables *tables);
 
 /* Lays out a text, and writes its lines to a buffer, as UTF-8. `*written` is the byte count. NULL with capacity 0 is
  * NO_ROOM if there is anything to write (see BUFFERS). The bytes are those that `hordguli_lines_utf8` writes for all
- * lines of a session with these `options`, this `width` and this text. `print` is as in that function. For example, the
- * line of a log:
+ * lines of a session with these `options`, this `width` and this text. `print` is as in that function. For example, for
+ * a line of a log:
  *
  *     status = hordguli_layout(&tables, HORDGULI_WEAK_LTR, 80, HORDGULI_PRINT_DEFAULT, line, strlen(line),
  *                              sizeof buffer, buffer, &written);
  *
- * The handle keeps the memory that a call used, and a call that needs no more than that allocates nothing, unless only
- * one of both has HORDGULI_LINE_SEPARATORS. The handle keeps at most 5 MB: memory for a text or for lines of more than
- * 65,536 bytes is freed. `hordguli_tables_close` frees it. Calls at the same time in several threads need a handle of
- * tables each.
+ * The handle keeps the memory that a call used. A later call that needs no more than that allocates nothing, unless
+ * only one of the two calls has HORDGULI_LINE_SEPARATORS. The handle keeps at most 5 MB: memory for a text or for lines
+ * of more than 65,536 bytes is freed. `hordguli_tables_close` frees it. Threads that call this at the same time need a
+ * handle of tables each.
  *
  * On NOT_UTF8, `hordguli_valid_utf8` says where. NO_MEMORY comes before NO_ROOM, because the lines are gathered before
  * their size is known.
@@ -445,22 +445,22 @@ hordguli_status hordguli_layout(hordguli_tables *tables, uint32_t options, uint3
  * Cost: O(length). */
 hordguli_status hordguli_count_utf8(const char *bytes, size_t length, size_t *count);
 
-/* Stores in `*valid` the length of the longest prefix of `bytes` that is valid UTF-8: `length` if all of it is, else
- * the index of the first byte that belongs to no character. An incomplete character at the end is not valid. After
- * NOT_UTF8, this is where the text is wrong, and the text before it is valid.
+/* Stores in `*valid` the length of the longest prefix of `bytes` that is valid UTF-8: `length` if all of it is valid,
+ * else the index of the first byte that belongs to no character. An incomplete character at the end is not valid. After
+ * NOT_UTF8, this is the index of the error, and the text before it is valid.
  * Errors: NULL, OVERLAP.
  * Cost: O(length).
  * Since: 0.6. */
 hordguli_status hordguli_valid_utf8(const char *bytes, size_t length, size_t *valid);
 
 /* Decodes UTF-8 text of `length` bytes. Stores the number of its characters in `*count`, and this many elements in each
- * array. Each array has `capacity` elements. NULL arrays are skipped, so with both NULL nothing needs room (see BUFFERS).
- *   characters  characters, for the functions below `Clusters and scripts`, `Rows` and `Levels and properties`
+ * array. Each array has `capacity` elements. NULL arrays are skipped, so with both NULL no room is needed (see BUFFERS).
+ *   characters  characters, for the functions in `Clusters and scripts`, `Rows` and `Levels and properties`
  *   offsets     byte offset of each character
  *
  * On NO_ROOM, `*count` is set and the arrays are unchanged. Text that is not UTF-8 is refused, as in all functions, so
  * a position always means the same character. On NOT_UTF8, `hordguli_valid_utf8` says where. To replace invalid bytes
- * by U+FFFD, decode the text before the first of them, write U+FFFD, skip one byte, and go on. So each invalid byte
+ * with U+FFFD, decode the text before the first of them, write U+FFFD, skip one byte, and repeat. So each invalid byte
  * becomes one U+FFFD.
  * Errors: NULL, OVERLAP, NOT_UTF8, NO_ROOM.
  * Cost: O(length).
@@ -473,9 +473,9 @@ hordguli_status hordguli_decode(const char *bytes, size_t length, size_t capacit
 /* What an edit replaced: `old_lines` lines from `first_line` on became `new_lines` lines, and likewise for paragraphs.
  * All other lines are unchanged, except that line `first_line + old_lines` becomes line `first_line + new_lines`, and
  * so on. If there are fewer lines than before, clear the rows below the last one. By design, damage names whole
- * paragraphs: all that contain or touch the edited range, even if nothing is inserted and deleted. So text that is
+ * paragraphs: all that contain or touch the edited range, even if nothing is inserted or deleted. So text that is
  * appended after a final separator also replaces the last paragraph. For the lines that changed, see
- * `hordguli_changed_lines`. A caller that draws everything anew may pass NULL as `damage`. */
+ * `hordguli_changed_lines`. A caller that redraws everything may pass NULL as `damage`. */
 typedef struct hordguli_damage {
     size_t first_line;
     size_t old_lines;
@@ -499,7 +499,7 @@ hordguli_status hordguli_session_open(hordguli_session *session, hordguli_tables
  * `hordguli_valid_utf8` says where. The rest is as in `hordguli_session_open`.
  * Errors: NULL, OVERLAP, UNKNOWN_OPTION, NOT_UTF8, ALREADY_OPEN (the session), CLOSED (the tables), WIDTH_OUT_OF_RANGE,
  * TEXT_TOO_LONG, PARAGRAPH_TOO_LONG, NO_MEMORY.
- * Cost: as `hordguli_session_open`.
+ * Cost: as for `hordguli_session_open`.
  * Since: 0.6. */
 hordguli_status hordguli_session_open_measured(hordguli_session *session, hordguli_tables *tables, uint32_t options,
                                                uint32_t width, const char *text, size_t length);
@@ -516,13 +516,13 @@ hordguli_status hordguli_insert(hordguli_session *session, size_t pos, const cha
 
 /* Deletes `count` characters, starting at `pos`. This can join paragraphs.
  * Errors: NULL, OVERLAP, CLOSED, OUT_OF_RANGE, PARAGRAPH_TOO_LONG, NO_MEMORY.
- * Cost: as `hordguli_insert`. */
+ * Cost: as for `hordguli_insert`. */
 hordguli_status hordguli_delete(hordguli_session *session, size_t pos, size_t count, hordguli_damage *damage);
 
 /* Replaces the `count` characters that start at `pos` with text, in one edit. On NOT_UTF8, `hordguli_valid_utf8` says
  * where.
  * Errors: NULL, OVERLAP, NOT_UTF8, CLOSED, OUT_OF_RANGE, TEXT_TOO_LONG, PARAGRAPH_TOO_LONG, NO_MEMORY.
- * Cost: as `hordguli_insert`. */
+ * Cost: as for `hordguli_insert`. */
 hordguli_status hordguli_replace(hordguli_session *session, size_t pos, size_t count, const char *text, size_t length,
                                  hordguli_damage *damage);
 
@@ -535,7 +535,7 @@ hordguli_status hordguli_set_width(hordguli_session *session, uint32_t width, ho
 
 /* Sets the width of a measured session, from 1 to 2,147,483,647. The rest is as in `hordguli_set_width`.
  * Errors: NULL, OVERLAP, CLOSED, NOT_MEASURED, WIDTH_OUT_OF_RANGE, NO_MEMORY.
- * Cost: as `hordguli_set_width`.
+ * Cost: as for `hordguli_set_width`.
  * Since: 0.6. */
 hordguli_status hordguli_set_measured_width(hordguli_session *session, uint32_t width, hordguli_damage *damage);
 
@@ -548,11 +548,11 @@ typedef struct hordguli_changed {
 } hordguli_changed;
 
 /* Stores in `*changed` which lines changed in the last successful call that edited the text, set the width or set
- * advances. These are the lines of its damage, which names whole paragraphs, without as many as possible at the start,
- * and then at the end, that are the same before and after the call: their characters, levels, maps, columns, advances,
- * base level and length, and whether they are the first of their paragraph. The padding, which depends on the width,
- * is not compared: RTL lines move when the width changes, so draw all of them then. After the session was opened, all
- * lines have changed. A call that fails changes nothing.
+ * advances. These are the lines of its damage, which names whole paragraphs, without the longest run of unchanged lines
+ * at the start, and then without the longest such run at the end. An unchanged line has the same characters, levels,
+ * maps, columns, advances, base level and length as before, and is still the first of its paragraph, or still is not.
+ * The padding, which depends on the width, is not compared: RTL lines move when the width changes, so draw all of them
+ * then. After the session is opened, all lines count as changed. A failed call has no effect on this.
  * Errors: NULL, OVERLAP, CLOSED.
  * Cost: O(1).
  * Since: 0.6. */
@@ -646,8 +646,8 @@ typedef struct hordguli_run {
 /* Stores the directional runs of a line's shown part, from left to right, for shaping text: the longest ranges of
  * characters at one level after L1. They do not depend on HORDGULI_REORDER_NSM and HORDGULI_REORDER_CLUSTERS, which
  * move characters only inside runs. The number of runs is stored in `*count`, and the runs in an array of `capacity`
- * elements. NULL with capacity 0 is NO_ROOM if there are runs (see BUFFERS). Fails with OUT_OF_RANGE if the line does
- * not exist. For the characters of a run, in logical order:
+ * elements. NULL with capacity 0 returns NO_ROOM if there are runs (see BUFFERS). Fails with OUT_OF_RANGE if the line
+ * does not exist. To read the characters of a run in logical order:
  *
  *     status = hordguli_line_start(&session, line, &start);
  *     if (!status) status = hordguli_text_utf32(&session, start + run.start, run.length, 80, characters, &length);
@@ -658,10 +658,10 @@ typedef struct hordguli_run {
 hordguli_status hordguli_runs(hordguli_session *session, size_t line, size_t capacity, hordguli_run *runs,
                               size_t *count);
 
-/* Writes `count` lines, starting with line `first`, to a buffer, as UTF-8. NULL with capacity 0 is NO_ROOM if there is
- * anything to write (see BUFFERS). `print` selects what is written for each line, in the order VISUAL, BASEDIR, LTOV,
- * VTOL, LEVELS. Each of these ends in U+000A. Numbers are decimal, separated by spaces. For example, the lines that an
- * edit changed:
+/* Writes `count` lines, starting with line `first`, to a buffer, as UTF-8. NULL with capacity 0 returns NO_ROOM if
+ * there is anything to write (see BUFFERS). `print` selects what is written for each line, in the order VISUAL,
+ * BASEDIR, LTOV, VTOL, LEVELS. Each of these ends in U+000A. Numbers are decimal, separated by spaces. For example, to
+ * write the lines that an edit replaced:
  *
  *     status = hordguli_lines_utf8(&session, damage.first_line, damage.new_lines,
  *                                  HORDGULI_PRINT_DEFAULT, capacity, buffer, &length);
@@ -672,15 +672,16 @@ hordguli_status hordguli_runs(hordguli_session *session, size_t line, size_t cap
 hordguli_status hordguli_lines_utf8(hordguli_session *session, size_t first, size_t count, uint32_t print,
                                     size_t capacity, char *buffer, size_t *length);
 
-/* Writes `count` characters, starting at `pos`, to a buffer, as UTF-8. NULL with capacity 0 is NO_ROOM, unless `count`
- * is 0 (see BUFFERS). NO_MEMORY comes before NO_ROOM, as in `hordguli_lines_utf8`.
+/* Writes `count` characters, starting at `pos`, to a buffer, as UTF-8. NULL with capacity 0 returns NO_ROOM, unless
+ * `count` is 0 (see BUFFERS). NO_MEMORY comes before NO_ROOM, as in `hordguli_lines_utf8`.
  * Errors: NULL, OVERLAP, CLOSED, OUT_OF_RANGE, NO_MEMORY, NO_ROOM.
- * Cost: as `hordguli_lines_utf8`. */
+ * Cost: as for `hordguli_lines_utf8`. */
 hordguli_status hordguli_text(hordguli_session *session, size_t pos, size_t count, size_t capacity, char *buffer,
                               size_t *length);
 
 /* Stores `count` characters, starting at `pos`, in an array of `capacity` elements, in logical order and not mirrored,
- * as a shaper needs them. `*length` is `count`. NULL with capacity 0 is NO_ROOM, unless `count` is 0 (see BUFFERS).
+ * as a shaper needs them. `*length` is `count`. NULL with capacity 0 returns NO_ROOM, unless `count` is 0 (see
+ * BUFFERS).
  * Errors: NULL, OVERLAP, CLOSED, OUT_OF_RANGE, NO_ROOM.
  * Cost: O(log n) per paragraph, plus O(count).
  * Since: 0.6. */
@@ -715,14 +716,14 @@ typedef struct hordguli_position {
 /* Stores the position of a UTF-8 byte, counted from 0, in `*position`. At the end of the text, `pos` is the number of
  * characters and `rest` is 0. Fails with OUT_OF_RANGE if `byte` is past the end.
  * Errors: NULL, OVERLAP, CLOSED, OUT_OF_RANGE.
- * Cost: as `hordguli_byte_of`.
+ * Cost: as for `hordguli_byte_of`.
  * Since: 0.6. */
 hordguli_status hordguli_position_of_byte(hordguli_session *session, size_t byte, hordguli_position *position);
 
 /* Stores the position of a UTF-16 code unit, counted from 0, in `*position`. At the end of the text, `pos` is the number
  * of characters and `rest` is 0. Fails with OUT_OF_RANGE if `unit` is past the end.
  * Errors: NULL, OVERLAP, CLOSED, OUT_OF_RANGE.
- * Cost: as `hordguli_utf16_of`.
+ * Cost: as for `hordguli_utf16_of`.
  * Since: 0.6. */
 hordguli_status hordguli_position_of_utf16(hordguli_session *session, size_t unit, hordguli_position *position);
 
@@ -748,25 +749,26 @@ hordguli_status hordguli_paragraph(hordguli_session *session, size_t paragraph, 
 
 /* ---- Carets and edges ----
  *
- * A position has two edges: the leading edge of the character at it, and the trailing edge of the character before it.
- * Where the direction changes or a line wraps, the two are apart on the screen. An editor keeps one of them as its
- * caret; an edit goes to `pos` either way. For example, in `abc `, three Hebrew letters and ` def`, before 4 is at
- * column 7, right of the first letter, and after 4 at column 4, right of the space.
+ * A position has two edges: the leading edge of the character at that position, and the trailing edge of the character
+ * before it. Where the direction changes or a line wraps, the two are apart on the screen. An editor keeps one of them
+ * as its caret; edits happen at `pos` either way. For example, in a text of `abc `, three Hebrew letters and ` def`,
+ * the edge before 4 is at column 7, to the right of the first letter, and the edge after 4 at column 4, to the right of
+ * the space.
  *
- * A caret moves over one caret unit: a grapheme cluster, or its part in one level run if its characters are in several. A
- * boundary is a column where a caret unit begins or ends.
+ * A caret moves over one caret unit: a grapheme cluster or, if its characters are in several level runs, the part in
+ * one of them. A boundary is a column where a caret unit begins or ends.
  *
  * New programs keep an edge, and call these:
  *   - `hordguli_edge_caret` to draw the caret
  *   - `hordguli_step` and `hordguli_line_edges` for Left, Right, Home and End
  *   - `hordguli_nearest_edge` for clicks
- *   - `hordguli_edge_at` for Up and Down, and where Left and Right lead to another line
+ *   - `hordguli_edge_at` for Up and Down, and when Left or Right leads to another line
  *   - `hordguli_word_at` for words, and `hordguli_spans` for the selection
  *   - `hordguli_cluster_at` for the cluster that Backspace (at `pos - 1`) or Delete (at `pos`) removes
  *
- * After typing and Backspace, keep the edge after the position, but the one before it at the start of the text and
- * behind a separator, U+000B, U+000C or U+2028. After Delete, keep the edge before it. The guide has code for all of
- * these.
+ * After typing and Backspace, keep the edge after the position. At the start of the text, and after a separator,
+ * U+000B, U+000C or U+2028, keep the edge before it. After Delete, also keep the edge before it. The guide has code for
+ * all of these.
  *
  * `hordguli_caret_at` and `hordguli_hit_at` are for programs that keep a position. They know only its leading edge, and
  * leave clusters to the caller. */
@@ -782,7 +784,7 @@ typedef struct hordguli_place {
  * does not exist yet. Then `paragraph` and `line` are the numbers of paragraphs and lines in the text.
  *
  * U+2028, U+000B and U+000C end a line, but not its paragraph. At the end of a text that ends with one, the place and
- * the caret stay on that line. Each line has a character, and here none follows.
+ * the caret stay on that line. Each line has at least one character, and here none follows.
  * Errors: NULL, OVERLAP, CLOSED, OUT_OF_RANGE.
  * Cost: O(log n + log m) in a paragraph of m lines. */
 hordguli_status hordguli_place_of(hordguli_session *session, size_t pos, hordguli_place *place);
@@ -804,7 +806,7 @@ typedef struct hordguli_caret {
  *     base level of an empty paragraph. If it is odd, draw the caret at the right edge of the screen.
  *
  * Errors: NULL, OVERLAP, CLOSED, OUT_OF_RANGE.
- * Cost: as `hordguli_place_of`, plus O(length of the line). */
+ * Cost: as for `hordguli_place_of`, plus O(length of the line). */
 hordguli_status hordguli_caret_at(hordguli_session *session, size_t pos, hordguli_caret *caret);
 
 typedef struct hordguli_hit {
@@ -820,7 +822,7 @@ typedef struct hordguli_hit {
  *     0.
  *   - In a line of width 0: the first character, with `trailing` 0.
  *
- * So `trailing` is 0 except right of the text. To place the caret at screen column `x` of a padded line:
+ * So `trailing` is 0 except to the right of the text. To place the caret at screen column `x` of a padded line:
  *
  *     status = hordguli_hit_at(&session, line, x - info.padding, &hit);
  *     if (!status) status = hordguli_cluster_at(&session, hit.pos, &cluster);
@@ -875,8 +877,8 @@ typedef struct hordguli_span {
 /* Stores the columns that the characters from `from` up to but not including `to` cover in a line, for drawing a
  * selection: as few spans as possible, from left to right. Where the direction changes, a selection can have several.
  * `from` and `to` are positions in the text; those outside the line are ignored. The number of spans is stored in
- * `*count`, and the spans in an array of `capacity` elements. NULL with capacity 0 is NO_ROOM if there are spans (see
- * BUFFERS). Fails with OUT_OF_RANGE if the line does not exist.
+ * `*count`, and the spans in an array of `capacity` elements. NULL with capacity 0 returns NO_ROOM if there are spans
+ * (see BUFFERS). Fails with OUT_OF_RANGE if the line does not exist.
  *
  *     for (size_t line = first_line; line <= last_line; line++) {
  *         status = hordguli_spans(&session, line, from, to, 16, spans, &count);
@@ -904,19 +906,19 @@ typedef struct hordguli_edge {
     uint32_t zero;  /* always 0 in results, and ignored in arguments */
 } hordguli_edge;
 
-/* Stores in `*caret` where to draw the caret at an edge: on the line of the character whose edge it is. This is the
- * character at `pos` for HORDGULI_BEFORE, and the one before `pos` for HORDGULI_AFTER.
+/* Stores in `*caret` where to draw the caret at an edge: on the line of the character that the edge belongs to. This is
+ * the character at `pos` for HORDGULI_BEFORE, and the one before `pos` for HORDGULI_AFTER.
  *   - If a caret unit begins (or ends) with that character: at the start (or end) of the unit.
  *   - At another shown character: at its leading edge, which is the left one if its level is even, or its trailing edge.
  *   - At a character that is not shown, and before the end of the text: as in `hordguli_caret_at`.
  *
- * `level` is that of the character whose edge it is. In the line where a new paragraph would start, an odd `level`
- * means that the caret is at the right edge of the screen. A block cursor covers the cell at `column`, or at an odd
- * level the one to its left; if there is no such cell, the nearest one. Fails with OUT_OF_RANGE if the position is
- * past the end of the text, and for the edge after position 0.
+ * `level` is the level of that character. In the line where a new paragraph would start, an odd `level` means that the
+ * caret is at the right edge of the screen. A block cursor covers the cell at `column`, or at an odd level the one to
+ * its left; if there is no such cell, the nearest one. Fails with OUT_OF_RANGE if the position is past the end of the
+ * text, and for the edge after position 0.
  *
  * Errors: NULL, OVERLAP, UNKNOWN_OPTION, CLOSED, OUT_OF_RANGE, NO_MEMORY.
- * Cost: as `hordguli_cluster_at`, plus O(length of the line).
+ * Cost: as for `hordguli_cluster_at`, plus O(length of the line).
  * Since: 0.6. */
 hordguli_status hordguli_edge_caret(hordguli_session *session, hordguli_edge edge, hordguli_caret *caret);
 
@@ -936,18 +938,18 @@ hordguli_status hordguli_edge_caret(hordguli_session *session, hordguli_edge edg
  * In a right-to-left document, Left leads to the right end of the line below (SIZE_MAX), and Right to the left end of the
  * line above (0). Past the last line, `hordguli_edge_at` returns OUT_OF_RANGE.
  *
- * Each step changes the column. Repeated, steps meet every boundary in their direction. With HORDGULI_REORDER_NSM and
+ * Each step changes the column. Repeated steps reach every boundary in their direction. With HORDGULI_REORDER_NSM and
  * without HORDGULI_REORDER_CLUSTERS, this holds if the marks of the text have no columns. Of the nonspacing marks of
  * Unicode 15.0, only U+2D7F and U+1171E have columns.
  *
  * Errors: NULL, OVERLAP, UNKNOWN_OPTION, CLOSED, OUT_OF_RANGE, NO_MEMORY.
- * Cost: as `hordguli_edge_caret`.
+ * Cost: as for `hordguli_edge_caret`.
  * Since: 0.6. */
 hordguli_status hordguli_step(hordguli_session *session, hordguli_edge edge, uint32_t direction, hordguli_edge *next,
                               uint32_t *moved);
 
-/* Stores in `*edge` the edge at a column of a line, for moves to another line, as by Up and Down. For mouse clicks, see
- * `hordguli_nearest_edge`. Column 0 is the left edge of the shown part, right of padding.
+/* Stores in `*edge` the edge at a column of a line, for moving to another line, as with Up and Down. For mouse clicks,
+ * see `hordguli_nearest_edge`. Column 0 is the left edge of the shown part, right of padding.
  *   - In the shown part: the left end of the caret unit that covers the column.
  *   - Right of the shown part: its right end. So columns 0 and SIZE_MAX are the two ends of the line on the screen.
  *   - In a line of width 0: before its start.
@@ -955,17 +957,17 @@ hordguli_status hordguli_step(hordguli_session *session, hordguli_edge edge, uin
  *
  * Fails with OUT_OF_RANGE for later lines.
  * Errors: NULL, OVERLAP, CLOSED, OUT_OF_RANGE, NO_MEMORY.
- * Cost: as `hordguli_edge_caret`.
+ * Cost: as for `hordguli_edge_caret`.
  * Since: 0.6. */
 hordguli_status hordguli_edge_at(hordguli_session *session, size_t line, size_t column, hordguli_edge *edge);
 
-/* Stores in `*edge` the nearest edge to a column of a line, for mouse clicks, which may hit either half of a
- * character. In the shown part, this is the nearer end of the caret unit that covers the column, and from the unit's
- * middle the right one. Elsewhere, and in a unit of one column, it is the edge that `hordguli_edge_at` stores.
+/* Stores in `*edge` the edge nearest to a column of a line, for mouse clicks, which may hit either half of a character.
+ * In the shown part, this is the nearer end of the caret unit that covers the column, or the right end at the unit's
+ * middle. Elsewhere, and in a unit of one column, this is the edge that `hordguli_edge_at` stores.
  *
  * Fails with OUT_OF_RANGE for the same lines as `hordguli_edge_at`.
  * Errors: NULL, OVERLAP, CLOSED, OUT_OF_RANGE, NO_MEMORY.
- * Cost: as `hordguli_edge_caret`.
+ * Cost: as for `hordguli_edge_caret`.
  * Since: 0.6. */
 hordguli_status hordguli_nearest_edge(hordguli_session *session, size_t line, size_t column, hordguli_edge *edge);
 
@@ -985,12 +987,12 @@ hordguli_status hordguli_nearest_edge(hordguli_session *session, size_t line, si
 hordguli_status hordguli_line_edges(hordguli_session *session, size_t line, hordguli_edge *first, hordguli_edge *last);
 
 /* Stores where the grapheme clusters of a line end, counted from the start of the line, in an array of `capacity`
- * elements, and their number in `*count`. NULL with capacity 0 is NO_ROOM (see BUFFERS). The last one is the length of
- * the line, even if a cluster goes on in the next line. Fails with OUT_OF_RANGE if the line does not exist.
+ * elements, and their number in `*count`. NULL with capacity 0 returns NO_ROOM (see BUFFERS). The last one is the
+ * length of the line, even if a cluster continues on the next line. Fails with OUT_OF_RANGE if the line does not exist.
  *
  * NO_MEMORY comes before NO_ROOM.
  * Errors: NULL, OVERLAP, CLOSED, OUT_OF_RANGE, NO_MEMORY, NO_ROOM.
- * Cost: as `hordguli_cluster_at`, plus O(length of the line).
+ * Cost: as for `hordguli_cluster_at`, plus O(length of the line).
  * Since: 0.6. */
 hordguli_status hordguli_line_clusters(hordguli_session *session, size_t line, size_t capacity, size_t *ends,
                                        size_t *count);
@@ -998,10 +1000,10 @@ hordguli_status hordguli_line_clusters(hordguli_session *session, size_t line, s
 /* ---- Clusters and scripts ---- */
 
 /* Stores where the grapheme clusters of a text of `count` characters end, in an array of `capacity` elements, and their
- * number in `*cluster_count`. NULL with capacity 0 is NO_ROOM, unless `count` is 0 (see BUFFERS). The first cluster starts
- * at 0, each other one where the one before it ends, and the last one ends at `count`. No cluster continues after a
- * separator, so the clusters are those of a session with this text (`hordguli_cluster_at`), also of a text of several
- * paragraphs. NO_MEMORY comes before NO_ROOM.
+ * number in `*cluster_count`. NULL with capacity 0 returns NO_ROOM, unless `count` is 0 (see BUFFERS). The first
+ * cluster starts at 0, each other one where the one before it ends, and the last one ends at `count`. No cluster
+ * continues after a separator, so the clusters are those of a session with this text (`hordguli_cluster_at`), even for
+ * a text of several paragraphs. NO_MEMORY comes before NO_ROOM.
  * Errors: NULL, OVERLAP, NOT_A_CHARACTER, NO_MEMORY, NO_ROOM.
  * Cost: time and memory proportional to `count`.
  * Since: 0.6. */
@@ -1009,8 +1011,8 @@ hordguli_status hordguli_clusters(size_t count, const uint32_t *characters, size
                                   size_t *cluster_count);
 
 /* The `length` characters of a text from position `start` on, all of one script. `script` has the four letters of its
- * code (ISO 15924), the first one in the highest byte, such as 0x4C61746E for `Latn`. So it is an `hb_script_t` of
- * HarfBuzz. */
+ * code (ISO 15924), the first one in the highest byte, such as 0x4C61746E for `Latn`. This is the value of an
+ * `hb_script_t` of HarfBuzz. */
 typedef struct hordguli_script_run {
     size_t start;
     size_t length;
@@ -1020,15 +1022,16 @@ typedef struct hordguli_script_run {
 
 /* Stores the script runs of a text of `count` characters (UAX #24), for fonts and shapers: the longest ranges of
  * characters of one script. To shape a row, split its directional runs (`hordguli_row_runs`) where a script run ends.
- *   - A character has the script of its property Script. It is that of the Unicode version that
- *     `hordguli_width_unicode_version` returns. A private-use or unassigned character has the script Unknown (`Zzzz`).
- *   - If the property is Common or Inherited, as of a space, a digit or a mark, the character has the script of the one
- *     before it. At the start of the text, it has the first script that follows, or Common (`Zyyy`) if none does.
+ *   - A character has the script of its property Script, in the Unicode version that `hordguli_width_unicode_version`
+ *     returns. A private-use or unassigned character has the script Unknown (`Zzzz`).
+ *   - If the property is Common or Inherited, as for a space, a digit or a mark, the character has the script of the
+ *     one before it. At the start of the text, it has the first script that follows, or Common (`Zyyy`) if none does.
  *   - But a closing bracket whose property is Common has the script of its opening bracket, if it has one. Brackets are
  *     those of the tables. Of brackets that are nested more than 63 deep, only the innermost 63 are matched.
  *
  * The property Script_Extensions is not used. The number of runs is stored in `*run_count`, and the runs in an array of
- * `capacity` elements. NULL with capacity 0 is NO_ROOM, unless `count` is 0 (see BUFFERS). NO_MEMORY comes before NO_ROOM.
+ * `capacity` elements. NULL with capacity 0 returns NO_ROOM, unless `count` is 0 (see BUFFERS). NO_MEMORY comes before
+ * NO_ROOM.
  * Errors: NULL, OVERLAP, CLOSED, NOT_A_CHARACTER, NO_MEMORY, NO_ROOM.
  * Cost: time and memory proportional to `count`.
  * Since: 0.6. */
@@ -1037,20 +1040,20 @@ hordguli_status hordguli_script_runs(hordguli_tables *tables, size_t count, cons
 
 /* ---- Rows ---- */
 
-/* Puts a row of `count` characters into visual order. The caller chose where the row starts and ends. `base` is the
+/* Puts a row of `count` characters into visual order. The caller chooses where the row starts and ends. `base` is the
  * base level of its paragraph (`hordguli_base`), and `levels` are the levels of the row's characters in the whole
  * paragraph (`hordguli_levels`). `options` can have HORDGULI_REORDER_NSM and HORDGULI_REORDER_CLUSTERS. The clusters
  * are those of these characters alone. Stores `count` elements in each array. Each array has `capacity` elements. NULL
- * arrays are skipped, so with all arrays NULL any capacity is enough (see BUFFERS). Positions count from the start of the
- * row.
+ * arrays are skipped, so with all arrays NULL any capacity is enough (see BUFFERS). Positions count from the start of
+ * the row.
  *   visual      characters in visual order, mirrored (UAX #9, L4)
  *   row_levels  level of each character after L1, in logical order
  *   ltov        visual position of each logical position
  *   vtol        logical position of each visual position
  *
  * L1 applies to the row as to a line: separators, and white space before them and at the end of the row, get the level
- * `base`. All characters are shown, those at the end too. For example, a terminal that shows a paragraph in rows of 80
- * characters:
+ * `base`. All characters are shown, including those at the end. For example, in a terminal that shows a paragraph in
+ * rows of 80 characters:
  *
  *     status = hordguli_base(&tables, HORDGULI_WEAK_LTR, characters, count, &base);
  *     if (!status) status = hordguli_levels(&tables, HORDGULI_WEAK_LTR, characters, count, count, levels);
@@ -1069,10 +1072,10 @@ hordguli_status hordguli_row(hordguli_tables *tables, uint32_t options, uint32_t
 
 /* Stores the directional runs of a row, from left to right, for shaping text (see `hordguli_runs`). Positions count
  * from the start of the row. `base`, `characters` and `levels` are as in `hordguli_row`. The number of runs is stored
- * in `*run_count`, and the runs in an array of `capacity` elements. NULL with capacity 0 is NO_ROOM, unless `count` is
- * 0 (see BUFFERS). NO_MEMORY comes before NO_ROOM, because the levels after L1 are gathered first.
+ * in `*run_count`, and the runs in an array of `capacity` elements. NULL with capacity 0 returns NO_ROOM, unless
+ * `count` is 0 (see BUFFERS). NO_MEMORY comes before NO_ROOM, because the levels after L1 are gathered first.
  * Errors: NULL, OVERLAP, CLOSED, NOT_A_CHARACTER, OUT_OF_RANGE, NO_MEMORY, NO_ROOM.
- * Cost: as `hordguli_row`.
+ * Cost: as for `hordguli_row`.
  * Since: 0.6. */
 hordguli_status hordguli_row_runs(hordguli_tables *tables, uint32_t base, size_t count, const uint32_t *characters,
                                   const uint8_t *levels, size_t capacity, hordguli_run *runs, size_t *run_count);
@@ -1094,14 +1097,14 @@ hordguli_status hordguli_row_runs(hordguli_tables *tables, uint32_t base, size_t
 hordguli_status hordguli_base(hordguli_tables *tables, uint32_t direction, const uint32_t *characters, size_t count,
                               uint32_t *base);
 
-/* Stores in `levels` the level of each character before L1. NULL is NO_ROOM, unless `count` is 0 (see BUFFERS).
+/* Stores in `levels` the level of each character before L1. NULL returns NO_ROOM, unless `count` is 0 (see BUFFERS).
  * Errors: NULL, OVERLAP, UNKNOWN_OPTION, CLOSED, NO_ROOM, NOT_A_CHARACTER, NO_MEMORY.
  * Cost: time and memory proportional to `count`. */
 hordguli_status hordguli_levels(hordguli_tables *tables, uint32_t direction, const uint32_t *characters, size_t count,
                                 size_t capacity, uint8_t *levels);
 
-/* Stores in `marks` the break mark after each character. `options` is 0 or HORDGULI_WHOLE_NUMBERS. NULL is NO_ROOM, unless
- * `count` is 0 (see BUFFERS).
+/* Stores in `marks` the break mark after each character. `options` is 0 or HORDGULI_WHOLE_NUMBERS. NULL returns
+ * NO_ROOM, unless `count` is 0 (see BUFFERS).
  * Errors: NULL, OVERLAP, UNKNOWN_OPTION, CLOSED, NO_ROOM, NOT_A_CHARACTER, NO_MEMORY.
  * Cost: time and memory proportional to `count`. */
 hordguli_status hordguli_marks(hordguli_tables *tables, uint32_t options, const uint32_t *characters, size_t count,

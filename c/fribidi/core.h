@@ -1,6 +1,6 @@
 /* The functions of the proved crate hordguli_fribidi, on which fribidi.c is built.
  *
- * The parameters have the names of the crate's, as tests/c/exports checks. An array is a pointer and a length. The
+ * The parameters are named as in the crate, which tests/c/exports checks. An array is a pointer and a length. The
  * pointer is never NULL and is aligned for its type, even if the length is 0. An array that is written does not overlap
  * another one. */
 #ifndef HORDGULI_FRIBIDI_CORE_H

@@ -41,7 +41,7 @@ static size_t at_least_one(size_t n, size_t a) { return n == 0 ? a : n; }
  * Does not say when it fails. */
 tried rattle_alloc(size_t n, size_t a) { return block_or_nothing(malloc(at_least_one(n, a))); }
 
-/* Tries to make a block of rattle_alloc or rattle_realloc one of n bytes.
+/* Tries to resize a block of rattle_alloc or rattle_realloc to n bytes.
  *
  *     requires sizes    kept is the size of some first elements of an array, and n that of the new array, which has at least these;
  *                       a is the alignment of an element, and divides 16; n < 2^63

@@ -21,7 +21,7 @@ What to know before the first line:
 - Columns, as in carets, hits and spans, start at the left edge of a line's shown part. Add `Line.padding` to draw a right-to-left
   line at the right. The lines of `wrap` and `Session.lines` are padded with spaces.
 - Positions are indexes into a `str`. Positions, lines and columns are counted from 0.
-- A caret moves over one caret unit: a grapheme cluster, or its part in one level run if its characters are in several.
+- A caret moves over one caret unit: a grapheme cluster or, if its characters are in several level runs, the part in one of them.
 
 Classes (`help(hordguli.Session)` and so on):
 
@@ -94,7 +94,7 @@ from .tables import TABLE_FILES, default_tables
 from .tables import Tables as Tables
 from .text import base_level, breaks, clusters, count_utf8, display, levels, properties, row, row_runs, script_runs, valid_utf8, wrap
 
-# The functions and constants, and not the classes: so help(hordguli) shows the functions, and names the classes.
+# Only the functions and constants, so that help(hordguli) shows the functions and only names the classes.
 __all__ = [
     "TABLE_FILES",
     "UNICODE_VERSION",

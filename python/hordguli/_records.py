@@ -186,7 +186,7 @@ class Word(NamedTuple):
 
 
 class Position(NamedTuple):
-    """The character that has an offset, and how many of its own bytes or code units come before the offset."""
+    """The character that contains an offset, and how many of its own bytes or code units precede the offset."""
 
     # from hordguli.h: hordguli_position
     pos: int

@@ -266,8 +266,8 @@ class Session:
     # ---- Measuring ----
 
     def _start_measuring(self, text: str, measure: Measure, options: Options, tables: Optional[Tables]) -> None:
-        # This session finds the levels and the paragraph boundaries of a text, also if the tables are closed meanwhile. Between
-        # edits, it has the last text, if that is short.
+        # This session finds the levels and the paragraph boundaries of a text, even if the tables are closed in the
+        # meantime. Between edits, it has the last text, if that is short.
         self._sample = Session("", _MOST_COLUMNS, flags(Options, options, "options") | Options.NOBREAK, tables=tables)
         self._sample_length: Optional[int] = 0  # (`None` if it is not known)
         # While these tables are open, they find the levels of a short paragraph in half the time.
@@ -656,7 +656,7 @@ class Session:
         return _edge(found) if moved.value else None
 
     def edge_at(self, line: SupportsIndex, column: SupportsIndex) -> Edge:
-        """Returns the edge at a column of a line, for moves to another line. `nearest_edge` is for mouse clicks.
+        """Returns the edge at a column of a line, for moving to another line. `nearest_edge` is for mouse clicks.
 
         Columns 0 and `sys.maxsize` are the two ends of the line on the screen.
         """
@@ -665,7 +665,7 @@ class Session:
         return _edge(found)
 
     def nearest_edge(self, line: SupportsIndex, column: SupportsIndex) -> Edge:
-        """Returns the nearest edge to a column of a line, for mouse clicks, which may hit either half of a character.
+        """Returns the edge nearest to a column of a line, for mouse clicks, which may hit either half of a character.
 
         >>> with hordguli.Session("漢字") as text:
         ...     text.edge_at(0, 1), text.nearest_edge(0, 1)
@@ -702,11 +702,11 @@ class Session:
         return get_size(self._call, library.hordguli_utf16_of, size(pos))
 
     def position_of_byte(self, byte: SupportsIndex) -> Position:
-        """Returns the character that has a byte of the text in UTF-8, and how many of its own bytes come before."""
+        """Returns the character that contains a byte of the text in UTF-8, and how many of its own bytes precede that byte."""
         return get_record(Position, self._call, library.hordguli_position_of_byte, size(byte))
 
     def position_of_utf16(self, unit: SupportsIndex) -> Position:
-        """Returns the character that has a UTF-16 code unit of the text, and how many of its own units come before."""
+        """Returns the character that contains a UTF-16 code unit of the text, and how many of its own units precede that unit."""
         return get_record(Position, self._call, library.hordguli_position_of_utf16, size(unit))
 
 

@@ -56,7 +56,7 @@ def display(
 ) -> Union[str, bytes]:
     """Returns a text in visual order, for a program that draws each character to the right of the one before it.
 
-    Takes the place of `bidi.algorithm.get_display` of python-bidi. Each paragraph is one row, and its separator stays at its
+    Replaces `bidi.algorithm.get_display` of python-bidi. Each paragraph is one row, and its separator stays at its
     end. No character is added or removed. `bytes` are decoded, and the result is encoded.
 
     `direction` is a base direction of `Options`, by default `Options.WEAK_LTR`. `base_dir` is the parameter of python-bidi: `"L"` is
@@ -67,7 +67,7 @@ def display(
 
     What differs from python-bidi 0.4.2 (Debian 12):
 
-    - python-bidi has the parameters `upper_is_rtl` and `debug`, and its exception for a wrong `base_dir` is no `ValueError`.
+    - python-bidi has the parameters `upper_is_rtl` and `debug`, and its exception for a wrong `base_dir` is not a `ValueError`.
     - It takes classes from Python's `unicodedata`, and mirrors from an older table.
     - It raises `AssertionError` for isolates and for unassigned characters, and removes embeddings, overrides and BN.
     - It does not pair brackets (N0). It gives all paragraphs one direction, and its rules W1 to N2 do not stop at a paragraph's end.
@@ -264,8 +264,8 @@ def clusters(text: str) -> list[int]:
 def script_runs(text: str, *, tables: Optional[Tables] = None) -> list[ScriptRun]:
     """Returns the longest ranges of characters of one script (UAX #24), for fonts and shapers.
 
-    Spaces, digits, marks and other Common or Inherited characters have the script before them, at the start that after them. A
-    closing bracket has that of its opening one. `"Zyyy"` is Common, `"Zzzz"` Unknown.
+    Spaces, digits, marks and other Common or Inherited characters have the script before them or, at the start, the one after them. A
+    closing bracket has the script of its opening one. `"Zyyy"` is Common, `"Zzzz"` Unknown.
 
     >>> [run.script for run in hordguli.script_runs("ab (\\u05d0) c")]
     ['Latn', 'Hebr', 'Latn']

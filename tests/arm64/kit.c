@@ -33,7 +33,7 @@ static void holds(bool is_so, int line, const char *what) {
     if (!is_so) printf("tests/arm64/kit.c:%d: does not hold: %s\n", line, what);
 }
 
-/* What the last call of the heap requested, how many blocks there are, and whether calls fail. */
+/* What the last heap call requested, how many blocks there are, and whether calls fail. */
 static size_t requested;
 static long blocks;
 static bool refuses;

@@ -1,5 +1,5 @@
-/* Prints ICU's line break marks. Reads texts, one a line, as code points in hexadecimal, and prints for each one the mark after each
- * character: 'x', or '/' where a line may end. */
+/* Prints ICU's line break marks. Reads texts, one per line, as hexadecimal code points, and prints for each text the
+ * mark after each character: 'x', or '/' where a line may end. */
 #include <stdio.h>
 #include <stdlib.h>
 #include <unicode/ubrk.h>

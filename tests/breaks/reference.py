@@ -305,7 +305,7 @@ def bases(characters, version):
             counts[-1] += 1
         else:
             counts.append(1)
-            # (the width of an AL matters in 17.0 alone)
+            # (the width of an AL matters only in 17.0)
             letters.append(LETTERS[c._replace(line_class="AL", is_wide=False, kind="") if is_mark else c])
         end = c.line_class
     return counts, "".join(letters)

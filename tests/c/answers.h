@@ -10,7 +10,7 @@ typedef struct answer {
     size_t arguments[3], results[4];
 } answer;
 
-/* The most answers, and the most elements of an array */
+/* The maximum number of answers, and of elements of an array */
 enum { ANSWERS = 1 << 16, ELEMENTS = 512 };
 
 static answer answers[2][ANSWERS];
@@ -64,7 +64,7 @@ static inline void ask_position(hordguli_session *session, size_t pos, answer *t
     a->results[0] = (size_t)hordguli_utf16_of(session, pos, &a->results[1]);
 }
 
-/* Asks for what a line shows, and its runs. */
+/* Queries what a line shows, and its runs. */
 static inline void ask_shown(hordguli_session *session, size_t line, hordguli_line_info *info, answer *to) {
     static uint32_t visual[ELEMENTS], ltov[ELEMENTS], vtol[ELEMENTS];
     static uint8_t line_levels[ELEMENTS];

@@ -115,7 +115,7 @@ static void opened_by_folder(const char *folder) {
     HOLDS(tables.at != NULL);
 }
 
-/* Opens a folder, a file of which cannot be read. */
+/* Opens a folder in which one file cannot be read. */
 static void unread(const char *folder, uint32_t file, int why) {
     hordguli_tables opened = HORDGULI_TABLES_INIT;
     hordguli_table_fault fault = {77, 77, 77};
@@ -789,7 +789,7 @@ static void edge_statuses(void) {
     HOLDS(moved == 1 && found.pos == 18 && found.side == AFTER && found.zero == 0);
 }
 
-/* The session that rows of the next function are about. */
+/* The session that the rows of the next function describe. */
 static hordguli_session shown = HORDGULI_SESSION_INIT;
 
 static void show(const char *content, uint32_t options, uint32_t width) {

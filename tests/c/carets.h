@@ -62,7 +62,7 @@ static inline int begins_unit(size_t pos) {
     return 1;
 }
 
-/* A unit ends where the next one of its cluster begins, or with what is shown of the cluster. */
+/* A unit ends where the next one of its cluster begins, or else where the shown part of the cluster ends. */
 static inline size_t end_of_unit(size_t start) {
     size_t pos = start + 1;
     while (pos < length && are_together(start, pos) && characters[pos].is_shown && !begins_unit(pos)) pos++;

@@ -83,8 +83,9 @@ static void read_layout(hordguli_session *session) {
     }
 }
 
-/* With HORDGULI_REORDER_CLUSTERS, the order is that of a session without options of the order, but each maximal sequence
- * of characters of one cluster at one odd level is reversed once more. Lines, levels and columns stay. */
+/* With HORDGULI_REORDER_CLUSTERS, the order is that of a session without ordering options, except that each maximal
+ * sequence of characters of one cluster at one odd level is reversed once more. Lines, levels and columns stay the
+ * same. */
 static void clusters_are_ordered(hordguli_session *session, uint32_t width) {
     hordguli_session by_l2 = HORDGULI_SESSION_INIT;
     if ((options & HORDGULI_REORDER_CLUSTERS) == 0) return;
@@ -128,7 +129,7 @@ static void units_tile_lines(void) {
 /* ---- Shown spaces ---- */
 
 /* Compares the lines with those of a session without HORDGULI_SHOW_SPACES. They start at the same positions. Each shown
- * part has as many spaces more as follow it and fit. All spaces of Unicode's tables are U+0020. */
+ * part has, in addition, as many of the spaces that follow it as fit. All spaces of Unicode's tables are U+0020. */
 static void shown_spaces_are_right(uint32_t width) {
     hordguli_session session = HORDGULI_SESSION_INIT;
     hordguli_counts counts;

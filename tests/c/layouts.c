@@ -55,7 +55,7 @@ static size_t session_lines(const request *r) {
     return length;
 }
 
-/* Compares a layout with the lines of a session, also with a buffer that is one byte too small and with none. */
+/* Compares a layout with the lines of a session, including with a buffer that is one byte too small and with none. */
 static void is_page_of_session(const request *r) {
     size_t wanted = session_lines(r), written = 77;
     memset(page, '?', wanted + 1);

@@ -3,7 +3,7 @@
  * - Rows: examples of each rule.
  * - Edits and measures TEXTS random texts, whose advances the test keeps itself. Compares lines, columns, carets, hits, edges
  *   and selections with a reference implementation: the definitions of docs/reference.md, computed from break marks, levels,
- *   clusters and advances. The lines that two calls of a user have replaced must be all that differ.
+ *   clusters and advances. Only the lines that two calls of a user have replaced may differ.
  * - Edits SESSIONS sessions whose advances are the columns of their characters. Each must return what a session that is not
  *   measured returns. */
 #include "answers.h"
@@ -783,7 +783,7 @@ static void change_both(hordguli_session *plain, hordguli_session *measured) {
     HOLDS(memcmp(&damage, &edited, sizeof damage) == 0);
 }
 
-/* Both print the same, but for tabs and padding. */
+/* Both print the same, except for tabs and padding. */
 static void prints_are_equal(hordguli_session *plain, hordguli_session *measured) {
     static char pages[2][PRINTED * 8];
     uint32_t print = (uint32_t)below(128);

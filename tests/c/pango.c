@@ -1,5 +1,6 @@
-/* Compares where lines start with Pango's layout of the same text, at the advances that Pango measures, and times both. tests/c/pango runs it.
- * Usage: pango < TEXTS. Each line of TEXTS is a width in pixels, a space and a text without separators.
+/* Compares where lines start with Pango's layout of the same text, with the advances that Pango measures, and times
+ * both. tests/c/pango runs it. Usage: pango < TEXTS. Each line of TEXTS is a width in pixels, a space and a text
+ * without separators.
  *
  * Prints a line for each text: `same` and the number of lines, or `differ` and four numbers about the first line that starts
  * elsewhere:
@@ -12,7 +13,8 @@
  * An edit inserts a letter in the middle and deletes it. What is timed:
  *   - two changes of the width here, and in Pango until the lines are known
  *   - an edit here, with advances that are known
- *   - the same, but HarfBuzz shapes with Pango's fonts: from the spaces around what gets other characters, levels, fonts or scripts
+ *   - the same, but HarfBuzz first shapes, with Pango's fonts, the text between the spaces around the changed
+ *     characters, levels, fonts and scripts
  *   - the same, but it shapes all of the paragraph
  *   - an edit in Pango, which shapes all of the paragraph, until the lines are known
  * The number is that of texts for which shaping gives Pango's advances, before and after the edit. */
@@ -41,7 +43,7 @@ static hb_font_t *fonts[MOST_FONTS]; /* of Pango. The first is that of the descr
 static size_t font_count;
 static hb_buffer_t *buffer;
 
-/* What a caller keeps that shapes. */
+/* What a caller that shapes text keeps. */
 static hb_codepoint_t characters[MOST];
 static Style styles[MOST];
 static uint32_t shaped[MOST];
@@ -124,7 +126,7 @@ static void edit(hordguli_session *session, size_t pos, size_t count) {
     check(is_so && hordguli_set_advances(session, 0, count, advances, NULL) == HORDGULI_OK, "no edit");
 }
 
-/* Returns the script of a character, or that of the one before it if texts of all scripts have it. */
+/* Returns the script of a character, or that of the one before it if the character occurs in texts of all scripts. */
 static hb_script_t script_of(hb_codepoint_t c, hb_script_t before) {
     hb_script_t script = hb_unicode_script(hb_unicode_funcs_get_default(), c);
     return script == HB_SCRIPT_COMMON || script == HB_SCRIPT_INHERITED || script == HB_SCRIPT_UNKNOWN ? before : script;
@@ -186,8 +188,8 @@ static void shape_all(hordguli_session *session, size_t from, size_t to, size_t 
     check(hordguli_set_advances(session, 0, count, shaped, NULL) == HORDGULI_OK, "cannot measure");
 }
 
-/* After an edit at `pos`, shapes what is from a space to a space and has other characters or styles, or all characters.
- * The paragraph has `count` characters, of which `added` are new. Their number is -1 if one was deleted. */
+/* After an edit at `pos`, shapes the characters between two spaces around what has changed, or all characters. The
+ * paragraph has `count` characters, of which `added` are new. Their number is -1 if one was deleted. */
 static void shape_edited(hordguli_session *session, size_t pos, int added, size_t count, int is_whole) {
     static Style old[MOST];
     size_t from = 0, to = count, old_count = count - (size_t)added, kept = added > 0 ? pos + 1 : pos;
@@ -215,7 +217,8 @@ static void delete_shaped(hordguli_session *session, size_t pos, size_t count, i
     shape_edited(session, pos, -1, count, is_whole);
 }
 
-/* Checks that what an edit left is what shaping the whole paragraph gives. Returns whether Pango's advances are the same. */
+/* Checks that the result of an edit equals that of shaping the whole paragraph. Returns whether Pango's advances are
+ * the same. */
 static int is_shaped(hordguli_session *session, size_t count, const uint32_t *by_pango) {
     static uint32_t kept[MOST];
     memcpy(kept, shaped, count * sizeof *shaped);
@@ -224,7 +227,7 @@ static int is_shaped(hordguli_session *session, size_t count, const uint32_t *by
     return memcmp(shaped, by_pango, count * sizeof *shaped) == 0;
 }
 
-/* Shapes a text. Returns whether Pango's advances are the same, before an edit, in it and after it. */
+/* Shapes a text. Returns whether Pango's advances are the same, before, during and after an edit. */
 static int shapes_as_pango(hordguli_session *session, const char *text, size_t count) {
     gunichar *decoded = g_utf8_to_ucs4_fast(text, -1, NULL);
     memcpy(characters, decoded, count * sizeof *characters);

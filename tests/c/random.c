@@ -141,7 +141,7 @@ static void same_places(hordguli_session *kept, hordguli_session *anew, const ho
     }
 }
 
-/* Without a session, a text has the characters, offsets and clusters that it has in one. */
+/* Without a session, a text has the same characters, offsets and clusters as in a session. */
 static void text_alone_is_that_of_session(hordguli_session *session, const char *bytes, size_t size, size_t count) {
     static uint32_t characters[2][MOST * 4];
     static size_t offsets[MOST * 4], ends[MOST * 4];

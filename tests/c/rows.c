@@ -1,5 +1,5 @@
-/* Compares `hordguli_row` and `hordguli_row_runs` with plain versions of L1 to L4 (UAX #9), for random rows of random
- * paragraphs. Usage: rows FOLDER ROWS, where FOLDER has the table files. */
+/* Compares `hordguli_row` and `hordguli_row_runs` with simple implementations of L1 to L4 (UAX #9), for random rows of
+ * random paragraphs. Usage: rows FOLDER ROWS, where FOLDER has the table files. */
 #include "test.h"
 
 enum { MOST = 60, LETTERS = 56 };
@@ -112,7 +112,7 @@ static void order(row *r, const hordguli_character *records, uint32_t options, s
     for (unsigned level = 126; level > 0; level--) {
         for (size_t from = 0, to; from < count; from = to + 1) {
             for (to = from; to < count && r->levels[to] >= level;) to++;
-            /* each character of the interval is in it after the intervals of higher levels were reversed */
+            /* the interval has the same characters as before the intervals of higher levels were reversed */
             reverse(r->vtol, from, to);
         }
     }

@@ -1,4 +1,4 @@
-/* The lines of a session before and after a call, for tests of which lines changed. Include it after test.h. */
+/* The lines of a session before and after a call, for testing which lines changed. Include it after test.h. */
 #ifndef SNAPSHOT_H
 #define SNAPSHOT_H
 
@@ -50,8 +50,8 @@ static void lines_were_replaced(const snapshot *then, const snapshot *now, size_
     HOLDS(memcmp(then->lines + first + old, now->lines + first + new, (now->count - first - new) * sizeof *then->lines) == 0);
 }
 
-/* The changed lines are those of the damage, without as many as possible at its start, and then at its end, that are the
- * same before and after the call. */
+/* The changed lines are those of the damage, without the longest run of unchanged lines at its start, and then without
+ * the longest such run at its end. */
 static void changed_lines_are_right(hordguli_session *of, const snapshot *then, const snapshot *now, const hordguli_damage *damage) {
     hordguli_changed changed = {7, 7, 7};
     size_t before = 0, after = 0, first = damage->first_line, old = damage->old_lines, new = damage->new_lines;

@@ -145,7 +145,7 @@ static void line_is_right(hordguli_session *session, size_t line, size_t start, 
     for (size_t place = 0; place < info.shown; place++) {
         size_t k = start + vtol[place];
         HOLDS(widths[place] == columns_of(start, k));
-        /* A tab ends at a stop. With marks that have columns, its columns are those of the text before it all the same. */
+        /* A tab ends at a stop. Even with marks that have columns, the text before a tab determines its columns. */
         if (is_tab(k)) HOLDS((info.base == 0 ? column + widths[place] : info.columns - column) % tab_width == 0);
         column += widths[place];
     }

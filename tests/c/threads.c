@@ -1,7 +1,8 @@
-/* Makes the same edits on several threads at the same time, each in a session of its own. All sessions must end with the
- * same lines, and so must the layout of their text without a session, with tables of each thread. Half of them are opened on tables that the threads share, under a lock. Then the threads hand sessions over
- * to each other: each edit of a session is made by whichever thread is free, and the last one closes the session. Usage:
- * threads FOLDER THREADS CHANGES. */
+/* Makes the same edits on several threads at the same time, each in a session of its own. All sessions must end with
+ * the same lines. So must layouts of their text without a session, with tables of each thread. Half of them are opened
+ * on tables that the threads share, under a lock. Then the threads hand sessions over to each other: each edit of a
+ * session is made by whichever thread is free, and the last one closes the session. Usage: threads FOLDER THREADS
+ * CHANGES. */
 #include "test.h"
 
 #include <pthread.h>

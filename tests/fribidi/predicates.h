@@ -32,8 +32,8 @@ static int first_strong_in_isolate(const input *one) { return first_direction(on
 /* P3 gives a level even to a paragraph without strong characters. FriBidi returns the requested weak direction. */
 static int no_strong(const input *one) { return one->base != FRIBIDI_PAR_LTR && one->base != FRIBIDI_PAR_RTL && first_direction(one, 1) == 0; }
 
-/* P1: a separator ends a paragraph. If a list goes on after a separator, our library still treats it as one paragraph. FriBidi continues
- * at level 0, with no open embedding or isolate. */
+/* P1: a separator ends a paragraph. If a list continues after a separator, our library still treats it as one
+ * paragraph. FriBidi continues at level 0, with no open embedding or isolate. */
 static int separator_inside(const input *one) {
     for (int k = 0; k + 1 < one->length; k++)
         if (one->types[k] == FRIBIDI_TYPE_BS) return 1;

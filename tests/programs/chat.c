@@ -34,7 +34,7 @@ static void *sure(void *block) {
     return block;
 }
 
-/* Adds a message. One that is not UTF-8 is shown up to where it is wrong. */
+/* Adds a message. A message that is not UTF-8 is shown up to the first invalid byte. */
 static void add(const char *text, size_t length) {
     message *new;
     check(hordguli_valid_utf8(text, length, &length));

@@ -7,8 +7,8 @@
  *     text                                         prints the number of bytes, and the text
  *
  * The protocol's lines end at LF, CR and CR LF alone. Paragraphs end at other separators too, so a line can have several
- * of them. A character past the end of its line is the end of the line, and a line past the end of the text the end of
- * the text. */
+ * of them. A character past the end of its line stands for the end of the line, and a line past the end of the text for
+ * the end of the text. */
 #include <hordguli.h>
 #include <stdio.h>
 #include <stdlib.h>
@@ -60,7 +60,7 @@ static size_t unit_of(size_t pos) {
     return unit;
 }
 
-/* Notes which of the new paragraphs of an edit end a line. */
+/* Records which of the new paragraphs of an edit end a line. */
 static void note(const hordguli_damage *damage) {
     size_t first = damage->first_paragraph, after = first + damage->old_paragraphs;
     size_t now = paragraphs - damage->old_paragraphs + damage->new_paragraphs;

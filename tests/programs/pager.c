@@ -49,7 +49,7 @@ static uint32_t add_sequence(uint32_t look, const char *sequence, size_t length)
     return (uint32_t)looks_count++;
 }
 
-/* Takes the sequences that end in `m` out of a text. Returns its new length. */
+/* Removes the sequences that end in `m` from a text. Returns its new length. */
 static size_t take_sequences(char *text, size_t length) {
     size_t kept = 0, characters = 0;
     uint32_t look = 0;

@@ -424,7 +424,7 @@ MISSING = {
     "gir1.2-harfbuzz-0.0": "gi.require_version = lambda *_: int('none')",
     "libharfbuzz-gobject0": "gi.require_version, harfbuzz.buffer_create = print, fail",
 }
-# How the library is missing: there is no file, or it is no library of HarfBuzz.
+# How the library is missing: there is no file, or it is not a HarfBuzz library.
 LIBRARIES = "libnone.so.0", "libc.so.6"
 
 

@@ -9,7 +9,8 @@ from hypothesis import strategies as st
 
 # Letters of both directions, digits, brackets, marks, spaces, separators, isolates, wide and supplementary characters.
 ALPHABET = "ab\u05d0\u05d1\u0627\u06281\u0661()[]+,.$ \t\u05b0\u0301\u200d\u2067\u2068\u2069\u202b\u202c\u4e00\U0001d11e\U0001f1e9\n\r\u2028\u2029\u0085"
-# Characters that Unicode 17.0 breaks otherwise than 15.0: quotation marks, hyphens, maqaf, a slash, Javanese letters.
+# Characters that Unicode 17.0 breaks differently from 15.0: quotation marks, hyphens, maqaf, a slash, Javanese
+# letters.
 CHANGED = "\u201c\u201d\u00ab\u00bb\u2019-\u2010\u05be/%\ua9a7\ua9b1\u25cc"
 texts = st.text(st.sampled_from(ALPHABET), max_size=40)
 changed_texts = st.text(st.sampled_from(ALPHABET + CHANGED), max_size=40)

@@ -9,7 +9,7 @@
 enum { MOST = 256, BYTES = 1 << 18 };
 
 /* Letters of both directions, digits, brackets, marks, spaces, tabs, separators, embeddings and isolates, wide characters, flags, parts of
- * emoji families, and characters that break otherwise in Unicode 17.0. */
+ * emoji families, and characters that break differently in Unicode 17.0. */
 static const uint32_t alphabet[] = {
     'a', 'b', 0x5D0, 0x5D1, 0x627, 0x628, '1', '2', 0x661, '(', ')', '[', ']', '+', ',', '.', '$', '-', ' ', ' ', ' ', '\t', 0x5B0, 0x301,
     0x200D, 0x1F468, 0x1F467, 0x2067, 0x2068, 0x2069, 0x202B, 0x202E, 0x202C, 0x4E00, 0x1D11E, 0x1F1E9, 0x1F1EA, '\n', '\r', 0x2028, 0x2029,

@@ -5,7 +5,7 @@ import command
 from command import Costs
 
 SECONDS = 10
-# A paragraph may need 40 bytes a character.
+# A paragraph may need 40 bytes per character.
 KILOBYTES, KILOBYTES_OF_LONG_PARAGRAPHS = 100 * 1024, 10 * 1024 + 40 * 5_000_000 // 1024
 E = "\x1b"
 MILLION = 1_000_000
@@ -22,7 +22,7 @@ def in_parts(text):
     return "".join(lines(text[start : start + LIMIT]) for start in range(0, len(text), LIMIT))
 
 
-# Each has a name, its input, the output, and whether the status is 1 since a paragraph is over the limit.
+# Each has a name, its input, the output, and whether the status is 1 because a paragraph is over the limit.
 CASES = [
     ("an unfinished string of 10 MB", lambda: f"{E}]0;" + "u" * 10 * MILLION, lambda: "", False),
     ("a string of 10 MB", lambda: f"a{E}P" + "u" * 10 * MILLION + f"{E}\\b\n", lambda: "ab\n", False),

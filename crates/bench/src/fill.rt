@@ -85,8 +85,8 @@ const CASES: [Case; 12] = [
     },
 ];
 
-/// Prints a line for each case, for a paragraph of `characters` characters. It has the least times of laying
-/// out the paragraph and of filling it again, in nanoseconds, the number of lines, the width and the name.
+/// Prints a line for each case, for a paragraph of `characters` characters: the least times for laying out
+/// the paragraph and for filling it again, in nanoseconds, the number of lines, the width and the name.
 pub fn run(rt: &HostRuntime, folder: &str, characters: usize) -> Result<()> {
     let mut engine = engine(rt, folder)?;
     let answer = show_cases(rt, &mut engine, &CASES, characters);

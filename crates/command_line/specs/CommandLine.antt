@@ -1,4 +1,4 @@
--- The command line as it is described to `clap`, and the settings that its arguments give.
+-- The command line as it is described to `clap`, and the settings that its arguments specify.
 use Rattle.std.specs.Prelude.{◌≡◌, ◌≤◌, ◌==◌, ◌||◌, ◌⊎◌, not, ℕ, pos, Bool, true, false, List, [], ◌∷◌, ◌++◌, length, map, fold, codes, Option, Some, None, is_some, option_map, unwrap_or, if◌then◌else◌}
 use Rattle.std.specs.Str.{bytes_eq}
 use Rattle.std.specs.Str.Parse.{IsNumeral, digits_value, without_leading_plus}
@@ -180,8 +180,8 @@ pub record AreMatches (words : List Text) (matches : ArgMatches) : Type 0 where
   pub tabs : HasTabs (rows_of (found_of matches))
 
 -- Either `clap` refuses the arguments with this kind of error, or it accepts them and one of these faults
--- applies. The faults are tested in this order. More than one base direction is set. There is no such Unicode
--- version. A script has no text, or more than one. There are queries without a script.
+-- applies, which are tested in this order: more than one base direction is set, there is no such Unicode
+-- version, a script does not have exactly one text, or there are queries without a script.
 abbrev pub IsLineFault : List Text → LineFault → Type 0
 IsLineFault words (Words error) = IsAmong (kind_of error) (fault_of program words)
 IsLineFault words Directions = (fault_of program words ≡ []) × (base_of (matches_of program words) ≡ None)

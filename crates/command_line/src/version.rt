@@ -1,5 +1,5 @@
 //! What `--version` and `--help` print: the product's version and those of Unicode. The rules and table files
-//! have the versions of `ucd`, columns and grapheme clusters that of the kit's tables.
+//! have the versions of `ucd`; columns and grapheme clusters have the version of the kit's tables.
 //! `tools/sync_versions` generates this file from `VERSION`, `ucd` and the kit's tables. CI checks it.
 
 /// The product's version, followed by those of Unicode.

@@ -245,7 +245,8 @@ fn base_of(rtl: bool, ltr: bool, weak_rtl: bool, weak_ltr: bool) -> Option<Base>
     }
 }
 
-// Returns the Unicode version with this name, that of no name, or `None` if there is none.
+// Returns the Unicode version with this name, the default version if no name is given, or `None` if no
+// version has this name.
 fn version_by(name: Option<&str>) -> Option<Version>
     ensures { result ≡ version_by (option_map (λ name. name.now) name.entry) }
 {
@@ -273,7 +274,7 @@ fn fits_queries(queries: bool, script: Option<&str>) -> bool
 
 /// Parses the arguments after the program's name with `clap`.
 ///
-/// Fails with `Words` if `clap` refuses the arguments, or if they ask for help or the version. Fails with
+/// Fails with `Words` if `clap` refuses the arguments, or if they request help or the version. Fails with
 /// `NoMemory` if `clap` runs out of memory before it has decided this.
 pub fn parse<'a>(alloc: Global, words: &'a [&'a str]) -> Result<ArgMatches<'a>, LineFault>
     ensures ok { IfOk result (AreMatches (map (λ word. word.now) words.entry.now)) }

@@ -59,7 +59,7 @@ fn run_words(rt: &HostRuntime, words: &[&str]) -> Result<(), ProgramFault> {
     }
 }
 
-// Executes arguments without `--ucd`, with the installed folder of tables if there is one.
+// Executes arguments that lack `--ucd`, with the installed folder of tables if there is one.
 fn run_installed(rt: &HostRuntime, words: &[&str], fault: LineFault) -> Result<(), ProgramFault> {
     match installed_folder(rt, "../share/hordguli/ucd", Version::V15_0) {
         Ok(Some(folder)) => run_over(rt, folder.as_str(), words, fault),

@@ -26,7 +26,7 @@ pub(crate) fn read_start<R: Read>(
     input: &mut R,
 ) -> Result<Start, End> {
     let mut bytes = Vec::new(rt.alloc());
-    // Each read has at least one byte.
+    // Each read returns at least one byte.
     for _ in 0..FIRST_BYTES {
         match read_more(input, &mut bytes)? {
             Some(len) if len > 0 => (),
@@ -71,7 +71,7 @@ fn is_known(
     }
 }
 
-// Sets the direction of a text that has no more bytes, or enough of them.
+// Sets the direction of a text of which all bytes, or enough of them, were read.
 fn end_start(
     rt: &HostRuntime,
     engine: &mut Engine,

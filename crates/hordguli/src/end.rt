@@ -4,8 +4,8 @@ use terminal_options::OptionFault;
 use thiserror::Error;
 use ucd::{ImageFault, TableFault};
 
-/// Why the command ends. Displays as the message for standard error or, for help and the version, as the text
-/// for standard output.
+/// Why the command ends. Displayed as the message for standard error or, for help and the version, as the
+/// text for standard output.
 #[derive(Debug, Drop, Error)]
 pub(crate) enum End {
     #[error("{0}")]
@@ -26,7 +26,7 @@ pub(crate) enum End {
     Table(TableFault),
     #[error("hordguli: cannot use tables.image: {0}")]
     TableImage(ImageFault),
-    /// Standard output is a pipe that nobody reads any more, which is no error.
+    /// Standard output is a pipe whose reader is gone, which is no error.
     #[error("")]
     Closed,
     /// An error that was reported.

@@ -68,7 +68,7 @@ fn show_file(
     }
 }
 
-// Writes the lines of what a reader gives.
+// Writes the lines of the text that a reader returns.
 fn show<R: Read + Drop>(
     rt: &HostRuntime,
     engine: &mut Engine,
@@ -120,7 +120,7 @@ fn run_input<R: Read + Drop>(
     run(rt.alloc(), &mut reader, &mut writer, engine, form, last)
 }
 
-// The same in the direction of the whole text, of which the start is read first.
+// Does the same as `show`, in the direction of the whole text, whose start is read first.
 fn run_by_file<R: Read + Drop>(
     rt: &HostRuntime,
     engine: &mut Engine,
@@ -145,7 +145,7 @@ fn report_read(rt: &HostRuntime, name: &str, error: &Option<io::Error>) {
     }
 }
 
-// Reports why standard output cannot be written to, unless nobody reads it any more.
+// Reports why standard output cannot be written to, unless it is a pipe whose reader is gone.
 fn output_end(rt: &HostRuntime, error: &Option<io::Error>) -> End {
     match error {
         Some(error) if error.kind() == ErrorKind::BrokenPipe => return End::Closed,

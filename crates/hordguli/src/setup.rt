@@ -44,7 +44,7 @@ fn base_of(direction: Direction) -> Base {
     }
 }
 
-/// Compiles the pattern of `--prefix` so that it matches at the start of a text alone.
+/// Compiles the pattern of `--prefix` so that it matches only at the start of a text.
 pub(crate) fn pattern_of(rt: &HostRuntime, text: &str) -> Result<Regex, End> {
     check_pattern(rt, text)?;
     let Ok(anchored) = format!(in rt.alloc(); "\\A(?:{text})") else {
@@ -53,7 +53,7 @@ pub(crate) fn pattern_of(rt: &HostRuntime, text: &str) -> Result<Regex, End> {
     Regex::new(rt.alloc(), &anchored).map_err(pattern_end)
 }
 
-// Refuses a pattern that is none by itself, such as `a)(b`.
+// Refuses a pattern that is not valid by itself, such as `a)(b`.
 fn check_pattern(rt: &HostRuntime, text: &str) -> Result<(), End> {
     let _pattern = Regex::new(rt.alloc(), text).map_err(pattern_end)?;
     Ok(())

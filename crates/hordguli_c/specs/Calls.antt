@@ -23,7 +23,7 @@ abbrev pub AsksBy : {P A O : Type 0} → (P → Status → A → O → O → Typ
 AsksBy says None status held old new = (status ≡ is.UnknownOption) × (new ≡ old)
 AsksBy says (Some options) status held old new = Asks (says options) status held old new
 
--- a call that may change the object of a handle: an open handle stays open, and a closed one closed
+-- a call that may change the object of a handle: an open handle stays open, and a closed one stays closed
 abbrev pub Changes : {A O : Type 0} → (Status → A → A → O → O → Type 0) → Status → Option A → Option A → O → O → Type 0
 Changes does status None after old new = (status ≡ is.Closed) × (after ≡ None) × (new ≡ old)
 Changes does status (Some before) None old new = ⊥

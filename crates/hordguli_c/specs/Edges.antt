@@ -94,7 +94,7 @@ side_number After = 1
 abbrev pub edge_out : Edge → EdgeOut
 edge_out edge = record { pos = edge.pos; side = side_number edge.side; zero = 0 }
 
--- whether an edge is one of a character: only then may finding its caret allocate
+-- whether an edge belongs to a character: only then may finding its caret allocate
 unfoldable pub IsOfCharacter : SessionState → Edge → Type 0
 IsOfCharacter state edge = HasCharacter (length (text_at state)) edge
 
@@ -104,12 +104,13 @@ GivesEdgeCaret edge status state old new =
     OrNoMemory (IsOfCharacter state edge) status (new ≡ old)
     (Gives (option_map caret_out (edge_caret_at (rules_of state.engine) state.kept edge)) status old new)
 
--- The edge after a step is stored, and 1 as the number of steps. At the end of a line, 0 is stored as this number.
+-- The edge after a step is stored, and the number of steps, which is 1. At the end of a line, only the number 0 is
+-- stored.
 abbrev pub Steps : Option Edge → Status → EdgeOut × ℕ → EdgeOut × ℕ → Type 0
 Steps None status old new = (status ≡ is.Ok) × (new ≡ (old.0, 0))
 Steps (Some next) status old new = (status ≡ is.Ok) × (new ≡ (edge_out next, 1))
 
--- a step from an edge that the text has or has not; it may allocate if the text is not empty
+-- a step from an edge, given whether the edge exists; it may allocate if the text is not empty
 abbrev pub StepsIf : Bool → ℕ → Option Edge → Status → EdgeOut × ℕ → EdgeOut × ℕ → Type 0
 StepsIf true chars next status old new = OrNoMemory (0 < chars) status (new ≡ old) (Steps next status old new)
 StepsIf false chars next status old new = (status ≡ is.OutOfRange) × (new ≡ old)
@@ -129,7 +130,7 @@ GivesEdge n column status state old new =
     OrNoMemory (n < length (lines_in state.kept)) status (new ≡ old)
     (Gives (option_map edge_out (edge_at (rules_of state.engine) state.kept n column)) status old new)
 
--- the nearest edge to a column is stored
+-- the edge nearest to a column is stored
 abbrev pub GivesNearestEdge : ℕ → ℕ → Status → SessionState → EdgeOut → EdgeOut → Type 0
 GivesNearestEdge n column status state old new =
     OrNoMemory (n < length (lines_in state.kept)) status (new ≡ old)
@@ -142,7 +143,7 @@ edges_out edges = (edge_out edges.first, edge_out edges.last)
 abbrev pub GivesLineEdges : ℕ → Status → SessionState → EdgeOut × EdgeOut → EdgeOut × EdgeOut → Type 0
 GivesLineEdges n status state old new = Gives (option_map edges_out (line_edges (rules_of state.engine) state.kept n)) status old new
 
--- where the clusters of a line end is stored, if the line exists
+-- the ends of a line's clusters are stored, if the line exists
 abbrev pub PutsClusters : Option (List ℕ) → Status → List ℕ × ℕ → List ℕ × ℕ → Type 0
 PutsClusters None status old new = (status ≡ is.OutOfRange) × (new ≡ old)
 PutsClusters (Some ends) status old new = PutsItems ends status old new

@@ -1,5 +1,5 @@
--- What is stored for lines, paragraphs and text of a session: numbers, bytes, characters, and lists in optional arrays. Positions as
--- offsets in UTF-8 bytes or UTF-16 code units.
+-- What is stored for lines, paragraphs and text of a session: numbers, bytes, characters, and lists in optional arrays.
+-- Also, positions as offsets in UTF-8 bytes or UTF-16 code units.
 use Rattle.std.specs.Prelude.{◌≡◌, ℕ, ◌+◌, ◌<◌, ◌≤◌, ◌&&◌, Bool, List, length, map, option_map, slice_get, Option, Some, MatchBool}
 use Rattle.std.specs.List.{slice_range}
 use Rattle.lines.specs.Columns.{padding_of, width_at}
@@ -123,7 +123,7 @@ GivesOffset encoding pos status state = Gives (offset_of encoding (text_at state
 abbrev pub GivesPosition : Encoding → ℕ → Status → SessionState → PositionOut → PositionOut → Type 0
 GivesPosition encoding offset status state = Gives (option_map position_out (position_of encoding (text_at state) offset)) status
 
--- the information about a paragraph whose first character is at `start` and whose first line has number `first_line`
+-- the information about a paragraph whose first character is at `start` and whose first line is line `first_line`
 abbrev pub paragraph_out : ℕ → ℕ → Layout → ParagraphOut
 paragraph_out start first_line laid = record {
   length = length laid.text;

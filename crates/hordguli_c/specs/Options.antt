@@ -16,8 +16,8 @@ abbrev pub base_of : ℕ → Base
 base_of bits =
     if bits % 4 == 0 then WeakLtr else if bits % 4 == 1 then WeakRtl else if bits % 4 == 2 then Ltr else Rtl
 
--- Whether no bit of the direction is given both as 1 and as 0, and no bit above 26 is set. Bit 24 says that the lowest bit is given
--- as 0, and bit 25 says so of the next one. So the bits of two directions together are refused.
+-- Whether neither of the two direction bits is given both as 1 and as 0, and no bit above 26 is set. Bit 24 states that
+-- the lowest bit is 0, and bit 25 that the next one is 0. So the bits of two directions, combined, are refused.
 abbrev pub names_direction : ℕ → Bool
 names_direction bits =
     not (has_bit bits 1 && has_bit bits 16777216)
@@ -31,7 +31,7 @@ separates_lines bits = has_bit bits 67108864
 abbrev pub tables_by : ℕ → Option Tables → Option Tables
 tables_by bits held = option_map (contents_if (separates_lines bits)) held
 
--- the base direction, or `None` if another bit is set or the bits are those of two directions
+-- the base direction, or `None` if another bit is set or the bits combine two directions
 abbrev pub direction_of : ℕ → Option Base
 direction_of bits = if nat_lt (bits % 16777216) 4 && names_direction bits then Some (base_of bits) else None
 
@@ -46,8 +46,8 @@ tailoring_in bits = if bits == 0 then Some false else if bits == 16 then Some tr
 abbrev pub tailoring_of : ℕ → Option Bool
 tailoring_of bits = option_and_then tailoring_in (low_bits_of bits)
 
--- The options of a session, with the tab width in bits 8 to 15. `None` if an unknown bit or one of bits 16 to 23 is set, or the bits
--- are those of two directions.
+-- The options of a session, with the tab width in bits 8 to 15. `None` if an unknown bit or one of bits 16 to 23 is
+-- set, or the bits combine two directions.
 abbrev pub options_of : ℕ → Option Options
 options_of bits =
     if nat_lt (bits % 256) 128 && (bits / 65536 % 256 == 0 && names_direction bits) then Some (record {
@@ -60,7 +60,7 @@ options_of bits =
       tab_width = bits / 256 % 256;
     }) else None
 
--- the options of a row, which have only these two bits, or `None` if a bit other than 26 is set
+-- the options of a row: only bits 3 and 5 may be set; `None` for other numbers
 abbrev pub row_options_in : ℕ → Option Options
 row_options_in bits = if bits == 0 || (bits == 8 || (bits == 32 || bits == 40)) then options_of bits else None
 

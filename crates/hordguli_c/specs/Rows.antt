@@ -1,5 +1,5 @@
--- Rows that a caller broke. The levels of a row are those of its paragraph, before L1. All characters of a row are shown,
--- those at its end too.
+-- Rows that a caller broke. The levels of a row are those of its paragraph, before L1. All characters of a row are
+-- shown, including those at its end.
 use Rattle.std.specs.Prelude.{◌≡◌, ℕ, ◌<◌, ◌≤◌, ◌⊎◌, ◌&&◌, true, Bool, List, length, map, All}
 use Rattle.std.specs.Char.{IsScalar}
 use Rattle.ucd.specs.Tables.{class_of}
@@ -64,7 +64,7 @@ row_by tables options text levels =
 abbrev pub row_of : Tables → Options → ℕ → List ℕ → List ℕ → Row
 row_of tables options base text levels = row_by tables options text (row_levels tables base text levels)
 
--- what `LaidRow` holds: the levels after L1 and the maps, of a length
+-- what `LaidRow` holds: the levels after L1 and the maps, all of the text's length
 pub record IsSized (row : LaidRow) : Type 0 where
   pub levels_len : length row.levels.items ≡ length row.text.items
   pub ltov_len : length row.ltov.items ≡ length row.text.items

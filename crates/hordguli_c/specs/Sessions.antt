@@ -80,7 +80,7 @@ damage_out damage = record {
 abbrev pub changed_out : ChangedLines → ChangedOut
 changed_out changed = record { first_line = changed.first_line; old_lines = changed.old_lines; new_lines = changed.new_lines }
 
--- a call changed lines of a session, or left those of the last successful call
+-- the changed lines of a session are those of this call, or still those of the last successful call
 abbrev pub ChangesLines : SessionState → SessionState → Damage → Type 0
 ChangesLines before after damage = AreChanged (lines_in before.kept) (lines_in after.kept) damage after.changed
 
@@ -101,7 +101,7 @@ TriesEdit edit status before = Tries (Edits edit) (EditsNot edit) (0 < length (t
 abbrev pub TriesWidth : ℕ → Status → SessionState → SessionState → DamageOut → DamageOut → Type 0
 TriesWidth width status before = Tries (SetsWidth width) (SetsWidthNot width) (0 < length (text_at before)) status before
 
--- the same for a call for measured text
+-- the same as `Tries`, for a call for measured text
 abbrev pub TriesMeasured : (SessionState → SessionState → Damage → Type 0) → (SessionState → SessionState → AdvanceFault → Type 0) → Type 0
     → Status → SessionState → SessionState → DamageOut → DamageOut → Type 0
 TriesMeasured makes refuses may_want status before after old new =

@@ -16,7 +16,7 @@ use Rattle.hordguli_c.specs.declared.table_calls.TableFaultOut.{TableFaultOut}
 use Rattle.hordguli_c.specs.declared.status.Status.{Status}
 use Rattle.hordguli_c.specs.declared.status.Status.TheVariants as is
 
--- the version of Unicode with this number, which is the number in images, or `None` if no version has it
+-- the version of Unicode that images store as this number, or `None` if there is none
 abbrev pub version_of : ℕ → Option Version
 version_of number = if number == 0x000F_0000 then Some V15_0 else if number == 0x0011_0000 then Some V17_0 else None
 
@@ -38,7 +38,8 @@ abbrev pub TellsFault : Cause → TableFault → Status → TableFaultOut → Ta
 TellsFault cause.Memory fault status old new = (status ≡ is.NoMemory) × (new ≡ old)
 TellsFault why fault status old new = (status ≡ is.TableFault) × (new ≡ fault_out fault)
 
--- the handle has the tables of the files of a version, or an allocation failed, or the files have a fault
+-- the handle holds the tables read from the files of a version, or an allocation failed, or the files have a
+-- fault
 abbrev pub Reads : Version → UcdFiles → Status → Option Tables → TableFaultOut → TableFaultOut → Type 0
 Reads version files status (Some tables) old new = (status ≡ is.Ok) × AreTablesAs version files tables × (new ≡ old)
 Reads version files status None old new =
@@ -50,7 +51,7 @@ abbrev pub ReadsTables : Version → UcdFiles → Status → Option Tables → O
 ReadsTables version files status None after old new = Reads version files status after old new
 ReadsTables version files status (Some tables) after old new = (status ≡ is.AlreadyOpen) × (after ≡ Some tables) × (new ≡ old)
 
--- tables of the version with a number are read; if no version has this number, nothing changes
+-- tables of the version with the given number are read; if no version has this number, nothing changes
 abbrev pub ReadsTablesBy : Option Version → UcdFiles → Status → Option Tables → Option Tables → TableFaultOut → TableFaultOut → Type 0
 ReadsTablesBy None files status before after old new = (status ≡ is.UnknownOption) × (after ≡ before) × (new ≡ old)
 ReadsTablesBy (Some version) files status before after old new = ReadsTables version files status before after old new
@@ -80,7 +81,7 @@ TellsImageFault image.Memory status old new = (status ≡ is.NoMemory) × (new �
 TellsImageFault why status old new =
     (status ≡ is.TableFault) × (new ≡ record { file = 7; line = 0; cause = image_cause_number why })
 
--- the handle has the tables of the image, or the image has a fault, or an allocation failed
+-- the handle holds the tables of the image, or the image has a fault, or an allocation failed
 abbrev pub Decodes : List ℕ → Status → Option Tables → TableFaultOut → TableFaultOut → Type 0
 Decodes bytes status (Some tables) old new = (status ≡ is.Ok) × IsImageOf bytes tables × (new ≡ old)
 Decodes bytes status None old new = (why : ImageFault) × IsImageFault bytes why × TellsImageFault why status old new

@@ -352,7 +352,7 @@ pub struct EdgeOut {
     pub zero: u32,
 }
 
-// Returns the side with a number, or `None` if the number is unknown.
+// Returns the side with this number, or `None` if the number is unknown.
 fn side_of(side: u32) -> Option<Side>
     ensures { result ≡ side_of side }
 {
@@ -365,7 +365,7 @@ fn side_of(side: u32) -> Option<Side>
     }
 }
 
-// Returns the direction with a number, or `None` if the number is unknown.
+// Returns the direction with this number, or `None` if the number is unknown.
 fn step_direction(direction: u32) -> Option<Direction>
     ensures { result ≡ step_direction direction }
 {
@@ -378,7 +378,7 @@ fn step_direction(direction: u32) -> Option<Direction>
     }
 }
 
-// Returns the edge of a position on the side with a number, or `None` if the number is unknown.
+// Returns the edge of a position on the side with this number, or `None` if the number is unknown.
 fn edge_of(pos: usize, side: u32) -> Option<Edge>
     ensures { result ≡ edge_of pos side }
 {
@@ -562,7 +562,7 @@ fn find_nearest_edge(session: &SessionObject, n: usize, column: usize, edge: &mu
     }
 }
 
-/// Stores the nearest edge to a column of a line.
+/// Stores the edge nearest to a column of a line.
 #[unsafe(no_mangle)]
 pub extern "C" fn hordguli_core_nearest_edge(
     alloc: Global,

@@ -258,10 +258,10 @@ pub extern "C" fn hordguli_core_runs(
     with_object!(session, alloc, object, find_runs(&object, n, array, count))
 }
 
-// The most bytes that are reserved for output before its size is known.
+// The maximum number of bytes reserved for output before its size is known.
 const FIRST_ROOM: usize = 1_024;
 
-// Returns lines in the form in which they are printed. They go to an array of `len` bytes.
+// Returns the printed form of lines, which is to be copied to an array of `len` bytes.
 fn printed(
     alloc: Global,
     session: &SessionObject,
@@ -326,7 +326,7 @@ pub extern "C" fn hordguli_core_lines_utf8(
     )
 }
 
-// Returns characters as UTF-8. They go to an array of `len` bytes.
+// Returns characters as UTF-8, to be copied to an array of `len` bytes.
 fn encoded(
     alloc: Global,
     session: &SessionObject,
@@ -385,7 +385,7 @@ pub extern "C" fn hordguli_core_text(
     )
 }
 
-// Copies the characters from a position on to an array, as many as it has elements.
+// Fills an array with the characters from a position on.
 fn put_each_part(session: &SessionObject, pos: usize, array: &mut [u32])
     requires { pos + length array.old ≤ length (text_at session.now) }
     ensures { array.new ≡ slice_range (text_at session.now) pos (pos + length array.old) }
@@ -550,7 +550,7 @@ pub extern "C" fn hordguli_core_utf16_of(
     )
 }
 
-/// Stores the position of a UTF-8 byte.
+/// Stores the position of the character that contains a UTF-8 byte.
 #[unsafe(no_mangle)]
 pub extern "C" fn hordguli_core_position_of_byte(
     alloc: Global,
@@ -570,7 +570,7 @@ pub extern "C" fn hordguli_core_position_of_byte(
     )
 }
 
-/// Stores the position of a UTF-16 code unit.
+/// Stores the position of the character that contains a UTF-16 code unit.
 #[unsafe(no_mangle)]
 pub extern "C" fn hordguli_core_position_of_utf16(
     alloc: Global,

@@ -20,8 +20,8 @@ use bidi::Base;
 use lines::{Options, Print};
 
 // The options and print flags of include/hordguli.h. The two lowest bits of the options are the base
-// direction. Bit 24 says that the lowest bit is given as 0, and bit 25 says so of the next one. All calls
-// accept bit 26.
+// direction. Bit 24 states that the lowest bit is 0, and bit 25 that the next one is 0. All calls accept bit
+// 26.
 const LOW_BIT: u32 = 1;
 
 const HIGH_BIT: u32 = 2;
@@ -48,8 +48,8 @@ const SHOW_SPACES: u32 = 64;
 // Both options of a row.
 const REORDERS: u32 = 40;
 
-// Bits 8 to 15 are the tab width. Bits 16 to 23 are reserved: the header sets the lowest of them for a wider
-// tab stop.
+// Bits 8 to 15 are the tab width. Bits 16 to 23 are reserved: the header sets the lowest of them for a tab
+// width above 255.
 const TAB_WIDTH: u32 = 1 << 8;
 
 const RESERVED: u32 = 1 << 16;
@@ -122,7 +122,7 @@ pub fn separates_lines(bits: u32) -> bool
     has_bit(bits, LINE_SEPARATORS)
 }
 
-// Returns the bits below that of line separators, or `None` if a higher bit is set.
+// Returns the bits below the line separator bit, or `None` if a higher bit is set.
 fn low_bits_of(bits: u32) -> Option<u32>
     ensures { result ≡ low_bits_of bits }
 {

@@ -31,8 +31,8 @@ use std::alloc::{AllocError, Global};
 use ucd::{Tables, TextClasses};
 
 /// States, as a theorem, that a line of a paragraph is the row of its characters. All of them must be shown,
-/// and the clusters of the line must be those of its characters alone, or not matter. Costs nothing at run
-/// time.
+/// and the clusters of the line must either be those of its characters alone or not matter. Costs nothing at
+/// run time.
 pub fn row_is_line()
     ensures { (tables : Tables) (options : Options) (margin : Option ℕ) (base : ℕ) (text levels : List ℕ)
         (infos : List CharInfo) (start stop : ℕ)
@@ -65,7 +65,7 @@ impl Drop for LaidRow {
     }
 }
 
-// Returns whether all levels are levels of characters.
+// Returns whether no level is above the highest level of a character.
 fn are_levels(levels: &[u8]) -> bool
     ensures yes { IsTrue result → All (λ level. level ≤ 126) levels.now }
     ensures no { IsFalse result → ¬ All (λ level. level ≤ 126) levels.now }

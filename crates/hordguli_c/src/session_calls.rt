@@ -57,7 +57,7 @@ fn open_by(
     }
 }
 
-// Opens a session, and stores it in a closed handle. The tables lend it the buffers that they keep.
+// Opens a session, and stores it in a closed handle. The tables object lends its buffers to the session.
 fn open_at(
     alloc: Global,
     session: &mut SessionHandle,

@@ -20,7 +20,7 @@ pub enum Status {
     AlreadyOpen = 10,
     UnknownOption = 11,
     NoRoom = 12,
-    // hordguli.c returns 13 to 15.
+    // Only hordguli.c returns 13 to 15.
     NotMeasured = 16,
 }
 

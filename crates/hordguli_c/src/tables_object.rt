@@ -1,4 +1,4 @@
-//! Tables, with the buffers that the layout of a text without a session, or opening a session, reuses.
+//! Tables, with buffers that are reused to lay out a text without a session, and to open a session.
 ghost use Rattle.std.specs.Prelude.{◌≡◌, chars, IfOk};
 ghost use Rattle.hordguli_c.specs.Sessions.{IsFresh};
 ghost use Rattle.lines.specs.Engine.{rules_of};
@@ -20,8 +20,8 @@ use ucd::Tables;
 // Buffers are kept after a call whose text and printed lines have at most this number of bytes.
 const KEPT_BYTES: usize = 65_536;
 
-/// The object of a handle of tables. In contracts, it is its tables: what a call keeps for the next one never
-/// changes a result.
+/// The object of a handle of tables. Contracts see only the tables: buffers kept for the next call never
+/// change a result.
 pub struct TablesObject {
     tables: Tables,
     // An engine on the same tables.
@@ -105,7 +105,7 @@ impl TablesObject {
     }
 
     /// Copies the printed lines of a text to an array, if they fit, and stores the number of bytes. If
-    /// `separates` is set, only LF and CR end paragraphs. Only one of the engines keeps buffers.
+    /// `separates` is set, only LF and CR end paragraphs. Only the engine used last keeps buffers.
     pub fn put_page(
         &mut self,
         alloc: Global,
@@ -131,7 +131,7 @@ impl TablesObject {
     }
 
     /// Returns a new engine on the tables, or on those in which only LF and CR end paragraphs if `separates`
-    /// is set. Lends it the buffers.
+    /// is set. Lends the buffers to it.
     pub fn lend_engine(
         &mut self,
         alloc: Global,

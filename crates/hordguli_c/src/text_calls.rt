@@ -18,7 +18,7 @@ use lines::char_count;
 use simdutf8::compat::from_utf8;
 use std::alloc::Global;
 
-/// Copies the lines of a text, in the form in which they are printed, to an array as UTF-8, if they fit.
+/// Copies the printed lines of a text to an array as UTF-8, if they fit.
 #[unsafe(no_mangle)]
 pub extern "C" fn hordguli_core_layout(
     alloc: Global,

@@ -2,7 +2,7 @@
 use std::io;
 use std::io::Write;
 
-// The capacity of a buffer. No output here is as long.
+// The capacity of a buffer. All outputs here are shorter.
 const ROOM: usize = 512;
 
 /// The bytes that were written.
@@ -25,7 +25,7 @@ impl Printed {
         self.room.get(..self.len).unwrap_or(&[])
     }
 
-    /// Whether the bytes are one of these outputs.
+    /// Returns whether the bytes are one of these outputs.
     pub fn is_one_of(&self, pages: &[&[u8]]) -> bool {
         let mut found = false;
         for bytes in pages {

@@ -181,7 +181,7 @@ fn make<S: ParagraphStore<Kept>>(
     }
 }
 
-// Whether both sessions are equal, apart from their counters.
+// Returns whether both sessions are equal, apart from their counters.
 fn is_same<S: ParagraphStore<Kept>>(left: &Session<S>, right: &Session<S>) -> bool {
     let mut same = left.char_count() == right.char_count()
         && left.paragraph_count() == right.paragraph_count()
@@ -204,7 +204,7 @@ fn is_same_paragraph(left: Option<&Laid>, right: Option<&Laid>) -> bool {
     }
 }
 
-// Whether two layouts are equal. `&` is used since it has fewer paths to prove than `&&`.
+// Returns whether two layouts are equal. `&` is used since it has fewer paths to prove than `&&`.
 fn is_same_laid(left: &Laid, right: &Laid) -> bool {
     (left.text() == right.text())
         & (left.base() == right.base())

@@ -6,7 +6,7 @@ use std::path::{Path, PathBuf};
 use std::{env, io};
 use ucd::Version;
 
-// The folders of usual prefixes, for a program that cannot tell where it is.
+// The folders below the usual prefixes, for a program that cannot find out where it is.
 fn usual_folders(version: Version) -> [&'static str; 2] {
     match version {
         Version::V15_0 => ["/usr/local/share/hordguli/ucd", "/usr/share/hordguli/ucd"],
@@ -18,7 +18,7 @@ fn usual_folders(version: Version) -> [&'static str; 2] {
 }
 
 /// Returns the folder of the installed table files of a version, if there is one: `path`, relative to the
-/// program's folder. If `/proc` is not mounted, looks for the program by the name that it was started with,
+/// program's folder. If `/proc` is not mounted, looks for the program by the name under which it was started,
 /// then for the folder in `/usr/local` and `/usr`.
 pub fn installed_folder(
     rt: &HostRuntime,
@@ -71,8 +71,8 @@ fn folder_by_arguments(rt: &HostRuntime, path: &str) -> Result<Option<PathBuf>, 
     }
 }
 
-// Looks for the program in the folders of `PATH`, as the shell did that started it. An empty part of `PATH`
-// is the current folder, as POSIX says.
+// Looks for the program in the folders of `PATH`, as the shell that started it did. An empty part of `PATH`
+// is the current folder, as in POSIX.
 fn folder_by_search(
     rt: &HostRuntime,
     path: &str,

@@ -163,7 +163,7 @@ abbrev pub step_in : Option (List ℕ × List ℕ) → Option (ℕ × (Bool × B
 step_in None = None
 step_in (Some (pos, rest)) = both_of (number_in pos) (turn_in (parted rest))
 
--- the query that two numbers, one number or nothing after its word make
+-- the query whose word is followed by two numbers, one number or nothing
 abbrev pub with_two : (ℕ → ℕ → Query) → List ℕ → Option Query
 with_two query rest = option_map (λ n. query n.0 n.1) (both_in (parted rest))
 
@@ -173,7 +173,7 @@ with_one query rest = option_map query (number_in rest)
 abbrev pub with_none : Query → List ℕ → Option Query
 with_none query rest = if length rest == 0 then Some query else None
 
--- the query of a line that starts with a word; `other` is that of any other line
+-- the query of a line that starts with a word; `other` is the query of any other line
 abbrev pub by_word : Option (List ℕ) → (List ℕ → Option Query) → Option Query → Option Query
 by_word (Some rest) query other = query rest
 by_word None query other = other

@@ -37,9 +37,9 @@ pub enum Query {
     Byte(usize),
     /// The number of UTF-16 code units before a position.
     Utf16(usize),
-    /// The position of a UTF-8 byte.
+    /// The position of the character that contains a UTF-8 byte.
     FromByte(usize),
-    /// The position of a UTF-16 code unit.
+    /// The position of the character that contains a UTF-16 code unit.
     FromUtf16(usize),
     /// The screen column at which to draw the caret at an edge. The fields are the position, and whether the
     /// edge is after it.

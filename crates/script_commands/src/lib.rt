@@ -1,6 +1,6 @@
 //! The commands of edit scripts.
 //!
-//! `read_command` parses a line of a script to a `Command`. The crate `tool` executes it.
+//! `read_command` parses a line of a script into a `Command`. The crate `tool` executes it.
 #![tactic(auto)]
 
 mod commands;

@@ -12,8 +12,8 @@ use std::alloc::{AllocError, Global};
 use ucd::{Bracket, Tables};
 use ucd_script::Script;
 
-/// The maximum number of opening brackets that are kept, which bounds the time for each closing one. It is
-/// that of bracket pairs in UAX #9 (BD16).
+/// The maximum number of opening brackets that are kept, which bounds the time for each closing one. UAX #9
+/// has the same limit for bracket pairs (BD16).
 const MOST_OPEN: usize = 63;
 
 /// An opening bracket that is not closed yet: the closing bracket of its pair, and its script.
@@ -37,7 +37,7 @@ fn takes_script(script: Script) -> bool
     is_same(script, Script::Common) || is_same(script, Script::Inherited)
 }
 
-// Returns the script of the first character that does not take one, or Common if there is none.
+// Returns the script of the first character that has one of its own, or Common if there is none.
 fn first_script(text: &[char]) -> Script
     ensures { result ≡ first_script text.now }
 {
@@ -79,7 +79,7 @@ fn closed_by(
     }
 }
 
-// Returns the script of a character that takes one, given the script before it.
+// Returns the script that a character takes from others, given the script before it.
 fn taken_script(
     bracket: Option<Bracket>,
     openings: &HeapCircularBuffer<Opening>,

@@ -49,7 +49,7 @@ fn run_from(scripts: &[Script], start: usize) -> ScriptRun
 }
 
 /// Returns the runs of characters with these scripts, in the order of the text. Each run is as long as
-/// possible. Costs time proportional to the number of characters.
+/// possible. Needs time proportional to the number of characters.
 pub fn script_runs(alloc: Global, scripts: &[Script]) -> Result<Vec<ScriptRun>, AllocError>
     ensures runs { IfOk result (λ runs. runs.items ≡ runs_of scripts.now) }
     ensures memory { OnErr result (0 < length scripts.now) }

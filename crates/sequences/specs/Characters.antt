@@ -13,15 +13,16 @@ is_kept_control c = (nat_le 0x09 c && nat_le c 0x0D) || ((nat_le 0x1C c && nat_l
 abbrev pub is_dropped : ℕ → Bool
 is_dropped c = is_control c && not (is_kept_control c)
 
--- What strings and overstrikes contain: neither controls nor U+2028 and U+2029, so that they never span a line.
+-- The characters that strings and overstrikes may contain: all but controls, U+2028 and U+2029. So strings and
+-- overstrikes never span lines.
 abbrev pub is_inline : ℕ → Bool
 is_inline c = not (is_control c || (c == 0x2028 || c == 0x2029))
 
--- The characters at which a text can be cut, which neither are dropped nor can be in a string: the controls that remain, U+2028
--- and U+2029.
+-- The characters at which a text can be split, since they are neither dropped nor part of a string: the controls that
+-- remain, U+2028 and U+2029.
 abbrev pub ends_piece : ℕ → Bool
 ends_piece c = not (is_dropped c || is_inline c)
 
--- a C1 control that introduces what ESC and the character 0x40 below it do
+-- a C1 control that introduces the same as ESC and the character 0x40 below the control
 abbrev pub is_c1_introducer : ℕ → Bool
 is_c1_introducer c = nat_le 0x80 c && (nat_lt c 0xA0 && not (c == 0x85))

@@ -5,14 +5,15 @@ use Rattle.sequences.specs.Characters.{ends_piece, is_c1_introducer}
 use Rattle.sequences.specs.Sequences.{csi_end, is_intermediate, opens_string, string_end, terminator_len}
 use Rattle.sequences.specs.declared.lengths.TheConstants.{LONGEST_STRING}
 
--- The definitions below are of the text after an introducer.
+-- The definitions below apply to the text after an introducer.
 
 -- A string that is too long is known once it ends.
 abbrev pub knows_long : Bool → List ℕ → Bool
 knows_long is_osc [] = false
 knows_long is_osc (c ∷ text) = ends_piece c || (not (terminator_len is_osc (c ∷ text) == 0) || knows_long is_osc text)
 
--- Another string is known once a character follows it that it does not contain. After ESC, one more character is needed.
+-- Any other string is known once it is followed by a character that it cannot contain. After ESC, one more character is
+-- needed.
 abbrev pub knows_string : Bool → List ℕ → Bool
 knows_string is_osc text =
     let n = string_end text in
@@ -26,7 +27,7 @@ knows_after_escape (c ∷ text) =
     else if opens_string c then knows_string (c == 0x5D) text
     else nat_lt (prefix_len is_intermediate (c ∷ text)) (length (c ∷ text))
 
--- whether it is known where the sequence ends that a text begins with, or that there is none
+-- whether it is already known where the sequence that a text begins with ends, or that there is none
 abbrev pub knows_sequence : List ℕ → Bool
 knows_sequence [] = false
 knows_sequence (c ∷ text) =

@@ -1,4 +1,4 @@
--- What holds of all texts.
+-- What holds for all texts.
 use Rattle.std.specs.Prelude.{◌≡◌, ℕ, Bool, true, not, List, [], ◌∷◌, ◌++◌, map}
 use Rattle.std.specs.List.{list_all}
 use Rattle.sequences.specs.Characters.{ends_piece, is_dropped}
@@ -24,7 +24,7 @@ ShowsPlainText = (pen : Pen) (text : List ℕ) → list_all remains text ≡ tru
 abbrev pub ShowsTheSame : Type 0
 ShowsTheSame = (pen : Pen) (text : List ℕ) → characters_of (styled pen text) ≡ shown_text text
 
--- What a text shows is shown unchanged.
+-- The characters that a text shows, taken as a text, are shown unchanged.
 abbrev pub ShowsItself : Type 0
 ShowsItself = (text : List ℕ) → shown_text (shown_text text) ≡ shown_text text
 

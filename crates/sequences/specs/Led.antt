@@ -1,4 +1,5 @@
--- Parameters as the code writes them: with a semicolon before each, the first of which becomes the end of the introducer.
+-- Parameters as the code writes them: with a semicolon before each. The end of the introducer then replaces the first
+-- semicolon.
 use Rattle.std.specs.Prelude.{ℕ, List, ◌∷◌}
 use Rattle.std.specs.List.{flat_map}
 

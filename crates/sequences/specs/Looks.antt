@@ -94,7 +94,7 @@ value values k = slice_index_or values k 256
 abbrev pub is_kind : ℕ → Bool
 is_kind kind = kind == 5 || kind == 2
 
--- the color that values begin: the kind 5 and an index, or the kind 2 and red, green and blue
+-- the color at the start of some values: kind 5 and an index, or kind 2 and red, green and blue
 abbrev pub color_of : List ℕ → Option Color
 color_of values =
     if value values 0 == 5 then indexed (value values 1)
@@ -109,7 +109,7 @@ field_color fields =
     else if value fields 0 == 2 && length fields == 5 then color_of (2 ∷ drop 2 fields)
     else None
 
--- a parameter with fields, as `4:3`
+-- a parameter with fields, such as `4:3`
 abbrev pub with_fields : ℕ → List ℕ → Look → Look
 with_fields n fields look =
     if is_color n then with_color n (field_color fields) look
@@ -121,7 +121,7 @@ abbrev pub single : List ℕ → ℕ
 single (n ∷ []) = n
 single fields = 256
 
--- What a parameter does, given those that follow it. For `38;5;n` and `38;2;r;g;b`, those are values of the color.
+-- What a parameter does, given those that follow it. In `38;5;n` and `38;2;r;g;b`, these are the values of the color.
 abbrev pub changed : Look → List ℕ → List (List ℕ) → Look
 changed look [] following = look
 changed look (n ∷ []) following =
@@ -135,7 +135,8 @@ color_len following =
     else if value (map single following) 0 == 2 then 4
     else length following
 
--- the same, given the parameter with its fields, whose own kind is in the second one if it has several
+-- the number of following parameters that belong to a parameter with these fields: if the second field is a known kind
+-- of color, none do
 abbrev pub taken : List ℕ → List (List ℕ) → ℕ
 taken parameter following =
     if not (is_color (value parameter 0)) then 0

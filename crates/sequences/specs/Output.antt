@@ -40,7 +40,7 @@ blink_parameter None = []
 blink_parameter (Some Slow) = codes "5" ∷ []
 blink_parameter (Some Rapid) = codes "6" ∷ []
 
--- the foreground, or the background with 10 more
+-- the parameter of a foreground color or, if `more` is 10, of a background color
 abbrev pub color_parameter : ℕ → Option Color → List (List ℕ)
 color_parameter more None = []
 color_parameter more (Some (Basic n)) = digits ((if nat_lt n 8 then 30 else 82) + more + n) ∷ []
@@ -73,7 +73,7 @@ parameters_of look = weight_parameters look ++ (line_parameters look ++ (effect_
 abbrev pub sgr_of : List (List ℕ) → List ℕ
 sgr_of parameters = 0x1B ∷ 0x5B ∷ (join_with_byte 0x3B parameters ++ codes "m")
 
--- what resets attributes, and what sets them; nothing for the default ones
+-- what is written to reset attributes, and to set them; nothing for the default ones
 abbrev pub reset_text : Look → List ℕ
 reset_text look = if same_look look PLAIN then [] else sgr_of []
 

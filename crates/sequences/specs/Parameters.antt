@@ -12,7 +12,7 @@ is_semicolon c = c == 0x3B
 abbrev pub is_colon : ℕ → Bool
 is_colon c = c == 0x3A
 
--- a decimal number, or 256 for all larger ones, since none of them has a meaning; nothing is 0
+-- a decimal number, or 256 for all larger ones, since none of them has a meaning; no digits mean 0
 abbrev pub with_digit : ℕ → ℕ → ℕ
 with_digit n digit = min 256 (10 * n + (digit - 0x30))
 
@@ -30,8 +30,8 @@ parameters text = map fields (slice_split is_semicolon text)
 abbrev pub sgr : List ℕ → Option (List (List ℕ))
 sgr text = if slice_index text (prefix_len is_sgr text) == 0x6D then Some (parameters (take (prefix_len is_sgr text) text)) else None
 
--- A link: its parameters, a semicolon and its URI. An empty URI ends a link, and is an empty link here. Without a semicolon
--- it has no URI.
+-- A link: its parameters, a semicolon and its URI. An empty URI ends a link, and is represented as an empty link.
+-- Without a semicolon, there is no URI.
 abbrev pub uri_link : List ℕ → Option (List ℕ)
 uri_link link =
     if position_or_len is_semicolon link == length link then None

@@ -1,5 +1,5 @@
--- The parts of a text between separators, for a text that has the character before its first part too: an introducer or a
--- separator. So a text without characters has no parts. Only the code uses these definitions.
+-- The parts of a text between separators. The text includes the character before its first part: an introducer or a
+-- separator. So an empty text has no parts. Only the code uses these definitions.
 use Rattle.std.specs.Prelude.{ℕ, suc, ◌==◌, List, [], ◌∷◌, map}
 use Rattle.std.specs.List.{position_or_len, slice_split}
 use Rattle.sequences.specs.Parameters.{fields, number}

@@ -1,4 +1,4 @@
--- What the characters of a text tell, one by one, about the sequence that it begins with.
+-- What is known about the sequence that a text begins with, after each character of the text.
 use Rattle.std.specs.Prelude.{ℕ, ◌+◌, ◌-◌, nat_lt, ◌==◌, Bool, true, false, ◌&&◌, ◌||◌, List, [], ◌∷◌, if◌then◌else◌}
 use Rattle.sequences.specs.Characters.{ends_piece, is_c1_introducer, is_inline}
 use Rattle.sequences.specs.Sequences.{is_intermediate, is_parameter, opens_string}
@@ -6,7 +6,7 @@ use Rattle.sequences.specs.declared.known.Progress.{Progress}
 use Rattle.sequences.specs.declared.known.Progress.TheVariants.{Start, Escape, Parameters, Intermediates, InString, AfterString, InLong, AfterLong, Known}
 use Rattle.sequences.specs.declared.lengths.TheConstants.{LONGEST_STRING}
 
--- after this character after ESC
+-- the state after ESC and this character
 abbrev pub after_code : ℕ → Progress
 after_code c =
     if c == 0x5B then Parameters
@@ -23,25 +23,25 @@ after_intermediate c = if is_intermediate c then Intermediates else Known
 abbrev pub after_parameter : ℕ → Progress
 after_parameter c = if is_parameter c then Parameters else after_intermediate c
 
--- after this number of characters of a string and one more character
+-- the state after this number of characters of a string and one more character
 abbrev pub after_string : Bool → ℕ → ℕ → Progress
 after_string is_osc n c =
     if is_inline c then (if nat_lt n LONGEST_STRING then InString is_osc (n + 1) else InLong is_osc)
     else if c == 0x1B then AfterString
     else Known
 
--- after a string that is too long and one more character
+-- the state after a string that is too long and one more character
 abbrev pub after_long : Bool → ℕ → Progress
 after_long is_osc c =
     if c == 0x1B then AfterLong is_osc
     else if ends_piece c || (c == 0x9C || (is_osc && c == 0x07)) then Known
     else InLong is_osc
 
--- after such a string, ESC and one more character
+-- the state after such a string, ESC and one more character
 abbrev pub after_long_escape : Bool → ℕ → Progress
 after_long_escape is_osc c = if c == 0x5C then Known else after_long is_osc c
 
--- after one more character
+-- the state after one more character
 abbrev pub advanced : Progress → ℕ → Progress
 advanced Start c = after_start c
 advanced Escape c = after_code c
@@ -53,7 +53,7 @@ advanced (InLong is_osc) c = after_long is_osc c
 advanced (AfterLong is_osc) c = after_long_escape is_osc c
 advanced Known c = Known
 
--- after some more characters
+-- the state after some more characters
 abbrev pub after_all : Progress → List ℕ → Progress
 after_all progress [] = progress
 after_all progress (c ∷ text) = after_all (advanced progress c) text

@@ -8,7 +8,7 @@ use Rattle.sequences.specs.declared.look.Underline.TheVariants.{Single, Double, 
 use Rattle.sequences.specs.declared.look.Blink.{Blink}
 use Rattle.sequences.specs.declared.look.Blink.TheVariants.{Slow, Rapid}
 
--- k of `4:k`
+-- the number k in `4:k`
 abbrev pub underline_kind : Option Underline → ℕ
 underline_kind None = 0
 underline_kind (Some Single) = 1

@@ -17,7 +17,7 @@ is_csi_final c = nat_le 0x40 c && nat_le c 0x7E
 abbrev pub is_escape_final : ℕ → Bool
 is_escape_final c = nat_le 0x30 c && nat_le c 0x7E
 
--- The definitions below are of the text after an introducer. Their lengths leave the introducer out.
+-- The definitions below apply to the text after an introducer. Their lengths do not include the introducer.
 
 -- a control sequence: any parameters, any intermediates, and a final character at this index
 abbrev pub csi_end : List ℕ → ℕ
@@ -35,7 +35,8 @@ escape_len text =
 abbrev pub string_end : List ℕ → ℕ
 string_end text = prefix_len is_inline text
 
--- The length of what ends a string, or 0 for anything else: ST, as ESC \ or U+009C, and BEL for OSC.
+-- The length of the string terminator that a text begins with, or 0 if there is none: ST (ESC \ or U+009C) or, for OSC,
+-- BEL.
 abbrev pub terminator_len : Bool → List ℕ → ℕ
 terminator_len is_osc text =
     if slice_index text 0 == 0x9C || (is_osc && slice_index text 0 == 0x07) then 1
@@ -50,7 +51,7 @@ long_len is_osc (c ∷ text) =
     else if terminator_len is_osc (c ∷ text) == 0 then suc (long_len is_osc text)
     else terminator_len is_osc (c ∷ text)
 
--- A string that is not ended is incomplete, unless it is too long to have a meaning.
+-- An unterminated string is incomplete, unless it is too long to have a meaning.
 abbrev pub string_len : Bool → List ℕ → Option ℕ
 string_len is_osc text =
     let n = string_end text in

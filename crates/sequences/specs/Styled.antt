@@ -37,7 +37,7 @@ abbrev pub with_sgr : Pen → Option (List (List ℕ)) → Pen
 with_sgr pen None = pen
 with_sgr pen (Some parameters) = record pen { style = record { look = applied pen.style.look parameters; link = pen.style.link } }
 
--- OSC 8; a link that is one too many is dropped, so that the text after it has none
+-- the pen after OSC 8; a link beyond the limit is dropped, so that the text after it has no link
 abbrev pub with_link : Pen → Option (List ℕ) → Pen
 with_link pen None = pen
 with_link pen (Some link) =
@@ -45,11 +45,11 @@ with_link pen (Some link) =
     record { style = record { look = pen.style.look; link = link }; links_len = pen.links_len + length link; after_underline = pen.after_underline }
     else record pen { style = record { look = pen.style.look; link = [] } }
 
--- OSC, given the text after it
+-- the pen after OSC, given the text after OSC
 abbrev pub with_osc : Pen → List ℕ → Pen
 with_osc pen text = if nat_le (string_end text) LONGEST_STRING then with_link pen (osc_link (take (string_end text) text)) else pen
 
--- after a sequence, given the text after ESC
+-- the pen after a sequence, given the text after ESC
 abbrev pub after_sequence : Pen → List ℕ → Pen
 after_sequence pen [] = pen
 after_sequence pen (c ∷ text) =

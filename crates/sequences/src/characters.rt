@@ -41,7 +41,7 @@ pub(crate) fn is_inline(c: char) -> bool
     !(is_control(c) || c == '\u{2028}' || c == '\u{2029}')
 }
 
-// Returns whether a text can be cut at a character: neither is it dropped, nor can it be in a string.
+// Returns whether a text can be split at a character: it is neither dropped nor part of a string.
 pub(crate) fn ends_piece(c: char) -> bool
     ensures { result ≡ ends_piece c }
 {

@@ -19,20 +19,21 @@ pub enum Progress {
     Parameters,
     /// The last one is an intermediate.
     Intermediates,
-    /// The last ones are this number of characters of a string, or its introducer. Tells whether it is OSC.
+    /// The last ones are the introducer of a string and this number of its characters. The first field tells
+    /// whether it is OSC.
     InString(bool, usize),
     /// The last one is an ESC after a string.
     AfterString,
-    /// The last one is in a string that is too long. Tells whether it is OSC.
+    /// The last one is in a string that is too long. The field tells whether it is OSC.
     InLong(bool),
-    /// The last one is an ESC in such a string.
+    /// The last one is an ESC in such a string. The field tells whether it is OSC.
     AfterLong(bool),
-    /// Whatever follows, the sequence ends where it ends without that, or there is none.
+    /// Whatever follows, the sequence ends at the same place, or there is none.
     Known,
 }
 
 impl Progress {
-    /// Returns what a text tells after some more characters.
+    /// Returns the state after some more characters.
     pub fn scan(self, text: &[char]) -> Progress
         ensures { result ≡ after_all self text.now }
     {
@@ -45,7 +46,7 @@ impl Progress {
         progress
     }
 
-    /// Returns whether it is known where the sequence ends, or that there is none.
+    /// Returns whether it is already known where the sequence ends, or that there is none.
     pub fn is_known(self) -> bool
         ensures { result ≡ is_known self }
     {
@@ -91,7 +92,7 @@ fn after_start(c: char) -> Progress
     }
 }
 
-// Returns what a text tells whose last character is this one after ESC.
+// Returns the state of a text that ends with ESC and this character.
 fn after_code(code: u32) -> Progress
     ensures { result ≡ after_code code }
 {
@@ -126,7 +127,7 @@ fn after_intermediate(c: char) -> Progress
     }
 }
 
-// Returns what a text tells whose last character follows this number of characters of a string.
+// Returns the state of a text that ends with this number of characters of a string and one more character.
 fn after_string(is_osc: bool, len: usize, c: char) -> Progress
     ensures { result ≡ after_string is_osc len c }
 {

@@ -20,7 +20,7 @@ pub fn shows_the_same()
     ensures { ShowsTheSame }
 {}
 
-/// States, as a theorem, that what a text shows is shown unchanged.
+/// States, as a theorem, that the characters that a text shows, taken as a text, are shown unchanged.
 pub fn shows_itself()
     ensures { ShowsItself }
 {}

@@ -116,7 +116,7 @@ pub(crate) fn string_end(text: &[char]) -> usize
     prefix_len(Class::Inline, text)
 }
 
-// Returns the length of what ends a string, or 0 if the text does not begin with that.
+// Returns the length of the string terminator that a text begins with, or 0 if there is none.
 pub(crate) fn terminator_len(is_osc: bool, text: &[char]) -> usize
     ensures len { result ≡ terminator_len is_osc text.now }
     ensures within { result ≤ length text.now }
@@ -131,7 +131,7 @@ pub(crate) fn terminator_len(is_osc: bool, text: &[char]) -> usize
     }
 }
 
-// Returns the length of a string with its end and without its introducer.
+// Returns the length of a string, including its terminator but not its introducer.
 fn string_len(is_osc: bool, text: &[char]) -> Option<usize>
     ensures len { result ≡ string_len is_osc text.now }
     ensures within { IfSome result (λ n. n ≤ length text.now) }
@@ -147,7 +147,7 @@ fn string_len(is_osc: bool, text: &[char]) -> Option<usize>
     }
 }
 
-// Returns the length of a string that is too long after its first characters, with its end.
+// Returns the length of an overlong string after its first characters, including its terminator.
 fn long_len(is_osc: bool, text: &[char]) -> usize
     ensures len { result ≡ long_len is_osc text.now }
     ensures within { result ≤ length text.now }

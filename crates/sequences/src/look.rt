@@ -6,7 +6,7 @@ pub enum Color {
     /// One of the 16 colors that have parameters of their own: 30 to 37 are 0 to 7, and 90 to 97 are 8 to
     /// 15.
     Basic(u8),
-    /// One of 256 colors, as by `38;5;n`. A terminal may show it differently from the basic color n.
+    /// One of 256 colors, as set by `38;5;n`. A terminal may show it differently from the basic color n.
     Indexed(u8),
     /// Red, green and blue.
     Rgb(u8, u8, u8),

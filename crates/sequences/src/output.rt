@@ -166,7 +166,8 @@ fn push_parameters(look: &Look, out: &mut Vec<char>) -> Result<(), AllocError>
     push_colors(look, out)
 }
 
-// Replaces the semicolon at an index by the end of the introducer, or adds it there.
+// Replaces the semicolon at an index with the end of the introducer. If there is no semicolon, appends that
+// end.
 fn end_introducer(at: usize, out: &mut Vec<char>) -> Result<(), AllocError>
     requires { at ≤ length out.old.items }
     ensures { OnOk result (out.new.items ≡ take at out.old.items ++ 91 ∷ drop (at + 1) out.old.items) }

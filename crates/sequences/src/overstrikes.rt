@@ -10,7 +10,7 @@ pub(crate) const BS: char = '\u{8}';
 
 const LOW_LINE: char = '_';
 
-/// What is at a place: the character that is shown there, and what overstrikes make of it.
+/// What a place shows: a character, and the attributes that overstrikes give it.
 #[derive(Clone, Copy)]
 pub(crate) struct Struck {
     pub shown: char,
@@ -88,7 +88,7 @@ pub(crate) fn struck_first(after_underline: bool, first: char, text: &[char]) ->
     }
 }
 
-// Does the work of `struck_first` for a character that can be struck over.
+// Implements `struck_first` for a character that can be struck over.
 fn strike_all(after_underline: bool, first: Struck, text: &[char]) -> (Struck, usize)
     ensures struck { result.0 ≡ fold (strike after_underline) first (after_backspaces text.now) }
     ensures count { result.1 ≡ length (after_backspaces text.now) }

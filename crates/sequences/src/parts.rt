@@ -1,14 +1,14 @@
 //! The parameters of SGR and their fields.
 //!
-//! A text of parameters is passed with the character before it, and so is a parameter. An empty text then has
-//! no parameters, and an empty parameter has one field.
+//! Texts of parameters, and single parameters, are passed with the character before them. So an empty text
+//! has no parameters, and an empty parameter has one field.
 ghost use Rattle.std.specs.Prelude.{◌≡◌, ◌==◌, ◌≤◌, ◌<◌, ◌+◌, length, drop, map, take, count_by};
 ghost use Rattle.std.specs.List.{position_or_len};
 ghost use Rattle.sequences.specs.Looks.{single, value};
 ghost use Rattle.sequences.specs.Parameters.{number};
 ghost use Rattle.sequences.specs.Parts.{fields_after, first_len, parameters_after, parts_after};
 
-/// What stands for a value that is missing or has no meaning.
+/// The number that represents a value that is missing or has no meaning.
 pub(crate) const NO_VALUE: u32 = 256;
 
 fn number(digits: &[char]) -> u32

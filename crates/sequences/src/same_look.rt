@@ -6,7 +6,7 @@ ghost use Rattle.sequences.specs.SameLooks.{underline_kind};
 
 use crate::look::{Blink, Color, Look, Underline};
 
-/// Returns k of `4:k`.
+/// Returns the number k in `4:k`.
 pub(crate) fn underline_kind(underline: Option<Underline>) -> u32
     ensures { result ≡ underline_kind underline }
 {

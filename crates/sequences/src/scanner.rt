@@ -242,7 +242,7 @@ fn sgr_parameters(sequence: &[char]) -> Option<&[char]>
     }
 }
 
-// Returns a number of characters at the start of a text that are shown as they are.
+// Returns a number of characters at the start of a text that are all shown as they are.
 fn plain_len(text: &[char]) -> usize
     ensures within { result ≤ length text.now }
     ensures kept { list_all (λ c. not (is_dropped c)) (take result text.now) ≡ true }

@@ -123,7 +123,7 @@ fn rgb(r: u32, g: u32, b: u32) -> Option<Color>
     }
 }
 
-// Returns the color that parameters begin, if it has a known kind and is complete.
+// Returns the color at the start of some parameters, if it is of a known kind and complete.
 fn color_after(following: &[char]) -> Option<Color>
     ensures { result ≡ color_of (map single (parameters_after following.now)) }
 {
@@ -333,7 +333,7 @@ fn with_fields(n: u32, parameter: &[char], look: Look) -> Look
     }
 }
 
-// Returns the color of a parameter with several fields, if it has a known kind and is complete.
+// Returns the color of a parameter with several fields, if it is of a known kind and complete.
 fn field_color(parameter: &[char]) -> Option<Color>
     ensures { result ≡ field_color (drop 1 (fields_after parameter.now)) }
 {

@@ -189,7 +189,7 @@ fn has_style(run: StyleRun, look: Look, link: Link) -> bool
     }
 }
 
-// Returns whether links are at the same place or empty.
+// Returns whether links are at the same place, or both are empty.
 fn same_link(link: Link, other: Link) -> bool
     ensures { result ≡ true → (links : List ℕ) → take link.len (drop link.start links)
         ≡ take other.len (drop other.start links) }

@@ -1,4 +1,4 @@
--- Which of the lines that a call's damage names are not the same as before.
+-- Which of the damaged lines of a call differ from before.
 use Rattle.std.specs.Prelude.{◌≡◌, ◌≢◌, ℕ, ◌+◌, ◌-◌, ◌<◌, ◌≤◌, List, length, min, slice_get}
 use Rattle.std.specs.List.{All}
 use Rattle.lines.specs.Layouts.{Layout}
@@ -8,9 +8,9 @@ use Rattle.session.specs.Kept.{lines_in}
 use Rattle.session.specs.declared.edits.ChangedLines.{ChangedLines}
 use Rattle.session.specs.declared.edits.Damage.{Damage}
 
--- The damaged lines without as many lines as possible at their start, and then at their end, that are the same
--- before and after the call: the next line at the start differs, and so does the next one at the end, unless
--- the old lines or the new ones have no more.
+-- The damaged lines without the longest run of unchanged lines at their start, and then without the longest such
+-- run at their end: the next line at the start differs, and so does the next one at the end, unless the old
+-- lines or the new ones have no more.
 pub record AreChanged (old new : List Visual) (damage : Damage) (changed : ChangedLines) : Type 0 where
   pub start : damage.first_line ≤ changed.first_line
   pub end : changed.first_line + changed.old_lines ≤ damage.first_line + damage.old_lines
@@ -24,7 +24,7 @@ pub record AreChanged (old new : List Visual) (damage : Damage) (changed : Chang
 abbrev pub no_lines : ChangedLines
 no_lines = record { first_line = 0; old_lines = 0; new_lines = 0 }
 
--- all lines of a session that was opened have changed
+-- right after a session is opened, all of its lines have changed
 abbrev pub all_lines : List Layout → ChangedLines
 all_lines kept = record { first_line = 0; old_lines = 0; new_lines = length (lines_in kept) }
 
@@ -32,7 +32,7 @@ all_lines kept = record { first_line = 0; old_lines = 0; new_lines = length (lin
 abbrev pub HasLines : Layout → Type 0
 HasLines l = 0 < length l.lines
 
--- the damaged lines without some at their start, and then some at their end
+-- the damaged lines after some are trimmed from their start, and then some from their end
 abbrev pub without_same : Damage → ℕ → ℕ → ChangedLines
 without_same damage start end =
     let most = min damage.old_lines damage.new_lines in
@@ -40,6 +40,6 @@ without_same damage start end =
     let back = min end (most - front) in
     record { first_line = damage.first_line + front; old_lines = damage.old_lines - front - back; new_lines = damage.new_lines - front - back }
 
--- if each paragraph has a line, the changed lines are those of two lists of paragraphs
+-- if each paragraph has a line, these are the lines that changed between two lists of paragraphs
 abbrev pub AreFound : List Layout → List Layout → Damage → ChangedLines → Type 0
 AreFound old new damage changed = All HasLines old → All HasLines new → AreChanged (lines_in old) (lines_in new) damage changed

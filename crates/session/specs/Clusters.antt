@@ -1,4 +1,4 @@
--- The grapheme cluster of a character, and those of a line.
+-- The grapheme cluster of a character, and the clusters of a line.
 use Rattle.std.specs.Prelude.{ℕ, ◌+◌, ◌-◌, nat_le, Bool, List, [], length, slice_get, slice_index_or, Option, Some, None, option_and_then, option_map, if◌then◌else◌}
 use Rattle.std.specs.List.{flat_map}
 use Rattle.lines.specs.Clusters.{cluster_begin, cluster_end, cluster_ends, ends_in}

@@ -31,7 +31,8 @@ abbrev pub is_edge_at : ℕ → Side → Bool
 is_edge_at pos Before = true
 is_edge_at pos After = not (pos == 0)
 
--- whether a text of `chars` characters has an edge: before any position up to the end, or after any of these but 0
+-- whether an edge exists in a text of `chars` characters: before any position up to the end, or after any of them
+-- except 0
 abbrev pub is_edge_in : ℕ → Edge → Bool
 is_edge_in chars edge = nat_le edge.pos chars && is_edge_at edge.pos edge.side
 
@@ -57,7 +58,7 @@ left_column unit = if is_odd unit.level then unit.trailing else unit.leading
 abbrev pub right_column : CaretUnit → ℕ
 right_column unit = if is_odd unit.level then unit.leading else unit.trailing
 
--- the edge at the end of a unit that is nearer to a column of the unit; from its middle, the right one
+-- the edge at whichever end of a unit is nearer to a column of the unit; at the unit's middle, the right end
 abbrev pub nearer_edge : ℕ → ℕ → CaretUnit → Edge
 nearer_edge start column unit =
     if nat_lt (column - left_column unit) (right_column unit - column) then left_edge start unit else right_edge start unit
@@ -91,7 +92,7 @@ module _ (kept : List Layout) where
   abbrev pub caret_of : Side → ℕ → Place → Option Caret
   caret_of side pos place = option_and_then (λ line. option_map (caret_beside side place.line line (pos - place.offset) place.offset) (cluster_at kept pos)) (slice_get (lines_in kept) place.line)
 
-  -- A step from a column of a line to the nearest end of a unit: that of the unit which covers the next column.
+  -- A step from a column of a line over the unit that covers the next column, to the far end of that unit.
   abbrev pub step_on : Visual → ℕ → ℕ → Direction → Option Edge
   step_on line start column Right = option_map (right_edge start) (unit_at line start column)
   step_on line start zero Left = None
@@ -106,7 +107,7 @@ module _ (kept : List Layout) where
   abbrev pub edge_on : Visual → ℕ → ℕ → Edge
   edge_on line start column = edge_by start (unit_at line start column) (unit_at line start (columns_left line (length line.vtol) - 1))
 
-  -- the nearest edge to a column, given the units that cover this column and the last column
+  -- the edge nearest to a column, given the units that cover this column and the last column
   abbrev pub nearest_by : ℕ → ℕ → Option CaretUnit → Option CaretUnit → Edge
   nearest_by start column (Some unit) last = nearer_edge start column unit
   nearest_by start column None last = edge_by start None last
@@ -118,8 +119,8 @@ module _ (kept : List Layout) where
 abbrev pub is_next : Rules → List Layout → ℕ → Bool
 is_next rules kept n = (n == length (lines_in kept)) && is_closed rules (text_of kept)
 
--- the caret before or after a position, on the line of the character there; at the end of the text as `caret_at`; `None` past the end, and
--- after nothing
+-- The caret before or after a position, on the line of the character there. At the end of the text, it is the caret of
+-- `caret_at`. `None` past the end, and after position 0.
 abbrev pub edge_caret_by : Rules → List Layout → Side → ℕ → Option Caret
 edge_caret_by rules kept Before pos =
     if nat_le (length (text_of kept)) pos then caret_at rules kept pos else caret_of kept Before pos (place_in kept pos)
@@ -141,7 +142,7 @@ edge_at rules kept n column =
     if is_next rules kept n then Some (before (length (text_of kept)))
     else option_map (λ found. edge_on kept found.0 found.1 column) (line_at kept n)
 
--- the nearest edge to a column of line n; `None` for lines past the next one
+-- the edge nearest to a column of line n; `None` for lines past the next one
 abbrev pub nearest_edge : Rules → List Layout → ℕ → ℕ → Option Edge
 nearest_edge rules kept n column =
     if is_next rules kept n then Some (before (length (text_of kept)))
@@ -151,8 +152,9 @@ nearest_edge rules kept n column =
 abbrev pub end_of : List Layout → ℕ → ℕ
 end_of kept n = unwrap_or (slice_get (line_starts kept) (suc n)) (length (text_of kept))
 
--- The last edge of a line from `start` up to `end`, of which `visible` characters are shown: before the characters that end the line, before
--- the end of the text, before the first space that is not shown, or else after the last character.
+-- The last edge of a line from `start` up to `end`, of which `visible` characters are shown: before the separator that
+-- ends the line, else before the end of the text on its last line, else before the first space that is not shown, or
+-- else after the last character.
 abbrev pub last_edge : Rules → List ℕ → ℕ → ℕ → ℕ → Edge
 last_edge rules text start end visible =
     let separators = separator_len rules.tables (slice_index text (max (end - 2) start)) (slice_index text (end - 1)) in

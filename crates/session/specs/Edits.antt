@@ -72,13 +72,13 @@ refusal is_cut advances text edit =
     if nat_lt (length text) (edit.pos + edit.count) then Some OutOfRange
     else content_refusal is_cut (advances_after advances edit) (replaced text edit)
 
--- a text, its width, and if it is measured the advances of its characters
+-- a text, its width and, if it is measured, the advances of its characters
 pub record Held : Type 0 where
   pub text : List ℕ
   pub width : ℕ
   pub advances : Option (List ℕ)
 
--- the same after an edit that is not refused
+-- the text, its width and its advances after an edit that is not refused
 abbrev pub edited : Held → Replacement → Held
 edited held edit = record { text = replaced held.text edit; width = held.width; advances = advances_after held.advances edit }
 

@@ -4,11 +4,11 @@ use Rattle.std.specs.Str.{chars}
 use Rattle.lines.specs.Measures.{given_if}
 use Rattle.session.specs.declared.joined.Part.{Part}
 
--- the joined text of a part, a piece given by its bytes, and another part
+-- the text joined from a part, a piece given as UTF-8 bytes, and another part
 abbrev pub joined_text : Part → List ℕ → Part → List ℕ
 joined_text front piece back = front.text.now ++ (chars piece ++ back.text.now)
 
--- its advances, if it is measured; those of inserted characters are 0
+-- the advances of the joined text if it is measured; those of inserted characters are 0
 abbrev pub joined_advances : Bool → Part → List ℕ → Part → Option (List ℕ)
 joined_advances is_measured front piece back =
     given_if is_measured (front.advances.now ++ (replicate (length (chars piece)) 0 ++ back.advances.now))

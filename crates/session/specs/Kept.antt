@@ -34,7 +34,7 @@ advances_in is_measured kept = given_if is_measured (concat (advance_lists kept)
 abbrev pub first_advances : Bool → ℕ → Option (List ℕ)
 first_advances is_measured n = given_if is_measured (replicate n 0)
 
--- the advances of the first n characters of a text, and those of the other ones
+-- the advances of the first n characters of a text, and of the remaining ones
 abbrev pub front_advances : ℕ → Option (List ℕ) → Option (List ℕ)
 front_advances n advances = option_map (take n) advances
 
@@ -52,7 +52,7 @@ pub record TotalsFit (kept : List Layout) : Type 0 where
   pub bytes : sum_by (units_of Utf8) kept < 2 ^ 64
   pub utf16 : sum_by (units_of Utf16) kept < 2 ^ 64
 
--- the fresh layouts of paragraphs at a width, given the advances of their characters, one after another, if they are measured
+-- the fresh layouts of adjacent paragraphs at a width, given the advances of all their characters if they are measured
 abbrev pub layouts_from : Rules → ℕ → Option (List ℕ) → List (List ℕ) → List Layout
 layouts_from rules width advances [] = []
 layouts_from rules width advances (p ∷ pars) =
@@ -62,7 +62,7 @@ layouts_from rules width advances (p ∷ pars) =
 abbrev pub layouts_of : Rules → ℕ → List ℕ → List Layout
 layouts_of rules width text = layouts_from (with_advances rules None) width rules.advances (paragraphs (cut_by rules) text)
 
--- the rules for a paragraph that is laid out: its advances are its own
+-- the rules for laying out a paragraph again: the same rules with the paragraph's own advances
 abbrev pub rules_for : Rules → Layout → Rules
 rules_for rules kept = with_advances rules kept.advances
 
@@ -70,11 +70,11 @@ rules_for rules kept = with_advances rules kept.advances
 abbrev pub IsFresh : Rules → Layout → Type 0
 IsFresh rules kept = IsLaidOut (rules_for rules kept) kept
 
--- how many characters of a paragraph a width change fills again: all, or none if it keeps its only line
+-- how many characters of a paragraph are refilled when the width changes: all, or none if it keeps its only line
 abbrev pub changed_in : Rules → ℕ → Layout → ℕ
 changed_in rules width kept = if keeps_lines rules width kept then 0 else length kept.text
 
--- how many characters of a text a width change fills again
+-- how many characters of a text are refilled when the width changes
 abbrev pub changed : Rules → ℕ → List Layout → ℕ
 changed rules width kept = sum_by (changed_in rules width) kept
 
@@ -88,8 +88,8 @@ pub record ReflowState : Type 0 where
   pub by : Writer
   pub written : ℕ
 
--- A layout after its lines are written again by the given extents, if there are any. The extents of its old
--- lines are returned.
+-- A layout after its lines are rewritten from the given extents, if there are any, together with the extents of its old
+-- lines.
 abbrev pub put_into : Writer → Layout → Option LineExtents → Layout
 put_into writer kept None = kept
 put_into writer kept (Some extents) = reflowed writer.rules kept extents
@@ -98,7 +98,7 @@ abbrev pub taken_from : Layout → Option LineExtents → Option LineExtents
 taken_from kept None = None
 taken_from kept (Some extents) = Some (extents_in kept.lines)
 
--- the number of characters whose lines are written by the given extents
+-- the number of characters whose lines are written from the given extents
 abbrev pub written_for : Layout → Option LineExtents → ℕ
 written_for kept None = 0
 written_for kept (Some extents) = length kept.text

@@ -30,7 +30,7 @@ abbrev pub IsBoundedFor : AdvanceFault → (Engine → Engine → Type 0) → En
 IsBoundedFor NoMemory bound old new = bound old new
 IsBoundedFor fault bound old new = new ≡ old
 
--- a failed call changes nothing except the counters, and these only after `NoMemory`
+-- a failed call changes nothing except, after `NoMemory`, the counters
 pub record Remains (reason : Option AdvanceFault) (bound : Engine → Engine → Type 0) (old new : SessionState) (fault : AdvanceFault) : Type 0 where
   pub answer : IsFaultFor reason fault
   pub kept : new.kept ≡ old.kept
@@ -59,8 +59,8 @@ advances_refusal is_cut (Some old) text pos list =
     if nat_lt (length text) (pos + length list) then Some OutOfRange
     else (if have_room (advances_set old pos list) (paragraphs is_cut text) then None else Some ParagraphTooLong)
 
--- Whether the first of adjacent paragraphs has the first character of a range, and the last of them has its
--- last character. An empty range has no paragraphs.
+-- Whether some adjacent paragraphs cover a range: the first paragraph has the first character of the range,
+-- and the last paragraph has the last. An empty range has no paragraphs.
 pub record Cover (pars : List (List ℕ)) (pos count first number : ℕ) : Type 0 where
   pub none : count ≡ 0 → (first ≡ 0) × (number ≡ 0)
   pub within : first + number ≤ length pars
@@ -78,7 +78,7 @@ pub record IsMeasuredDamage (pos count : ℕ) (old new : List Layout) (damage : 
   pub pars : Replaces old new damage.first_par damage.old_pars damage.new_pars
   pub lines : Replaces (lines_in old) (lines_in new) damage.first_line damage.old_lines damage.new_lines
 
--- how many characters the paragraphs from one index to another have
+-- the number of characters in the paragraphs from one index to another
 abbrev pub covered_chars : List Layout → ℕ → ℕ → ℕ
 covered_chars kept first end = length (concat (slice_range (pars_of kept) first end))
 
@@ -96,6 +96,6 @@ pub record SetsAdvances (pos : ℕ) (list : List ℕ) (old new : SessionState) (
 abbrev pub SetsAdvancesNot : ℕ → List ℕ → SessionState → SessionState → AdvanceFault → Type 0
 SetsAdvancesNot pos list old = Remains (advances_refusal (cuts_at old) old.advances (text_at old) pos list) (FillsAtMost (length (text_at old))) old
 
--- the advances of the paragraphs of a range, with the new ones
+-- the advances of the paragraphs of a range once the new ones are set
 abbrev pub spliced : Spliced → List ℕ
 spliced list = list.front.now ++ (list.new.now ++ list.back.now)

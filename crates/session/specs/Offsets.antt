@@ -1,4 +1,4 @@
--- Positions of a text as numbers of UTF-8 bytes or UTF-16 code units: the units of an encoding.
+-- Positions of a text as offsets in the units of an encoding: UTF-8 bytes or UTF-16 code units.
 use Rattle.std.specs.Prelude.{◌≡◌, ℕ, ◌+◌, ◌-◌, ◌<◌, nat_le, nat_lt, List, ◌∷◌, ◌++◌, length, take, sum_by, option_map, Option, Some, None, if◌then◌else◌}
 use Rattle.std.specs.Char.{len_utf8}
 use Rattle.bidi.specs.Brackets.{greatest}
@@ -34,7 +34,7 @@ position_of encoding text offset =
     else option_map (λ pos. (pos, offset - length_in encoding (take pos text)))
     (greatest (λ pos. nat_le (length_in encoding (take pos text)) offset) (length text + 1))
 
--- the unit with number `offset` is number `rest` within the character at `pos`
+-- unit `offset` of the text is unit `rest` of the character at `pos`
 pub record IsUnitAt (encoding : Encoding) (text : List ℕ) (offset pos rest : ℕ) : Type 0 where
   pub before : List ℕ
   pub char : ℕ
@@ -44,7 +44,7 @@ pub record IsUnitAt (encoding : Encoding) (text : List ℕ) (offset pos rest : �
   pub rest_is : length_in encoding before + rest ≡ offset
   pub within : rest < size_in encoding char
 
--- the units of the paragraphs before a found one
+-- the number of units in the paragraphs before the one that was found
 abbrev pub before_in : Encoding → Found → ℕ
 before_in Utf8 found = found.bytes_before
 before_in Utf16 found = found.utf16_before

@@ -38,7 +38,7 @@ place_in kept pos = record {
   offset = pos - slice_index (line_starts kept) (count_to pos (line_starts kept) - 1);
 }
 
--- the paragraph and the line after the last ones
+-- the place after the last paragraph and the last line
 abbrev pub next_place : List Layout → Place
 next_place kept = record { paragraph = length kept; line = length (lines_in kept); offset = 0 }
 

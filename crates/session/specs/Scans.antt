@@ -23,8 +23,8 @@ is_over_scan scan = scan.is_over
 abbrev pub last_paragraph : List (List ℕ) → List ℕ
 last_paragraph pars = slice_index_or pars (length pars - 1) []
 
--- whether a scan has the last character of a text, whether the advances of a paragraph add up to 2^32 or more, and otherwise the sum of
--- those of its last paragraph
+-- whether a scan has the last character of a text and knows whether the advances of any paragraph add up to 2^32 or
+-- more; if none do, it also has the sum for the last paragraph
 pub record HasSummed (is_cut : ℕ → ℕ → Bool) (text advances : List ℕ) (scan : RoomScan) : Type 0 where
   pub last : scan.last ≡ slice_get text (length text - 1)
   pub each : length advances ≡ length text

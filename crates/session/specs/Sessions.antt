@@ -69,11 +69,11 @@ pub record IsWholeLayout (state : SessionState) : Type 0 where
 abbrev pub opening_refusal : (ℕ → ℕ → Bool) → List ℕ → ℕ → Option EditFault
 opening_refusal is_cut text width = if width == 0 then Some WidthOutOfRange else text_refusal is_cut text
 
--- whether a width is none that a measured session can have: 0, or more than 2^31−1
+-- whether a width is invalid for a measured session: 0, or more than 2^31−1
 abbrev pub is_no_width : ℕ → Bool
 is_no_width width = (width == 0) || nat_lt (2 ^ 31 - 1) width
 
--- the same for a measured session
+-- the reason for refusing to open a measured session, or `None`
 abbrev pub measured_refusal : (ℕ → ℕ → Bool) → List ℕ → ℕ → Option EditFault
 measured_refusal is_cut text width = if is_no_width width then Some WidthOutOfRange else text_refusal is_cut text
 
@@ -87,7 +87,7 @@ abbrev pub IsCountedFor : EditFault → (Engine → Engine → Type 0) → Engin
 IsCountedFor NoMemory bound old new = bound old new
 IsCountedFor fault bound old new = new ≡ old
 
--- a session was opened on a text at a width; it was not refused for a reason
+-- a session was opened on a text at a width; there was no reason to refuse it
 pub record OpensAs (is_measured : Bool) (reason : Option EditFault) (engine : Engine) (whole : List ℕ) (width : ℕ) (state : SessionState) : Type 0 where
   pub allowed : reason ≡ None
   pub text : text_at state ≡ whole
@@ -139,7 +139,7 @@ pub record SetsWidth (width : ℕ) (old new : SessionState) (answer : Damage) : 
   pub counts : FillsAtMost (length (text_at old)) old.engine new.engine
   pub exact : Fills (changed (rules_of old.engine) width old.kept) old.engine new.engine
 
--- a failed edit changes nothing except the counters, and these only after `NoMemory`
+-- a failed edit changes nothing except, after `NoMemory`, the counters
 pub record Stays (reason : Option EditFault) (bound : Engine → Engine → Type 0) (old new : SessionState) (fault : EditFault) : Type 0 where
   pub answer : IsAnswerFor reason fault
   pub kept : new.kept ≡ old.kept

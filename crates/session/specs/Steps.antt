@@ -1,4 +1,4 @@
--- What the units of a line and the steps over them have in common with its columns.
+-- How the units of a line, and the steps over them, relate to the columns of the line.
 use Rattle.std.specs.Prelude.{◌≡◌, ℕ, zero, suc, ◌<◌, ◌≤◌, ◌⊎◌, List, Some, None, Option, option_and_then, if◌then◌else◌}
 use Rattle.lines.specs.Layouts.{Layout, Rules}
 use Rattle.lines.specs.Visual.{Visual}
@@ -42,7 +42,7 @@ abbrev pub IsFurther : Direction → ℕ → ℕ → Type 0
 IsFurther Right from to = from < to
 IsFurther Left from to = to < from
 
--- an edge with its caret, and the line that the caret is on with its start
+-- the caret of an edge, the line that the caret is on, and the position at which that line starts
 pub record IsOn (rules : Rules) (kept : List Layout) (edge : Edge) (caret : Caret) (line : Visual) (start : ℕ) : Type 0 where
   pub drawn : edge_caret_at rules kept edge ≡ Some caret
   pub read : line_at kept caret.line ≡ Some (line, start)
@@ -73,7 +73,8 @@ module _ (rules : Rules) (kept : List Layout) (line : Visual) (start : ℕ) (dir
   IsStep (Some next) = StepsTo next
   IsStep None = (c : ℕ) → IsBoundary kept line start c → IsFurther direction caret.column c → ⊥
 
--- Repeated steps from the edge of a caret meet a column: after some of them the caret is there, on the same line.
+-- Repeated steps from the edge of a caret reach a column: after some number of steps, the caret is at that column, on
+-- the same line.
 pub record Meets (rules : Rules) (kept : List Layout) (direction : Direction) (edge : Edge) (caret : Caret) (column : ℕ) : Type 0 where
   pub count : ℕ
   pub last : Edge
@@ -99,7 +100,7 @@ pub record IsLastTo (rules : Rules) (kept : List Layout) (n : ℕ) (line : Visua
   pub last : (c : ℕ) → IsBoundary kept line start c → c ≤ column → c ≤ to.column
 
 -- Whether the units of each line tile its columns, and the edge at a column is at the last boundary up to it. From each edge, a step leads to
--- the nearest boundary, repeated steps meet all boundaries in their direction, and a step back returns.
+-- the nearest boundary, repeated steps reach all boundaries in their direction, and a step back returns.
 pub record StepsAreNearest (rules : Rules) (kept : List Layout) : Type 0 where
   pub tile : (n : ℕ) (line : Visual) (start : ℕ) → line_at kept n ≡ Some (line, start) → UnitsTile kept line start
   pub at : (n : ℕ) (line : Visual) (start : ℕ) → line_at kept n ≡ Some (line, start)

@@ -1,5 +1,6 @@
 -- What a caret moves over on a line. A unit begins at each character of a grapheme cluster that takes columns, unless an earlier such
--- character of the cluster is in the same level run. It ends where the cluster's next unit begins, or with what is shown of the cluster.
+-- character of the cluster is in the same level run. It ends where the cluster's next unit begins, or else at the end
+-- of the shown part of the cluster.
 use Rattle.std.specs.Prelude.{ℕ, suc, ◌+◌, ◌-◌, nat_lt, nat_le, ◌==◌, Bool, ◌&&◌, not, min, max, length, slice_index, Option, Some, None, unwrap_or, if◌then◌else◌}
 use Rattle.bidi.specs.Brackets.{greatest}
 use Rattle.lines.specs.Clusters.{after}
@@ -20,7 +21,7 @@ module _ (line : Visual) where
   abbrev pub is_at_other : ℕ → ℕ → Bool
   is_at_other k j = not (slice_index line.levels j == slice_index line.levels k)
 
-  -- the level run of character k: its first character, and the character after its last
+  -- the level run of character k: its first character, and the character after its last one
   abbrev pub run_begin : ℕ → ℕ
   run_begin k = after (greatest (is_at_other k) k) 0
 
@@ -38,17 +39,17 @@ module _ (line : Visual) where
   leading_of level first end =
       if is_odd level then columns_left line (after (greatest (is_in_unit first end) (length line.vtol)) 0) else leading_edge line first
 
--- a line that starts at the position `start`, and a cluster of the text, a character of which is on the line
+-- a line that starts at the position `start`, and a cluster of the text that has a character on the line
 module _ (line : Visual) (start : ℕ) (cluster : Cluster) where
-  -- what is shown of the cluster
+  -- the shown part of the cluster
   abbrev pub shown_begin : ℕ
   shown_begin = cluster.start - start
 
   abbrev pub shown_end : ℕ
   shown_end = min (cluster.end - start) (length line.levels)
 
-  -- The unit of character k, which takes columns. It starts with the first character of its cluster and level run that takes columns. It
-  -- ends where a later run of the cluster has such a character.
+  -- The unit of character k, which takes columns. It starts with the first character of its cluster and level run that
+  -- takes columns. It ends at the first such character of a later run in the cluster.
   abbrev pub unit_start : ℕ → ℕ
   unit_start k =
       let low = max shown_begin (run_begin line k) in
@@ -57,7 +58,7 @@ module _ (line : Visual) (start : ℕ) (cluster : Cluster) where
   abbrev pub unit_end : ℕ → ℕ
   unit_end k = unwrap_or (least (takes_columns line) (run_end line k) (shown_end - run_end line k)) shown_end
 
-  -- the unit with the columns of its two ends, which differ by the columns of its characters
+  -- the unit of character k; the columns of its two ends differ by the number of columns of its characters
   abbrev pub unit_of : ℕ → CaretUnit
   unit_of k =
       let first = unit_start k in
@@ -72,15 +73,17 @@ module _ (line : Visual) (start : ℕ) (cluster : Cluster) where
         level = level;
       }
 
-  -- the column of the edge before character k: that of its unit's leading end if the unit begins with it, or else of its own leading edge
+  -- the column of the edge before character k: its unit's leading end if the unit begins with it, or else its own
+  -- leading edge
   abbrev pub column_before : ℕ → ℕ
   column_before k = if takes_columns line k && unit_start k == k then (unit_of k).leading else leading_edge line k
 
-  -- the last character up to k of the cluster that takes columns; its unit has character k
+  -- the last character of the cluster at or before k that takes columns; character k belongs to its unit
   abbrev pub holder : ℕ → Option ℕ
   holder k = greatest (λ j. nat_le shown_begin j && takes_columns line j) (suc k)
 
-  -- the column of the edge after character k: that of its unit's end, or else of its own trailing edge
+  -- the column of the edge after character k: its unit's trailing end if the unit ends with it, or else its own
+  -- trailing edge
   abbrev pub column_by : ℕ → Option ℕ → ℕ
   column_by k None = trailing_edge line k
   column_by k (Some j) = if unit_end j == suc k then (unit_of j).trailing else trailing_edge line k

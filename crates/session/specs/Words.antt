@@ -1,4 +1,4 @@
--- The word of a character: the segment between word boundaries that holds it.
+-- The word of a character: the segment between word boundaries that contains it.
 use Rattle.std.specs.Prelude.{ℕ, ◌+◌, ◌-◌, nat_le, Bool, ◌||◌, List, [], length, slice_range, slice_index_or, Option, Some, None, if◌then◌else◌}
 use Rattle.std.specs.Char.Unicode.Alphabetic.{is_alphabetic}
 use Rattle.std.specs.Char.Unicode.Numeric.{is_numeric}
@@ -24,7 +24,7 @@ word_by start text ends k = record {
   has_letter = has_letter (slice_range text (cluster_begin ends k) (cluster_end ends k));
 }
 
--- the word of the character at a position of a text; none past the last character
+-- the word of the character at a position of a text; `None` past the last character
 abbrev pub word_at : List Layout → ℕ → Option Word
 word_at kept pos =
     let i = count_to pos (paragraph_starts kept) - 1 in

@@ -1,6 +1,6 @@
 //! Finds which of the damaged lines are not the same as before. Compares the old paragraphs with the new ones
 //! from both ends, one pair after another. Two lines can be the same only if both are the first of their
-//! paragraph or both are not, so the search ends at the first pair with another number of lines.
+//! paragraph or both are not, so the search ends at the first pair whose line counts differ.
 ghost use Rattle.std.specs.Prelude.{◌≡◌, ◌+◌, ◌^◌, ◌<◌, ◌≤◌, ℕ, length, map};
 ghost use Rattle.std.specs.List.{All, slice_range};
 ghost use Rattle.lines.specs.Layouts.{Rules};

@@ -1,5 +1,5 @@
-//! Finds the grapheme cluster of a character, and those of a line. An editor can use them to keep its caret
-//! from landing inside a cluster.
+//! Finds the grapheme cluster of a character, or all clusters of a line. An editor can use them to keep its
+//! caret from landing inside a cluster.
 ghost use Rattle.std.specs.Prelude.{◌≡◌, ◌-◌, ◌<◌, ◌≤◌, ℕ, All, length, map, option_map, slice_index};
 ghost use Rattle.std.specs.Prelude.{IfOk, OnErr};
 ghost use Rattle.lines.specs.Clusters.{cluster_ends, ends_in};

@@ -21,7 +21,7 @@ use lines::VisualLine;
 use std::alloc::AllocError;
 use store::ParagraphStore;
 
-/// The side of a position, seen in logical order.
+/// A side of a position, in logical order.
 #[derive(Clone, Copy, Debug, PartialEq, Eq)]
 pub enum Side {
     /// The leading edge of the character at the position.
@@ -30,8 +30,8 @@ pub enum Side {
     After,
 }
 
-/// One of the two edges of a position. They are apart where the direction changes or a line wraps. An edit
-/// goes to `pos` either way.
+/// One of the two edges of a position. The two are drawn at different places where the direction changes or a
+/// line wraps. Edits happen at `pos` either way.
 #[derive(Clone, Copy, Debug, PartialEq, Eq)]
 pub struct Edge {
     pub pos: usize,
@@ -45,7 +45,7 @@ pub enum Direction {
     Right,
 }
 
-/// The edges of a line where Home and End lead to, in logical order.
+/// The edges of a line to which Home and End move the caret, in logical order.
 #[derive(Clone, Copy, Debug, PartialEq, Eq)]
 pub struct LineEdges {
     pub first: Edge,
@@ -96,8 +96,8 @@ fn right_edge(start: usize, unit: CaretUnit) -> Edge
     }
 }
 
-// Returns the edge at the end of a unit that is nearer to a column of the unit, on a line that starts at the
-// position `start`. From the unit's middle, this is the right end.
+// Returns the edge at whichever end of a unit is nearer to a column of the unit, on a line that starts at the
+// position `start`. At the unit's middle, this is the right end.
 fn nearer_edge(start: usize, unit: CaretUnit, column: usize) -> Edge
     requires start { start + unit.start < 2 ^ 64 }
     requires end { start + unit.end < 2 ^ 64 }
@@ -209,16 +209,16 @@ impl<S: ParagraphStore<Kept>> Session<S> {
     /// Returns where to draw a caret at an edge, or `None` past the end of the text and for the edge after
     /// position 0.
     ///
-    /// `Before` is an edge of the character at the position, and `After` one of the character before it. The
-    /// caret is on this character's line, and has its level:
-    /// - If a caret unit (see `step`) begins or ends with the character: at this end of the unit.
+    /// A `Before` edge belongs to the character at the position, and an `After` edge to the character before
+    /// it. The caret is on that character's line, and has its level. It is drawn:
+    /// - If a caret unit (see `step`) begins or ends with the character: at that end of the unit.
     /// - Otherwise, at the character's own edge.
     /// - If the character is not shown: at the end of the line in the base direction.
     ///
-    /// At the end of the text, the edge `Before` is that of `caret`.
+    /// At the end of the text, the caret of the `Before` edge is that of `caret`.
     ///
-    /// Fails if memory runs out, but only at an edge of a character. Costs the length of the line and of the
-    /// character's cluster (see `cluster`).
+    /// Fails if memory runs out, but only at an edge of a character. Needs time linear in the lengths of the
+    /// line and of the character's cluster (see `cluster`).
     pub fn edge_caret(&self, edge: Edge) -> Result<Option<Caret>, AllocError>
         ensures ok { IfOk result (λ caret. caret
             ≡ edge_caret_at (rules_of self.now.engine) self.now.kept edge) }
@@ -243,12 +243,13 @@ impl<S: ParagraphStore<Kept>> Session<S> {
     }
 
     /// Moves a caret by one step on its line. Returns the edge where the caret stops, or `None` at the end of
-    /// the line in that direction, and where `edge_caret` is `None`.
+    /// the line in that direction, or if `edge_caret` returns `None`.
     ///
-    /// A step moves over one caret unit: a grapheme cluster, or its part in one level run if its characters
-    /// are in several. The returned edge is the unit's far edge.
+    /// A step moves over one caret unit: a grapheme cluster or, if its characters are in several level runs,
+    /// the part in one of them. The returned edge is the unit's far edge.
     ///
-    /// Fails if memory runs out, but only from an edge of a text that is not empty. Costs as `edge_caret`.
+    /// Fails if memory runs out, but only from an edge of a text that is not empty. Costs as much as
+    /// `edge_caret`.
     pub fn step(&self, edge: Edge, direction: Direction) -> Result<Option<Edge>, AllocError>
         ensures ok { IfOk result (λ next. next
             ≡ step_at (rules_of self.now.engine) self.now.kept edge direction) }
@@ -294,7 +295,7 @@ impl<S: ParagraphStore<Kept>> Session<S> {
         }
     }
 
-    // Returns the nearest edge to a column of a line.
+    // Returns the edge nearest to a column of a line.
     fn nearest_on(
         &self,
         line: &VisualLine<'_>,
@@ -310,7 +311,7 @@ impl<S: ParagraphStore<Kept>> Session<S> {
         }
     }
 
-    // Returns the edge at the right end of what a line shows, or before the start of a line of width 0.
+    // Returns the edge at the right end of a line's shown part, or before the start of a line of width 0.
     fn rightmost_edge(&self, line: &VisualLine<'_>, start: usize) -> Result<Edge, AllocError>
         requires { start < 2 ^ 33 }
         ensures { IfOk result (λ edge. edge ≡ edge_by self.now.kept start None
@@ -365,11 +366,11 @@ impl<S: ParagraphStore<Kept>> Session<S> {
         after(end)
     }
 
-    /// Returns the edge at a column of line `n`: the left end of the caret unit that covers the column. Right
-    /// of the text, it is the right end of the text. So columns 0 and `usize::MAX` are the ends of the line
-    /// on the screen. Returns `None` past the line of the end of the text.
+    /// Returns the edge at a column of line `n`: the left end of the caret unit that covers the column. To
+    /// the right of the text, this is the right end of the text. So columns 0 and `usize::MAX` stand for the
+    /// two ends of the line on the screen. Returns `None` past the line that contains the end of the text.
     ///
-    /// Fails if memory runs out, but only on a line that exists. Costs as `edge_caret`.
+    /// Fails if memory runs out, but only on a line that exists. Costs as much as `edge_caret`.
     pub fn edge_at(&self, n: usize, column: usize) -> Result<Option<Edge>, AllocError>
         ensures ok { IfOk result (λ edge. edge
             ≡ edge_at (rules_of self.now.engine) self.now.kept n column) }
@@ -384,11 +385,11 @@ impl<S: ParagraphStore<Kept>> Session<S> {
         }
     }
 
-    /// Returns the nearest edge to a column of line `n`: the nearer end of the caret unit that covers the
-    /// column, and at the unit's middle the right one. In a unit of one column, and outside the text, it is
+    /// Returns the edge nearest to a column of line `n`: the nearer end of the caret unit that covers the
+    /// column, or the right end at the unit's middle. In a unit of one column, and outside the text, this is
     /// the edge that `edge_at` returns.
     ///
-    /// Fails if memory runs out, but only on a line that exists. Costs as `edge_caret`.
+    /// Fails if memory runs out, but only on a line that exists. Costs as much as `edge_caret`.
     pub fn nearest_edge(&self, n: usize, column: usize) -> Result<Option<Edge>, AllocError>
         ensures ok { IfOk result (λ edge. edge
             ≡ nearest_edge (rules_of self.now.engine) self.now.kept n column) }
@@ -404,13 +405,13 @@ impl<S: ParagraphStore<Kept>> Session<S> {
     }
 
     /// Returns the first and the last edge of line `n` in logical order, for Home and End, or `None` past the
-    /// line of the end of the text.
+    /// line that contains the end of the text.
     ///
-    /// The first edge is before the line's start. The last one is before the separator that ends the line (CR
-    /// LF is one separator), before the end of the text on its last line, before the first space that is not
-    /// shown, or else after the line's last character.
+    /// The first edge is before the line's first character. The last edge is before the separator that ends
+    /// the line (CR LF is one separator). If there is none, it is before the end of the text on the text's
+    /// last line, or before the first space that is not shown, or else after the line's last character.
     ///
-    /// Costs as `place`. Allocates nothing.
+    /// Costs as much as `place`. Allocates nothing.
     pub fn line_edges(&self, n: usize) -> Option<LineEdges>
         ensures { result ≡ line_edges (rules_of self.now.engine) self.now.kept n }
     {

@@ -4,7 +4,7 @@ use thiserror::Error;
 /// The maximum number of characters in a text.
 pub const TEXT_LIMIT: usize = 16_777_216;
 
-// The limit that the documents name. Contracts name the constant.
+// The documents state this limit as a number. Contracts use the constant.
 const _: () = prove!(TEXT_LIMIT == 16_777_216);
 
 /// An edit of a text, or a change of its width. Positions count characters (Unicode scalar values).
@@ -39,7 +39,7 @@ pub struct Damage {
 }
 
 /// Which lines a call changed. Starting at line `first_line`, `new_lines` lines replace `old_lines` lines.
-/// All others are the same as before, as `VisualLine::is_same` compares them.
+/// All other lines are the same as before, in the sense of `VisualLine::is_same`.
 #[derive(Clone, Copy, Debug, PartialEq, Eq)]
 pub struct ChangedLines {
     pub first_line: usize,
@@ -50,7 +50,7 @@ pub struct ChangedLines {
 /// The maximum width of a measured session, in the caller's unit.
 pub const MEASURED_WIDTH_LIMIT: u32 = 2_147_483_647;
 
-// The limit that the documents name. Contracts name the number.
+// The documents and the contracts state this limit as a number.
 const _: () = prove!(MEASURED_WIDTH_LIMIT == 2_147_483_647);
 
 /// Why a call for measured text failed. The causes are listed in the order in which they are tested.
@@ -85,7 +85,7 @@ pub enum EditFault {
     /// The new text would have more than 16,777,216 characters.
     #[error("text too long")]
     TextTooLong,
-    /// A paragraph of the new text would have more than 1,048,576 characters, or if the text is measured,
+    /// A paragraph of the new text would have more than 1,048,576 characters, or, if the text is measured,
     /// advances that add up to more than 4,294,967,295.
     #[error("paragraph too long")]
     ParagraphTooLong,

@@ -376,7 +376,7 @@ fn lay_out_parts(
 }
 
 /// Lays out the paragraphs of the joined text, in which inserted characters have advance 0. Fails with
-/// `ParagraphTooLong` if a paragraph is too long, or its advances add up to too much, without allocating.
+/// `ParagraphTooLong`, without allocating, if a paragraph is too long or its advances add up to too much.
 /// Fails with `NoMemory` if an allocation fails.
 pub fn lay_out_joined(
     alloc: Global,

@@ -36,10 +36,10 @@ pub fn texts_are_laid_out_in_parts()
     paragraphs_are_pieces();
 }
 
-/// States, as a theorem, which lines have to be drawn after an edit of a measured session and a call that
-/// sets advances of exactly the paragraphs that the edit's damage names as new. From the `first_line` of the
-/// edit's damage on, its `old_lines` lines have become the `new_lines` lines of the second damage, and all
-/// others are the same. Costs nothing at run time.
+/// States, as a theorem, which lines have to be drawn after an edit of a measured session, followed by a call
+/// that sets the advances of exactly the paragraphs that are new in the edit's damage. Starting at the
+/// `first_line` of the edit's damage, its `old_lines` lines have become the `new_lines` lines of the second
+/// damage, and all other lines are the same. Costs nothing at run time.
 pub fn measured_edits_are_drawn_at_once()
     ensures { (edit : Replacement) (pos : ℕ) (list : List ℕ) (old edited measured : SessionState)
         (damage second : Damage)
@@ -50,12 +50,12 @@ pub fn measured_edits_are_drawn_at_once()
 {}
 
 /// States, as a theorem, that the units of each line tile its columns, and that each step leads to the
-/// nearest boundary in its direction, on the same line, or there is no such boundary. So repeated steps meet
-/// every boundary in their direction. From a boundary, a step and a step back return to the same column. The
-/// edge at a column is at the last boundary up to that column. This holds at any width, by any rules with
+/// nearest boundary in its direction on the same line, if there is one. So repeated steps reach every
+/// boundary in their direction. From a boundary, a step and a step back return to the same column. The edge
+/// at a column is at the last boundary up to that column. This holds at any width, by any rules with
 /// `reorder_clusters`, and by any rules under which marks stay in place or take no columns. Without
-/// `reordernsm`, marks stay in place. By reading the tables of Unicode 15.0, and not by proof, all nonspacing
-/// marks but U+2D7F and U+1171E take no columns. Costs nothing at run time.
+/// `reordernsm`, marks stay in place. In the tables of Unicode 15.0, all nonspacing marks except U+2D7F and
+/// U+1171E take no columns; this was read from the tables, and is not proved. Costs nothing at run time.
 pub fn steps_lead_to_boundaries()
     ensures { (rules : Rules) (width : ℕ) (text : List ℕ)
         → (rules.options.reorder_clusters ≡ true) ⊎ MarksStay rules text

@@ -1,5 +1,5 @@
-//! Sessions: an editable text with the layout of each of its paragraphs. After any edits, the layouts are the
-//! same as new layouts of the current text.
+//! Sessions: an editable text with the layout of each of its paragraphs. After every edit, the layouts are
+//! the same as new layouts of the current text.
 //!
 //! A `Session` is opened with an engine, a text and a width. Each edit returns its `Damage`: which lines were
 //! replaced, and by how many new ones. Positions count characters. Lines and columns are numbered from 0.

@@ -22,8 +22,8 @@ use lines::{Engine, lines_are_few};
 use std::alloc::{AllocError, Global};
 use store::{Measured, ParagraphStore};
 
-/// The advances of the paragraphs that have characters of a range: those of the characters before the range
-/// in the first paragraph, the new ones, and those after the range in the last paragraph.
+/// The advances of the paragraphs that overlap a range: those of the characters before the range in the first
+/// paragraph, the new ones, and those after the range in the last paragraph.
 #[derive(Clone, Copy, Debug)]
 pub struct Spliced<'a> {
     pub front: &'a [u32],

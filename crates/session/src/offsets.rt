@@ -11,8 +11,8 @@ use crate::borders::front;
 use crate::kept::Kept;
 use store::{Found, Measured, ParagraphStore};
 
-// The number of characters in a block. The number of its units fits a `u32`, so vector instructions add four
-// at a time.
+// The number of characters in a block. Its number of units fits in a `u32`, so vector instructions can add
+// four numbers at a time.
 const BLOCK: usize = 65_536;
 
 /// An encoding, whose units are counted.
@@ -160,7 +160,7 @@ pub fn lengths(text: &[char]) -> (usize, usize)
     (bytes, Encoding::Utf16.length(text))
 }
 
-// Returns the number of units of the first characters of a paragraph.
+// Returns the number of units in the first `count` characters of a paragraph.
 fn length_to(kept: &Kept, count: usize, encoding: Encoding) -> usize
     requires { count ≤ length kept.now.text }
     ensures { result ≡ length_in encoding (take count kept.now.text) }
@@ -171,7 +171,7 @@ fn length_to(kept: &Kept, count: usize, encoding: Encoding) -> usize
     encoding.length(front(kept.laid().text(), count))
 }
 
-// Returns the position of a unit in a text, and its number within the character there.
+// Returns the position of the character that contains a unit of a text, and the index of the unit within it.
 fn unit_at(text: &[char], offset: usize, encoding: Encoding) -> (usize, usize)
     requires { offset < length_in encoding text.now }
     ensures { IsUnitAt encoding text.now offset result.0 result.1 }
@@ -187,7 +187,8 @@ fn unit_at(text: &[char], offset: usize, encoding: Encoding) -> (usize, usize)
     unreachable!()
 }
 
-// Returns the position of a unit in a paragraph, and its number within the character there.
+// Returns the position of the character that contains a unit of a paragraph, and the index of the unit within
+// it.
 fn unit_in(kept: &Kept, offset: usize, encoding: Encoding) -> (usize, usize)
     requires { offset < units_of encoding kept.now }
     ensures { IsUnitAt encoding kept.now.text offset result.0 result.1 }
@@ -222,7 +223,8 @@ pub fn offset_of<S: ParagraphStore<Kept>>(
     }
 }
 
-/// Returns the position of a unit, and its number within the character there, or `None` past the end.
+/// Returns the position of the character that contains a unit, and the index of the unit within it, or `None`
+/// past the end.
 pub fn position_of<S: ParagraphStore<Kept>>(
     store: &S,
     offset: usize,

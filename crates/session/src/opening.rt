@@ -70,7 +70,7 @@ fn append<S: ParagraphStore<Kept>>(store: &mut S, new: Vec<Kept>) -> Result<(), 
     }
 }
 
-// Appends layouts to a store if they make up a batch. Returns those that are not in the store.
+// Appends layouts to a store if they make up a batch. Returns the layouts that were not appended.
 fn append_batch<S: ParagraphStore<Kept>>(
     alloc: Global,
     store: &mut S,

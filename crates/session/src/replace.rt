@@ -22,7 +22,7 @@ use lines::{Engine, lines_are_few};
 use std::alloc::Global;
 use store::ParagraphStore;
 
-// Lets the engine use the lists of a replaced paragraph again.
+// Gives the lists of a replaced paragraph to the engine for reuse.
 fn recycle(engine: &mut Engine, old: Vec<Kept>)
     ensures { engine.new ≡ engine.old }
 {

@@ -1,4 +1,4 @@
-//! Finds out whether the advances of each paragraph of a measured text add up to few enough, in one pass and
+//! Checks whether the advances of each paragraph of a measured text add up to less than 2^32, in one pass and
 //! without allocating.
 ghost use Rattle.std.specs.Prelude.{◌≡◌, ◌+◌, ◌^◌, ◌<◌, ◌++◌, ◌∷◌, [], true, ℕ, Bool, List};
 ghost use Rattle.std.specs.Prelude.{length, replicate, sum, IfSome};
@@ -17,7 +17,7 @@ use lines::Engine;
 #[derive(Clone, Copy, Debug)]
 pub struct RoomScan {
     last: Option<char>,
-    // The sum of the advances of the last paragraph, as long as no sum is too large.
+    // The sum of the advances of the last paragraph, unless some sum is too large.
     sum: u32,
     is_over: bool,
 }
@@ -115,7 +115,7 @@ pub fn has_room(engine: &Engine, front: &Part<'_>, piece: &str, back: &Part<'_>)
         ++ (replicate (length (chars piece.now)) 0 ++ back.now.advances.now))
         (paragraphs (cut_by (rules_of engine.now)) (joined_text front.now piece.now back.now)) }
 {
-    // Fast path: no paragraph has more than the whole text.
+    // Fast path: no paragraph's sum exceeds that of the whole text.
     if fit_together(front.advances, back.advances) {
         return true;
     }

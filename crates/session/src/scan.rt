@@ -1,4 +1,4 @@
-//! Finds out whether a text has a paragraph that is too long, in one pass and without allocating.
+//! Checks whether a text has a paragraph that is too long, in one pass and without allocating.
 ghost use Rattle.std.specs.Prelude.{◌≡◌, ℕ, Bool, List, [], ◌∷◌, ◌++◌};
 ghost use Rattle.std.specs.Str.{chars};
 ghost use Rattle.lines.specs.Engine.{rules_of};

@@ -184,10 +184,10 @@ impl<S: ParagraphStore<Kept> + Drop> Session<S> {
         }
     }
 
-    /// Opens a measured session on a text at a width from 1 to 2,147,483,647. Each character has an advance,
-    /// its width in a unit of the caller's. All advances are 0 until [`Session::set_advances`] sets them. All
-    /// columns of the session, such as those of lines, carets and hits, are in this unit. After an error,
-    /// returns the engine with the error.
+    /// Opens a measured session on a text at a width from 1 to 2,147,483,647. Each character has an advance:
+    /// its width, in a unit that the caller chooses. All advances are 0 until [`Session::set_advances`] sets
+    /// them. All columns of the session, such as those of lines, carets and hits, are in this unit. After an
+    /// error, returns the engine with the error.
     pub fn open_measured(
         alloc: Global,
         engine: Engine,
@@ -283,8 +283,8 @@ impl<S: ParagraphStore<Kept>> Session<S> {
         }
     }
 
-    // Returns how many characters at the end of a line end it or its paragraph, given the positions of its
-    // last two characters.
+    // Returns the length of the separator at the end of a line, or 0 if there is none, given the positions of
+    // the line's last two characters.
     pub(crate) fn separator_len(&self, before: usize, last: usize) -> usize
         ensures { result ≡ separator_len (rules_of self.now.engine).tables
             (slice_index (text_at self.now) before) (slice_index (text_at self.now) last) }
@@ -340,9 +340,9 @@ impl<S: ParagraphStore<Kept>> Session<S> {
     /// Returns the grapheme cluster of the character at a position, within its paragraph, or `None` past the
     /// last character.
     ///
-    /// Reads the characters back to the nearest place where a cluster ends regardless of other characters,
-    /// such as before most letters and emoji, and on to the next such place. At worst, as in a paragraph of
-    /// flags, reads the paragraph. Allocates a copy of these characters if there is more than one. Fails if
+    /// Reads back to the nearest place where a cluster ends regardless of other characters, such as before
+    /// most letters and emoji, and forward to the next such place. At worst, as in a paragraph of flags,
+    /// reads the whole paragraph. Allocates a copy of these characters if there is more than one. Fails if
     /// memory runs out, but only at a character.
     pub fn cluster(&self, pos: usize) -> Result<Option<Cluster>, AllocError>
         ensures ok { IfOk result (λ cluster. cluster ≡ cluster_at self.now.kept pos) }
@@ -426,9 +426,9 @@ impl<S: ParagraphStore<Kept>> Session<S> {
         position_of(&self.store, byte, Encoding::Utf8)
     }
 
-    /// Returns the number of UTF-16 code units before a position, or `None` past the end. The time is
-    /// logarithmic in the number of paragraphs, and linear in the length of one unless each of its characters
-    /// is one code unit. Allocates nothing.
+    /// Returns the number of UTF-16 code units before a position, or `None` past the end. Needs time
+    /// logarithmic in the number of paragraphs and, unless each character of the paragraph at `pos` is one
+    /// code unit, linear in its length. Allocates nothing.
     pub fn utf16_of(&self, pos: usize) -> Option<usize>
         ensures unit { result ≡ offset_of Utf16 (text_at self.now) pos }
         ensures none { is_none result ≡ nat_lt (length (text_at self.now)) pos }
@@ -583,8 +583,8 @@ impl<S: ParagraphStore<Kept>> Session<S> {
         self.engine.written()
     }
 
-    /// Exchanges the buffers of this session's engine with those of another engine. After opening a session,
-    /// it has the buffers of its engine, which are as large as the longest paragraph needed.
+    /// Swaps the buffers of this session's engine with those of another engine. A newly opened session owns
+    /// the buffers of its engine, which have grown to the size that the longest paragraph needed.
     pub fn swap_buffers(&mut self, engine: &mut Engine)
         ensures session { self.new ≡ self.old }
         ensures engine { engine.new ≡ engine.old }
@@ -592,9 +592,9 @@ impl<S: ParagraphStore<Kept>> Session<S> {
         self.engine.swap_buffers(engine);
     }
 
-    /// Returns which lines the last successful call changed, of those that edit the text, set the width or set
-    /// advances: its damage without as many lines as possible at the start, and then at the end, that are the
-    /// same before and after the call. After opening, all lines have changed.
+    /// Returns which lines were changed by the last successful call that edits the text, sets the width or
+    /// sets advances. These are the damaged lines without the longest run of unchanged lines at their start,
+    /// and then without the longest such run at their end. After opening, all lines count as changed.
     pub fn changed_lines(&self) -> ChangedLines
         ensures { result ≡ self.now.changed }
     {
@@ -651,9 +651,9 @@ impl<S: ParagraphStore<Kept>> Session<S> {
         )
     }
 
-    /// Sets the width, in columns, and rewraps every paragraph. A paragraph is left as it is if it has one
-    /// line, which fits and, with `show_spaces`, hides no space that fits. Each other paragraph is filled
-    /// and written once. In a measured session, the width is in the caller's unit.
+    /// Sets the width, in columns, and rewraps every paragraph. A paragraph of one line is left as it is if
+    /// the line fits and, with `show_spaces`, hides no space that fits. Every other paragraph is filled and
+    /// written once. In a measured session, the width is in the caller's unit.
     pub fn set_width(&mut self, width: u16) -> Result<Damage, EditFault>
         ensures ok { IfOk result (SetsWidth width self.old self.new) }
         ensures err { IfErr result (SetsWidthNot width self.old self.new) }
@@ -854,7 +854,7 @@ impl<S: ParagraphStore<Kept>> Session<S> {
         ensures laid_out { IsWholeLayout self.new }
         ensures rules { SameRules self.old.engine self.new.engine }
     {
-        // Gives the prover the fact that each paragraph is laid out before the first edit.
+        // Tells the prover that each paragraph is laid out before the first edit.
         let _ = &self.engine;
         for edit in edits {
             let result = match *edit {

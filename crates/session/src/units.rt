@@ -86,7 +86,7 @@ fn run_end(line: &VisualLine<'_>, k: usize) -> usize
     len
 }
 
-// Returns the character after what is shown of a cluster, on a line that starts at the position `start`.
+// Returns the character after the shown part of a cluster, on a line that starts at the position `start`.
 fn shown_end(line: &VisualLine<'_>, start: usize, cluster: Cluster) -> usize
     ensures value { result ≡ shown_end line.now start cluster }
     ensures fits { result < 2 ^ 63 }
@@ -153,7 +153,8 @@ fn leading_of(line: &VisualLine<'_>, level: u8, first: usize, end: usize) -> usi
 }
 
 /// Returns the unit of character `k`, which takes columns, on a line that starts at the position `start`.
-/// `cluster` is the cluster of the character. Costs the lengths of its level run and of its cluster.
+/// `cluster` is the cluster of the character. Needs time linear in the lengths of its level run and of its
+/// cluster.
 pub fn unit_of(line: &VisualLine<'_>, start: usize, cluster: Cluster, k: usize) -> CaretUnit
     ensures value { result ≡ unit_of line.now start cluster k }
     ensures start { result.start ≤ k }
@@ -194,8 +195,8 @@ fn holder(line: &VisualLine<'_>, start: usize, cluster: Cluster, k: usize) -> Op
     None
 }
 
-/// Returns the column of the edge before character `k`, on a line that starts at the position `start`. Where
-/// a unit begins with the character, it is the unit's leading end. `cluster` is the character's cluster.
+/// Returns the column of the edge before character `k`, on a line that starts at the position `start`. If a
+/// unit begins with the character, this is the unit's leading end. `cluster` is the character's cluster.
 pub fn column_before(line: &VisualLine<'_>, start: usize, cluster: Cluster, k: usize) -> usize
     requires { k + 1 < 2 ^ 63 }
     ensures { result ≡ column_before line.now start cluster k }
@@ -207,8 +208,8 @@ pub fn column_before(line: &VisualLine<'_>, start: usize, cluster: Cluster, k: u
     }
 }
 
-/// Returns the column of the edge after character `k`, on a line that starts at the position `start`. Where a
-/// unit ends with the character, it is the unit's trailing end. `cluster` is the character's cluster.
+/// Returns the column of the edge after character `k`, on a line that starts at the position `start`. If a
+/// unit ends with the character, this is the unit's trailing end. `cluster` is the character's cluster.
 pub fn column_after(line: &VisualLine<'_>, start: usize, cluster: Cluster, k: usize) -> usize
     requires { k + 1 < 2 ^ 64 }
     ensures { result ≡ column_after line.now start cluster k }

@@ -1,4 +1,4 @@
-//! The word of a character (UAX #29), for moves by words and for selecting one.
+//! The word of a character (UAX #29), for moving by words and for selecting a word.
 ghost use Rattle.std.specs.Prelude.{◌≡◌, ◌+◌, ◌^◌, ◌<◌, ◌≤◌, All, length, IfOk, OnErr};
 ghost use Rattle.session.specs.Kept.{text_of};
 ghost use Rattle.session.specs.Places.{IsLined};

@@ -1,4 +1,4 @@
-//! Engines over the test tables.
+//! Engines with the test tables.
 use lines::{Engine, Options};
 use std::alloc::Global;
 use ucd::{Cause, TableFault, Tables, UcdFiles};

@@ -88,7 +88,7 @@ static STARTS_AT_MANDATORY_BREAKS: [(&str, u16, &[u32]); 5] = [
     ("ab cd\u{2028}e", 1, &[0, 6]),
 ];
 
-// Whether a paragraph's lines start at these positions.
+// Returns whether a paragraph's lines start at these positions.
 fn starts_at(laid: &Laid, starts: &[u32]) -> bool {
     laid.line_count() == starts.len() && laid.line_starts() == starts
 }
@@ -104,7 +104,7 @@ fn starts(
     Ok(starts_at(&laid, wanted))
 }
 
-// Whether the lines of each paragraph start at the listed positions.
+// Returns whether the lines of each paragraph start at the listed positions.
 fn all_start(
     alloc: Global,
     engine: &mut Engine,
@@ -117,8 +117,8 @@ fn all_start(
     Ok(all_right)
 }
 
-// Whether the lines of each paragraph start at the listed positions, with an engine with or without the
-// option `nobreak`.
+// Returns whether the lines of each paragraph start at the listed positions, for an engine with or without
+// the option `nobreak`.
 fn all_start_by(alloc: Global, nobreak: bool, rows: &[(&str, u16, &[u32])]) -> Result<bool, Fail> {
     let mut engine = engine(alloc, nobreak)?;
     let result = all_start(alloc, &mut engine, rows);
@@ -144,7 +144,7 @@ fn lay_out_letters(alloc: Global, engine: &mut Engine, len: usize) -> Result<Lai
     lay_out_characters(alloc, engine, text, 1)
 }
 
-// Whether each character of the longest paragraph has its own line.
+// Returns whether each character of the longest paragraph has its own line.
 fn has_a_line_for_each(starts: &[u32]) -> bool {
     starts.len() == PARAGRAPH_LIMIT && starts.last().copied() == Some(1_048_575)
 }
@@ -173,14 +173,14 @@ fn refill(alloc: Global, engine: &mut Engine, laid: &Laid, width: u16) -> Result
     Ok(engine.refill(alloc, laid, u32::from(width))?)
 }
 
-// Whether the engine has counted this many analysed and filled characters, and as many written as filled
-// ones.
+// Returns whether the engine has counted this many analysed and filled characters, and as many written as
+// filled ones.
 fn counts(engine: &Engine, analysed: u64, filled: u64) -> bool {
     engine.analysed() == analysed && engine.filled() == filled && engine.written() == filled
 }
 
-// Whether a paragraph has the right lines after an exchange for the lines at another width, and again after
-// the exchange is undone.
+// Returns whether a paragraph has the right lines after they are exchanged for the lines at another width,
+// and again after the exchange is undone.
 fn exchanges(
     alloc: Global,
     engine: &mut Engine,
@@ -256,7 +256,7 @@ fn reflow(alloc: Global, engine: &mut Engine, laid: &mut Laid, width: u32) -> Re
     Ok(())
 }
 
-// Whether the paragraph gets the right lines at three widths, one after another.
+// Returns whether the paragraph gets the right lines at three widths, one after another.
 fn reflows(alloc: Global, engine: &mut Engine, laid: &mut Laid) -> Result<bool, Fail>
     requires laid { IsLaidOut (with_advances (rules_of engine.old) laid.old.advances) laid.old }
 {
@@ -285,12 +285,12 @@ fn reflow_gives_the_lines_at_each_width(rt: HostRuntime) -> Result<(), Fail> {
     Ok(())
 }
 
-// Whether a paragraph has this text and base level.
+// Returns whether a paragraph has this text and base level.
 fn is_of(laid: &Laid, text: &[char], base: u8) -> bool {
     laid.text() == text && laid.base() == base
 }
 
-// Whether the characters of a paragraph have these levels, and these marks after them.
+// Returns whether the characters of a paragraph have these levels, and these marks after them.
 fn has(laid: &Laid, levels: &[u8], marks: &[Mark]) -> bool {
     laid.levels() == levels && laid.marks() == marks
 }
@@ -357,7 +357,7 @@ fn is_shown(line: &VisualLine<'_>, row: &Row) -> bool {
         & (line.columns() as usize == row.chars.len())
 }
 
-// Whether a paragraph has exactly these lines.
+// Returns whether a paragraph has exactly these lines.
 fn shows_lines(laid: &Laid, rows: &[Row]) -> bool {
     let mut all_right = laid.line(rows.len()).is_none();
     for (n, row) in rows.iter().enumerate() {

@@ -129,7 +129,7 @@ fn same_line(left: Option<VisualLine<'_>>, right: Option<VisualLine<'_>>) -> boo
     }
 }
 
-// Whether `count` paragraphs from these indices on are equal.
+// Returns whether `count` paragraphs from these indices on are equal.
 fn same_paragraphs<S: ParagraphStore<Kept>, T: ParagraphStore<Kept>>(
     left: &Session<S>,
     right: &Session<T>,
@@ -146,7 +146,7 @@ fn same_paragraphs<S: ParagraphStore<Kept>, T: ParagraphStore<Kept>>(
     all
 }
 
-// Whether `count` lines from these indices on are equal.
+// Returns whether `count` lines from these indices on are equal.
 fn same_lines<S: ParagraphStore<Kept>, T: ParagraphStore<Kept>>(
     left: &Session<S>,
     right: &Session<T>,
@@ -223,7 +223,7 @@ fn print<'a, S: ParagraphStore<Kept>>(
     }
 }
 
-// Whether the sessions print the same, each into one half of the buffer.
+// Returns whether the sessions print the same, each into one half of the buffer.
 fn same_page<S: ParagraphStore<Kept>, T: ParagraphStore<Kept>>(
     left: &Session<S>,
     right: &Session<T>,
@@ -236,7 +236,7 @@ fn same_page<S: ParagraphStore<Kept>, T: ParagraphStore<Kept>>(
     }
 }
 
-// Whether the sessions have the same contents and print the same.
+// Returns whether the sessions have the same contents and print the same.
 fn same<S: ParagraphStore<Kept>, T: ParagraphStore<Kept>>(
     left: &Session<S>,
     right: &Session<T>,
@@ -309,13 +309,13 @@ impl<S: ParagraphStore<Kept> + Drop, T: ParagraphStore<Kept> + Drop> Pair<S, T> 
         }
     }
 
-    // Whether the session equals one whose whole text is replaced by `text`.
+    // Returns whether the session equals one whose whole text is replaced by `text`.
     fn is_same(&mut self, text: &str) -> Result<bool, EditFault> {
         renew(&mut self.anew, text, self.edited.width())?;
         Ok(same(&self.edited, &self.anew, &mut self.room))
     }
 
-    // Whether the session equals one that is opened on `text`.
+    // Returns whether the session equals one that is opened on `text`.
     fn is_opened(&mut self, alloc: Global, text: &str) -> Result<bool, Fail> {
         let opened: Session<T> = session(alloc, text, self.edited.width())?;
         let is_same = same(&self.edited, &opened, &mut self.room);

@@ -9,7 +9,7 @@ mod directions;
 use crate::files::{FILES, engine};
 use std::alloc::{AllocError, Global};
 
-// Whether a check holds for a new engine. False if its tables cannot be read.
+// Returns whether a check holds for a new engine. False if its tables cannot be read.
 fn of_engine<F: FnOnce(&mut lines::Engine) -> bool>(alloc: Global, check: F) -> bool
     requires { F.IsAlwaysCallable check }
 {
@@ -40,8 +40,8 @@ fn lay_out(alloc: Global, engine: &mut lines::Engine, text: &str, width: u32) ->
     }
 }
 
-// Whether a check holds for the layout of `a`, a space, alef and bet, which is one line: `a`, a space, bet
-// and alef.
+// Returns whether a check holds for the layout of `a`, a space, alef and bet, which is one line: `a`, a
+// space, bet and alef.
 fn of_laid<F: FnOnce(&lines::Laid) -> bool>(alloc: Global, check: F) -> bool
     requires { F.IsAlwaysCallable check }
 {
@@ -56,7 +56,7 @@ fn of_laid<F: FnOnce(&lines::Laid) -> bool>(alloc: Global, check: F) -> bool
     }
 }
 
-// Whether a check holds for the line of that layout.
+// Returns whether a check holds for the line of that layout.
 fn of_line<F: FnOnce(&lines::VisualLine<'_>) -> bool>(alloc: Global, check: F) -> bool
     requires { F.IsAlwaysCallable check }
 {
@@ -372,7 +372,7 @@ fn print_of_levels_prints_them_alone_without_the_visual_line(rt: HostRuntime) {
     assert!(rt; of_line(rt.alloc(), |line| writes(line, &print, b"0 0 1 1\n")));
 }
 
-// Whether a line is written as these bytes.
+// Returns whether a line is written as these bytes.
 fn writes(line: &lines::VisualLine<'_>, print: &lines::Print, bytes: &[u8]) -> bool {
     let mut room: [u8; 16] = [0; 16];
     let mut sink = device::ToWrite::new(room.as_mut_slice());
@@ -433,9 +433,9 @@ enum Call {
     WidthOutOfRange,
 }
 
-// Whether the example of a call holds in a session on "ab\ncd\nef", of 80 columns. False after an allocation
-// failure. Only the functions below that open a session name its store, since each function that does is slow
-// to prove.
+// Returns whether the example of a call holds in a session on "ab\ncd\nef", of 80 columns. False after an
+// allocation failure. Only the functions below that open a session name its store, since each function that
+// does is slow to prove.
 fn holds(alloc: Global, call: Call) -> bool {
     match open(alloc, "ab\ncd\nef", 80) {
         Ok(session) => holds_in(session, call),

@@ -1,4 +1,4 @@
--- The tables of a folder, by what it holds: its files by their index in `FILE_NAMES`, and maybe an image.
+-- The tables of a folder, given its contents: files, by their index in `FILE_NAMES`, and possibly an image.
 use Rattle.std.specs.Prelude.{◌≡◌, ◌≢◌, ℕ, ◌<◌, ◌⊎◌, List, codes, ⊤}
 use Rattle.ucd.specs.FileNames.{file_name}
 use Rattle.ucd.specs.Imaged.{IsImageOf}
@@ -27,7 +27,7 @@ IsUnusable bytes (Image why) = IsFirstFault bytes why
 IsUnusable bytes Memory = MayAllocate bytes
 IsUnusable bytes other = ⊥
 
--- the same for an image that must be of a version
+-- the first fault of an image that must be of a version, or an allocation failure
 abbrev pub IsUnusableAs : Version → List ℕ → FolderFault → Type 0
 IsUnusableAs version bytes (Image why) = IsFirstFault bytes why ⊎ ((why ≡ image.Version) × IsImage bytes × (image_version bytes ≢ version))
 IsUnusableAs version bytes Memory = MayAllocate bytes
@@ -72,7 +72,7 @@ module _ (has_file : ℕ → List ℕ → Type 0) (cannot_read : ℕ → Type 0)
 
   -- a folder that has an image with certain bytes, or has none, or has one that cannot be read
   module _ (has_image : List ℕ → Type 0) (has_no_image cannot_read_image : Type 0) where
-    -- the tables are those of the image, which is of the version, or there is none and they are those of the files
+    -- the tables are those of the image, which is of the version, or those of the files if there is no image
     abbrev pub AreInstalledAs : Version → Tables → Type 0
     AreInstalledAs version tables =
         ((bytes : List ℕ) × has_image bytes × IsImageOf bytes tables × (tables.version ≡ version)) ⊎ (has_no_image × AreFromFilesAs version tables)
@@ -80,7 +80,7 @@ module _ (has_file : ℕ → List ℕ → Type 0) (cannot_read : ℕ → Type 0)
     abbrev pub AreInstalled : Tables → Type 0
     AreInstalled = AreInstalledAs V15_0
 
-    -- the image cannot be read, or this is its first fault, or there is none and this is the fault of the files
+    -- the image cannot be read, or this is its first fault; or there is no image, and this is the fault of the files
     abbrev pub IsInstalledFaultAs : Version → FolderFault → Type 0
     IsInstalledFaultAs version why =
         IsUnread cannot_read_image image_name why ⊎ (((bytes : List ℕ) × has_image bytes × IsUnusableAs version bytes why) ⊎ (has_no_image × IsFileFaultAs version why))
@@ -88,7 +88,8 @@ module _ (has_file : ℕ → List ℕ → Type 0) (cannot_read : ℕ → Type 0)
     abbrev pub IsInstalledFault : FolderFault → Type 0
     IsInstalledFault = IsInstalledFaultAs V15_0
 
--- What the file system holds: no definition says, so each file and the image may have any bytes, and reading may fail.
+-- The contents of the file system. They are not specified: each file and the image may have any bytes, and reading may
+-- fail.
 abbrev pub any_bytes : ℕ → List ℕ → Type 0
 any_bytes index bytes = ⊤
 

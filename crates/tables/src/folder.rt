@@ -13,7 +13,8 @@ use ucd::file_name;
 /// The name of the compiled image in a folder of installed tables.
 pub const IMAGE_NAME: &str = "tables.image";
 
-/// A folder of tables. The contracts of its readers say from which of its contents the tables come.
+/// A folder of tables. The contracts of the functions that read a folder say which of its contents the tables
+/// come from.
 pub trait TableFolder {
     // The file with this index in `FILE_NAMES` has these bytes, or cannot be read.
     ghost has_file: { Self → ℕ → List ℕ → Type 0 };
@@ -63,7 +64,8 @@ impl<'a> DiskFolder<'a> {
     }
 }
 
-// That these methods read the files that they name is trusted: no contract covers what the file system holds.
+// No contract covers the contents of the file system, so it is trusted that these methods read the files that
+// they name.
 impl TableFolder for DiskFolder<'_> {
     ghost has_file = { λ _ index bytes. any_bytes index bytes };
 
@@ -92,7 +94,7 @@ impl TableFolder for DiskFolder<'_> {
     }
 }
 
-// Returns one byte more than a file has, so that its vector does not grow for the read that finds the end.
+// Returns the size of a file plus one byte, so that the vector does not grow for the read that finds the end.
 // Not inlined, since reading the metadata needs 4 KB of stack.
 #[inline(never)]
 fn capacity_for(file: &File) -> io::Result<usize> {

@@ -20,7 +20,7 @@ pub use folder::{DiskFolder, IMAGE_NAME, TableFolder};
 use std::alloc::Global;
 use ucd::{ImageFault, Tables, UcdFiles, Version};
 
-/// Reads the tables from the seven files of a folder, as `from_files`.
+/// Reads the tables from the seven files of a folder, as `from_files` does.
 pub fn in_folder(rt: &HostRuntime, folder: &str) -> Result<Tables, FolderFault>
     ensures ok { IfOk result (AreFromFiles any_bytes may_fail) }
     ensures err { IfErr result (IsFileFault any_bytes may_fail) }
@@ -28,7 +28,7 @@ pub fn in_folder(rt: &HostRuntime, folder: &str) -> Result<Tables, FolderFault>
     in_folder_as(rt, Version::V15_0, folder)
 }
 
-/// Reads tables of a version from the seven files of a folder, as `from_files_as`.
+/// Reads tables of a version from the seven files of a folder, as `from_files_as` does.
 pub fn in_folder_as(rt: &HostRuntime, version: Version, folder: &str) -> Result<Tables, FolderFault>
     ensures ok { IfOk result (AreFromFilesAs any_bytes may_fail version) }
     ensures err { IfErr result (IsFileFaultAs any_bytes may_fail version) }
@@ -36,7 +36,7 @@ pub fn in_folder_as(rt: &HostRuntime, version: Version, folder: &str) -> Result<
     from_files_as(rt.alloc(), version, &DiskFolder::new(rt, folder))
 }
 
-/// Reads the tables of an installed folder, as `from_installed`.
+/// Reads the tables of an installed folder, as `from_installed` does.
 pub fn installed(rt: &HostRuntime, folder: &str) -> Result<Tables, FolderFault>
     ensures ok { IfOk result (AreInstalled any_bytes may_fail any_image ⊤ ⊤) }
     ensures err { IfErr result (IsInstalledFault any_bytes may_fail any_image ⊤ ⊤) }
@@ -44,7 +44,7 @@ pub fn installed(rt: &HostRuntime, folder: &str) -> Result<Tables, FolderFault>
     installed_as(rt, Version::V15_0, folder)
 }
 
-/// Reads tables of a version from an installed folder, as `from_installed_as`.
+/// Reads tables of a version from an installed folder, as `from_installed_as` does.
 pub fn installed_as(rt: &HostRuntime, version: Version, folder: &str) -> Result<Tables, FolderFault>
     ensures ok { IfOk result (AreInstalledAs any_bytes may_fail any_image ⊤ ⊤ version) }
     ensures err { IfErr result (IsInstalledFaultAs any_bytes may_fail any_image ⊤ ⊤ version) }
@@ -52,7 +52,8 @@ pub fn installed_as(rt: &HostRuntime, version: Version, folder: &str) -> Result<
     from_installed_as(rt.alloc(), version, &DiskFolder::new(rt, folder))
 }
 
-/// Reads the tables from the seven files, and reads no image. Reads all files before it parses the first.
+/// Reads the tables from the seven files, and never from an image. Reads all files before it parses the
+/// first.
 pub fn from_files<F: TableFolder>(alloc: Global, folder: &F) -> Result<Tables, FolderFault>
     ensures ok { IfOk result (AreFromFiles (F.has_file folder.now) (F.cannot_read folder.now)) }
     ensures err { IfErr result (IsFileFault (F.has_file folder.now) (F.cannot_read folder.now)) }
@@ -60,7 +61,7 @@ pub fn from_files<F: TableFolder>(alloc: Global, folder: &F) -> Result<Tables, F
     from_files_as(alloc, Version::V15_0, folder)
 }
 
-/// Reads tables of a version from the seven files, as `from_files`.
+/// Reads tables of a version from the seven files, as `from_files` does.
 pub fn from_files_as<F: TableFolder>(
     alloc: Global,
     version: Version,
@@ -92,7 +93,7 @@ pub fn from_files_as<F: TableFolder>(
 }
 
 /// Reads the tables from the image, or from the seven files if there is no image. If the image cannot be read
-/// or used, nothing is read in its place.
+/// or used, fails without reading the files.
 pub fn from_installed<F: TableFolder>(alloc: Global, folder: &F) -> Result<Tables, FolderFault>
     ensures ok { IfOk result (AreInstalled (F.has_file folder.now) (F.cannot_read folder.now)
         (F.has_image folder.now) (F.has_no_image folder.now) (F.cannot_read_image folder.now)) }
@@ -102,7 +103,8 @@ pub fn from_installed<F: TableFolder>(alloc: Global, folder: &F) -> Result<Table
     from_installed_as(alloc, Version::V15_0, folder)
 }
 
-/// Reads tables of a version, as `from_installed`. An image of another version has the fault `Version`.
+/// Reads tables of a version, as `from_installed` does. Refuses an image of another version with the fault
+/// `Version`.
 pub fn from_installed_as<F: TableFolder>(
     alloc: Global,
     version: Version,
@@ -119,7 +121,7 @@ pub fn from_installed_as<F: TableFolder>(
     }
 }
 
-/// Decodes an image of a version. An image of another version has the fault `Version`.
+/// Decodes an image of a version. Refuses an image of another version with the fault `Version`.
 pub fn of_image_as(alloc: Global, version: Version, bytes: &[u8]) -> Result<Tables, FolderFault>
     ensures ok { IfOk result (IsImageOf bytes.now) }
     ensures version { IfOk result (λ tables. tables.version ≡ version) }

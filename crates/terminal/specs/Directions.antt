@@ -22,15 +22,16 @@ abbrev pub first_level : Tables → List (List ℕ) → Option ℕ
 first_level tables [] = None
 first_level tables (paragraph ∷ following) = or_else (first_strong_level (map (class_of tables) paragraph)) (first_level tables following)
 
--- that of the paragraphs that a text shows
+-- that level for the paragraphs that a text shows
 unfoldable pub shown_level : Rules → List ℕ → Option ℕ
 shown_level rules text = first_level rules.tables (paragraphs (cut_by rules) (shown_text text))
 
--- without a strong character, left-to-right
+-- the base direction with this level; left-to-right if there is no strong character
 abbrev pub base_by : Option ℕ → Base
 base_by level = if unwrap_or level 0 == 1 then Rtl else Ltr
 
--- the base direction of an input: that of the first paragraph with a strong character among what its first characters show
+-- the base direction of an input: that of the first paragraph with a strong character in what the input's first
+-- characters show
 abbrev pub direction_of : Rules → Escapes → List ℕ → Base
 direction_of rules escapes bytes = base_by (shown_level rules (take FIRST_CHARACTERS (input_text escapes bytes)))
 

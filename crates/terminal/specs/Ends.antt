@@ -1,4 +1,4 @@
--- Which ends of blocks are known before a text is complete.
+-- Which ends of blocks are known before the whole text is read.
 use Rattle.std.specs.Prelude.{◌≡◌, ◌⊎◌, ℕ, zero, suc, ◌+◌, ◌-◌, ◌<◌, ◌≤◌, Bool, true, false, ◌&&◌, List, [], ◌∷◌, ◌++◌, length, take, drop, slice_index, if◌then◌else◌}
 use Rattle.sequences.specs.Characters.{is_dropped}
 use Rattle.sequences.specs.Known.{knows_sequence}
@@ -26,12 +26,12 @@ module _ (is_cut : ℕ → ℕ → Bool) where
     pub none : AreNoEnds n text
     pub rest : (n ≡ length text) ⊎ ((slice_index text n ≡ 0x0D) × (knows_next (drop (n + 1) text) ≡ false))
 
-  -- The only end of a block that is known is the end of the text, at which nothing is known to follow.
+  -- The only known end of a block is the end of the text, and it is not known whether anything follows.
   pub record IsHeld (n : ℕ) (text : List ℕ) : Type 0 where
     pub last : n + 1 ≡ length text
     pub none : AreNoEnds n text
 
-  -- No end of a block is known before the end of the text. Only if `holds`, one may be known there.
+  -- No end of a block is known before the end of the text. One may be known there only if `holds`.
   abbrev pub IsLeft : Bool → ℕ → List ℕ → Type 0
   IsLeft holds n text = IsOpen n text ⊎ ((holds ≡ true) × IsHeld n text)
 

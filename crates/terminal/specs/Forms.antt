@@ -1,4 +1,4 @@
--- What a `Form` says.
+-- The meaning of a `Form`.
 use Rattle.std.specs.Prelude.{ℕ, ◌-◌, ◌^◌, ◌==◌, true, false, ◌||◌, if◌then◌else◌}
 use Rattle.lines.specs.Layouts.{Rules}
 use Rattle.lines.specs.declared.options.Options.{Options}

@@ -14,7 +14,8 @@ in_style style chars = map (λ c. (c, style)) chars
 abbrev pub style_on : List Style → ℕ → Style
 style_on styles k = slice_index_or styles k DEFAULT
 
--- what is printed for a character, given its position in the line: the character, or spaces for a tab, but not in a measured paragraph
+-- what is printed for the character at a position in the line: spaces for a tab unless the paragraph is measured, and
+-- otherwise the character itself
 abbrev pub line_cells : Visual → ℕ → ℕ → List ℕ
 line_cells visual c k = if is_measured visual then c ∷ [] else cells visual c k
 
@@ -31,7 +32,8 @@ line_chars print visual styles = styled_chars visual styles (ordered_chars print
 abbrev pub shown_line : ℕ → Print → Visual → List Style → List (ℕ × Style)
 shown_line width print visual styles = in_style DEFAULT (padding width print visual) ++ line_chars print visual styles
 
--- the prefix of a paragraph's lines: what the first one has, and the others; to the right of a line, or to its left
+-- the prefix of a paragraph's lines: what it prints on the first line, what it prints on the others, and whether it is
+-- to the right of a line
 pub record LinePrefix : Type 0 where
   pub first : List (ℕ × Style)
   pub others : List (ℕ × Style)
@@ -48,6 +50,6 @@ module _ (prefix : Option LinePrefix) (width : ℕ) (print : Print) (visual : Vi
   abbrev pub styled_line : List ℕ
   styled_line = written (with_prefix prefix visual (shown_line width print visual styles)) ++ codes "\n"
 
-  -- a line, and after the first one the base direction if it is printed
+  -- a line; the first line is followed by the base direction if that is printed
   abbrev pub styled_lines : List ℕ
   styled_lines = styled_line ++ (if print.basedir && visual.is_first then direction_line visual.base else [])

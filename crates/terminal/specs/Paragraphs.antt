@@ -25,6 +25,6 @@ module _ (prefix : Option LinePrefix) (width : ℕ) (print : Print) (layout : La
 unfoldable pub styled_bytes : Option LinePrefix → Rules → ℕ → Print → List ℕ → List Style → List ℕ
 styled_bytes prefix rules width print text styles = encode_utf8_all (styled_layout prefix width print (layout_of rules width text) styles)
 
--- the same, given characters with their styles, without a prefix
+-- the printed bytes of a paragraph without a prefix, given its characters with their styles
 abbrev pub styled_paragraph : Rules → ℕ → Print → List (ℕ × Style) → List ℕ
 styled_paragraph rules width print shown = styled_bytes None rules width print (characters_of shown) (styles_of shown)

@@ -21,13 +21,13 @@ IsWhole rules text = paragraphs (cut_by rules) text ≡ text ∷ []
 abbrev pub has_over : Rules → List ℕ → Bool
 has_over rules text = list_any (λ paragraph. nat_lt PARAGRAPH_LIMIT (length paragraph)) (paragraphs (cut_by rules) text)
 
--- the first n pieces of a text, each as long as a paragraph may be, but for the last one
+-- the first n pieces of a text, each as long as a paragraph may be, except for the last one
 abbrev pub first_pieces : {A : Type 0} → ℕ → List A → List (List A)
 first_pieces zero text = []
 first_pieces (suc n) [] = []
 first_pieces (suc n) (c ∷ text) = take PARAGRAPH_LIMIT (c ∷ text) ∷ first_pieces n (drop PARAGRAPH_LIMIT (c ∷ text))
 
--- all its pieces
+-- all pieces of a text
 unfoldable pub pieces : {A : Type 0} → List A → List (List A)
 pieces text = first_pieces (length text) text
 

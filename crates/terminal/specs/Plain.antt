@@ -1,4 +1,4 @@
--- What is printed where all characters have the default style.
+-- What is printed if all characters have the default style.
 use Rattle.std.specs.Prelude.{◌≡◌, ℕ, false, List}
 use Rattle.lines.specs.Layouts.{Rules}
 use Rattle.lines.specs.Pages.{paragraph_bytes}
@@ -11,14 +11,14 @@ use Rattle.terminal.specs.Paragraphs.{styled_paragraph}
 use Rattle.terminal.specs.Prefixes.{prefix_len, printed_paragraph}
 use Rattle.terminal.specs.declared.form.Form.{Form}
 
--- whether the lines of paragraphs are printed, and besides them at most the base direction
+-- whether the lines of paragraphs are printed, and nothing else except possibly the base direction
 pub record PrintsLinesAlone (print : Print) : Type 0 where
   pub visual : print.novisual ≡ false
   pub ltov : print.ltov ≡ false
   pub vtol : print.vtol ≡ false
   pub levels : print.levels ≡ false
 
--- There, the lines are those that are printed without styles.
+-- With such options, text in the default style is printed like text without styles.
 abbrev pub PrintsPlainLines : Type 0
 PrintsPlainLines = (rules : Rules) (width : ℕ) (print : Print) (text : List ℕ) → PrintsLinesAlone print
     → styled_paragraph rules width print (in_style DEFAULT text) ≡ paragraph_bytes rules width print text

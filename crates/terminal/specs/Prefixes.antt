@@ -54,7 +54,7 @@ prefix_base prefix.None base = base
 prefix_base prefix.Quotes base = base
 prefix_base (prefix.Pattern regex) base = 0
 
--- whether it is on all lines, and not only on the first
+-- whether a prefix is on all lines, and not only on the first
 abbrev pub repeats : Prefix → Bool
 repeats prefix.None = true
 repeats prefix.Quotes = true
@@ -72,13 +72,13 @@ abbrev pub narrow_line : ℕ → List Visual → Option Visual
 narrow_line width (line ∷ []) = if nat_lt line.columns width then Some line else None
 narrow_line width lines = None
 
--- what follows a prefix; where nothing does, a newline
+-- what follows a prefix, or a newline if nothing does
 abbrev pub or_one : {A : Type 0} → A → List A → List A
 or_one a [] = a ∷ []
 or_one a (b ∷ list) = b ∷ list
 
--- What each line has of a prefix: its characters, in their styles, or as many spaces as it has columns. It is to the right of lines if it
--- is right-to-left.
+-- What is printed on each line for a prefix: its characters, in their styles, or as many spaces as it has columns. A
+-- right-to-left prefix is to the right of lines.
 abbrev pub line_prefix : Bool → Print → Visual → List Style → LinePrefix
 line_prefix repeated print line styles = record {
   first = line_chars print line styles;
@@ -92,20 +92,20 @@ module _ (rules : Rules) (form : Form) (text : List ℕ) (styles : List Style) w
   prefix_line n =
       narrow_line (width_of form) (visuals (prefix_layout rules (prefix_base form.prefix (base_of rules (or_one 10 (drop n text)))) (take n text)))
 
-  -- The printed bytes of a paragraph of which the first n characters are a prefix with the given line. What follows the prefix is
-  -- a paragraph of its own.
+  -- The printed bytes of a paragraph whose first n characters are a prefix with the given line. What follows the prefix
+  -- is a paragraph of its own.
   abbrev pub bytes_after : ℕ → Option Visual → List ℕ
   bytes_after n None = styled_bytes None rules (width_of form) (print_of form) text styles
   bytes_after n (Some line) =
       styled_bytes (Some (line_prefix (repeats form.prefix) (print_of form) line (take n styles))) rules (width_of form - line.columns) (print_of form)
       (or_one 10 (drop n text)) (or_one DEFAULT (drop n styles))
 
-  -- the same, given the length of the prefix, or 0 if there is none
+  -- the printed bytes of a paragraph, given the length of its prefix, or 0 if there is none
   abbrev pub prefixed_bytes : ℕ → List ℕ
   prefixed_bytes zero = bytes_after 0 None
   prefixed_bytes (suc n) = bytes_after (suc n) (prefix_line (suc n))
 
-  -- the same, with the length of the prefix
+  -- the printed bytes of a paragraph with the prefix that it begins with
   abbrev pub formed_bytes : List ℕ
   formed_bytes = prefixed_bytes (prefix_len rules.tables form.prefix text)
 
@@ -113,6 +113,6 @@ module _ (rules : Rules) (form : Form) (text : List ℕ) (styles : List Style) w
 unfoldable pub printed_bytes : Rules → Form → List ℕ → List Style → List ℕ
 printed_bytes rules form text styles = formed_bytes (rules_in form rules) form text styles
 
--- the same, given characters with their styles
+-- the printed bytes of a paragraph, given its characters with their styles
 abbrev pub printed_paragraph : Rules → Form → List (ℕ × Style) → List ℕ
 printed_paragraph rules form shown = printed_bytes rules form (characters_of shown) (styles_of shown)

@@ -45,13 +45,13 @@ pub record IsText (escapes : Escapes) (bytes text : List ℕ) : Type 0 where
   pub begins : (more : List ℕ) → input_text escapes (bytes ++ more) ≡ text ++ after more
   pub few : length (after []) ≤ 1
 
--- Blocks with which an input begins, whatever follows the bytes, and the characters after them.
+-- The blocks that an input begins with, whatever follows the bytes, and the characters after these blocks.
 pub record BeginsWith (rules : Rules) (form : Form) (bytes : List ℕ) (ended : List (List ℕ)) (rest : List ℕ) : Type 0 where
   pub text : IsText form.escapes bytes (concat ended ++ rest)
   pub blocks : (more : List ℕ) → blocks (cut_by rules) ((concat ended ++ rest) ++ more) ≡ ended ++ blocks (cut_by rules) (rest ++ more)
   pub permitted : ArePermitted form ended
 
--- All blocks that have ended. If the form is strict, these are the blocks that something follows.
+-- All blocks that have ended. If the form is strict, a block has ended only if something follows it.
 pub record HasEnded (rules : Rules) (form : Form) (bytes : List ℕ) (ended : List (List ℕ)) : Type 0 where
   pub rest : List ℕ
   pub begins : BeginsWith rules form bytes ended rest
@@ -59,8 +59,8 @@ pub record HasEnded (rules : Rules) (form : Form) (bytes : List ℕ) (ended : Li
   pub is_left : IsLeft (cut_by rules) form.strict upto rest
   pub holds : form.strict ≡ true → length rest ≡ 0 → length ended ≡ 0
 
--- The first block of a text is too long, whatever follows; or a sequence after its CR is not complete yet, and both are longer
--- than two paragraphs may be.
+-- Whatever follows, the first block of a text is too long. Or a sequence after its CR is not complete yet, and together
+-- they are longer than two paragraphs may be.
 abbrev pub IsTooLong : (ℕ → ℕ → Bool) → List ℕ → Type 0
 IsTooLong is_cut text =
     ((more : List ℕ) → (first : List ℕ) × (others : List (List ℕ)) × (blocks is_cut (text ++ more) ≡ first ∷ others) × (PARAGRAPH_LIMIT < length first))
@@ -87,7 +87,7 @@ EndsTooLong rules form bytes ended =
     (first : List ℕ) × (others : List (List ℕ)) × (blocks (cut_by rules) (input_text form.escapes bytes) ≡ ended ++ first ∷ others)
     × (are_within ended ≡ true) × (PARAGRAPH_LIMIT < length first)
 
--- What was written, for each fault. If the form is strict, the input counts up to where it is not UTF-8.
+-- What was written, for each fault. If the form is strict, the input counts only up to the first invalid UTF-8.
 abbrev pub EndsBy : (rules : Rules) (form : Form) (is_last : Bool) → Device → Device → (writer_old writer_new : Device) → (bytes : List ℕ)
     → WritesFirst rules form bytes writer_old writer_new → Fault → Type 0
 EndsBy rules form is_last reader_old reader_new writer_old writer_new bytes first fault.Read =
@@ -104,9 +104,9 @@ EndsBy rules form is_last reader_old reader_new writer_old writer_new bytes firs
     × (((rest : List ℕ) × BeginsWith rules form (good_part form.strict bytes) ended rest) ⊎ (IsAtEnd reader_new.bytes × EndsTooLong rules form bytes ended)))
     ⊎ (IsAtEnd reader_new.bytes × StoppedAt n (output_page rules form is_last bytes) writer_old writer_new)
 
--- How a run ended. Without a fault, it has read the whole input, which is UTF-8 if the form is strict. It has written its
--- lines and nothing else, without the last newline if the input is the last one and its text does not end a line. It tells
--- whether a paragraph was over the limit.
+-- How a run ended. Without a fault, the whole input was read, and it is valid UTF-8 if the form is strict. Its lines
+-- and nothing else were written, without the last newline if the input is the last one and its text does not end a
+-- line. The result says whether a paragraph was over the limit.
 abbrev pub IsRun : Rules → Form → Bool → Device → Device → Device → Device → Result Bool Fault → Type 0
 IsRun rules form is_last reader_old reader_new writer_old writer_new (Ok over) =
     (bytes : List ℕ) × HasRead reader_old reader_new bytes × IsAtEnd reader_new.bytes × (reader_new.failures ≡ reader_old.failures)

@@ -22,11 +22,11 @@ use Rattle.terminal.specs.declared.form.Form.{Form}
 use Rattle.terminal.specs.declared.output.Output.{Output}
 use Rattle.terminal.specs.declared.input.Held.{Held}
 
--- the printed bytes of blocks, the first of which begins with a pen
+-- the printed bytes of blocks, the first of which begins in the state of a pen
 abbrev pub pages : Rules → Form → Pen → List (List ℕ) → List ℕ
 pages rules form pen parts = flat_map (block_page rules form) (shown_blocks pen parts)
 
--- the pen after blocks
+-- the pen after some blocks
 abbrev pub pen_after_blocks : Pen → List (List ℕ) → Pen
 pen_after_blocks pen [] = pen
 pen_after_blocks pen (block ∷ parts) = pen_after_blocks (next_paragraph (pen_at_end pen block)) parts
@@ -53,7 +53,8 @@ abbrev pub Leaves : Rules → Bool → Bool → ℕ → List ℕ → Type 0
 Leaves rules holds true scanned rest = (holds ≡ true) × IsTooLong (cut_by rules) rest
 Leaves rules holds false scanned rest = IsLeft (cut_by rules) holds scanned rest
 
--- The lines of all blocks that have ended were added to the page, or of those before one that is too long.
+-- The lines of all blocks that have ended were added to the page, or only the lines of those before one that is too
+-- long.
 pub record AddsEnded (rules : Rules) (form : Form) (text : List ℕ) (old new : Output) (start scanned : ℕ) (is_long : Bool) : Type 0 where
   pub parts : List (List ℕ)
   pub front : IsFront (cut_by rules) parts text (drop start text)
@@ -63,7 +64,8 @@ pub record AddsEnded (rules : Rules) (form : Form) (text : List ℕ) (old new : 
   pub leaves : Leaves rules form.strict is_long scanned (drop start text)
   pub holds : form.strict ≡ true → length (drop start text) ≡ 0 → length text ≡ 0
 
--- The lines of the blocks of a whole text were added to the page, or of those before one that is too long.
+-- The lines of the blocks of a whole text were added to the page, or only the lines of those before one that is too
+-- long.
 abbrev pub AddsLast : Rules → Form → Bool → List ℕ → Output → Output → Bool → Type 0
 AddsLast rules form is_last text old new false =
     (new.page.bytes.items ≡ old.page.bytes.items ++ text_output rules form is_last (pen_of old.scanner) text)
@@ -82,7 +84,8 @@ fault_after true stops n = Some f.ParagraphTooLong
 fault_after false true n = Some (f.NotUtf8 n)
 fault_after false false n = None
 
--- A chunk was decoded, and the lines of all blocks that have ended were added to the page, or of those before one that is too long.
+-- A chunk was decoded, and the lines of all blocks that have ended were added to the page, or only the lines of those
+-- before one that is too long.
 pub record Gathers (rules : Rules) (form : Form) (bytes : List ℕ) (old new : Held) (fault : Option Fault) : Type 0 where
   pub text : List ℕ
   pub takes : Takes form.strict form.escapes (good_part form.strict bytes) old.decoder new.decoder old.text.items text
@@ -95,7 +98,7 @@ pub record Gathers (rules : Rules) (form : Form) (bytes : List ℕ) (old new : H
   pub holds : form.strict ≡ true → length new.text.items ≡ 0 → length text ≡ 0
   pub fault_is : fault ≡ fault_after is_long (form.strict && is_bad bytes) new.decoder.decoded
 
--- The bytes before those that wait are UTF-8. They have these characters, whatever follows.
+-- The bytes before the waiting ones are valid UTF-8. They have these characters, whatever follows.
 pub record IsValidSoFar (escapes : Escapes) (bytes waiting text : List ℕ) (started : Bool) : Type 0 where
   pub front : List ℕ
   pub whole : bytes ≡ front ++ waiting

@@ -30,7 +30,7 @@ picture c =
     else if c == 0x7F then 0x2421
     else 0xFFFD
 
--- in the mode `Text`, pictures stand for these controls, so that nothing is a sequence
+-- in the mode `Text`, pictures replace these controls, so that nothing is a sequence
 abbrev pub input_text : Escapes → List ℕ → List ℕ
 input_text Keep bytes = decoded bytes
 input_text Strip bytes = decoded bytes
@@ -42,7 +42,7 @@ in_mode Keep shown = shown
 in_mode Strip shown = in_style DEFAULT (characters_of shown)
 in_mode Text shown = shown
 
--- a character that no sequence and no overstrike contains, and that is not dropped
+-- a character that cannot be in a sequence or an overstrike, and is not dropped
 abbrev pub is_apart : ℕ → Bool
 is_apart c = not (is_inline c || is_dropped c)
 
@@ -66,16 +66,17 @@ module _ (is_cut : ℕ → ℕ → Bool) where
   abbrev pub ends_block : ℕ → List ℕ → Bool
   ends_block c text = is_apart c && is_cut c (next_character text)
 
-  -- a text with its sequences, cut where paragraphs end
+  -- a text with its sequences, split where paragraphs end
   abbrev pub blocks : List ℕ → List (List ℕ)
   blocks [] = []
   blocks (c ∷ text) = if ends_block c text then (c ∷ []) ∷ blocks text else onto_first c (blocks text)
 
-  -- The paragraphs of what a block shows. With the Unicode tables it is one, since all separators are apart.
+  -- The paragraphs of what a block shows. With the Unicode tables there is exactly one, since `is_apart` holds for all
+  -- separators.
   abbrev pub styled_paragraphs : List (ℕ × Style) → List (List (ℕ × Style))
   styled_paragraphs shown = regrouped (paragraphs is_cut (characters_of shown)) shown
 
--- what each block shows; it begins in the style in which the one before ends
+-- what each block shows; a block begins in the style in which the one before it ends
 abbrev pub shown_blocks : Pen → List (List ℕ) → List (List (ℕ × Style))
 shown_blocks pen [] = []
 shown_blocks pen (block ∷ blocks) = styled pen block ∷ shown_blocks (next_paragraph (pen_at_end pen block)) blocks

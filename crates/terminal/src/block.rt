@@ -52,7 +52,7 @@ fn put_zeros(len: usize, numbers: &mut Vec<usize>) -> Result<(), AllocError>
     Ok(())
 }
 
-// Replaces the numbers with those of the styles that a text's characters have in a mode.
+// Replaces the numbers with the style numbers of a text's characters in a mode.
 fn number_mode(
     escapes: Escapes,
     text: &StyledText,
@@ -162,8 +162,8 @@ pub(crate) struct Shown {
     pub(crate) over: bool,
 }
 
-/// Adds the lines of what a block shows. The scanner begins the next block. After a failed allocation, what
-/// it holds does not matter.
+/// Adds the lines of what a block shows. The scanner is then ready for the next block. After a failed
+/// allocation, its state does not matter.
 pub(crate) fn push_block(
     alloc: Global,
     page: &mut Page,

@@ -1,4 +1,4 @@
-//! Decodes a source whose bytes come in chunks.
+//! Decodes a source that is read in chunks.
 ghost use Rattle.std.specs.Prelude.{◌≡◌, ◌+◌, ◌-◌, ◌^◌, ◌++◌, ◌<◌, ◌≤◌, [], ◌∷◌, drop, length, map, take};
 ghost use Rattle.std.specs.Prelude.{◌&&◌, ◌||◌, OnErr, OnOk, IfOk, false, if◌then◌else◌, nat_lt, vec_len};
 ghost use Rattle.device.specs.Device.{Fails};
@@ -121,7 +121,8 @@ impl Decoder {
     }
 }
 
-// Returns where the bytes end that are not dropped, given the number of decoded ones and of all.
+// Returns the end of the bytes that are not dropped, given the number of decoded bytes and the number of all
+// bytes.
 fn end_of(stops: bool, decoded: usize, filled: usize) -> usize
     ensures { result ≡ (if stops then decoded else filled) }
 {
@@ -167,7 +168,7 @@ fn drop_mark(text: &mut Vec<char>, at: usize)
     }
 }
 
-/// Replaces the characters from an index on by what stands for them in a mode.
+/// Replaces the characters from an index on with what a mode shows for them.
 pub(crate) fn show_pictures(escapes: Escapes, text: &mut [char], from: usize)
     requires { from ≤ length text.old }
     ensures { text.new ≡ take from text.old ++ pictures escapes (drop from text.old) }

@@ -1,4 +1,4 @@
-//! Decodes bytes that come in chunks. What is not UTF-8 becomes U+FFFD.
+//! Decodes bytes that are read in chunks. Invalid UTF-8 becomes U+FFFD.
 ghost use Rattle.std.specs.Prelude.{◌≡◌, ◌+◌, ◌++◌, ◌<◌, ◌≤◌, ℕ, List, None, true, IfOk, length, drop, take};
 ghost use Rattle.std.specs.Str.Lossy.{utf8_error_len, utf8_valid_len};
 ghost use Rattle.terminal.specs.Decoding.{Decodes, IsAllDecoded, IsValidPrefix};
@@ -8,7 +8,7 @@ use std::str::from_utf8;
 use stream::{front, push_characters};
 
 // Returns the longest prefix of the bytes that is valid UTF-8, and the length of the invalid sequence after
-// it. This is `None` if no bytes are left, or only the beginning of a character.
+// it. The length is `None` if no bytes are left, or only the beginning of a character.
 fn valid_prefix(bytes: &[u8]) -> (&str, Option<usize>)
     ensures { IsValidPrefix bytes.now result.0.now result.1 }
 {
@@ -40,7 +40,7 @@ pub(crate) fn decode(
     Ok((n, false))
 }
 
-// Does the work of `decode` if bytes that are not UTF-8 end the text.
+// Implements `decode` for texts that end at the first invalid UTF-8.
 fn decode_strict(bytes: &[u8], characters: &mut Vec<char>) -> Result<(usize, bool), AllocError>
     ensures { IfOk result (λ decoded. Decodes true bytes.now decoded.0 decoded.1
         characters.old.items characters.new.items) }
@@ -50,7 +50,7 @@ fn decode_strict(bytes: &[u8], characters: &mut Vec<char>) -> Result<(usize, boo
     Ok((text.len(), is_bad))
 }
 
-/// Does the work of `decode` if each invalid sequence becomes U+FFFD.
+/// Implements `decode` for texts in which each invalid sequence becomes U+FFFD.
 pub(crate) fn decode_lossy(bytes: &[u8], characters: &mut Vec<char>) -> Result<usize, AllocError>
     ensures { IfOk result (λ n. IsAllDecoded bytes.now n characters.old.items characters.new.items) }
 {
@@ -62,7 +62,7 @@ pub(crate) fn decode_lossy(bytes: &[u8], characters: &mut Vec<char>) -> Result<u
     Ok(text.len())
 }
 
-// Does the work of `decode_lossy` for bytes some of which are invalid. Each byte is validated at most twice.
+// Implements `decode_lossy` for bytes that contain invalid sequences. Each byte is validated at most twice.
 fn decode_parts(bytes: &[u8], characters: &mut Vec<char>) -> Result<usize, AllocError>
     ensures { IfOk result (λ n. IsAllDecoded bytes.now n characters.old.items characters.new.items) }
 {

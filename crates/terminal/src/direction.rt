@@ -18,7 +18,7 @@ use lines::{Engine, Options};
 use sequences::Scanner;
 use std::alloc::{AllocError, Global};
 
-/// The number of characters, with sequences, that the direction of a text depends on.
+/// The number of characters, including sequences, that the direction of a text depends on.
 pub const FIRST_CHARACTERS: usize = 65_536;
 
 // Returns the base level of a paragraph.
@@ -76,7 +76,7 @@ fn first_level(engine: &mut Engine, text: &[char]) -> Option<u8>
     None
 }
 
-// Returns the same for the paragraphs that a text shows.
+// Does the same as `first_level`, for the paragraphs that a text shows.
 fn shown_level(alloc: Global, engine: &mut Engine, text: &[char]) -> Result<Option<u8>, AllocError>
     ensures level { IfOk result (λ level. level ≡ shown_level (rules_of engine.old) text.now) }
     ensures rules { SameRules engine.old engine.new }
@@ -86,8 +86,8 @@ fn shown_level(alloc: Global, engine: &mut Engine, text: &[char]) -> Result<Opti
     Ok(first_level(engine, &scanner.text.characters))
 }
 
-// Returns the same for a text that goes on, or `None` if it depends on what follows: only blocks count that
-// have ended.
+// Does the same as `shown_level`, for a text that may continue. Considers only blocks that have ended.
+// Returns `None` if the level depends on what follows.
 fn known_level(alloc: Global, engine: &mut Engine, text: &[char]) -> Result<Option<u8>, AllocError>
     ensures level { IfOk result (λ found. IfSome found (λ level. (more : List ℕ)
         → shown_level (rules_of engine.old) (text.now ++ more) ≡ Some level)) }
@@ -117,7 +117,8 @@ fn base_by(level: Option<u8>) -> Base
     }
 }
 
-// Decodes the first bytes of an input, and returns how many. The other ones are the beginning of a character.
+// Decodes the first bytes of an input, and returns their number. The other bytes are the beginning of a
+// character.
 fn decode_start(escapes: Escapes, bytes: &[u8], text: &mut Vec<char>) -> Result<usize, AllocError>
     requires { text.old.items ≡ [] }
     ensures { IfOk result (λ n. StartsWith escapes bytes.now n text.new.items) }
@@ -128,7 +129,7 @@ fn decode_start(escapes: Escapes, bytes: &[u8], text: &mut Vec<char>) -> Result<
     Ok(n)
 }
 
-/// Returns the base direction of a text: that of the first paragraph with a strong character among what its
+/// Returns the base direction of a text: that of the first paragraph with a strong character in what its
 /// first 65,536 characters show, or left-to-right if there is none. Its bytes are decoded as by `run`.
 pub fn whole_direction(
     alloc: Global,

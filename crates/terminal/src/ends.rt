@@ -20,7 +20,7 @@ pub(crate) fn is_dropped(c: char) -> bool
         && !(('\u{9}' <= c && c <= '\u{d}') || ('\u{1c}' <= c && c <= '\u{1e}') || c == '\u{85}')
 }
 
-/// Returns whether no sequence and no overstrike contains a character, and it is not dropped.
+/// Returns whether a character cannot be in a sequence or an overstrike, and is not dropped.
 pub(crate) fn is_apart(c: char) -> bool
     ensures { result ≡ is_apart c }
 {

@@ -7,7 +7,7 @@ pub enum Fault {
     Read,
     /// The sink failed after this call had written this number of bytes.
     Write(u64),
-    /// The input is not UTF-8 from this byte on. Bytes are counted from 0.
+    /// The input is invalid UTF-8 from this byte on, counted from 0.
     NotUtf8(u64),
     /// A paragraph, with its sequences, has more than 1,048,576 characters.
     ParagraphTooLong,

@@ -7,27 +7,27 @@ use regex::Regex;
 /// What becomes of control sequences, overstrikes and other controls.
 #[derive(Clone, Copy, Debug, PartialEq, Eq)]
 pub enum Escapes {
-    /// They are styles in the output, or are dropped.
+    /// They become styles in the output, or are dropped.
     Keep,
     /// The output has no styles.
     Strip,
-    /// Nothing is a sequence or an overstrike. The controls that are otherwise dropped are shown as other
-    /// characters.
+    /// Sequences and overstrikes are not recognized. The controls that are otherwise dropped are shown as
+    /// other characters.
     Text,
 }
 
-/// What is a prefix at the start of a paragraph. What follows it is a paragraph of its own, which is laid out
-/// at the width that is left: its tab stops are counted from its own start.
+/// What counts as a prefix at the start of a paragraph. The text after it is a paragraph of its own, which is
+/// laid out at the remaining width. Its tab stops are counted from its own start.
 #[derive(Clone, Copy, Debug)]
 pub enum Prefix<'a> {
     /// Nothing.
     None,
-    /// A quote of a mail: the longest match of `(> ?)+`. It is on each line, in the direction of what follows
-    /// it: to the right of right-to-left lines.
+    /// The quote marks of an email: the longest match of `(> ?)+`. They are on each line, in the direction of
+    /// the text after them, and so to the right of right-to-left lines.
     Quotes,
-    /// What a pattern matches at the start of a paragraph without its separator. It is left-to-right and to
-    /// the left of all lines. Lines after the first have as many spaces as it has columns. A match that
-    /// starts later is none: begin the pattern with `\A`, so that it is not searched for.
+    /// The match of a pattern at the start of a paragraph without its separator. It is left-to-right and to
+    /// the left of all lines. Lines after the first are indented by as many spaces as it has columns. A match
+    /// that starts later is ignored. Begin the pattern with `\A` to avoid searching for one.
     Pattern(&'a Regex),
 }
 
@@ -48,7 +48,7 @@ impl<'a> Prefix<'a> {
 /// How a text is written.
 #[derive(Clone, Copy, Debug)]
 pub struct Form<'a> {
-    /// The width in columns, or 0 for none: then lines end at mandatory breaks only, and have no padding.
+    /// The width in columns, or 0 for no limit: then lines end at mandatory breaks only, and have no padding.
     pub width: u16,
     /// Writes no spaces to the left of lines of right-to-left paragraphs.
     pub nopad: bool,
@@ -60,7 +60,7 @@ pub struct Form<'a> {
     /// Stops at bytes that are not UTF-8, and at a paragraph over the limit. A paragraph is then written only
     /// once something follows it.
     pub strict: bool,
-    /// A prefix as wide as the width or wider is none.
+    /// A prefix that is not narrower than the width is laid out as text.
     pub prefix: Prefix<'a>,
 }
 

@@ -103,7 +103,8 @@ impl Held {
     }
 
     // Adds the lines of the text that is left at the end of the input to the page, up to a block that is too
-    // long. Returns whether one is. If none is, the page of the last input ends as its text does.
+    // long. Returns whether there is one. If not, the last input's page ends in a newline only if its text
+    // ends a line.
     fn gather_last(
         &mut self,
         alloc: Global,
@@ -181,7 +182,7 @@ fn finish<W: Sink>(
     Ok(())
 }
 
-// Reads a chunk, and writes the lines of the blocks that have then ended. Returns whether the input
+// Reads a chunk, and writes the lines of the blocks that have ended by then. Returns whether the input
 // continues.
 fn step<R: Source, W: Sink>(
     alloc: Global,
@@ -228,7 +229,7 @@ fn step<R: Source, W: Sink>(
 
 /// Reads a text to its end, and writes the lines of what it shows, at a width that must not be 0.
 ///
-/// Invalid UTF-8 is read as U+FFFD, unless the form is strict, and a U+FEFF that the text begins with is
+/// Invalid UTF-8 is read as U+FFFD, unless the form is strict, and a U+FEFF at the start of the text is
 /// dropped. The lines of a paragraph are written as soon as its end is known, before more is read. Only the
 /// last paragraph and one chunk of the input are kept in memory.
 ///
@@ -236,14 +237,14 @@ fn step<R: Source, W: Sink>(
 /// neither bidi class B nor line breaking class BK, CR, LF or NL.
 ///
 /// A paragraph over `PARAGRAPH_LIMIT` is laid out in pieces of this length, in the direction of the first
-/// one, unless the form is strict. Returns whether there was one.
+/// one, unless the form is strict. Returns whether there was such a paragraph.
 ///
 /// Errors:
 ///
 /// - `Read`: the source failed. All paragraphs that have ended were written.
 /// - `Write`: the sink failed.
-/// - `NotUtf8`: the form is strict, and the input is not UTF-8. All paragraphs before this were written but
-///   the last one.
+/// - `NotUtf8`: the form is strict, and the input is not UTF-8. All paragraphs before this, except the last
+///   one, were written.
 /// - `ParagraphTooLong`: the form is strict, and a paragraph with its sequences is longer than
 ///   `PARAGRAPH_LIMIT`. All paragraphs before it were written.
 /// - `Memory`: an allocation failed.

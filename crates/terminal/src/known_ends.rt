@@ -43,8 +43,8 @@ fn ends_known(engine: &Engine, c: char, text: &[char], passed: Passed) -> Result
     }
 }
 
-/// Finds the first end of a block in a text, given an index before which none ends, whatever follows the
-/// text, and how far the text after the character at this index was scanned.
+/// Finds the first end of a block in a text. No block may end before `from`, whatever follows the text.
+/// `passed` is how far the text after the character there was scanned.
 pub(crate) fn first_end(engine: &Engine, text: &[char], from: usize, passed: Passed) -> FirstEnd
     requires within { from ≤ length text.now }
     requires none { AreNoEnds (cut_by (rules_of engine.now)) from text.now }

@@ -14,7 +14,7 @@ pub fn prints_without_prefix()
 {}
 
 /// States, as a theorem, that the lines of an input that shows something end in a newline. `run` leaves out
-/// this newline or nothing.
+/// at most this newline.
 pub fn pages_end_in_newlines()
     ensures { PagesEndInNewlines }
 {}

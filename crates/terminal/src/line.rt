@@ -244,7 +244,7 @@ fn push_shown(
     push_chars(line, part, &form.print, padded, out)
 }
 
-// Appends what a line has of a prefix, given the number of the style before it. Returns the number of the
+// Appends what a prefix prints on a line, given the number of the style before it. Returns the number of the
 // last style.
 fn push_prefix(
     prefix: &PrefixLine<'_>,

@@ -18,7 +18,7 @@ pub(crate) struct LineForm<'a> {
 pub(crate) struct PrefixLine<'a> {
     pub(crate) line: &'a VisualLine<'a>,
     pub(crate) part: Part<'a>,
-    /// Whether it is on all lines, and not only on the first.
+    /// Whether the prefix is on all lines, and not only on the first.
     pub(crate) repeats: bool,
     ghost text: { part.characters.now ≡ line.now.text },
     ghost plain: { is_measured line.now ≡ false },

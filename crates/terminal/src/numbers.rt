@@ -1,4 +1,5 @@
-//! The styles of characters by numbers: 0 is the default style, and the runs of a text are counted from 1.
+//! Numbers for the styles of characters: 0 is the default style, and n is the style of the n-th run of a
+//! text.
 ghost use Rattle.std.specs.Prelude.{◌≡◌, ◌≤◌, ◌<◌, ℕ, drop, length, map, slice_index, slice_range, All, OnOk};
 ghost use Rattle.sequences.specs.StyleRefs.{style_by};
 ghost use Rattle.sequences.specs.Styled.{DEFAULT};
@@ -37,7 +38,7 @@ impl<'a> Part<'a> {
         }
     }
 
-    /// Returns the characters in a range, with their numbers alone.
+    /// Returns the characters in a range, and only their numbers.
     pub(crate) fn paragraph(&self, start: usize, end: usize) -> Part<'a>
         requires within { (start ≤ end) × (end ≤ length self.now.characters.now) }
         requires len { length self.now.numbers.now ≡ length self.now.characters.now }
@@ -73,12 +74,12 @@ impl<'a> Part<'a> {
     }
 }
 
-// What follows a prefix that nothing follows.
+// Replaces the empty text after a prefix that nothing follows.
 const NEWLINE: &[char] = &['\n'];
 
 const DEFAULT_NUMBER: &[usize] = &[0];
 
-/// Returns the style with a number.
+/// Returns the style with this number.
 pub(crate) fn style_numbered(text: &StyledText, number: usize) -> StyleRef<'_>
     requires { number ≤ length text.now.runs.items }
     ensures { style_by result ≡ numbered text.now.links.items text.now.runs.items number }
@@ -106,7 +107,8 @@ fn put_number(numbers: &mut [usize], start: usize, end: usize, number: usize)
 }
 
 // Replaces the numbers of a text's characters, all of which are 0, with those of their styles. The style of a
-// character is that of the last run that starts at it or before it, so the last runs are taken first.
+// character is that of the last run that starts at it or before it, so the runs are processed from the last
+// to the first.
 fn put_numbers(text: &StyledText, numbers: &mut [usize])
     requires len { length numbers.old ≡ length text.now.characters.items }
     requires zero { (k : ℕ) → slice_index numbers.old k ≡ 0 }

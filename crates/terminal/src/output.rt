@@ -169,8 +169,9 @@ impl Output {
         }
     }
 
-    /// Adds the lines of the blocks of a text that nothing follows, up to one that is too long. If none is,
-    /// and the text is the last one, ends the page as the text ends. Returns whether one is too long.
+    /// Adds the lines of the blocks of a text that nothing follows, up to one that is too long. If there is
+    /// none, and the text is the last one, the page ends in a newline only if the text ends a line. Returns
+    /// whether there is one.
     pub(crate) fn push_last(
         &mut self,
         alloc: Global,
@@ -248,7 +249,7 @@ fn is_ended(engine: &Engine, last: Option<char>) -> bool
     }
 }
 
-// Returns whether a block of this length, with which a text of another length begins, is held back.
+// Returns whether a block of length `block` at the start of a text of length `len` is held back.
 fn is_held(form: &Form, block: usize, len: usize) -> bool
     ensures { result ≡ (form.now.strict && (block == len)) }
 {
@@ -263,8 +264,8 @@ fn is_too_long(form: &Form, len: usize) -> bool
 }
 
 // Returns what is left of a text, which begins at `start`, has `len` characters, and has no known end. If the
-// form is strict, it is too long if its first block is, or if the sequence after its CR is longer than
-// another block may be.
+// form is strict, it is too long if its first block is, or if the sequence after its CR is longer than a
+// block may be.
 fn left_open(form: &Form, start: usize, scanned: usize, passed: Passed, len: usize) -> Left
     ensures start { result.start ≡ start }
     ensures scanned { result.scanned ≡ scanned }

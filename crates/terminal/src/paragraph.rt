@@ -199,7 +199,7 @@ fn push_whole(
     push_styled(alloc, page, engine, &lines, part, out)
 }
 
-// Adds the lines of what follows a prefix, which is on each of them.
+// Adds the lines of the text after a prefix, each of them with the prefix.
 fn push_after(
     alloc: Global,
     page: &mut Page,

@@ -1,4 +1,4 @@
-//! Finds the character after a CR in a text that comes in pieces.
+//! Finds the character after a CR in a text that is read in pieces.
 ghost use Rattle.std.specs.Prelude.{◌≡◌, ◌+◌, List, ℕ, false, true, IfErr, IfOk};
 ghost use Rattle.sequences.specs.declared.known.Progress.TheVariants.{Start};
 ghost use Rattle.terminal.specs.Ends.{knows_next};
@@ -11,10 +11,10 @@ use sequences::Progress;
 /// How far the text after a CR was scanned, if its next character is not known.
 #[derive(Clone, Copy)]
 pub(crate) struct Passed {
-    // Where the first part begins whose end is not known. All parts before it are sequences and dropped
+    // The start of the first part whose end is not known. All parts before it are sequences and dropped
     // controls.
     start: usize,
-    // The number of characters of this part that were scanned, and what they tell.
+    // The number of characters of this part that were scanned, and the state of the scan after them.
     scanned: usize,
     progress: Progress,
 }
@@ -42,7 +42,7 @@ impl Passed {
 }
 
 /// Returns the first character of a text that is neither in a sequence nor dropped. If it depends on what
-/// follows the text, returns how far the text is scanned now. Takes no character again that was scanned.
+/// follows the text, returns how far the text is scanned now. Scans no character twice.
 pub(crate) fn known_next(text: &[char], passed: Passed) -> Result<char, Passed>
     requires { HasPassed passed text.now }
     ensures next { IfOk result (λ c. c ≡ next_character text.now) }

@@ -65,7 +65,7 @@ fn encoded(alloc: Global, text: &[char]) -> Result<String, AllocError>
     Ok(string)
 }
 
-// Returns the number of characters of a match, or 0 if it does not start at the start of its text.
+// Returns the number of characters of a match, or 0 if the match does not begin at the start of the text.
 fn span_len(found: &Match<'_>) -> usize
     ensures { result ≡ span_len (match_haystack found.now) (match_span found.now) }
 {
@@ -77,7 +77,7 @@ fn span_len(found: &Match<'_>) -> usize
 }
 
 // Returns the number of characters that a pattern matches at the start of a text, or 0 if it does not match
-// there. Costs the length of the text.
+// there. Needs time linear in the length of the text.
 fn match_len(alloc: Global, regex: &Regex, text: &[char]) -> Result<usize, AllocError>
     ensures { IfOk result (λ len. len ≡ match_len (regex_pattern regex.now) text.now) }
 {

@@ -12,9 +12,9 @@ use sequences::Scanner;
 use std::alloc::{AllocError, Global};
 use stream::Page;
 
-/// Returns what is shown for a character if sequences are text. For a control that is dropped otherwise, this
-/// is its picture, U+2400 to U+241F or U+2421, or U+FFFD for one of C1. Other characters are shown
-/// unchanged.
+/// Returns what is shown for a character if sequences are shown as text. For a control that is otherwise
+/// dropped, this is its picture, U+2400 to U+241F or U+2421, or U+FFFD for one of C1. Other characters are
+/// shown unchanged.
 pub fn picture(c: char) -> char
     ensures { result ≡ picture c }
 {

@@ -43,7 +43,7 @@ option_rules =
     width_rule ∷ direction_rule ∷ map value_rule values
     ++ (map flag_rule flags ++ (map flag_rule profile_flags ++ value_rule (codes "script") ∷ []))
 
--- An option that is repeated has its last value.
+-- If an option is repeated, its last value counts.
 abbrev pub start : App
 start = on_top (λ s. record s { no_binary_name = true; has_version = true; args_override_self = true }) (new_app (codes "hordguli"))
 

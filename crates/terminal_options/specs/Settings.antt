@@ -60,7 +60,7 @@ IsRefusal files words (fault.Words error) = IsAmong (kind_of error) (fault_of (p
 IsRefusal files words fault.NoMemory = Unit {0}
 IsRefusal files words other = ⊥
 
--- Among the given options is one of the strict command, or one whose value has no meaning, or there are both options for prefixes.
+-- The given options include one of the strict command, one whose value has no meaning, or both options for prefixes.
 abbrev pub IsMeaningless : Rows → OptionFault → Type 0
 IsMeaningless rows (fault.Words error) = ⊥
 IsMeaningless rows (fault.Profile name) = profile_option rows ≡ Some name.now

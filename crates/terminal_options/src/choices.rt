@@ -25,22 +25,22 @@ pub enum Marks {
 /// The base direction of paragraphs.
 #[derive(Clone, Copy, Debug, PartialEq, Eq)]
 pub enum Direction {
-    /// That of the first strong character, or else left-to-right.
+    /// The direction of the first strong character, or else left-to-right.
     Auto,
-    /// That of the first strong character, or else right-to-left.
+    /// The direction of the first strong character, or else right-to-left.
     RtlAuto,
     Ltr,
     Rtl,
-    /// That of the file's first paragraph with a strong character, or else left-to-right.
+    /// The direction of the file's first paragraph with a strong character, or else left-to-right.
     File,
 }
 
-/// The prefix that each line of a paragraph has.
+/// What counts as a prefix of a paragraph.
 #[derive(Clone, Copy, Debug)]
 pub enum Prefix<'a> {
     Absent,
     /// The quote marks at the paragraph's start.
     Quotes,
-    /// What a regular expression matches at the paragraph's start.
+    /// The match of a regular expression at the paragraph's start.
     Pattern(&'a str),
 }

@@ -15,14 +15,14 @@ pub(crate) struct Given<'m, 'a> {
     pub line: &'m ArgMatches<'a>,
 }
 
-// Returns the value of an option in one of the two.
+// Returns the value of an option in one of the two sources.
 pub(crate) fn value_in<'a>(matches: &ArgMatches<'a>, name: &str) -> Option<&'a str>
     ensures { option_map (λ text. text.now) result ≡ first_of name.now (rows_of (found_of matches.now)) }
 {
     matches.get_str(name)
 }
 
-// Returns whether an option is set in one of the two.
+// Returns whether an option is set in one of the two sources.
 pub(crate) fn is_set_in(matches: &ArgMatches<'_>, name: &str) -> bool
     ensures { result ≡ is_given name.now (rows_of (found_of matches.now)) }
 {

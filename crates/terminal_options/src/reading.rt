@@ -83,7 +83,7 @@ fn has_prefix(matches: &ArgMatches<'_>) -> bool
     is_set_in(matches, "quotes") || value_in(matches, "prefix").is_some()
 }
 
-// Returns the prefix, or `None` if there are both options for prefixes.
+// Returns the prefix, or `None` if both options for prefixes are set.
 fn prefix_by<'a>(quotes: bool, pattern: Option<&'a str>) -> Option<Prefix<'a>>
     ensures some { IfSome result (λ prefix. options_for prefix
         ≡ (quotes, option_map (λ text. text.now) pattern.entry)) }
@@ -97,7 +97,7 @@ fn prefix_by<'a>(quotes: bool, pattern: Option<&'a str>) -> Option<Prefix<'a>>
     }
 }
 
-// Returns the prefix, or `None` if there are both options for prefixes.
+// Returns the prefix, or `None` if both options for prefixes are set.
 fn prefix_of<'a>(given: &Given<'_, 'a>) -> Option<Prefix<'a>>
     ensures some { IfSome result (λ prefix. options_for prefix ≡ prefix_options (rows_in given.now)) }
     ensures none { result ≡ None → ((prefix_options (rows_in given.now)).0 ≡ true)
@@ -113,8 +113,8 @@ fn prefix_of<'a>(given: &Given<'_, 'a>) -> Option<Prefix<'a>>
 
 /// Returns the settings, given the words of `HORDGULI_OPTIONS` and the arguments after the program's name.
 ///
-/// Fails with `Words` if `clap` refuses one of both, then with `Profile` if an option of the strict command
-/// is set, then with the fault of the first value that has no meaning.
+/// Fails with `Words` if `clap` refuses either of them, then with `Profile` if an option of the strict
+/// command is set, and then with the fault of the first value that has no meaning.
 pub fn settings<'a>(
     alloc: Global,
     environment: &'a [&'a str],

@@ -71,7 +71,7 @@ pub(crate) fn direction_by(text: Option<&str>) -> Option<Direction>
     }
 }
 
-/// Returns what becomes of escape sequences according to a value.
+/// Returns the treatment of escape sequences that a value names.
 pub(crate) fn escapes_by(text: Option<&str>) -> Option<Escapes>
     ensures { result ≡ escapes_by (option_map (λ text. text.now) text.entry) }
 {

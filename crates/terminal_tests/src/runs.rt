@@ -56,7 +56,7 @@ fn is_output(
     Ok(true)
 }
 
-// Returns the same for an input that is not the last one.
+// Does the same as `is_output` for an input that is not the last one.
 fn is_written_as(
     alloc: Global,
     engine: &mut Engine,
@@ -276,7 +276,7 @@ fn a_full_sink_ends_the_run(rt: HostRuntime) -> Result<(), Fail> {
     Ok(())
 }
 
-// Adds a byte some times.
+// Adds a byte `count` times.
 fn push_times(byte: u8, count: usize, bytes: &mut Vec<u8>) -> Result<(), Fail> {
     for _ in 0..count {
         bytes.push(byte)?;
@@ -284,7 +284,8 @@ fn push_times(byte: u8, count: usize, bytes: &mut Vec<u8>) -> Result<(), Fail> {
     Ok(())
 }
 
-// Returns whether a text without a width is laid out in pieces, and what is written after some bytes.
+// Returns whether a text is laid out in pieces without a width, and the output after `at` bytes is as
+// expected.
 fn ends_in_pieces(
     rt: &HostRuntime,
     bytes: &[u8],

@@ -112,7 +112,7 @@ fn put_levels_by(
     put_levels_of(resolver, &classes, &brackets, base, levels)
 }
 
-// Whether the levels from an index on are the wanted ones.
+// Returns whether the levels from an index on are the wanted ones.
 fn are_from(levels: &[u8], place: usize, wanted: &[u8]) -> bool {
     match levels.get(place..) {
         Some(after) => after == wanted,
@@ -120,7 +120,7 @@ fn are_from(levels: &[u8], place: usize, wanted: &[u8]) -> bool {
     }
 }
 
-// Whether a resolver finds these levels from an index on, from the characters of a list.
+// Returns whether a resolver finds these levels from an index on, from the characters of a list.
 fn is_found_of_text(
     alloc: Global,
     resolver: &mut Resolver,
@@ -135,7 +135,8 @@ fn is_found_of_text(
     Ok(is_base && are_from(&levels, place, wanted))
 }
 
-// Whether a resolver finds these levels from an index on, from the classes and bracket types of a list.
+// Returns whether a resolver finds these levels from an index on, from the classes and bracket types of a
+// list.
 fn is_found_by(
     alloc: Global,
     resolver: &mut Resolver,
@@ -150,8 +151,8 @@ fn is_found_by(
     Ok(is_base && are_from(&levels, place, wanted))
 }
 
-// Whether a resolver finds these levels from an index on, both from the characters of a list and from their
-// classes and bracket types.
+// Returns whether a resolver finds these levels from an index on, both from the characters of a list and from
+// their classes and bracket types.
 fn is_found(
     alloc: Global,
     resolver: &mut Resolver,
@@ -167,8 +168,8 @@ fn is_found(
 }
 
 // Returns the list with an unmatched PDF before it. X9 removes the PDF, so the levels after it are those of
-// the list alone. But the full rules find these levels, not the fast path for a paragraph that is a single
-// sequence.
+// the list alone. But these levels are found by the full rules, and not by the fast path for a paragraph that
+// is a single sequence.
 fn after_pdf(alloc: Global, text: &[char]) -> Result<Vec<char>, AllocError> {
     let mut longer = Vec::new(alloc);
     longer.push('\u{202C}')?;
@@ -188,8 +189,8 @@ fn is_found_after_pdf(
     is_found(alloc, resolver, tables, &longer, base, 1, wanted)
 }
 
-// Whether a resolver finds the levels of the reference implementation, with and without a PDF before the
-// list.
+// Returns whether a resolver finds the levels of the reference implementation, with and without a PDF before
+// the list.
 fn is_same(
     alloc: Global,
     resolver: &mut Resolver,
@@ -204,8 +205,8 @@ fn is_same(
     is_found_after_pdf(alloc, resolver, tables, text, base, &wanted)
 }
 
-// Whether a resolver finds the levels of the reference implementation for the first `lists` lists of `len`
-// characters, with and without a PDF before each list.
+// Returns whether a resolver finds the levels of the reference implementation for the first `lists` lists of
+// `len` characters, with and without a PDF before each list.
 fn are_same(
     alloc: Global,
     resolver: &mut Resolver,
@@ -228,7 +229,8 @@ fn are_same(
 // A length, and the number of lists of that length.
 static LISTS: [(usize, usize); 4] = [(1, 12), (2, 144), (3, 1_728), (4, 20_736)];
 
-// Whether a resolver finds the levels of the reference implementation for all lists of 1 to 4 characters.
+// Returns whether a resolver finds the levels of the reference implementation for all lists of 1 to 4
+// characters.
 fn all_are_same(alloc: Global, tables: &Tables) -> Result<bool, AllocError> {
     let mut resolver = Resolver::new(alloc);
     let result = all_are_same_by(alloc, &mut resolver, tables);
@@ -300,7 +302,7 @@ fn are_digits(levels: &[u8], digits: &[u8]) -> bool {
     all_right
 }
 
-// Whether a resolver finds these levels of a text.
+// Returns whether a resolver finds these levels of a text.
 fn finds(
     alloc: Global,
     resolver: &mut Resolver,
@@ -313,7 +315,7 @@ fn finds(
     Ok(is_base && are_digits(&levels, digits.as_bytes()))
 }
 
-// Whether a resolver finds these levels of a text, given its classes and bracket types.
+// Returns whether a resolver finds these levels of a text, given its classes and bracket types.
 fn finds_by(
     alloc: Global,
     resolver: &mut Resolver,
@@ -326,7 +328,7 @@ fn finds_by(
     Ok(is_base && are_digits(&levels, digits.as_bytes()))
 }
 
-// Whether a text has these levels if no resolver is reused.
+// Returns whether a text has these levels if no resolver is reused.
 fn resolves_to(
     alloc: Global,
     tables: &Tables,
@@ -366,7 +368,7 @@ fn have_levels(
     Ok(true)
 }
 
-// Whether one resolver finds the levels of each example.
+// Returns whether one resolver finds the levels of each example.
 fn are_found(alloc: Global, tables: &Tables, rows: &[Row]) -> Result<bool, AllocError> {
     let mut resolver = Resolver::new(alloc);
     let result = have_levels(alloc, &mut resolver, tables, rows);
@@ -528,7 +530,7 @@ static LIST_ROWS: [ListRow; 8] = [
     },
 ];
 
-// Whether the levels of an example are right if no resolver is reused.
+// Returns whether the levels of an example are right if no resolver is reused.
 fn are_of_row(alloc: Global, row: &ListRow) -> Result<bool, AllocError> {
     if row.classes.len() != row.brackets.len() {
         return Ok(false);

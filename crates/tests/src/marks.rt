@@ -24,7 +24,7 @@ fn marks_of(
     }
 }
 
-// Whether the marks are those that the annex's signs state.
+// Returns whether the marks are those that the annex's symbols denote.
 fn are_signs(marks: &[Mark], signs: &str) -> bool {
     let mut all_right = marks.len() == signs.chars().count();
     for (mark, sign) in marks.iter().zip(signs.chars()) {
@@ -246,8 +246,8 @@ fn read_all(
     Ok(())
 }
 
-// Whether the marks of the text are those of the reference implementation, both without whole numbers and
-// with them.
+// Returns whether the marks of the text are those of the reference implementation, both without whole numbers
+// and with them.
 fn agrees(tables: &Tables, kept: &mut Kept) -> Result<bool, AllocError> {
     read_all(tables, &kept.text, &mut kept.properties)?;
     Ok(agrees_where(tables, false, kept)? && agrees_where(tables, true, kept)?)
@@ -300,7 +300,8 @@ static LETTERS: [char; 12] = [
     'a', '\u{5D0}', '\u{627}', '1', '\u{660}', '+', ',', '$', '\u{300}', '(', ')', ' ',
 ];
 
-// Whether the marks agree for list number `number` among the lists of `length` characters from `letters`.
+// Returns whether the marks agree for list number `number` among the lists of `length` characters from
+// `letters`.
 fn agrees_on(
     tables: &Tables,
     letters: &[char],

@@ -225,12 +225,12 @@ fn small_items(alloc: Global, count: usize) -> Result<Vec<Item>, AllocError> {
     Ok(items)
 }
 
-// Whether two searches find the same, apart from the number of visits.
+// Returns whether two searches have the same result, apart from the number of visits.
 fn is_same(found: Found, other: Found) -> bool {
     Found { visits: 0, ..found } == Found { visits: 0, ..other }
 }
 
-// Whether both stores return the same result for each character, line, byte, code unit and item.
+// Returns whether both stores return the same result for each character, line, byte, code unit and item.
 fn finds_same<S: ParagraphStore<Item>, T: ParagraphStore<Item>>(left: &S, right: &T) -> bool {
     let (chars, lines) = (left.total_chars(), left.total_lines());
     if right.total_chars() != chars || right.total_lines() != lines {
@@ -246,7 +246,7 @@ fn finds_same<S: ParagraphStore<Item>, T: ParagraphStore<Item>>(left: &S, right:
     all_right & finds_same_units(left, right) & finds_same_items(left, right)
 }
 
-// Whether both stores find the same for each byte and each code unit.
+// Returns whether both stores have the same search result for each byte and each code unit.
 fn finds_same_units<S: ParagraphStore<Item>, T: ParagraphStore<Item>>(left: &S, right: &T) -> bool {
     let (bytes, utf16) = (left.total_bytes(), left.total_utf16());
     if right.total_bytes() != bytes || right.total_utf16() != utf16 {
@@ -262,7 +262,7 @@ fn finds_same_units<S: ParagraphStore<Item>, T: ParagraphStore<Item>>(left: &S, 
     all_right
 }
 
-// Whether both stores find the same for each item.
+// Returns whether both stores have the same search result for each item.
 fn finds_same_items<S: ParagraphStore<Item>, T: ParagraphStore<Item>>(left: &S, right: &T) -> bool {
     let count = left.count();
     if right.count() != count {
@@ -275,7 +275,7 @@ fn finds_same_items<S: ParagraphStore<Item>, T: ParagraphStore<Item>>(left: &S, 
     all_right
 }
 
-// Whether both stores have the same items.
+// Returns whether both stores have the same items.
 fn has_same<S: ParagraphStore<Item>, T: ParagraphStore<Item>>(left: &S, right: &T) -> bool {
     let mut all_right = left.count() == right.count() && left.get(left.count()).is_none();
     for index in 0..left.count() {
@@ -292,7 +292,7 @@ fn list_of<S: ParagraphStore<Item>>(alloc: Global, store: &S) -> Result<Vec<&Ite
     }
 }
 
-// Whether a list has the items that `get` returns.
+// Returns whether a list has the items that `get` returns.
 fn is_list_of<S: ParagraphStore<Item>>(store: &S, list: &[&Item]) -> bool {
     let mut all_right = list.len() == store.count();
     for (index, item) in list.iter().enumerate() {
@@ -301,13 +301,13 @@ fn is_list_of<S: ParagraphStore<Item>>(store: &S, list: &[&Item]) -> bool {
     all_right
 }
 
-// Whether a store lists the items that `get` returns.
+// Returns whether a store lists the items that `get` returns.
 fn lists_its_own<S: ParagraphStore<Item>>(alloc: Global, store: &S) -> Result<bool, AllocError> {
     let list = list_of(alloc, store)?;
     Ok(is_list_of(store, &list))
 }
 
-// Whether there are `count` items, with consecutive names.
+// Returns whether there are `count` items, with consecutive names.
 fn are_named(items: &[Item], first: u32, count: usize) -> bool {
     let mut all_right = items.len() == count;
     let mut name = first;
@@ -357,7 +357,7 @@ fn replaced<S: ParagraphStore<Item>>(
     replace_again(rt, store, range, first, items(alloc, first, count)?)
 }
 
-// Whether both stores have returned equal items, and as many as the range has.
+// Returns whether both stores have returned equal items, and as many as the range has.
 fn are_replaced(old: &[Item], other: &[Item], (start, end): (usize, usize)) -> bool {
     old == other && Some(old.len()) == end.checked_sub(start)
 }
@@ -386,7 +386,7 @@ fn replace_both<S: ParagraphStore<Item>, T: ParagraphStore<Item>>(
     check_both(rt, alloc, both)
 }
 
-// Asserts that both stores have the same items and find the same.
+// Asserts that both stores have the same items and the same search results.
 fn check_both<S: ParagraphStore<Item>, T: ParagraphStore<Item>>(
     rt: &impl Abort,
     alloc: Global,
@@ -474,7 +474,7 @@ fn both_stores_agree_after_random_replacements(rt: HostRuntime) -> Result<(), Fa
 
 static THREE_BY_TWO: [Row; 2] = [((0, 0), (1, 8)), ((2, 5), (11, 2))];
 
-// Whether the first items have these names.
+// Returns whether the first items have these names.
 fn has_names<S: ParagraphStore<Item>>(store: &S, names: &[u32]) -> bool {
     let mut all_right = true;
     for (index, name) in names.iter().enumerate() {
@@ -501,7 +501,8 @@ fn two_items_take_the_place_of_three(rt: HostRuntime) -> Result<(), Fail> {
     Ok(check_stores(&rt, rt.alloc(), Check::ThreeByTwo)?)
 }
 
-// Whether each item has as many lines as its part had, plus seven, and its part has as many as the item had.
+// Returns whether each item has as many lines as its part had, plus seven, and its part has as many as the
+// item had.
 fn are_exchanged<S: ParagraphStore<Item>>(store: &S, parts: &[usize]) -> bool {
     let mut all_right = parts.len() == store.count();
     for (index, lines) in parts.iter().enumerate() {
@@ -523,7 +524,7 @@ fn numbers(alloc: Global) -> Result<Vec<usize>, AllocError> {
     Ok(numbers)
 }
 
-// Whether the returned parts are those of the first exchange, each plus seven.
+// Returns whether the returned parts are those of the first exchange, each plus seven.
 fn are_back(parts: &[usize]) -> bool {
     let mut all_right = true;
     for (index, lines) in parts.iter().enumerate() {

@@ -16,8 +16,9 @@ const EMPTY: UcdFiles<'_> = UcdFiles {
     emoji_data: b"",
 };
 
-// A character and its two classes. If it is a bracket, the other bracket of its pair, and whether it is the
-// opening one. Its mirror. Whether it is wide, a mark, and a future pictograph. Its number for line breaking.
+// A character and its two classes; if it is a bracket, the other bracket of its pair and whether it is the
+// opening one; its mirror; whether it is wide, a mark and a future pictograph; and its number for line
+// breaking.
 type Row = (
     char,
     Bidi,
@@ -103,7 +104,7 @@ static ROWS: [Row; 16] = [
     ('\u{10FFFF}', Bidi::L, Line::XX, None, None, NONE, 336),
 ];
 
-// Looks up each property of a character by a call of its own, and the number of its properties for line
+// Looks up each property of a character with a separate call, and the number of its properties for line
 // breaking.
 fn looked_up(tables: &Tables, c: char) -> Row {
     let pair = match tables.bracket(c) {
@@ -127,7 +128,7 @@ fn looked_up(tables: &Tables, c: char) -> Row {
     )
 }
 
-// Whether a character's properties are those of its row.
+// Returns whether a character's properties are those of its row.
 fn are_of(properties: Properties, row: &Row) -> bool {
     let are = [
         properties.is_wide(),
@@ -227,7 +228,7 @@ fn order_of_lines_makes_no_difference(rt: HostRuntime) -> Result<(), Fail> {
     check_order(&rt, rt.alloc(), true)
 }
 
-// Whether the tables have these classes.
+// Returns whether the tables have these classes.
 fn has_classes(
     alloc: Global,
     files: &UcdFiles<'_>,
@@ -301,7 +302,7 @@ static SEPARATORS: [(char, Bidi); 8] = [
     ('\u{2029}', Bidi::L),
 ];
 
-// Whether a copy of the tables gives the characters of all rows the same properties.
+// Returns whether a copy of the tables gives the characters of all rows the same properties.
 fn copy_is_alike(tables: &Tables, copy: &Tables) -> bool {
     let mut all_right = tables.has_usual_separators() == copy.has_usual_separators();
     for row in &ROWS {
@@ -365,7 +366,7 @@ static LINE_ENDS: [(char, Bidi); 11] = [
     ('\u{2029}', Bidi::S),
 ];
 
-// Whether a lookup of a text finds these classes.
+// Returns whether a lookup of a text finds these classes.
 fn finds_classes(tables: &Tables, rows: &[(char, Bidi); 11]) -> bool {
     let mut text = ['\0'; 11];
     for k in 0..11 {
@@ -459,7 +460,7 @@ fn first_faulty_line_of_the_first_faulty_file_is_reported(rt: HostRuntime) {
     assert!(rt; fault_of(rt.alloc(), &files) == Some(fault));
 }
 
-// Whether these lines make U+00A9 a future pictograph.
+// Returns whether these lines make U+00A9 a future pictograph.
 fn names_pictograph(alloc: Global, lines: &[u8]) -> Result<bool, TableFault> {
     let tables = read(alloc, &only(7, lines))?;
     Ok(tables.is_future_pictograph('\u{A9}'))

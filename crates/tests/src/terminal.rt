@@ -1,4 +1,4 @@
-//! Tests what texts for a terminal show and how it is written: each row is a text and what it is written as.
+//! Tests what texts for a terminal show, and how this is written. Each row is a text and its expected output.
 use sequences::{
     Link, MAX_LINKS_LEN, NO_LINK, PLAIN, Progress, Scanner, StyleRef, StyledText,
     is_sequence_known, push_between, sequence_len, shows_itself, shows_no_controls, shows_pieces,
@@ -47,7 +47,7 @@ fn push_line(text: &StyledText, out: &mut Vec<char>) -> Result<(), AllocError> {
     push_between(&before, &plain, out)
 }
 
-// Returns what the characters that a text shows are written as.
+// Returns how the characters that a text shows are written.
 fn rewritten(alloc: Global, text: &[char]) -> Result<Vec<char>, AllocError> {
     let mut scanner = Scanner::new(alloc);
     scanner.push_text(text)?;
@@ -56,7 +56,8 @@ fn rewritten(alloc: Global, text: &[char]) -> Result<Vec<char>, AllocError> {
     Ok(out)
 }
 
-// Returns whether a text is written as expected, and whether that is written as itself.
+// Returns whether a text is written as expected, and whether that output, taken as a text, is written
+// unchanged.
 fn is_written_as(alloc: Global, text: &str, expected: &str) -> Result<bool, AllocError> {
     let mut characters = Vec::new(alloc);
     push_characters(text, &mut characters)?;

@@ -7,7 +7,7 @@ use ucd::{
     Tables, UcdFiles, Version,
 };
 
-// U+FEFF has a class and a category that make no detail together, and U+25CD those of U+25CC.
+// The class and the category of U+FEFF do not combine to a detail. U+25CD has those of U+25CC.
 const FILES: UcdFiles<'_> = UcdFiles {
     bidi_class: b"05D0;L",
     bidi_brackets: b"",

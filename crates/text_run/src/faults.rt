@@ -11,7 +11,7 @@ pub enum RunFault {
     /// The sink failed after this call had written this number of bytes.
     #[error("cannot write after {0} bytes")]
     Write(u64),
-    /// The input is not UTF-8 from this byte on. Bytes are counted from 0.
+    /// The input is invalid UTF-8 from this byte on, counted from 0.
     #[error("not UTF-8 at byte {0}")]
     NotUtf8(u64),
     /// A paragraph has more than 1,048,576 characters.

@@ -159,7 +159,7 @@ pub fn push_text(
     push_ended(alloc, page, engine, width, print, held, text)
 }
 
-// Does the work of `push_text`. If nothing is printed, `held` already has capacity for all characters.
+// Implements `push_text`. If nothing is printed, `held` already has capacity for all characters.
 fn push_ended(
     alloc: Global,
     page: &mut Page,

@@ -54,11 +54,11 @@ abbrev pub told_of : Option (List ℕ) → List ℕ
 told_of (Some numbers) = told numbers
 told_of None = out_of_range
 
--- the front of a reply that has several items: `=` and their number
+-- the start of a reply that lists items: `=` and the number of items
 abbrev pub told_count : ℕ → List ℕ
 told_count count = codes "= " ++ decimal count
 
--- the reply that consists of this front, the numbers of each item after spaces, and a newline
+-- the reply that consists of this start, the numbers of each item, each after a space, and a newline
 abbrev pub told_each : {A : Type 0} → (A → List ℕ) → List A → List ℕ
 told_each numbers items = told_count (length items) ++ flat_map (λ item. listed (numbers item)) items ++ codes "\n"
 
@@ -109,7 +109,7 @@ is_odd_at line None = false
 abbrev pub leftmost : Visual → Hit → Hit
 leftmost line hit = record { pos = hit.pos; trailing = is_odd_at line (covering line 0) }
 
--- the columns of a span, `left` columns to the right, and the start, the length and the level of a run
+-- the columns of a span, moved to the right by `left`; the start, the length and the level of a run
 abbrev pub span_numbers : ℕ → Span → List ℕ
 span_numbers left span = (left + span.left) ∷ (left + span.right) ∷ []
 
@@ -244,8 +244,8 @@ query_text rules print width kept (ask.Spans n start end) = spans_text print wid
 query_text rules print width kept (ask.Runs n) = runs_text kept n
 query_text rules print width kept (ask.Clusters n) = clusters_text kept n
 
--- Whether a query may allocate. `cluster` and `word` may for a character that exists, and `edge` for an edge of a character. `step`
--- may from an edge in a text that is not empty, `at` and `clusters` for a line that exists.
+-- Whether a query may allocate. `cluster` and `word` may allocate if the character exists, `edge` if the edge belongs
+-- to a character, `step` if the text has the edge and is not empty, and `at` and `clusters` if the line exists.
 abbrev pub AsksMemory : List Layout → Query → Type 0
 AsksMemory kept (ask.Cluster pos) = pos < length (text_of kept)
 AsksMemory kept (ask.Word pos) = pos < length (text_of kept)

@@ -35,9 +35,8 @@ TakesMemory rules held (SetWidth width) = 0 < length held.text
 TakesMemory rules held Show = ⊥
 TakesMemory rules held (Ask query) = AsksMemory (layouts_at rules held) query
 
--- The result of an edit. After `Ok`, the edit was executed with the returned damage. After `NoMemory`, the
--- edit is not refused and may allocate, and nothing was changed. After any other fault, the edit was refused,
--- and nothing was changed.
+-- The result of an edit. `Ok`: the edit was executed, and its damage returned. `NoMemory`: an allocation failed for an
+-- edit that is not refused, and nothing was changed. Any other fault: the edit was refused, and nothing was changed.
 abbrev pub Edited : Rules → Command → Held → Held → Result Damage EditFault → Type 0
 Edited rules command old new (Ok damage) =
     (command_refusal rules old command ≡ None) × (new ≡ executed old command)
@@ -64,8 +63,8 @@ pub record Executes (rules : Rules) (print : Print) (command : Command) (written
   pub held : held_new ≡ after_command rules held_old command
   pub wrote : PassedOn (answer_to rules print held_old command) written old new n
 
--- A command failed. After `Write`, the command was executed, and the sink failed within its reply. After
--- `Memory`, the command is not refused and may allocate, and nothing was changed.
+-- A command failed. `Write`: the command was executed, and the sink failed within its reply. `Memory`: an allocation
+-- failed for a command that is not refused, and nothing was changed.
 abbrev pub ExecutesNot : Rules → Print → Command → ℕ → Held → Held → Device → Device → RunFault → Type 0
 ExecutesNot rules print command written held_old held_new old new (f.Write n) =
     (held_new ≡ after_command rules held_old command) × StoppedIn (answer_to rules print held_old command) written old new n
@@ -81,9 +80,8 @@ pub record ExecutesLine (rules : Rules) (options : ScriptOptions) (line : List �
   pub lines : new.lines ≡ old.lines + 1
   pub empty : new.line.items ≡ []
 
--- An allocation failed for a line that is valid UTF-8. Fewer characters were kept than the line has, or fewer
--- characters of an insert's text than the line represents. Or the allocation failed for the line's command,
--- which is not refused.
+-- An allocation failed for a line that is valid UTF-8. Either fewer characters were stored than the line has, or fewer
+-- than the text of its insert represents, or the allocation failed for the line's command, which is not refused.
 abbrev pub WantsMemory : Rules → Bool → List ℕ → Reading → Held → Type 0
 WantsMemory rules queries line reading held =
     (length reading.text.items < length (chars line))

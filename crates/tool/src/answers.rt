@@ -64,7 +64,7 @@ pub fn listed(numbers: &[usize]) -> Answer
     answer
 }
 
-/// Returns the front of a reply that has items after their number.
+/// Returns the start of a reply that lists items: `=` and their number.
 pub fn told_count(count: usize) -> Answer
     ensures { result.items ≡ told_count count }
 {
@@ -74,7 +74,7 @@ pub fn told_count(count: usize) -> Answer
     answer
 }
 
-/// Returns the reply of an edge.
+/// Returns the reply that consists of an edge.
 pub fn told_edge(edge: Edge) -> Answer
     ensures { result.items ≡ told_edge edge }
 {
@@ -85,7 +85,7 @@ pub fn told_edge(edge: Edge) -> Answer
     answer
 }
 
-/// Returns the reply of the first and the last edge of a line.
+/// Returns the reply that consists of the first and the last edge of a line.
 pub fn told_edges(first: Edge, last: Edge) -> Answer
     ensures { result.items ≡ told_edges first last }
 {
@@ -152,7 +152,7 @@ pub fn offset_answer(offset: Option<usize>) -> Answer
     }
 }
 
-/// Returns the reply to a conversion of an offset to a position, and how far the offset is behind it.
+/// Returns the reply to a conversion of an offset: the position, and how far the offset is past its start.
 pub fn position_answer(found: Option<(usize, usize)>) -> Answer
     ensures { result.items ≡ told_of (option_map (λ place. place.0 ∷ place.1 ∷ []) found) }
 {

@@ -1,4 +1,4 @@
-//! Replies that list the parts of a line: their number, and the numbers of each.
+//! Replies that list the parts of a line: how many there are, and the numbers that describe each.
 ghost use Rattle.std.specs.Prelude.{◌≡◌, ◌^◌, ◌∷◌, [], ◌<◌, ◌≤◌, length, IfOk, IfErr};
 ghost use Rattle.std.specs.List.{flat_map};
 ghost use Rattle.lines.specs.Spans.{spans_of};

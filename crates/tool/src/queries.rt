@@ -50,7 +50,7 @@ fn empty_left(level: u8, width: u32, print: &Print) -> usize
     }
 }
 
-// Returns the reply of a caret.
+// Returns the reply that consists of a caret.
 fn told_caret<S: ParagraphStore<Kept>>(session: &Session<S>, print: &Print, caret: Caret) -> Answer
     requires { caret.column < 2 ^ 64 - 2 ^ 32 }
     ensures { result.items ≡ told (caret_numbers print.now session.now.width session.now.kept caret) }
@@ -129,7 +129,7 @@ fn hit_answer<S: ParagraphStore<Kept>>(
     }
 }
 
-// Returns an edge of a position: the one after it if `is_after` is true.
+// Returns the `After` edge of a position if `is_after` is true, and otherwise its `Before` edge.
 fn edge_of(pos: usize, is_after: bool) -> Edge
     ensures { result ≡ edge_of pos is_after }
 {
@@ -149,7 +149,8 @@ fn direction_of(is_right: bool) -> Direction
     }
 }
 
-// Returns the caret at an edge of a position: the edge of a character, so not the one before the end.
+// Returns the caret at an edge of a position. The edge must belong to a character, so it is not the `Before`
+// edge at the end.
 fn edge_caret<S: ParagraphStore<Kept>>(
     session: &Session<S>,
     pos: usize,
@@ -162,7 +163,7 @@ fn edge_caret<S: ParagraphStore<Kept>>(
     ensures memory { OnErr result (HasCharacter (length (text_of session.now.kept))
         (edge_of pos is_after)) }
 {
-    // By these theorems, the columns of a line are those of its characters.
+    // By these theorems, the columns of a line are the sum of those of its characters.
     lines_are_ordered();
     runs_have_all_columns();
     // The contract of `width` shows that the session is laid out.

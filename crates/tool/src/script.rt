@@ -37,7 +37,7 @@ use text_run::RunFault;
 /// The maximum length of a line in bytes, excluding the line end.
 pub const LINE_LIMIT: usize = 1_048_576;
 
-// The limit that the documents name. Contracts name the constant.
+// The documents state this limit as a number. Contracts use the constant.
 const _: () = prove!(LINE_LIMIT == 1_048_576);
 
 /// Options for running a script.

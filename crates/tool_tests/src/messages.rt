@@ -9,7 +9,7 @@ use tables::FolderFault;
 use tool::{LineFault, ProgramFault, RunFault, settings};
 use ucd::{Cause, ImageFault, TableFault};
 
-// Whether a value is displayed as this text.
+// Returns whether a value is displayed as this text.
 fn shows<T: Display>(alloc: Global, value: &T, text: &str) -> bool {
     value
         .to_string(alloc)
@@ -269,7 +269,7 @@ Options:
 Unicode 15.0 or 17.0
 ";
 
-// Whether the arguments are refused with this message.
+// Returns whether the arguments are refused with this message.
 fn refuses(alloc: Global, arguments: &[&str], text: &str) -> bool {
     settings(alloc, arguments).is_err_and(|fault| shows(alloc, &fault, text))
 }

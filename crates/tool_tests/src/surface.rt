@@ -67,7 +67,7 @@ const ARGUMENTS: [&str; 8] = [
     "T",
 ];
 
-// Whether a check holds for the settings of these arguments. False if they are refused.
+// Returns whether a check holds for the settings of these arguments. False if they are refused.
 fn of_settings<F: FnOnce(&tool::Settings<'_>) -> bool>(alloc: Global, check: F) -> bool
     requires { F.IsAlwaysCallable check }
 {
@@ -182,7 +182,7 @@ fn script_without_a_file_is_refused(rt: HostRuntime) {
     assert!(rt; matches!(fault, Some(tool::LineFault::ScriptFiles)));
 }
 
-// Whether the program ends with this status and message after a fault.
+// Returns whether the program ends with this status and message after a fault.
 fn ends(alloc: Global, fault: tool::ProgramFault, status: u8, message: &str) -> bool {
     let found: u8 = fault.status();
     let shown = fault.to_string(alloc);
@@ -244,7 +244,7 @@ fn program_fault_of_an_image_names_it_and_its_cause(rt: HostRuntime) {
     );
 }
 
-// Whether the program ends with status 1 and this message after a run fails with this fault.
+// Returns whether the program ends with status 1 and this message after a run fails with this fault.
 fn run_ends(alloc: Global, fault: tool::RunFault, message: &str) -> bool {
     ends(alloc, tool::ProgramFault::Run(fault), 1, message)
 }

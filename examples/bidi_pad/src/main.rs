@@ -112,7 +112,7 @@ impl Pad {
         a.min(b)..a.max(b)
     }
 
-    /// Takes the size of the window. Returns the name of the event.
+    /// Adapts to the size of the window. Returns the name of the event.
     fn resize(&mut self, columns: u16, rows: u16) -> Result<String> {
         self.width = columns.max(1).into();
         self.stale = vec![true; rows.max(2) as usize - 1];

@@ -78,12 +78,12 @@ pub const HORDGULI_CAUSE_REVERSED: usize = 3; // a range ends before it starts
 pub const HORDGULI_CAUSE_FIELD_COUNT: usize = 4; // the wrong number of fields
 pub const HORDGULI_CAUSE_VALUE: usize = 5; // a value that the file does not allow
 pub const HORDGULI_CAUSE_NAMED_BEFORE: usize = 6; // an earlier line names one of its characters
-pub const HORDGULI_CAUSE_TRUNCATED: usize = 8; // fewer bytes than the header has or its counts say
-pub const HORDGULI_CAUSE_MAGIC: usize = 9; // other first bytes than those of an image
+pub const HORDGULI_CAUSE_TRUNCATED: usize = 8; // fewer bytes than the header has or its counts state
+pub const HORDGULI_CAUSE_MAGIC: usize = 9; // the first bytes are not those of an image
 pub const HORDGULI_CAUSE_FORMAT: usize = 10; // another version of the format
 pub const HORDGULI_CAUSE_VERSION: usize = 11; // a version of Unicode that is not supported
-pub const HORDGULI_CAUSE_EXCESS: usize = 12; // more bytes than the counts say
-pub const HORDGULI_CAUSE_CHECKSUM: usize = 13; // another checksum
+pub const HORDGULI_CAUSE_EXCESS: usize = 12; // more bytes than the counts state
+pub const HORDGULI_CAUSE_CHECKSUM: usize = 13; // the checksum does not match
 pub const HORDGULI_CAUSE_PAGE_NUMBER: usize = 14; // a page number out of range
 pub const HORDGULI_CAUSE_ENTRY: usize = 15; // invalid properties
 pub const HORDGULI_CAUSE_BRACKET: usize = 16; // an invalid bracket
@@ -218,9 +218,9 @@ pub struct hordguli_table_fault {
 /// What an edit replaced: `old_lines` lines from `first_line` on became `new_lines` lines, and likewise for paragraphs.
 /// All other lines are unchanged, except that line `first_line + old_lines` becomes line `first_line + new_lines`, and
 /// so on. If there are fewer lines than before, clear the rows below the last one. By design, damage names whole
-/// paragraphs: all that contain or touch the edited range, even if nothing is inserted and deleted. So text that is
+/// paragraphs: all that contain or touch the edited range, even if nothing is inserted or deleted. So text that is
 /// appended after a final separator also replaces the last paragraph. For the lines that changed, see
-/// `hordguli_changed_lines`. A caller that draws everything anew may pass NULL as `damage`.
+/// `hordguli_changed_lines`. A caller that redraws everything may pass NULL as `damage`.
 #[derive(Clone, Copy, Debug, Default, PartialEq, Eq)]
 #[repr(C)]
 pub struct hordguli_damage {
@@ -389,8 +389,8 @@ pub struct hordguli_edge {
 }
 
 /// The `length` characters of a text from position `start` on, all of one script. `script` has the four letters of its
-/// code (ISO 15924), the first one in the highest byte, such as 0x4C61746E for `Latn`. So it is an `hb_script_t` of
-/// HarfBuzz.
+/// code (ISO 15924), the first one in the highest byte, such as 0x4C61746E for `Latn`. This is the value of an
+/// `hb_script_t` of HarfBuzz.
 #[derive(Clone, Copy, Debug, Default, PartialEq, Eq)]
 #[repr(C)]
 pub struct hordguli_script_run {
@@ -429,8 +429,8 @@ extern "C" {
     /// Returns "15.0", the Unicode version of tables that `hordguli_tables_open_builtin`, `hordguli_tables_open_folder` and
     /// `hordguli_tables_read` open.
     pub fn hordguli_unicode_version() -> *const c_char;
-    /// Returns the Unicode version of column widths, grapheme clusters and scripts, such as "18.0". It is that of the library,
-    /// and does not depend on the tables.
+    /// Returns the Unicode version of column widths, grapheme clusters and scripts, such as "18.0". It belongs to the
+    /// library, and does not depend on the tables.
     ///
     /// Since: 0.6.
     pub fn hordguli_width_unicode_version() -> *const c_char;
@@ -438,7 +438,7 @@ extern "C" {
     ///
     /// Errors: NULL, ALREADY_OPEN, NO_MEMORY.
     ///
-    /// Cost: as `hordguli_tables_open_image`.
+    /// Cost: as for `hordguli_tables_open_image`.
     ///
     /// Since: 0.6.
     pub fn hordguli_tables_open_builtin(tables: *mut hordguli_tables) -> hordguli_status;
@@ -446,7 +446,7 @@ extern "C" {
     ///
     /// Errors: NULL, UNKNOWN_OPTION (another version), ALREADY_OPEN, NO_MEMORY.
     ///
-    /// Cost: as `hordguli_tables_open_image`.
+    /// Cost: as for `hordguli_tables_open_image`.
     ///
     /// Since: 0.6.
     pub fn hordguli_tables_open_builtin_version(
@@ -480,11 +480,11 @@ extern "C" {
         files: *const hordguli_bytes,
         fault: *mut hordguli_table_fault,
     ) -> hordguli_status;
-    /// As `hordguli_tables_read`, with the files of `version`.
+    /// Like `hordguli_tables_read`, with the files of `version`.
     ///
     /// Errors: NULL, OVERLAP, UNKNOWN_OPTION (another version), ALREADY_OPEN, TABLE_FAULT, NO_MEMORY.
     ///
-    /// Cost: as `hordguli_tables_read`.
+    /// Cost: as for `hordguli_tables_read`.
     ///
     /// Since: 0.6.
     pub fn hordguli_tables_read_version(
@@ -499,17 +499,17 @@ extern "C" {
     ///
     /// Errors: NULL, OVERLAP, ALREADY_OPEN, UNREAD_FILE, TABLE_FAULT, NO_MEMORY.
     ///
-    /// Cost: as `hordguli_tables_read`.
+    /// Cost: as for `hordguli_tables_read`.
     pub fn hordguli_tables_open_folder(
         tables: *mut hordguli_tables,
         folder: *const c_char,
         fault: *mut hordguli_table_fault,
     ) -> hordguli_status;
-    /// As `hordguli_tables_open_folder`, with the files of `version`. Sets `errno` likewise.
+    /// Like `hordguli_tables_open_folder`, with the files of `version`. Sets `errno` likewise.
     ///
     /// Errors: NULL, OVERLAP, UNKNOWN_OPTION (another version), ALREADY_OPEN, UNREAD_FILE, TABLE_FAULT, NO_MEMORY.
     ///
-    /// Cost: as `hordguli_tables_read`.
+    /// Cost: as for `hordguli_tables_read`.
     ///
     /// Since: 0.6.
     pub fn hordguli_tables_open_folder_version(
@@ -533,18 +533,18 @@ extern "C" {
     pub fn hordguli_tables_close(tables: *mut hordguli_tables);
     /// Lays out a text, and writes its lines to a buffer, as UTF-8. `*written` is the byte count. NULL with capacity 0 is
     /// NO_ROOM if there is anything to write (see BUFFERS). The bytes are those that `hordguli_lines_utf8` writes for all
-    /// lines of a session with these `options`, this `width` and this text. `print` is as in that function. For example, the
-    /// line of a log:
+    /// lines of a session with these `options`, this `width` and this text. `print` is as in that function. For example, for
+    /// a line of a log:
     ///
     /// ```c
     /// status = hordguli_layout(&tables, HORDGULI_WEAK_LTR, 80, HORDGULI_PRINT_DEFAULT, line, strlen(line),
     ///                          sizeof buffer, buffer, &written);
     /// ```
     ///
-    /// The handle keeps the memory that a call used, and a call that needs no more than that allocates nothing, unless only
-    /// one of both has HORDGULI_LINE_SEPARATORS. The handle keeps at most 5 MB: memory for a text or for lines of more than
-    /// 65,536 bytes is freed. `hordguli_tables_close` frees it. Calls at the same time in several threads need a handle of
-    /// tables each.
+    /// The handle keeps the memory that a call used. A later call that needs no more than that allocates nothing, unless
+    /// only one of the two calls has HORDGULI_LINE_SEPARATORS. The handle keeps at most 5 MB: memory for a text or for lines
+    /// of more than 65,536 bytes is freed. `hordguli_tables_close` frees it. Threads that call this at the same time need a
+    /// handle of tables each.
     ///
     /// On NOT_UTF8, `hordguli_valid_utf8` says where. NO_MEMORY comes before NO_ROOM, because the lines are gathered before
     /// their size is known.
@@ -577,9 +577,9 @@ extern "C" {
         length: usize,
         count: *mut usize,
     ) -> hordguli_status;
-    /// Stores in `*valid` the length of the longest prefix of `bytes` that is valid UTF-8: `length` if all of it is, else
-    /// the index of the first byte that belongs to no character. An incomplete character at the end is not valid. After
-    /// NOT_UTF8, this is where the text is wrong, and the text before it is valid.
+    /// Stores in `*valid` the length of the longest prefix of `bytes` that is valid UTF-8: `length` if all of it is valid,
+    /// else the index of the first byte that belongs to no character. An incomplete character at the end is not valid. After
+    /// NOT_UTF8, this is the index of the error, and the text before it is valid.
     ///
     /// Errors: NULL, OVERLAP.
     ///
@@ -592,13 +592,13 @@ extern "C" {
         valid: *mut usize,
     ) -> hordguli_status;
     /// Decodes UTF-8 text of `length` bytes. Stores the number of its characters in `*count`, and this many elements in each
-    /// array. Each array has `capacity` elements. NULL arrays are skipped, so with both NULL nothing needs room (see BUFFERS).
-    /// - `characters`: characters, for the functions below `Clusters and scripts`, `Rows` and `Levels and properties`
+    /// array. Each array has `capacity` elements. NULL arrays are skipped, so with both NULL no room is needed (see BUFFERS).
+    /// - `characters`: characters, for the functions in `Clusters and scripts`, `Rows` and `Levels and properties`
     /// - `offsets`: byte offset of each character
     ///
     /// On NO_ROOM, `*count` is set and the arrays are unchanged. Text that is not UTF-8 is refused, as in all functions, so
     /// a position always means the same character. On NOT_UTF8, `hordguli_valid_utf8` says where. To replace invalid bytes
-    /// by U+FFFD, decode the text before the first of them, write U+FFFD, skip one byte, and go on. So each invalid byte
+    /// with U+FFFD, decode the text before the first of them, write U+FFFD, skip one byte, and repeat. So each invalid byte
     /// becomes one U+FFFD.
     ///
     /// Errors: NULL, OVERLAP, NOT_UTF8, NO_ROOM.
@@ -637,7 +637,7 @@ extern "C" {
     /// Errors: NULL, OVERLAP, UNKNOWN_OPTION, NOT_UTF8, ALREADY_OPEN (the session), CLOSED (the tables), WIDTH_OUT_OF_RANGE,
     /// TEXT_TOO_LONG, PARAGRAPH_TOO_LONG, NO_MEMORY.
     ///
-    /// Cost: as `hordguli_session_open`.
+    /// Cost: as for `hordguli_session_open`.
     ///
     /// Since: 0.6.
     pub fn hordguli_session_open_measured(
@@ -667,7 +667,7 @@ extern "C" {
     ///
     /// Errors: NULL, OVERLAP, CLOSED, OUT_OF_RANGE, PARAGRAPH_TOO_LONG, NO_MEMORY.
     ///
-    /// Cost: as `hordguli_insert`.
+    /// Cost: as for `hordguli_insert`.
     pub fn hordguli_delete(
         session: *mut hordguli_session,
         pos: usize,
@@ -679,7 +679,7 @@ extern "C" {
     ///
     /// Errors: NULL, OVERLAP, NOT_UTF8, CLOSED, OUT_OF_RANGE, TEXT_TOO_LONG, PARAGRAPH_TOO_LONG, NO_MEMORY.
     ///
-    /// Cost: as `hordguli_insert`.
+    /// Cost: as for `hordguli_insert`.
     pub fn hordguli_replace(
         session: *mut hordguli_session,
         pos: usize,
@@ -704,7 +704,7 @@ extern "C" {
     ///
     /// Errors: NULL, OVERLAP, CLOSED, NOT_MEASURED, WIDTH_OUT_OF_RANGE, NO_MEMORY.
     ///
-    /// Cost: as `hordguli_set_width`.
+    /// Cost: as for `hordguli_set_width`.
     ///
     /// Since: 0.6.
     pub fn hordguli_set_measured_width(
@@ -713,11 +713,11 @@ extern "C" {
         damage: *mut hordguli_damage,
     ) -> hordguli_status;
     /// Stores in `*changed` which lines changed in the last successful call that edited the text, set the width or set
-    /// advances. These are the lines of its damage, which names whole paragraphs, without as many as possible at the start,
-    /// and then at the end, that are the same before and after the call: their characters, levels, maps, columns, advances,
-    /// base level and length, and whether they are the first of their paragraph. The padding, which depends on the width,
-    /// is not compared: RTL lines move when the width changes, so draw all of them then. After the session was opened, all
-    /// lines have changed. A call that fails changes nothing.
+    /// advances. These are the lines of its damage, which names whole paragraphs, without the longest run of unchanged lines
+    /// at the start, and then without the longest such run at the end. An unchanged line has the same characters, levels,
+    /// maps, columns, advances, base level and length as before, and is still the first of its paragraph, or still is not.
+    /// The padding, which depends on the width, is not compared: RTL lines move when the width changes, so draw all of them
+    /// then. After the session is opened, all lines count as changed. A failed call has no effect on this.
     ///
     /// Errors: NULL, OVERLAP, CLOSED.
     ///
@@ -810,8 +810,8 @@ extern "C" {
     /// Stores the directional runs of a line's shown part, from left to right, for shaping text: the longest ranges of
     /// characters at one level after L1. They do not depend on HORDGULI_REORDER_NSM and HORDGULI_REORDER_CLUSTERS, which
     /// move characters only inside runs. The number of runs is stored in `*count`, and the runs in an array of `capacity`
-    /// elements. NULL with capacity 0 is NO_ROOM if there are runs (see BUFFERS). Fails with OUT_OF_RANGE if the line does
-    /// not exist. For the characters of a run, in logical order:
+    /// elements. NULL with capacity 0 returns NO_ROOM if there are runs (see BUFFERS). Fails with OUT_OF_RANGE if the line
+    /// does not exist. To read the characters of a run in logical order:
     ///
     /// ```c
     /// status = hordguli_line_start(&session, line, &start);
@@ -830,10 +830,10 @@ extern "C" {
         runs: *mut hordguli_run,
         count: *mut usize,
     ) -> hordguli_status;
-    /// Writes `count` lines, starting with line `first`, to a buffer, as UTF-8. NULL with capacity 0 is NO_ROOM if there is
-    /// anything to write (see BUFFERS). `print` selects what is written for each line, in the order VISUAL, BASEDIR, LTOV,
-    /// VTOL, LEVELS. Each of these ends in U+000A. Numbers are decimal, separated by spaces. For example, the lines that an
-    /// edit changed:
+    /// Writes `count` lines, starting with line `first`, to a buffer, as UTF-8. NULL with capacity 0 returns NO_ROOM if
+    /// there is anything to write (see BUFFERS). `print` selects what is written for each line, in the order VISUAL,
+    /// BASEDIR, LTOV, VTOL, LEVELS. Each of these ends in U+000A. Numbers are decimal, separated by spaces. For example, to
+    /// write the lines that an edit replaced:
     ///
     /// ```c
     /// status = hordguli_lines_utf8(&session, damage.first_line, damage.new_lines,
@@ -854,12 +854,12 @@ extern "C" {
         buffer: *mut c_char,
         length: *mut usize,
     ) -> hordguli_status;
-    /// Writes `count` characters, starting at `pos`, to a buffer, as UTF-8. NULL with capacity 0 is NO_ROOM, unless `count`
-    /// is 0 (see BUFFERS). NO_MEMORY comes before NO_ROOM, as in `hordguli_lines_utf8`.
+    /// Writes `count` characters, starting at `pos`, to a buffer, as UTF-8. NULL with capacity 0 returns NO_ROOM, unless
+    /// `count` is 0 (see BUFFERS). NO_MEMORY comes before NO_ROOM, as in `hordguli_lines_utf8`.
     ///
     /// Errors: NULL, OVERLAP, CLOSED, OUT_OF_RANGE, NO_MEMORY, NO_ROOM.
     ///
-    /// Cost: as `hordguli_lines_utf8`.
+    /// Cost: as for `hordguli_lines_utf8`.
     pub fn hordguli_text(
         session: *mut hordguli_session,
         pos: usize,
@@ -869,7 +869,8 @@ extern "C" {
         length: *mut usize,
     ) -> hordguli_status;
     /// Stores `count` characters, starting at `pos`, in an array of `capacity` elements, in logical order and not mirrored,
-    /// as a shaper needs them. `*length` is `count`. NULL with capacity 0 is NO_ROOM, unless `count` is 0 (see BUFFERS).
+    /// as a shaper needs them. `*length` is `count`. NULL with capacity 0 returns NO_ROOM, unless `count` is 0 (see
+    /// BUFFERS).
     ///
     /// Errors: NULL, OVERLAP, CLOSED, OUT_OF_RANGE, NO_ROOM.
     ///
@@ -926,7 +927,7 @@ extern "C" {
     ///
     /// Errors: NULL, OVERLAP, CLOSED, OUT_OF_RANGE.
     ///
-    /// Cost: as `hordguli_byte_of`.
+    /// Cost: as for `hordguli_byte_of`.
     ///
     /// Since: 0.6.
     pub fn hordguli_position_of_byte(
@@ -939,7 +940,7 @@ extern "C" {
     ///
     /// Errors: NULL, OVERLAP, CLOSED, OUT_OF_RANGE.
     ///
-    /// Cost: as `hordguli_utf16_of`.
+    /// Cost: as for `hordguli_utf16_of`.
     ///
     /// Since: 0.6.
     pub fn hordguli_position_of_utf16(
@@ -970,7 +971,7 @@ extern "C" {
     /// does not exist yet. Then `paragraph` and `line` are the numbers of paragraphs and lines in the text.
     ///
     /// U+2028, U+000B and U+000C end a line, but not its paragraph. At the end of a text that ends with one, the place and
-    /// the caret stay on that line. Each line has a character, and here none follows.
+    /// the caret stay on that line. Each line has at least one character, and here none follows.
     ///
     /// Errors: NULL, OVERLAP, CLOSED, OUT_OF_RANGE.
     ///
@@ -991,7 +992,7 @@ extern "C" {
     ///
     /// Errors: NULL, OVERLAP, CLOSED, OUT_OF_RANGE.
     ///
-    /// Cost: as `hordguli_place_of`, plus O(length of the line).
+    /// Cost: as for `hordguli_place_of`, plus O(length of the line).
     pub fn hordguli_caret_at(
         session: *mut hordguli_session,
         pos: usize,
@@ -1004,7 +1005,7 @@ extern "C" {
     ///     0.
     ///   - In a line of width 0: the first character, with `trailing` 0.
     ///
-    /// So `trailing` is 0 except right of the text. To place the caret at screen column `x` of a padded line:
+    /// So `trailing` is 0 except to the right of the text. To place the caret at screen column `x` of a padded line:
     ///
     /// ```c
     /// status = hordguli_hit_at(&session, line, x - info.padding, &hit);
@@ -1054,8 +1055,8 @@ extern "C" {
     /// Stores the columns that the characters from `from` up to but not including `to` cover in a line, for drawing a
     /// selection: as few spans as possible, from left to right. Where the direction changes, a selection can have several.
     /// `from` and `to` are positions in the text; those outside the line are ignored. The number of spans is stored in
-    /// `*count`, and the spans in an array of `capacity` elements. NULL with capacity 0 is NO_ROOM if there are spans (see
-    /// BUFFERS). Fails with OUT_OF_RANGE if the line does not exist.
+    /// `*count`, and the spans in an array of `capacity` elements. NULL with capacity 0 returns NO_ROOM if there are spans
+    /// (see BUFFERS). Fails with OUT_OF_RANGE if the line does not exist.
     ///
     /// ```c
     /// for (size_t line = first_line; line <= last_line; line++) {
@@ -1078,20 +1079,20 @@ extern "C" {
         spans: *mut hordguli_span,
         count: *mut usize,
     ) -> hordguli_status;
-    /// Stores in `*caret` where to draw the caret at an edge: on the line of the character whose edge it is. This is the
-    /// character at `pos` for HORDGULI_BEFORE, and the one before `pos` for HORDGULI_AFTER.
+    /// Stores in `*caret` where to draw the caret at an edge: on the line of the character that the edge belongs to. This is
+    /// the character at `pos` for HORDGULI_BEFORE, and the one before `pos` for HORDGULI_AFTER.
     ///   - If a caret unit begins (or ends) with that character: at the start (or end) of the unit.
     ///   - At another shown character: at its leading edge, which is the left one if its level is even, or its trailing edge.
     ///   - At a character that is not shown, and before the end of the text: as in `hordguli_caret_at`.
     ///
-    /// `level` is that of the character whose edge it is. In the line where a new paragraph would start, an odd `level`
-    /// means that the caret is at the right edge of the screen. A block cursor covers the cell at `column`, or at an odd
-    /// level the one to its left; if there is no such cell, the nearest one. Fails with OUT_OF_RANGE if the position is
-    /// past the end of the text, and for the edge after position 0.
+    /// `level` is the level of that character. In the line where a new paragraph would start, an odd `level` means that the
+    /// caret is at the right edge of the screen. A block cursor covers the cell at `column`, or at an odd level the one to
+    /// its left; if there is no such cell, the nearest one. Fails with OUT_OF_RANGE if the position is past the end of the
+    /// text, and for the edge after position 0.
     ///
     /// Errors: NULL, OVERLAP, UNKNOWN_OPTION, CLOSED, OUT_OF_RANGE, NO_MEMORY.
     ///
-    /// Cost: as `hordguli_cluster_at`, plus O(length of the line).
+    /// Cost: as for `hordguli_cluster_at`, plus O(length of the line).
     ///
     /// Since: 0.6.
     pub fn hordguli_edge_caret(
@@ -1117,13 +1118,13 @@ extern "C" {
     /// In a right-to-left document, Left leads to the right end of the line below (SIZE_MAX), and Right to the left end of the
     /// line above (0). Past the last line, `hordguli_edge_at` returns OUT_OF_RANGE.
     ///
-    /// Each step changes the column. Repeated, steps meet every boundary in their direction. With HORDGULI_REORDER_NSM and
+    /// Each step changes the column. Repeated steps reach every boundary in their direction. With HORDGULI_REORDER_NSM and
     /// without HORDGULI_REORDER_CLUSTERS, this holds if the marks of the text have no columns. Of the nonspacing marks of
     /// Unicode 15.0, only U+2D7F and U+1171E have columns.
     ///
     /// Errors: NULL, OVERLAP, UNKNOWN_OPTION, CLOSED, OUT_OF_RANGE, NO_MEMORY.
     ///
-    /// Cost: as `hordguli_edge_caret`.
+    /// Cost: as for `hordguli_edge_caret`.
     ///
     /// Since: 0.6.
     pub fn hordguli_step(
@@ -1133,8 +1134,8 @@ extern "C" {
         next: *mut hordguli_edge,
         moved: *mut u32,
     ) -> hordguli_status;
-    /// Stores in `*edge` the edge at a column of a line, for moves to another line, as by Up and Down. For mouse clicks, see
-    /// `hordguli_nearest_edge`. Column 0 is the left edge of the shown part, right of padding.
+    /// Stores in `*edge` the edge at a column of a line, for moving to another line, as with Up and Down. For mouse clicks,
+    /// see `hordguli_nearest_edge`. Column 0 is the left edge of the shown part, right of padding.
     ///   - In the shown part: the left end of the caret unit that covers the column.
     ///   - Right of the shown part: its right end. So columns 0 and SIZE_MAX are the two ends of the line on the screen.
     ///   - In a line of width 0: before its start.
@@ -1144,7 +1145,7 @@ extern "C" {
     ///
     /// Errors: NULL, OVERLAP, CLOSED, OUT_OF_RANGE, NO_MEMORY.
     ///
-    /// Cost: as `hordguli_edge_caret`.
+    /// Cost: as for `hordguli_edge_caret`.
     ///
     /// Since: 0.6.
     pub fn hordguli_edge_at(
@@ -1153,15 +1154,15 @@ extern "C" {
         column: usize,
         edge: *mut hordguli_edge,
     ) -> hordguli_status;
-    /// Stores in `*edge` the nearest edge to a column of a line, for mouse clicks, which may hit either half of a
-    /// character. In the shown part, this is the nearer end of the caret unit that covers the column, and from the unit's
-    /// middle the right one. Elsewhere, and in a unit of one column, it is the edge that `hordguli_edge_at` stores.
+    /// Stores in `*edge` the edge nearest to a column of a line, for mouse clicks, which may hit either half of a character.
+    /// In the shown part, this is the nearer end of the caret unit that covers the column, or the right end at the unit's
+    /// middle. Elsewhere, and in a unit of one column, this is the edge that `hordguli_edge_at` stores.
     ///
     /// Fails with OUT_OF_RANGE for the same lines as `hordguli_edge_at`.
     ///
     /// Errors: NULL, OVERLAP, CLOSED, OUT_OF_RANGE, NO_MEMORY.
     ///
-    /// Cost: as `hordguli_edge_caret`.
+    /// Cost: as for `hordguli_edge_caret`.
     ///
     /// Since: 0.6.
     pub fn hordguli_nearest_edge(
@@ -1193,14 +1194,14 @@ extern "C" {
         last: *mut hordguli_edge,
     ) -> hordguli_status;
     /// Stores where the grapheme clusters of a line end, counted from the start of the line, in an array of `capacity`
-    /// elements, and their number in `*count`. NULL with capacity 0 is NO_ROOM (see BUFFERS). The last one is the length of
-    /// the line, even if a cluster goes on in the next line. Fails with OUT_OF_RANGE if the line does not exist.
+    /// elements, and their number in `*count`. NULL with capacity 0 returns NO_ROOM (see BUFFERS). The last one is the
+    /// length of the line, even if a cluster continues on the next line. Fails with OUT_OF_RANGE if the line does not exist.
     ///
     /// NO_MEMORY comes before NO_ROOM.
     ///
     /// Errors: NULL, OVERLAP, CLOSED, OUT_OF_RANGE, NO_MEMORY, NO_ROOM.
     ///
-    /// Cost: as `hordguli_cluster_at`, plus O(length of the line).
+    /// Cost: as for `hordguli_cluster_at`, plus O(length of the line).
     ///
     /// Since: 0.6.
     pub fn hordguli_line_clusters(
@@ -1211,10 +1212,10 @@ extern "C" {
         count: *mut usize,
     ) -> hordguli_status;
     /// Stores where the grapheme clusters of a text of `count` characters end, in an array of `capacity` elements, and their
-    /// number in `*cluster_count`. NULL with capacity 0 is NO_ROOM, unless `count` is 0 (see BUFFERS). The first cluster starts
-    /// at 0, each other one where the one before it ends, and the last one ends at `count`. No cluster continues after a
-    /// separator, so the clusters are those of a session with this text (`hordguli_cluster_at`), also of a text of several
-    /// paragraphs. NO_MEMORY comes before NO_ROOM.
+    /// number in `*cluster_count`. NULL with capacity 0 returns NO_ROOM, unless `count` is 0 (see BUFFERS). The first
+    /// cluster starts at 0, each other one where the one before it ends, and the last one ends at `count`. No cluster
+    /// continues after a separator, so the clusters are those of a session with this text (`hordguli_cluster_at`), even for
+    /// a text of several paragraphs. NO_MEMORY comes before NO_ROOM.
     ///
     /// Errors: NULL, OVERLAP, NOT_A_CHARACTER, NO_MEMORY, NO_ROOM.
     ///
@@ -1230,15 +1231,16 @@ extern "C" {
     ) -> hordguli_status;
     /// Stores the script runs of a text of `count` characters (UAX #24), for fonts and shapers: the longest ranges of
     /// characters of one script. To shape a row, split its directional runs (`hordguli_row_runs`) where a script run ends.
-    ///   - A character has the script of its property Script. It is that of the Unicode version that
-    ///     `hordguli_width_unicode_version` returns. A private-use or unassigned character has the script Unknown (`Zzzz`).
-    ///   - If the property is Common or Inherited, as of a space, a digit or a mark, the character has the script of the one
-    ///     before it. At the start of the text, it has the first script that follows, or Common (`Zyyy`) if none does.
+    ///   - A character has the script of its property Script, in the Unicode version that `hordguli_width_unicode_version`
+    ///     returns. A private-use or unassigned character has the script Unknown (`Zzzz`).
+    ///   - If the property is Common or Inherited, as for a space, a digit or a mark, the character has the script of the
+    ///     one before it. At the start of the text, it has the first script that follows, or Common (`Zyyy`) if none does.
     ///   - But a closing bracket whose property is Common has the script of its opening bracket, if it has one. Brackets are
     ///     those of the tables. Of brackets that are nested more than 63 deep, only the innermost 63 are matched.
     ///
     /// The property Script_Extensions is not used. The number of runs is stored in `*run_count`, and the runs in an array of
-    /// `capacity` elements. NULL with capacity 0 is NO_ROOM, unless `count` is 0 (see BUFFERS). NO_MEMORY comes before NO_ROOM.
+    /// `capacity` elements. NULL with capacity 0 returns NO_ROOM, unless `count` is 0 (see BUFFERS). NO_MEMORY comes before
+    /// NO_ROOM.
     ///
     /// Errors: NULL, OVERLAP, CLOSED, NOT_A_CHARACTER, NO_MEMORY, NO_ROOM.
     ///
@@ -1253,20 +1255,20 @@ extern "C" {
         runs: *mut hordguli_script_run,
         run_count: *mut usize,
     ) -> hordguli_status;
-    /// Puts a row of `count` characters into visual order. The caller chose where the row starts and ends. `base` is the
+    /// Puts a row of `count` characters into visual order. The caller chooses where the row starts and ends. `base` is the
     /// base level of its paragraph (`hordguli_base`), and `levels` are the levels of the row's characters in the whole
     /// paragraph (`hordguli_levels`). `options` can have HORDGULI_REORDER_NSM and HORDGULI_REORDER_CLUSTERS. The clusters
     /// are those of these characters alone. Stores `count` elements in each array. Each array has `capacity` elements. NULL
-    /// arrays are skipped, so with all arrays NULL any capacity is enough (see BUFFERS). Positions count from the start of the
-    /// row.
+    /// arrays are skipped, so with all arrays NULL any capacity is enough (see BUFFERS). Positions count from the start of
+    /// the row.
     /// - `visual`: characters in visual order, mirrored (UAX #9, L4)
     /// - `row_levels`: level of each character after L1, in logical order
     /// - `ltov`: visual position of each logical position
     /// - `vtol`: logical position of each visual position
     ///
     /// L1 applies to the row as to a line: separators, and white space before them and at the end of the row, get the level
-    /// `base`. All characters are shown, those at the end too. For example, a terminal that shows a paragraph in rows of 80
-    /// characters:
+    /// `base`. All characters are shown, including those at the end. For example, in a terminal that shows a paragraph in
+    /// rows of 80 characters:
     ///
     /// ```c
     /// status = hordguli_base(&tables, HORDGULI_WEAK_LTR, characters, count, &base);
@@ -1299,12 +1301,12 @@ extern "C" {
     ) -> hordguli_status;
     /// Stores the directional runs of a row, from left to right, for shaping text (see `hordguli_runs`). Positions count
     /// from the start of the row. `base`, `characters` and `levels` are as in `hordguli_row`. The number of runs is stored
-    /// in `*run_count`, and the runs in an array of `capacity` elements. NULL with capacity 0 is NO_ROOM, unless `count` is
-    /// 0 (see BUFFERS). NO_MEMORY comes before NO_ROOM, because the levels after L1 are gathered first.
+    /// in `*run_count`, and the runs in an array of `capacity` elements. NULL with capacity 0 returns NO_ROOM, unless
+    /// `count` is 0 (see BUFFERS). NO_MEMORY comes before NO_ROOM, because the levels after L1 are gathered first.
     ///
     /// Errors: NULL, OVERLAP, CLOSED, NOT_A_CHARACTER, OUT_OF_RANGE, NO_MEMORY, NO_ROOM.
     ///
-    /// Cost: as `hordguli_row`.
+    /// Cost: as for `hordguli_row`.
     ///
     /// Since: 0.6.
     pub fn hordguli_row_runs(
@@ -1329,7 +1331,7 @@ extern "C" {
         count: usize,
         base: *mut u32,
     ) -> hordguli_status;
-    /// Stores in `levels` the level of each character before L1. NULL is NO_ROOM, unless `count` is 0 (see BUFFERS).
+    /// Stores in `levels` the level of each character before L1. NULL returns NO_ROOM, unless `count` is 0 (see BUFFERS).
     ///
     /// Errors: NULL, OVERLAP, UNKNOWN_OPTION, CLOSED, NO_ROOM, NOT_A_CHARACTER, NO_MEMORY.
     ///
@@ -1342,8 +1344,8 @@ extern "C" {
         capacity: usize,
         levels: *mut u8,
     ) -> hordguli_status;
-    /// Stores in `marks` the break mark after each character. `options` is 0 or HORDGULI_WHOLE_NUMBERS. NULL is NO_ROOM, unless
-    /// `count` is 0 (see BUFFERS).
+    /// Stores in `marks` the break mark after each character. `options` is 0 or HORDGULI_WHOLE_NUMBERS. NULL returns
+    /// NO_ROOM, unless `count` is 0 (see BUFFERS).
     ///
     /// Errors: NULL, OVERLAP, UNKNOWN_OPTION, CLOSED, NO_ROOM, NOT_A_CHARACTER, NO_MEMORY.
     ///

@@ -2,8 +2,9 @@
 //!
 //! Each comment `SAFETY` says why a call meets the contract of `hordguli.h`, in these terms:
 //!
-//! - *Handle*: it is initialized as the header requires, is closed once by `drop`, and is in one call at a time. For it is neither
-//!   `Sync` nor copied, no method returns a reference to it, and the library calls nothing back. A Rust move leaves one handle.
+//! - *Handle*: it is initialized as the header requires, is closed once by `drop`, and is in one call at a time. This
+//!   holds because it is neither `Sync` nor copied, no method returns a reference to it, and the library makes no
+//!   callbacks. A Rust move leaves one handle.
 //! - *Input*: a Rust slice, passed with its length. It is valid for reads during the call. A slice has at most `isize::MAX` bytes.
 //! - *Output*: a new value, or the unused capacity of a new or exclusively borrowed vector, passed with its length. So it is valid for
 //!   writes during the call, and overlaps no handle, input or other output.

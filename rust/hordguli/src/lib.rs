@@ -1,8 +1,8 @@
 //! Lays out bidirectional text in lines: Unicode's bidirectional and line breaking algorithms (UAX #9, UAX #14).
 //!
-//! This is a safe interface of the C library `libhordguli`, whose levels, order and line breaks are proved to follow the annexes. The
-//! crate itself is not proved. It has the same rules and limits, which `docs/reference.md` in the sources describes, and no
-//! dependencies.
+//! This is a safe interface to the C library `libhordguli`, whose levels, order and line breaks are proved to follow
+//! the annexes. The crate itself is not proved. It has the same rules and limits, which `docs/reference.md` in the
+//! sources describes, and no dependencies.
 //!
 //! | Task | Calls |
 //! |---|---|
@@ -43,8 +43,8 @@
 //!
 //! # A terminal row
 //!
-//! A program that chooses itself where rows end puts each row into visual order. Levels depend on the whole paragraph. Characters and
-//! their levels are slices with the same indexes.
+//! A program that breaks rows itself puts each row into visual order. Levels depend on the whole paragraph. Characters
+//! and their levels are slices with the same indexes.
 //!
 //! ```
 //! use hordguli::{base_level, levels, row, BaseDirection, Options, Tables};
@@ -84,8 +84,8 @@
 //!
 //! # An editor
 //!
-//! A position has two edges: the leading edge of the character at it, and the trailing edge of the character before it. They are apart
-//! where the direction changes or a line wraps. So an editor keeps an [`Edge`] as its caret:
+//! A position has two edges: the leading edge of the character at that position, and the trailing edge of the character
+//! before it. They are apart where the direction changes or a line wraps. So an editor keeps an [`Edge`] as its caret:
 //!
 //! | The caret was last moved by | Edge to keep |
 //! |---|---|
@@ -107,7 +107,8 @@
 //!         let start = self.session.byte_of(self.caret.pos)?;
 //!         let damage = self.session.insert(self.caret.pos, text)?;
 //!         let (end, _) = self.session.position_of_byte(start + text.len())?;
-//!         self.caret = if text.ends_with('\n') { Edge::before(end) } else { Edge::after(end) };
+//!         let ends_line = |c| matches!(c, '\n'..='\r' | '\u{1c}'..='\u{1e}' | '\u{85}' | '\u{2028}' | '\u{2029}');
+//!         self.caret = if end == CharPos(0) || text.ends_with(ends_line) { Edge::before(end) } else { Edge::after(end) };
 //!         Ok(damage.new_lines)
 //!     }
 //!

@@ -100,7 +100,7 @@ impl<'a> Line<'a> {
     ///
     /// # Cost
     ///
-    /// As [`visual`](Line::visual).
+    /// As for [`visual`](Line::visual).
     pub fn row(&self) -> Result<Row, Error> {
         self.session
             .handle
@@ -116,7 +116,7 @@ impl<'a> Line<'a> {
     ///
     /// # Cost
     ///
-    /// As [`visual`](Line::visual).
+    /// As for [`visual`](Line::visual).
     pub fn columns(&self) -> Result<Vec<usize>, Error> {
         self.session
             .handle
@@ -191,8 +191,8 @@ impl<'a> Line<'a> {
         }))
     }
 
-    /// Returns the grapheme clusters of the line, in logical order. The last one ends with the line, also where a cluster goes on in
-    /// the next line.
+    /// Returns the grapheme clusters of the line, in logical order. The last one ends with the line, even if a cluster
+    /// continues on the next line.
     ///
     /// # Errors
     ///
@@ -200,7 +200,7 @@ impl<'a> Line<'a> {
     ///
     /// # Cost
     ///
-    /// As [`Session::cluster`], plus the length of the line.
+    /// As for [`Session::cluster`], plus the length of the line.
     pub fn clusters(&self) -> Result<impl ExactSizeIterator<Item = Range<CharPos>>, Error> {
         let (line, mut start) = (self.start(), self.start());
         let ends = self.session.handle.line_clusters(self.number)?;
@@ -213,14 +213,14 @@ impl<'a> Line<'a> {
 
     /// Returns the first and the last edge of the line in logical order, for the keys Home and End.
     ///
-    /// The first edge is before the start of the line. The last one is as [`Session::line_edges`] says.
+    /// The first edge is before the start of the line. For the last one, see [`Session::line_edges`].
     ///
     /// # Cost
     ///
     /// O(log n) in a session of n paragraphs.
     #[must_use]
     pub fn edges(&self) -> (Edge, Edge) {
-        // (the call fails for lines that do not exist only)
+        // (the call fails only for lines that do not exist)
         self.session.line_edges(self.number).unwrap_or_default()
     }
 }

@@ -181,17 +181,17 @@ numbers! {
     VALUE = HORDGULI_CAUSE_VALUE;
     /// an earlier line names one of its characters
     NAMED_BEFORE = HORDGULI_CAUSE_NAMED_BEFORE;
-    /// fewer bytes than the header has or its counts say
+    /// fewer bytes than the header has or its counts state
     TRUNCATED = HORDGULI_CAUSE_TRUNCATED;
-    /// other first bytes than those of an image
+    /// the first bytes are not those of an image
     MAGIC = HORDGULI_CAUSE_MAGIC;
     /// another version of the format
     FORMAT = HORDGULI_CAUSE_FORMAT;
     /// a version of Unicode that is not supported
     VERSION = HORDGULI_CAUSE_VERSION;
-    /// more bytes than the counts say
+    /// more bytes than the counts state
     EXCESS = HORDGULI_CAUSE_EXCESS;
-    /// another checksum
+    /// the checksum does not match
     CHECKSUM = HORDGULI_CAUSE_CHECKSUM;
     /// a page number out of range
     PAGE_NUMBER = HORDGULI_CAUSE_PAGE_NUMBER;

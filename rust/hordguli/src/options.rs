@@ -88,15 +88,16 @@ impl Options {
         self
     }
 
-    /// Whether the characters of a grapheme cluster that follow each other at one odd level stay in logical order. Use it if the
-    /// terminal draws clusters as units, such as emoji families. [`reorder_nsm`](Options::reorder_nsm) then has no effect.
+    /// Whether adjacent characters of a grapheme cluster at the same odd level stay in logical order. Use it if the
+    /// terminal draws clusters as units, such as emoji families. [`reorder_nsm`](Options::reorder_nsm) then has no
+    /// effect.
     pub const fn reorder_clusters(mut self, is_set: bool) -> Self {
         self.reorder_clusters = is_set;
         self
     }
 
-    /// Whether the spaces with which the tail of a line begins are shown, as many as fit in the width. So they have carets, hits and
-    /// spans.
+    /// Whether the spaces at the start of a line's tail are shown, as many as fit in the width. So they have carets,
+    /// hits and spans.
     pub const fn show_spaces(mut self, is_set: bool) -> Self {
         self.show_spaces = is_set;
         self

@@ -254,7 +254,7 @@ pub enum Side {
 
 /// One of the two edges of a position. They are apart on the screen where the direction changes or a line wraps.
 ///
-/// An editor keeps an edge as its caret. An edit goes to `pos` either way.
+/// An editor keeps an edge as its caret. Edits happen at `pos` either way.
 #[derive(Clone, Copy, Debug, Default, PartialEq, Eq, Hash)]
 pub struct Edge {
     /// The position.

@@ -66,8 +66,8 @@ impl Session {
     /// Opens a measured session, for text in any font. `width` is from 1 to 2,147,483,647.
     ///
     /// Each character has an advance, in a unit that the caller chooses, such as 1/64 pixel. The width, and all columns of the session,
-    /// are in this unit. A new character has advance 0, until [`set_advances`](Session::set_advances) sets it. All others keep theirs,
-    /// also if an edit joins or splits paragraphs.
+    /// are in this unit. A new character has advance 0, until [`set_advances`](Session::set_advances) sets it. All
+    /// others keep theirs, even if an edit joins or splits paragraphs.
     ///
     /// The advances of a paragraph add up to at most 4,294,967,295. With [`Options::tab_width`], a tab moves to the next multiple of its
     /// own advance, or stays where it is if that is 0. What is printed has no padding; [`Line::padding`] is what aligns a line right.
@@ -90,7 +90,7 @@ impl Session {
     ///
     /// # Cost
     ///
-    /// As [`new`](Session::new).
+    /// As for [`new`](Session::new).
     pub fn open_measured(
         tables: &Tables,
         text: &str,
@@ -135,7 +135,7 @@ impl Session {
     ///
     /// # Cost
     ///
-    /// As [`insert`](Session::insert).
+    /// As for [`insert`](Session::insert).
     pub fn delete(&mut self, range: impl TextRange) -> Result<Damage, Error> {
         let range = range.resolve(self)?;
         self.handle
@@ -151,7 +151,7 @@ impl Session {
     ///
     /// # Cost
     ///
-    /// As [`insert`](Session::insert).
+    /// As for [`insert`](Session::insert).
     pub fn replace(&mut self, range: impl TextRange, text: &str) -> Result<Damage, Error> {
         let range = range.resolve(self)?;
         self.handle
@@ -182,7 +182,7 @@ impl Session {
     ///
     /// # Cost
     ///
-    /// As [`set_width`](Session::set_width).
+    /// As for [`set_width`](Session::set_width).
     pub fn set_measured_width(&mut self, width: u32) -> Result<Damage, Error> {
         self.handle.set_measured_width(width).map(Damage::new)
     }
@@ -223,7 +223,7 @@ impl Session {
     /// Returns the number of characters, lines and paragraphs, and the width. Costs O(1).
     #[must_use]
     pub fn counts(&self) -> Counts {
-        // (the call fails for closed handles only)
+        // (the call fails only for closed handles)
         let it = self.handle.counts().unwrap_or_default();
         Counts {
             characters: it.characters,
@@ -252,9 +252,9 @@ impl Session {
 
     /// Returns which lines changed in the last successful call that edited the text, set the width or set advances.
     ///
-    /// These are the lines of its [`Damage`], which names whole paragraphs, without those at its start and end that show the
-    /// same as before: characters, levels, maps, columns, advances and base level. After opening, all lines have changed. The
-    /// padding depends on the width and is not compared.
+    /// These are the lines of its [`Damage`], which names whole paragraphs, without those at its start and end that are
+    /// unchanged: with the same characters, levels, maps, columns, advances and base level. After opening, all lines
+    /// count as changed. The padding depends on the width and is not compared.
     ///
     /// Costs O(1).
     ///
@@ -292,7 +292,7 @@ impl Session {
     ///
     /// # Errors
     ///
-    /// As [`text`](Session::text). After an error, the buffer has the same text as before.
+    /// As for [`text`](Session::text). After an error, the buffer has the same text as before.
     pub fn text_into(&self, range: impl TextRange, buffer: &mut String) -> Result<(), Error> {
         let range = range.resolve(self)?;
         self.handle
@@ -303,11 +303,11 @@ impl Session {
     ///
     /// # Errors
     ///
-    /// As [`text`](Session::text).
+    /// As for [`text`](Session::text).
     ///
     /// # Cost
     ///
-    /// As [`text`](Session::text).
+    /// As for [`text`](Session::text).
     pub fn chars(&self, range: impl TextRange) -> Result<Vec<char>, Error> {
         let range = range.resolve(self)?;
         self.handle
@@ -367,7 +367,8 @@ impl Session {
         self.handle.utf16_of(pos.0).map(Utf16Pos)
     }
 
-    /// Returns the character that a byte is in, and how many of the character's bytes come before it: 0 at its start.
+    /// Returns the character that contains a byte, and how many of the character's bytes precede that byte: 0 at its
+    /// start.
     ///
     /// At the end of the text, it is the number of characters, and 0.
     ///
@@ -377,12 +378,13 @@ impl Session {
     ///
     /// # Cost
     ///
-    /// As [`byte_of`](Session::byte_of).
+    /// As for [`byte_of`](Session::byte_of).
     pub fn position_of_byte(&self, byte: BytePos) -> Result<(CharPos, usize), Error> {
         self.handle.position_of_byte(byte.0).map(position)
     }
 
-    /// Returns the character that a UTF-16 code unit is in, and how many of the character's units come before it: 0 at its start.
+    /// Returns the character that contains a UTF-16 code unit, and how many of the character's units precede that unit:
+    /// 0 at its start.
     ///
     /// At the end of the text, it is the number of characters, and 0.
     ///
@@ -392,7 +394,7 @@ impl Session {
     ///
     /// # Cost
     ///
-    /// As [`utf16_of`](Session::utf16_of).
+    /// As for [`utf16_of`](Session::utf16_of).
     pub fn position_of_utf16(&self, unit: Utf16Pos) -> Result<(CharPos, usize), Error> {
         self.handle.position_of_utf16(unit.0).map(position)
     }
@@ -470,7 +472,7 @@ impl Session {
     ///
     /// # Errors
     ///
-    /// As [`lines_to_string`](Session::lines_to_string). After an error, the buffer has the same text as before.
+    /// As for [`lines_to_string`](Session::lines_to_string). After an error, the buffer has the same text as before.
     pub fn lines_into(
         &self,
         lines: impl RangeBounds<usize>,
@@ -562,7 +564,7 @@ impl Session {
     ///
     /// # Cost
     ///
-    /// As [`place`](Session::place), plus the length of the line.
+    /// As for [`place`](Session::place), plus the length of the line.
     pub fn caret(&self, pos: impl Position) -> Result<Caret, Error> {
         let pos = pos.resolve(self)?;
         self.handle.caret_at(pos.0).map(Caret::new)
@@ -629,16 +631,17 @@ impl Session {
 
     // ---- Edges ----
 
-    /// Returns where to draw the caret at an edge: on the line of the character whose edge it is. This is the character at the position
-    /// for [`Edge::before`], and the one before it for [`Edge::after`].
+    /// Returns where to draw the caret at an edge: on the line of the character that the edge belongs to. This is the
+    /// character at the position for [`Edge::before`], and the one before it for [`Edge::after`].
     ///
-    /// A caret moves over one caret unit: a grapheme cluster, or its part in one level run if its characters are in several.
+    /// A caret moves over one caret unit: a grapheme cluster or, if its characters are in several level runs, the part
+    /// in one of them.
     ///
     /// - If a caret unit begins (or ends) with that character: at the start (or end) of the unit.
     /// - At another shown character: at its leading edge, which is the left one if its level is even, or its trailing edge.
     /// - At a character that is not shown, and before the end of the text: as in [`caret`](Session::caret).
     ///
-    /// `level` is that of the character whose edge it is.
+    /// `level` is the level of that character.
     ///
     /// # Errors
     ///
@@ -646,16 +649,17 @@ impl Session {
     ///
     /// # Cost
     ///
-    /// As [`cluster`](Session::cluster), plus the length of the line.
+    /// As for [`cluster`](Session::cluster), plus the length of the line.
     pub fn edge_caret(&self, edge: Edge) -> Result<Caret, Error> {
         self.handle.edge_caret(edge.raw()).map(Caret::new)
     }
 
     /// Returns the edge at the nearest boundary to the left or right on the line, one caret unit away, or `None` at the end of the
-    /// line. [`edge_at`](Session::edge_at) then gives the end of the next line.
+    /// line. [`edge_at`](Session::edge_at) then returns the end of the next line.
     ///
-    /// Each step changes the column. Repeated, steps meet every boundary in their direction. With [`Options::reorder_nsm`] and
-    /// without [`Options::reorder_clusters`], this holds if the marks of the text have no columns.
+    /// Each step changes the column. Repeated steps reach every boundary in their direction. With
+    /// [`Options::reorder_nsm`] and without [`Options::reorder_clusters`], this holds if the marks of the text have no
+    /// columns.
     ///
     /// ```
     /// use hordguli::{CharPos, Direction, Edge, Options, Session, Tables};
@@ -668,17 +672,17 @@ impl Session {
     ///
     /// # Errors
     ///
-    /// As [`edge_caret`](Session::edge_caret).
+    /// As for [`edge_caret`](Session::edge_caret).
     ///
     /// # Cost
     ///
-    /// As [`edge_caret`](Session::edge_caret).
+    /// As for [`edge_caret`](Session::edge_caret).
     pub fn step(&self, edge: Edge, direction: Direction) -> Result<Option<Edge>, Error> {
         let next = self.handle.step(edge.raw(), direction.number())?;
         Ok(next.map(Edge::new))
     }
 
-    /// Returns the edge at a column of a line, for moves to another line. For mouse clicks, see
+    /// Returns the edge at a column of a line, for moving to another line. For mouse clicks, see
     /// [`nearest_edge`](Session::nearest_edge). Column 0 is the left edge of the shown part, right of padding.
     ///
     /// - In the shown part: the left end of the caret unit that covers the column.
@@ -692,22 +696,22 @@ impl Session {
     ///
     /// # Cost
     ///
-    /// As [`edge_caret`](Session::edge_caret).
+    /// As for [`edge_caret`](Session::edge_caret).
     pub fn edge_at(&self, line: usize, column: usize) -> Result<Edge, Error> {
         self.handle.edge_at(line, column).map(Edge::new)
     }
 
-    /// Returns the nearest edge to a column of a line, for mouse clicks, which may hit either half of a character. In the shown part,
-    /// this is the nearer end of the caret unit that covers the column, and from the unit's middle the right one. Elsewhere, and in a
-    /// unit of one column, it is the edge that [`edge_at`](Session::edge_at) returns.
+    /// Returns the edge nearest to a column of a line, for mouse clicks, which may hit either half of a character. In
+    /// the shown part, this is the nearer end of the caret unit that covers the column, or the right end at the unit's
+    /// middle. Elsewhere, and in a unit of one column, this is the edge that [`edge_at`](Session::edge_at) returns.
     ///
     /// # Errors
     ///
-    /// As [`edge_at`](Session::edge_at).
+    /// As for [`edge_at`](Session::edge_at).
     ///
     /// # Cost
     ///
-    /// As [`edge_caret`](Session::edge_caret).
+    /// As for [`edge_caret`](Session::edge_caret).
     pub fn nearest_edge(&self, line: usize, column: usize) -> Result<Edge, Error> {
         self.handle.nearest_edge(line, column).map(Edge::new)
     }

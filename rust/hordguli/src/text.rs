@@ -21,8 +21,9 @@ use crate::{ffi, Break, Character, Error, Level, Options, Print, Row, Run, Scrip
 ///
 /// # Cost
 ///
-/// Time and memory proportional to the text and the lines. The tables keep the memory that a call used, and a call that needs no
-/// more than that allocates only the result. Memory for texts or lines of more than 65,536 bytes is freed.
+/// Time and memory proportional to the text and the lines. The tables keep the memory that a call used. A later call
+/// that needs no more than that allocates only the result. Memory for texts or lines of more than 65,536 bytes is
+/// freed.
 pub fn layout(
     tables: &Tables,
     text: &str,
@@ -40,7 +41,7 @@ pub fn layout(
 ///
 /// # Errors
 ///
-/// As [`layout`]. After an error, the buffer has the same text as before.
+/// As for [`layout`]. After an error, the buffer has the same text as before.
 pub fn layout_into(
     tables: &Tables,
     text: &str,
@@ -66,7 +67,7 @@ pub fn layout_into(
 ///
 /// # Errors
 ///
-/// As [`layout`].
+/// As for [`layout`].
 pub fn wrap(
     tables: &Tables,
     text: &str,
@@ -226,15 +227,15 @@ pub fn row(
 ///
 /// # Errors
 ///
-/// As [`row`].
+/// As for [`row`].
 ///
 /// # Panics
 ///
-/// As [`row`].
+/// As for [`row`].
 ///
 /// # Cost
 ///
-/// As [`row`].
+/// As for [`row`].
 pub fn row_runs(
     tables: &Tables,
     chars: &[char],
@@ -298,7 +299,7 @@ pub fn count_utf8(bytes: &[u8]) -> Result<usize, Error> {
 /// Time proportional to the number of bytes.
 #[must_use]
 pub fn valid_utf8(bytes: &[u8]) -> usize {
-    // (it fails for NULL and overlapping parameters only)
+    // (it fails only for NULL and overlapping parameters)
     ffi::valid_utf8(bytes).unwrap_or_default()
 }
 

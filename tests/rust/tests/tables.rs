@@ -8,7 +8,7 @@ fn folder(name: &str) -> String {
     format!("{}/../../{name}", env!("CARGO_MANIFEST_DIR"))
 }
 
-/// Text that Unicode 17.0 breaks otherwise than 15.0.
+/// Text that Unicode 17.0 breaks differently from 15.0.
 fn sample() -> String {
     "\u{4e2d}\u{201c}\u{4e2d}\u{201d} \u{5d0}-\u{5d1} 12,3 (\u{627})\n".repeat(3)
 }

@@ -31,8 +31,8 @@ const SPACES: Options = Options {
     ..NO_TAB_STOPS
 };
 
-// A paragraph, its advances, a width, and where its lines start. For each line, the left edge of each visual
-// position and, last, the right edge of the line.
+// A paragraph, its advances, a width, and where its lines start. Also, for each line, the left edge of each
+// visual position and, last, the right edge of the line.
 struct Row {
     text: &'static str,
     advances: &'static [u32],
@@ -103,7 +103,7 @@ static ROWS: [Row; 8] = [
     },
 ];
 
-// Widths and advances that need more than 16 bits, up to the greatest sum of advances.
+// Widths and advances that need more than 16 bits, up to the maximum sum of advances.
 static WIDE: [Row; 4] = [
     Row {
         text: "a b",
@@ -260,7 +260,7 @@ fn lay_out(
     }
 }
 
-// Whether these are the left edges of a line's characters, followed by the right edge of the line.
+// Returns whether these are the left edges of a line's characters, followed by the right edge of the line.
 fn has_edges(line: &VisualLine<'_>, edges: &[usize]) -> bool {
     let mut all_right = line.vtol().len() + 1 == edges.len();
     for (place, left) in edges.iter().enumerate() {
@@ -269,7 +269,7 @@ fn has_edges(line: &VisualLine<'_>, edges: &[usize]) -> bool {
     all_right & (edges.last().copied() == Some(line.columns() as usize))
 }
 
-// Whether a paragraph has these lines and advances.
+// Returns whether a paragraph has these lines and advances.
 fn is_right(laid: &Laid, row: &Row) -> bool {
     let mut all_right = laid.line_starts() == row.starts && laid.line(row.edges.len()).is_none();
     for (n, edges) in row.edges.iter().enumerate() {
@@ -294,7 +294,7 @@ fn lay_out_each(alloc: Global, engine: &mut Engine, rows: &[Row]) -> Result<bool
     Ok(all_right)
 }
 
-// Whether the paragraphs have the lines of their rows.
+// Returns whether the paragraphs have the lines of their rows.
 fn all_laid_out(alloc: Global, options: Options, rows: &[Row]) -> Result<bool, Fail> {
     let mut engine = engine(alloc, &FILES, options)?;
     let result = lay_out_each(alloc, &mut engine, rows);
@@ -326,7 +326,7 @@ fn measured_spaces_are_shown_as_far_as_they_fit(rt: HostRuntime) -> Result<(), F
     Ok(())
 }
 
-// Whether a paragraph that was laid out at width 1 has the lines of its row after an exchange.
+// Returns whether a paragraph that was laid out at width 1 has the lines of its row after an exchange.
 fn is_refilled(alloc: Global, engine: &mut Engine, row: &Row) -> Result<bool, Fail> {
     let mut laid = lay_out(alloc, engine, row.text, row.advances, 1)?;
     let result = exchanges(alloc, engine, &mut laid, row);
@@ -357,7 +357,7 @@ fn refill(alloc: Global, engine: &mut Engine, laid: &Laid, width: u32) -> Result
     }
 }
 
-// Whether it has them after they overwrote the old lines.
+// Returns whether the paragraph has the lines of its row after they overwrote the old lines.
 fn is_reflowed(alloc: Global, engine: &mut Engine, row: &Row) -> Result<bool, Fail> {
     if row.width == 0 {
         return Err(Fail::new("width 0"));
@@ -379,7 +379,7 @@ fn change_each(alloc: Global, engine: &mut Engine, rows: &[Row]) -> Result<bool,
     Ok(all_right)
 }
 
-// Whether the paragraphs have the lines of their rows after a change of their width.
+// Returns whether the paragraphs have the lines of their rows after a change of their width.
 fn all_changed(alloc: Global, options: Options, rows: &[Row]) -> Result<bool, Fail> {
     let mut engine = engine(alloc, &FILES, options)?;
     let result = change_each(alloc, &mut engine, rows);
@@ -408,7 +408,7 @@ fn measured_tabs_have_their_widths_on_the_lines_at_another_width(
 // A paragraph, the columns of its characters, and a width.
 type ColumnRow = (&'static str, &'static [u32], u16);
 
-// With tab stops every 8 columns.
+// Tab stops are every 8 columns.
 static COLUMNS: [ColumnRow; 7] = [
     ("abc   def", &[1, 1, 1, 1, 1, 1, 1, 1, 1], 3),
     ("ab cd ef", &[1, 1, 1, 1, 1, 1, 1, 1], 5),
@@ -419,7 +419,7 @@ static COLUMNS: [ColumnRow; 7] = [
     ("abcdefghijklmnop qrstuvwxyz", &[1; 27], 20),
 ];
 
-// Whether a line is the same by advances as by columns.
+// Returns whether a line is the same by advances as by columns.
 fn is_same_line(measured: &VisualLine<'_>, line: &VisualLine<'_>) -> bool {
     (measured.len() == line.len())
         & (measured.chars() == line.chars())

@@ -37,8 +37,8 @@ type Row = (
     &'static [u32],
 );
 
-// Texts with the option. The last two have a mark at another level than its base, and a mark after a space at
-// the end of the line.
+// Texts with the option. The last two have a mark whose level differs from that of its base, and a mark after
+// a space at the end of the line.
 static READ_ROWS: [Row; 7] = [
     (
         "\u{5D0}\u{300}\u{5D1}",
@@ -165,7 +165,7 @@ fn order_each(alloc: Global, engine: &mut Engine, rows: &[Row]) -> Result<bool, 
     Ok(all_right)
 }
 
-// Whether an engine with these files and options orders each text as its row says.
+// Returns whether an engine with these files and options orders each text as its row says.
 fn all_ordered(
     alloc: Global,
     files: &UcdFiles<'_>,

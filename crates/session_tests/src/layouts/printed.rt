@@ -66,7 +66,7 @@ static ROWS: [(&str, u16, Print, &str); 10] = [
     ("\n", 1, DIRECTION, "LTR\n"),
 ];
 
-// Whether these bytes were written, and nothing after them.
+// Returns whether these bytes were written, and nothing after them.
 fn holds(taken: &[u8], bytes: &[u8]) -> bool {
     if bytes.len() > taken.len() {
         return false;
@@ -118,7 +118,7 @@ fn write_paragraph(
     }
 }
 
-// Whether a layout's lines are these bytes, line by line and all at once.
+// Returns whether a layout's lines are these bytes, line by line and all at once.
 pub(super) fn is_written(laid: &Laid, width: u16, print: &Print, bytes: &[u8]) -> bool {
     let mut by_lines = [b'?'; 64];
     let mut at_once = [b'?'; 64];
@@ -128,7 +128,7 @@ pub(super) fn is_written(laid: &Laid, width: u16, print: &Print, bytes: &[u8]) -
         && holds(&at_once, bytes)
 }
 
-// Whether a paragraph is written into a buffer of `room` bytes, at most up to the end of the buffer.
+// Returns whether a paragraph is written into a buffer of `room` bytes, at most up to the end of the buffer.
 fn fills(
     alloc: Global,
     engine: &mut Engine,
@@ -151,7 +151,7 @@ fn fills(
     result == wanted && holds(&taken, &bytes[..room.min(bytes.len())])
 }
 
-// Whether `fills` holds for a buffer that is larger than the output, as large, and half as large.
+// Returns whether `fills` holds for a buffer that is larger than the output, as large, and half as large.
 fn fills_each(
     alloc: Global,
     engine: &mut Engine,

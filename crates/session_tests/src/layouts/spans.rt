@@ -24,7 +24,7 @@ type SpanRow<'a> = (&'a str, u16, [usize; 3], &'a [(usize, usize)]);
 const MIXED: &str = "abc \u{5d0}\u{5d1}\u{5d2} def";
 
 // In the last two rows, the range of a space and a letter covers one interval, since the mark between them
-// takes no columns, and that of a mark covers none.
+// takes no columns, and the range of a mark covers none.
 static SPANS: [SpanRow<'_>; 15] = [
     (MIXED, 80, [0, 2, 6], &[(2, 4), (5, 7)]),
     (MIXED, 80, [0, 3, 5], &[(3, 4), (6, 7)]),
@@ -43,7 +43,7 @@ static SPANS: [SpanRow<'_>; 15] = [
     ("e\u{301}x", 80, [0, 1, 2], &[]),
 ];
 
-// Whether a range of a line covers these columns.
+// Returns whether a range of a line covers these columns.
 fn covers(line: &VisualLine<'_>, start: usize, end: usize, wanted: &[(usize, usize)]) -> bool {
     let mut spans = line.spans(start, end);
     let mut is_right = true;
@@ -102,7 +102,7 @@ static RUNS: [RunRow<'_>; 7] = [
     ),
 ];
 
-// Whether a line has these runs.
+// Returns whether a line has these runs.
 fn has_runs(line: &VisualLine<'_>, wanted: &[(usize, usize, u8)]) -> bool {
     let mut runs = line.runs();
     let mut is_right = true;

@@ -104,8 +104,8 @@ fn check_carets<S: ParagraphStore<Kept> + Drop, T: ParagraphStore<Kept> + Drop>(
     Ok(())
 }
 
-// Whether `columns_left` of the only line returns these values for positions 0, 1 and 9, and the line has
-// this padding.
+// Returns whether `columns_left` of the only line returns these values for positions 0, 1 and 9, and the line
+// has this padding.
 fn has_columns<S: ParagraphStore<Kept>>(
     session: &mut Session<S>,
     text: &str,

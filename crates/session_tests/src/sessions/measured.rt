@@ -24,7 +24,7 @@ fn measured(
     Ok(session)
 }
 
-// Whether the lines of a session start at these positions.
+// Returns whether the lines of a session start at these positions.
 fn starts_at(session: &Session<TreeStore<Kept>>, starts: &[usize]) -> bool {
     let mut all_right = session.line_count() == starts.len();
     for n in 0..starts.len() {

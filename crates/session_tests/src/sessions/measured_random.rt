@@ -1,6 +1,6 @@
 //! Makes random edits of a measured session, and sets random advances and widths. Each result is compared
-//! with a plain reference: the text and its advances in two lists, whose lines are found one after the other.
-//! Some are compared with a session that is opened on the text.
+//! with a simple reference implementation, which keeps the text and its advances in two lists and finds the
+//! lines one after the other. Some are compared with a session that is opened on the text.
 use super::random::{Numbers, random_piece};
 use super::{PAGE, pages, same, without_engine};
 use crate::files::{FILES, engine};
@@ -20,7 +20,7 @@ struct Reference {
     width: u32,
 }
 
-// A change of a measured session. A list of advances is for the characters from a position on.
+// A change of a measured session. A list of advances applies to the characters from a position on.
 #[derive(Clone, Copy, Debug)]
 enum Change<'a> {
     Insert(usize, &'a [char]),
@@ -38,7 +38,7 @@ enum Refusal {
     Other,
 }
 
-// Returns the list with `count` items from an index on replaced.
+// Returns a list after `count` items from an index on are replaced.
 fn spliced<T: Copy>(
     alloc: Global,
     list: &[T],
@@ -57,7 +57,7 @@ fn is_separator(c: char) -> bool {
     (c == '\n') | (c == '\r') | (c == '\u{2029}')
 }
 
-// Whether a paragraph ends after the character at an index.
+// Returns whether a paragraph ends after the character at an index.
 fn ends_paragraph(text: &[char], k: usize) -> bool {
     let next = k.wrapping_add(1);
     match (text.get(k), text.get(next)) {
@@ -77,7 +77,7 @@ fn paragraph_end(text: &[char], start: usize) -> usize {
     text.len()
 }
 
-// Whether the advances of each paragraph add up to less than 2^32.
+// Returns whether the advances of each paragraph add up to less than 2^32.
 fn have_room(text: &[char], advances: &[u32]) -> bool {
     let mut sum = 0u64;
     let mut all = true;
@@ -91,8 +91,8 @@ fn have_room(text: &[char], advances: &[u32]) -> bool {
     all
 }
 
-// Whether a line may end after the character at an index, if no break opportunity fits. No other characters
-// of these texts join a cluster.
+// Returns whether a line may end after the character at an index, if no break opportunity fits. No other
+// characters of these texts join a cluster.
 fn ends_cluster(text: &[char], k: usize) -> bool {
     match (text.get(k), text.get(k.wrapping_add(1))) {
         (Some(c), Some('\u{300}')) => ('\u{2066}'..='\u{2069}').contains(c),
@@ -132,7 +132,7 @@ impl Reference {
         by_break.or(by_cluster).or(least).unwrap_or((end, shown))
     }
 
-    // Whether the lines of a session are those of the text.
+    // Returns whether the lines of a session are those of the text.
     fn has_lines(&self, session: &Session<TreeStore<Kept>>) -> bool {
         let (mut n, mut first) = (0usize, 0usize);
         let mut all = true;
@@ -185,7 +185,7 @@ impl Reference {
         })
     }
 
-    // Returns why a change is refused, given what it would lead to.
+    // Returns why a change is refused, given the text and the advances after it.
     fn refusal(&self, change: Change<'_>, after: &Reference) -> Option<Refusal> {
         let end = match change {
             Change::Insert(pos, _) => pos,
@@ -206,7 +206,7 @@ impl Reference {
         }
     }
 
-    // Whether a session equals one that is opened on the text.
+    // Returns whether a session equals one that is opened on the text.
     fn is_opened(
         &self,
         alloc: Global,

@@ -8,7 +8,7 @@ use store::ParagraphStore;
 // A text, its width, where its lines start, and the paragraph, the line and the offset of each position.
 type Row<'a> = (&'a str, u16, &'a [usize], &'a [[usize; 3]]);
 
-// Whether these are the line starts, and the only ones.
+// Returns whether these are the line starts, and the only ones.
 fn begin_at<S: ParagraphStore<Kept>>(session: &Session<S>, starts: &[usize]) -> bool {
     let mut all = session.line_start(starts.len()).is_none();
     for n in 0..starts.len() {
@@ -26,7 +26,7 @@ fn is_place(place: Option<Place>, [paragraph, line, offset]: [usize; 3]) -> bool
         })
 }
 
-// Whether the positions have these places, and no other position has one.
+// Returns whether the positions have these places, and no other position has one.
 fn stand_at<S: ParagraphStore<Kept>>(session: &Session<S>, places: &[[usize; 3]]) -> bool {
     let mut all = session.place(places.len()).is_none();
     for pos in 0..places.len() {
@@ -35,7 +35,8 @@ fn stand_at<S: ParagraphStore<Kept>>(session: &Session<S>, places: &[[usize; 3]]
     all
 }
 
-// Whether each paragraph starts at the place of its first line, and no paragraph is after the last one.
+// Returns whether each paragraph starts at the place of its first line, and no paragraph is after the last
+// one.
 fn paragraphs_begin<S: ParagraphStore<Kept>>(session: &Session<S>) -> bool {
     let count = session.paragraph_count();
     let mut all = session.paragraph_start(count).is_none();

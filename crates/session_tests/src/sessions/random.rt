@@ -157,7 +157,7 @@ fn damage_of<S: ParagraphStore<Kept>, T: ParagraphStore<Kept>>(
     }
 }
 
-// Whether everything outside the damage is unchanged.
+// Returns whether everything outside the damage is unchanged.
 fn stays<S: ParagraphStore<Kept>, T: ParagraphStore<Kept>>(
     old: &Session<T>,
     new: &Session<S>,
@@ -179,7 +179,7 @@ fn stays<S: ParagraphStore<Kept>, T: ParagraphStore<Kept>>(
         && same_paragraphs(old, new, after_pars, rest_pars)
 }
 
-// Whether the result of an edit is right, given a session on the text before the edit.
+// Returns whether the result of an edit is right, given a session on the text before the edit.
 fn is_right<S: ParagraphStore<Kept>, T: ParagraphStore<Kept>>(
     edited: &Session<S>,
     old: &Session<T>,

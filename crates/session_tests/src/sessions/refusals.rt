@@ -18,7 +18,7 @@ static REFUSED: [(Edit<'_>, EditFault); 7] = [
     (Edit::SetWidth(0), EditFault::WidthOutOfRange),
 ];
 
-// Whether each edit is refused for this reason.
+// Returns whether each edit is refused for this reason.
 fn refuses<S: ParagraphStore<Kept>>(
     edited: &mut Session<S>,
     rows: &[(Edit<'_>, EditFault)],
@@ -92,8 +92,8 @@ fn open_refuses_a_width_of_zero_and_text_that_is_too_long(rt: HostRuntime) -> Re
     check_open(&rt, alloc, 1_048_577, 80, EditFault::ParagraphTooLong)
 }
 
-// Whether an insert that makes a paragraph too long is refused, and a paragraph of the maximum length accepts
-// no more characters.
+// Returns whether an insert that makes a paragraph too long is refused, and a paragraph of the maximum length
+// accepts no more characters.
 fn is_full<S: ParagraphStore<Kept>>(
     edited: &mut Session<S>,
     long: &str,
@@ -107,7 +107,7 @@ fn is_full<S: ParagraphStore<Kept>>(
     Ok(is_refused & is_untouched & is_long & refuses(edited, &more))
 }
 
-// Whether `is_full` holds in a session of two short paragraphs, or an allocation fails.
+// Returns whether `is_full` holds in a session of two short paragraphs, or an allocation fails.
 fn becomes_full<S: ParagraphStore<Kept>>(
     alloc: Global,
     edited: &mut Session<S>,

@@ -9,7 +9,7 @@ use store::ParagraphStore;
 // A text, its width, an edit, the damage, by how much the counters may rise, and the text after the edit.
 type Row<'a> = (&'a str, u16, Edit<'a>, [usize; 6], [u64; 2], &'a str);
 
-// Whether the edit has the right result, and leaves the right text.
+// Returns whether the edit has the right result, and leaves the right text.
 fn is_row<S: ParagraphStore<Kept> + Drop, T: ParagraphStore<Kept> + Drop>(
     rt: &impl Abort,
     pair: &mut Pair<S, T>,
@@ -229,7 +229,7 @@ const SHOWN: Print = Print {
     ..LEVELS
 };
 
-// Whether the step's edit has the expected result, and the step's text is printed after it.
+// Returns whether the step's edit has the expected result, and the step's text is printed after it.
 fn is_step<S: ParagraphStore<Kept>>(
     rt: &impl Abort,
     edited: &mut Session<S>,
