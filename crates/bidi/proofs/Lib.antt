@@ -1,9 +1,20 @@
 mod AloneLemmas
 mod BaseLemmas
+pub mod BlockLemmas
 mod BracketLemmas
 mod BracketTypeLemmas
 mod ClosersLemmas
 mod CutLemmas
+mod DoublingBrackets
+mod DoublingCharacters
+mod DoublingExplicit
+mod DoublingIsolates
+mod DoublingLevels
+mod DoublingLists
+mod DoublingPairs
+mod DoublingRules
+mod DoublingSequences
+mod DoublingTexts
 mod ExplicitLemmas
 mod FlatLemmas
 pub mod FrontLemmas
@@ -34,4 +45,3 @@ mod WeakTableLemmas
 mod WorkedBrackets
 mod WorkedLevels
 mod WorkedRows
-pub mod BlockLemmas

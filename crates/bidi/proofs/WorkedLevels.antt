@@ -3,6 +3,7 @@ use Rattle.std.proofs.Common.{◌≡◌, None, ℕ, List, ◌++◌, [], ◌∷�
 use Rattle.std.specs.List.{repeat}
 use Rattle.ucd.specs.declared.bidi_class.BidiClass.{BidiClass}
 use Rattle.ucd.specs.declared.bidi_class.BidiClass.TheVariants.{L, R, AL, EN, ES, ET, B, WS, RLE, RLO, PDF, LRI, RLI, FSI, PDI}
+use Rattle.bidi.specs.Doubling.{double}
 use Rattle.bidi.specs.Levels.{paragraph_levels}
 
 -- the levels of a paragraph without brackets
@@ -20,6 +21,9 @@ row_number = refl
 
 row_sum : levels (R ∷ EN ∷ ES ∷ EN ∷ []) 1 ≡ 1 ∷ 2 ∷ 2 ∷ 2 ∷ []
 row_sum = refl
+
+row_two_numbers : levels (R ∷ EN ∷ EN ∷ ES ∷ EN ∷ []) 1 ≡ double 1 (levels (R ∷ EN ∷ ES ∷ EN ∷ []) 1)
+row_two_numbers = refl
 
 row_two_signs : levels (R ∷ EN ∷ ES ∷ ES ∷ EN ∷ []) 1 ≡ 1 ∷ 2 ∷ 1 ∷ 1 ∷ 2 ∷ []
 row_two_signs = refl

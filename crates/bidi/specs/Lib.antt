@@ -3,6 +3,7 @@ pub mod BracketTypes
 pub mod Brackets
 pub mod Closers
 pub mod Cuts
+pub mod Doubling
 pub mod Explicit
 pub mod Isolates
 pub mod KnownBrackets

@@ -17,6 +17,7 @@ mod bracket_type;
 mod brackets;
 mod classes;
 mod cuts;
+mod doubling;
 mod explicit;
 mod fill;
 mod groups;
@@ -36,5 +37,6 @@ pub use base::{
 };
 pub use bracket_type::BracketType;
 pub use cuts::{first_cut, is_cut, paragraphs_are_pieces};
+pub use doubling::repeats_keep_levels;
 pub use resolver::{Resolver, resolve, resolve_by};
 pub use text_cuts::first_cut_in_text;

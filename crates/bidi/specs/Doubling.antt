@@ -1,0 +1,48 @@
+-- Characters beside others of the same kind.
+use Rattle.std.specs.Prelude.{◌≡◌, ℕ, zero, suc, Bool, true, false, List, [], ◌∷◌, ◌++◌, length, None, map}
+use Rattle.ucd.specs.Tables.{class_of, bracket_of}
+use Rattle.ucd.specs.declared.bidi_class.BidiClass.{BidiClass}
+use Rattle.ucd.specs.declared.bidi_class.BidiClass.TheVariants.{L, R, AL, EN, ET, AN, S, WS, ON}
+use Rattle.ucd.specs.declared.tables.Tables.{Tables}
+use Rattle.bidi.specs.declared.base.Base.{Base}
+use Rattle.bidi.specs.Base.{base_level_of}
+use Rattle.bidi.specs.Levels.{levels_of}
+
+-- the list with the item at index k repeated, or the same list if it has no such item
+abbrev pub double : {T : Type 0} → ℕ → List T → List T
+double k [] = []
+double zero (item ∷ items) = item ∷ item ∷ items
+double (suc k) (item ∷ items) = item ∷ double k items
+
+-- The classes whose characters can be repeated. CS and ES are not among them, since W4 changes a single separator
+-- between numbers, but not two.
+abbrev pub may_repeat : BidiClass → Bool
+may_repeat L = true
+may_repeat R = true
+may_repeat AL = true
+may_repeat EN = true
+may_repeat ET = true
+may_repeat AN = true
+may_repeat S = true
+may_repeat WS = true
+may_repeat ON = true
+may_repeat class = false
+
+-- two characters of the same class that are no brackets
+pub record AreOfOneKind (tables : Tables) (c d : ℕ) : Type 0 where
+  pub class : class_of tables c ≡ class_of tables d
+  pub first : bracket_of tables c ≡ None
+  pub second : bracket_of tables d ≡ None
+
+-- A character can be replaced with one of the same kind. If a character of the same kind is inserted directly
+-- after or before it, both have the level that it had, and no other level changes. The paragraph level does not
+-- change either.
+pub record RepeatsKeepLevels : Type 0 where
+  pub replaced : (tables : Tables) (before after : List ℕ) (c d : ℕ) (base : Base) → AreOfOneKind tables c d
+      → levels_of tables (before ++ d ∷ after) base ≡ levels_of tables (before ++ c ∷ after) base
+  pub inserted_after : (tables : Tables) (before after : List ℕ) (c d : ℕ) (base : Base) → AreOfOneKind tables c d → may_repeat (class_of tables c) ≡ true
+      → levels_of tables (before ++ c ∷ d ∷ after) base ≡ double (length before) (levels_of tables (before ++ c ∷ after) base)
+  pub inserted_before : (tables : Tables) (before after : List ℕ) (c d : ℕ) (base : Base) → AreOfOneKind tables c d → may_repeat (class_of tables c) ≡ true
+      → levels_of tables (before ++ d ∷ c ∷ after) base ≡ double (length before) (levels_of tables (before ++ c ∷ after) base)
+  pub base_level : (tables : Tables) (before after : List ℕ) (c d : ℕ) (base : Base) → AreOfOneKind tables c d → may_repeat (class_of tables c) ≡ true
+      → base_level_of (map (class_of tables) (before ++ c ∷ d ∷ after)) base ≡ base_level_of (map (class_of tables) (before ++ c ∷ after)) base
