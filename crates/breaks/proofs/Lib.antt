@@ -1,6 +1,9 @@
 pub mod BoolLemmas
 pub mod Computed
 pub mod Computed17
+pub mod DoublingLemmas
+pub mod DoublingRows
+pub mod DoublingRows17
 pub mod NarrowLemmas
 pub mod NumberLemmas
 pub mod OrdinaryLemmas

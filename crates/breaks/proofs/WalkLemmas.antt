@@ -79,8 +79,13 @@ walk_is v whole_numbers others last (c ∷ text) end is =
     ]
 
 -- the recursion over a text finds the marks of its bases
+pub walk_from : (v : Version) (whole_numbers : Bool) (others : List Base) (c : Character) (text : List Character)
+    → walk (rules v whole_numbers) others (alone c) text ≡ marks_after (rules v whole_numbers) others (bases_of (c ∷ text))
+walk_from v whole_numbers others c text =
+    walk_is v whole_numbers others (alone c) text c refl ∙ ap (marks_after (rules v whole_numbers) others) (grown_alone c text)
+
 pub walk_from_start : (v : Version) (whole_numbers : Bool) (c : Character) (text : List Character) → walk (rules v whole_numbers) [] (alone c) text ≡ marks_after (rules v whole_numbers) [] (bases_of (c ∷ text))
-walk_from_start v whole_numbers c text = walk_is v whole_numbers [] (alone c) text c refl ∙ ap (marks_after (rules v whole_numbers) []) (grown_alone c text)
+walk_from_start v whole_numbers c text = walk_from v whole_numbers [] c text
 
 -- a text without characters has no marks
 pub none_at_all : (v : Version) (whole_numbers : Bool) (all : List Properties) (marks : List Mark) → length all ≡ 0 → length marks ≡ length all → marks ≡ marks_by v whole_numbers all

@@ -1,10 +1,12 @@
 -- Examples of the definitions.
 use Rattle.std.proofs.Common.{◌≡◌, true, false, List, [], ◌∷◌, map, refl}
+use Rattle.std.specs.List.{insert}
 use Rattle.ucd.specs.declared.line_class.LineClass.{LineClass}
 use Rattle.ucd.specs.declared.line_class.LineClass.TheVariants.{AI, AL, B2, BA, BK, CB, CJ, CL, CM, CP, CR, EB, EM, GL, H2, HL, HY, ID, IS, JT, LF, NL, NS, NU, OP, PO, PR, QU, RI, SA, SP, SY, WJ, XX, ZW, ZWJ}
 use Rattle.ucd.specs.declared.line_detail.LineDetail.TheVariants.{Plain}
 use Rattle.ucd.specs.declared.version.Version.TheVariants.{V15_0}
 use Rattle.breaks.specs.Bases.{Character, resolved, bases_of}
+use Rattle.breaks.specs.Doubling.{mark_between}
 use Rattle.breaks.specs.Marks.{marks_after}
 use Rattle.breaks.specs.Rules.{rules, rows_before_numbers, rows_of_numbers, rows_after_numbers}
 use Rattle.breaks.specs.declared.mark.Mark.{Mark}
@@ -218,6 +220,24 @@ modifier = refl
 future_modifier : marks (pictograph ID ∷ narrow EM ∷ []) ≡ Never ∷ Must ∷ []
 unfolding rules rows_before_numbers rows_of_numbers rows_after_numbers
 future_modifier = refl
+
+-- a doubled character: the mark between the two is added
+doubled_space : marks_by (OP ∷ SP ∷ SP ∷ AL ∷ []) ≡ insert (marks_by (OP ∷ SP ∷ AL ∷ [])) 1 (mark_between SP)
+unfolding rules rows_before_numbers rows_of_numbers rows_after_numbers
+doubled_space = refl
+
+doubled_digit : whole_marks_by (PR ∷ NU ∷ NU ∷ IS ∷ NU ∷ []) ≡ insert (whole_marks_by (PR ∷ NU ∷ IS ∷ NU ∷ [])) 1 (mark_between NU)
+unfolding rules rows_before_numbers rows_of_numbers rows_after_numbers
+doubled_digit = refl
+
+doubled_ideograph : marks_by (PR ∷ ID ∷ ID ∷ CM ∷ PO ∷ []) ≡ insert (marks_by (PR ∷ ID ∷ CM ∷ PO ∷ [])) 1 (mark_between ID)
+unfolding rules rows_before_numbers rows_of_numbers rows_after_numbers
+doubled_ideograph = refl
+
+-- a second HY changes the mark before the last HL (LB21a)
+two_hyphens : marks_by (HL ∷ HY ∷ HY ∷ HL ∷ []) ≡ Never ∷ Never ∷ May ∷ Must ∷ []
+unfolding rules rows_before_numbers rows_of_numbers rows_after_numbers
+two_hyphens = refl
 
 -- an empty text
 nothing : marks [] ≡ []

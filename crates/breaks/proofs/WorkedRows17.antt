@@ -5,6 +5,7 @@ use Rattle.ucd.specs.declared.line_class.LineClass.TheVariants.{AK, AL, CM, CP, 
 use Rattle.ucd.specs.declared.line_detail.LineDetail.TheVariants.{Final, Initial}
 use Rattle.ucd.specs.declared.version.Version.TheVariants.{V15_0, V17_0}
 use Rattle.breaks.specs.Bases.{Character, bases_of, known}
+use Rattle.breaks.specs.Doubling.{can_be_doubled}
 use Rattle.breaks.specs.Marks.{marks_after}
 use Rattle.breaks.specs.Rules.{rules, rows_before_numbers, rows_of_numbers, rows_after_numbers}
 use Rattle.breaks.specs.Symbols.{dotted_circle, narrow, quote, wide}
@@ -125,3 +126,15 @@ aksaras_without_vowel = refl
 circle_and_aksara : marks (dotted_circle ∷ narrow VI ∷ dotted_circle ∷ []) ≡ Never ∷ Never ∷ Must ∷ []
 unfolding rules rows_before_numbers rows_of_numbers rows_after_numbers
 circle_and_aksara = refl
+
+-- a second U+25CC changes the mark after the AK, so U+25CC cannot be doubled
+no_doubled_circle : can_be_doubled dotted_circle ≡ false
+no_doubled_circle = refl
+
+circle_before_vowel : marks (narrow AK ∷ dotted_circle ∷ narrow VF ∷ []) ≡ Never ∷ Never ∷ Must ∷ []
+unfolding rules rows_before_numbers rows_of_numbers rows_after_numbers
+circle_before_vowel = refl
+
+two_circles : marks (narrow AK ∷ dotted_circle ∷ dotted_circle ∷ narrow VF ∷ []) ≡ May ∷ Never ∷ Never ∷ Must ∷ []
+unfolding rules rows_before_numbers rows_of_numbers rows_after_numbers
+two_circles = refl

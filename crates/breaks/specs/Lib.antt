@@ -1,5 +1,6 @@
 pub mod Bases
 pub mod Classes
+pub mod Doubling
 pub mod Marks
 pub mod Numbers
 pub mod Passes

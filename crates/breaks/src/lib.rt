@@ -27,5 +27,6 @@ mod walk;
 mod walk_17;
 
 pub use mark::{
-    Mark, marks, marks_are_as_many, marks_into, numbers_are_whole, paragraphs_end_at_must,
+    Mark, doubling_keeps_marks, marks, marks_are_as_many, marks_into, numbers_are_whole,
+    paragraphs_end_at_must,
 };

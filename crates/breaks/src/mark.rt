@@ -6,6 +6,7 @@ ghost use Rattle.std.specs.Prelude.{slice_get, vec_capacity, IfOk, OnErr, OnOk};
 ghost use Rattle.ucd.specs.Properties.{properties_of};
 ghost use Rattle.ucd.specs.declared.properties.Properties.{Properties};
 ghost use Rattle.ucd.specs.declared.version.Version.TheVariants.{V17_0};
+ghost use Rattle.breaks.specs.Doubling.{DoublingKeepsMarks};
 ghost use Rattle.breaks.specs.Marks.{marks_of};
 ghost use Rattle.breaks.specs.Passes.{bases_after, marks_by};
 ghost use Rattle.breaks.specs.Symbols.{character_by};
@@ -206,4 +207,12 @@ pub fn paragraphs_end_at_must()
 pub fn numbers_are_whole()
     ensures { (tables : Tables) (text : List ℕ) → tables.version ≡ V17_0
         → marks_of tables true text ≡ marks_of tables false text }
+{}
+
+/// States, as a theorem, that a character directly beside one of its own kind changes no other mark, for any
+/// tables, with or without whole numbers. Two characters are of one kind if the rules read the same in both.
+/// Their class after LB1 must be SP, NU, AL, HL or ID, and in 17.0 they must not be U+25CC. The mark between
+/// the two is `May` for ID, and otherwise `Never`.
+pub fn doubling_keeps_marks()
+    ensures { DoublingKeepsMarks }
 {}

@@ -1,0 +1,35 @@
+-- Doubled characters: a character directly beside another of its own kind.
+use Rattle.std.specs.Prelude.{◌≡◌, ℕ, Bool, true, not, ◌&&◌, List, [], ◌∷◌, ◌++◌, length}
+use Rattle.std.specs.List.{insert}
+use Rattle.ucd.specs.declared.line_class.LineClass.{LineClass}
+use Rattle.ucd.specs.declared.line_class.LineClass.TheVariants.{AL, HL, ID, NU, SP}
+use Rattle.ucd.specs.declared.line_detail.LineDetail.TheVariants.{DottedCircle}
+use Rattle.ucd.specs.declared.tables.Tables.{Tables}
+use Rattle.breaks.specs.Bases.{Character, character}
+use Rattle.breaks.specs.Classes.{is_detail, is_one_of}
+use Rattle.breaks.specs.Marks.{marks_of}
+use Rattle.breaks.specs.declared.mark.Mark.{Mark}
+use Rattle.breaks.specs.declared.mark.Mark.TheVariants.{Never, May}
+
+-- The characters that can be doubled have one of these classes, and are not U+25CC of 17.0, which LB28a treats as a letter
+-- of a Brahmic script.
+abbrev pub doubled_classes : List LineClass
+doubled_classes = SP ∷ NU ∷ AL ∷ HL ∷ ID ∷ []
+
+abbrev pub can_be_doubled : Character → Bool
+can_be_doubled c = is_one_of doubled_classes c.class && not (is_detail c.detail DottedCircle)
+
+-- the mark between two characters of one of these classes (LB7, LB25 and LB28, and for ID LB31)
+abbrev pub mark_between : LineClass → Mark
+mark_between ID = May
+mark_between class = Never
+
+-- Two characters are of one kind if the rules read the same in both. A character d directly after a character c of its
+-- kind adds the mark between the two and changes no other mark. So does d directly before c, since the rules read the same
+-- in both texts.
+abbrev pub DoublingKeepsMarks : Type 0
+DoublingKeepsMarks =
+    (tables : Tables) (whole_numbers : Bool) (before after : List ℕ) (c d : ℕ) → can_be_doubled (character tables c) ≡ true
+    → character tables d ≡ character tables c
+    → marks_of tables whole_numbers (before ++ c ∷ d ∷ after)
+    ≡ insert (marks_of tables whole_numbers (before ++ c ∷ after)) (length before) (mark_between (character tables c).class)
