@@ -9,7 +9,7 @@ use Rattle.ucd.specs.declared.bidi_class.BidiClass.TheVariants.{ON}
 use Rattle.ucd.specs.declared.bracket.Bracket.{Bracket}
 use Rattle.ucd.specs.Classes.{class_at, is_mark}
 use Rattle.bidi.specs.Brackets.{brackets, closer_of, context, is_direction, is_set_with, is_toward, pair_direction, pair_step, pairs_of, set_pair, set_with, stands}
-use Rattle.bidi.specs.Doubling.{double, may_repeat}
+use Rattle.bidi.specs.Doubling.{double, can_be_doubled}
 use Rattle.bidi.specs.Levels.{sequence_levels}
 use Rattle.bidi.specs.Neighbours.{nearest}
 use Rattle.bidi.specs.Neutral.{agree, implicit_level, neutral, side}
@@ -202,7 +202,7 @@ length-weak sos types =
     ∙ length-map (w2 sos one) w3_type ∙ length-each_by (w2_at sos) [] one ∙ length-each_by (w1_at sos) [] types
 
 pub sequence-double : (look : ℕ → Option Bracket) (level : ℕ) (sos eos : BidiClass) (characters : List ℕ) (types : List BidiClass) (k : ℕ)
-    → look (slice_index characters k) ≡ None → may_repeat (class_at types k) ≡ true → k < length types
+    → look (slice_index characters k) ≡ None → can_be_doubled (class_at types k) ≡ true → k < length types
     → sequence_levels look level sos eos (double k characters) (double k types) ≡ double k (sequence_levels look level sos eos characters types)
 sequence-double look level sos eos characters types k none repeats within =
     let embedding = direction level in

@@ -7,21 +7,21 @@ use Rattle.std.proofs.lemmas.List.FromFn.{get_or-map-range_with_len}
 use Rattle.ucd.specs.declared.bidi_class.BidiClass.{BidiClass}
 use Rattle.ucd.specs.declared.bidi_class.BidiClass.TheVariants.{ON, RLE, LRE, RLO, LRO, PDF, RLI, LRI, FSI, PDI, B, BN}
 use Rattle.ucd.specs.Classes.{class_at, is_pdi, is_removed, is_separator}
-use Rattle.bidi.specs.Doubling.{double, may_repeat}
+use Rattle.bidi.specs.Doubling.{double, can_be_doubled}
 use Rattle.bidi.specs.Explicit.{Inside, directed, directed_at, enter, inside, inside_at, level_above, level_at, open_after, open_chain, override_of, type_at}
 use Rattle.bidi.specs.Levels.{put_back}
 use Rattle.bidi.proofs.DoublingIsolates.{IsInner}
 use Rattle.bidi.proofs.DoublingLists.{Ends, collapse, collapse-high, collapse-low, collapse-next, ends-after, get_or-double, take-double-high, take-double-low}
 
 -- classes that may be repeated
-pub repeat-inner : (class : BidiClass) → may_repeat class ≡ true → IsInner class
+pub repeat-inner : (class : BidiClass) → can_be_doubled class ≡ true → IsInner class
 repeat-inner LRI is = absurd (cc)
 repeat-inner RLI is = absurd (cc)
 repeat-inner FSI is = absurd (cc)
 repeat-inner PDI is = absurd (cc)
 repeat-inner _ is = record { opens = refl; shuts = refl }
 
-pub repeat-opens : (class : BidiClass) → may_repeat class ≡ true → (chain : List BidiClass) → open_after chain class ≡ chain
+pub repeat-opens : (class : BidiClass) → can_be_doubled class ≡ true → (chain : List BidiClass) → open_after chain class ≡ chain
 repeat-opens RLE is chain = absurd (cc)
 repeat-opens LRE is chain = absurd (cc)
 repeat-opens RLO is chain = absurd (cc)
@@ -32,7 +32,7 @@ repeat-opens PDF is chain = absurd (cc)
 repeat-opens PDI is chain = absurd (cc)
 repeat-opens _ is chain = refl
 
-pub repeat-kept : (class : BidiClass) → may_repeat class ≡ true → is_removed class ≡ false
+pub repeat-kept : (class : BidiClass) → can_be_doubled class ≡ true → is_removed class ≡ false
 repeat-kept RLE is = absurd (cc)
 repeat-kept LRE is = absurd (cc)
 repeat-kept RLO is = absurd (cc)
@@ -41,15 +41,15 @@ repeat-kept PDF is = absurd (cc)
 repeat-kept BN is = absurd (cc)
 repeat-kept _ is = refl
 
-repeat-continues : (class : BidiClass) → may_repeat class ≡ true → is_separator class ≡ false
+repeat-continues : (class : BidiClass) → can_be_doubled class ≡ true → is_separator class ≡ false
 repeat-continues B is = absurd (cc)
 repeat-continues _ is = refl
 
-repeat-directed : (classes : List BidiClass) (k : ℕ) (class : BidiClass) → may_repeat class ≡ true → directed_at classes k class ≡ class
+repeat-directed : (classes : List BidiClass) (k : ℕ) (class : BidiClass) → can_be_doubled class ≡ true → directed_at classes k class ≡ class
 repeat-directed classes k FSI is = absurd (cc)
 repeat-directed classes k _ is = refl
 
-pub directed-here : (classes : List BidiClass) (k : ℕ) → k < length classes → may_repeat (class_at classes k) ≡ true → class_at (directed classes) k ≡ class_at classes k
+pub directed-here : (classes : List BidiClass) (k : ℕ) → k < length classes → can_be_doubled (class_at classes k) ≡ true → class_at (directed classes) k ≡ class_at classes k
 directed-here classes k within is =
     get_or-map-range_with_len (λ j. directed_at classes j (class_at classes j)) 0 (length classes) k k ON within (zero-add k)
     ∙ repeat-directed classes k (class_at classes k) is
@@ -110,28 +110,28 @@ module _ (classes : List BidiClass) (k : ℕ) (same : (chain : List BidiClass) �
       ∙ ap (λ state. if is_separator (class_at classes (collapse k j)) then class_at classes (collapse k j) else unwrap_or state.override (class_at classes (collapse k j))) (inside-double base j)
 
 -- an override gives a type that may be repeated
-override-repeats : (opener class : BidiClass) → may_repeat class ≡ true → may_repeat (unwrap_or (override_of opener) class) ≡ true
+override-repeats : (opener class : BidiClass) → can_be_doubled class ≡ true → can_be_doubled (unwrap_or (override_of opener) class) ≡ true
 override-repeats RLO class is = refl
 override-repeats LRO class is = refl
 override-repeats _ class is = is
 
-enter-repeats : (outer : Inside) (opener class : BidiClass) → may_repeat class ≡ true → may_repeat (unwrap_or outer.override class) ≡ true → may_repeat (unwrap_or (enter outer opener).override class) ≡ true
+enter-repeats : (outer : Inside) (opener class : BidiClass) → can_be_doubled class ≡ true → can_be_doubled (unwrap_or outer.override class) ≡ true → can_be_doubled (unwrap_or (enter outer opener).override class) ≡ true
 enter-repeats outer opener class is before =
-    elim (outer.is_void || nat_lt 125 (level_above opener outer.level)) as (λ b. may_repeat (unwrap_or (if b then record outer { is_void = true }
+    elim (outer.is_void || nat_lt 125 (level_above opener outer.level)) as (λ b. can_be_doubled (unwrap_or (if b then record outer { is_void = true }
     else record { level = level_above opener outer.level; override = override_of opener; is_void = false }).override class) ≡ true) [
       | true ↦ before
       | false ↦ override-repeats opener class is
     ]
 
-inside-repeats : (base : ℕ) (chain : List BidiClass) (class : BidiClass) → may_repeat class ≡ true → may_repeat (unwrap_or (inside base chain).override class) ≡ true
+inside-repeats : (base : ℕ) (chain : List BidiClass) (class : BidiClass) → can_be_doubled class ≡ true → can_be_doubled (unwrap_or (inside base chain).override class) ≡ true
 inside-repeats base [] class is = is
 inside-repeats base (opener ∷ outer) class is = enter-repeats (inside base outer) opener class is (inside-repeats base outer class is)
 
-pub type-repeats : (base : ℕ) (classes : List BidiClass) (k : ℕ) → may_repeat (class_at classes k) ≡ true → may_repeat (type_at base classes k) ≡ true
+pub type-repeats : (base : ℕ) (classes : List BidiClass) (k : ℕ) → can_be_doubled (class_at classes k) ≡ true → can_be_doubled (type_at base classes k) ≡ true
 type-repeats base classes k is =
     let class = class_at classes k in
     let other = unwrap_or (inside_at base classes k).override class in
-    ap may_repeat (cond-false (is_separator class) class other (repeat-continues class is))
+    ap can_be_doubled (cond-false (is_separator class) class other (repeat-continues class is))
     ∙ inside-repeats base (open_chain classes (if is_pdi class then k + 1 else k)) class is
 
 -- the numbers of a range that pass a test, where the tests of the two equal items agree

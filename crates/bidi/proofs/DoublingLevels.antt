@@ -8,7 +8,7 @@ use Rattle.ucd.specs.declared.bidi_class.BidiClass.{BidiClass}
 use Rattle.ucd.specs.declared.bidi_class.BidiClass.TheVariants.{ON}
 use Rattle.ucd.specs.declared.bracket.Bracket.{Bracket}
 use Rattle.ucd.specs.Classes.{class_at, is_removed}
-use Rattle.bidi.specs.Doubling.{double, may_repeat}
+use Rattle.bidi.specs.Doubling.{double, can_be_doubled}
 use Rattle.bidi.specs.Explicit.{directed, directed_at, level_at, type_at}
 use Rattle.bidi.specs.Levels.{levels_by, levels_in, paragraph_levels, put, put_back, resolved, sequence_levels}
 use Rattle.bidi.specs.Sequences.{eos, first_of, sequences, sos, stayed}
@@ -62,7 +62,7 @@ module _ {T : Type 0} where
 module _ (look : ℕ → Option Bracket) (level : ℕ) (sos eos : BidiClass) (characters : List ℕ) (types : List BidiClass) where
   -- the characters whose marks are set may be repeated
   AreCalm : ℕ → List Bool → Type 0
-  AreCalm n marks = (i : ℕ) → get_or marks i false ≡ true → (look (slice_index characters (n + i)) ≡ None) × (may_repeat (class_at types (n + i)) ≡ true) × (n + i < length types)
+  AreCalm n marks = (i : ℕ) → get_or marks i false ≡ true → (look (slice_index characters (n + i)) ≡ None) × (can_be_doubled (class_at types (n + i)) ≡ true) × (n + i < length types)
 
   abbrev Repeats : List Bool → Type 0
   Repeats marks = sequence_levels look level sos eos (stutter marks characters) (stutter marks types) ≡ stutter marks (sequence_levels look level sos eos characters types)
@@ -71,7 +71,7 @@ module _ (look : ℕ → Option Bracket) (level : ℕ) (sos eos : BidiClass) (ch
   unfolding AreCalm
   calm-next n mark marks calm i set =
       let e : n + suc i ≡ suc n + i = omega arith in
-      subst (λ j. (look (slice_index characters j) ≡ None) × (may_repeat (class_at types j) ≡ true) × (j < length types)) e (calm (suc i) set)
+      subst (λ j. (look (slice_index characters j) ≡ None) × (can_be_doubled (class_at types j) ≡ true) × (j < length types)) e (calm (suc i) set)
 
   stutter-levels : (marks : List Bool) (n : ℕ) → AreCalm n marks → Repeats (pad n marks)
   unfolding AreCalm
@@ -84,11 +84,11 @@ module _ (look : ℕ → Option Bracket) (level : ℕ) (sos eos : BidiClass) (ch
       let levels = sequence_levels look level sos eos in
       let more = pad (suc n) marks in
       let e : n + 0 ≡ n = omega arith in
-      let here = subst (λ j. (look (slice_index characters j) ≡ None) × (may_repeat (class_at types j) ≡ true) × (j < length types)) e (calm 0 refl) in
+      let here = subst (λ j. (look (slice_index characters j) ≡ None) × (can_be_doubled (class_at types j) ≡ true) × (j < length types)) e (calm 0 refl) in
       ap (λ xs. levels xs (stutter (pad n (true ∷ marks)) types)) (stutter-more n marks characters)
       ∙ ap (levels (double n (stutter more characters))) (stutter-more n marks types)
       ∙ sequence-double look level sos eos (stutter more characters) (stutter more types) n
-      (ap look (stutter-at n marks characters 0) ∙ here.0) (ap may_repeat (stutter-at n marks types ON) ∙ here.1) (stutter-long n marks types here.2)
+      (ap look (stutter-at n marks characters 0) ∙ here.0) (ap can_be_doubled (stutter-at n marks types ON) ∙ here.1) (stutter-long n marks types here.2)
       ∙ ap (double n) (stutter-levels marks (suc n) (calm-next n true marks calm))
       ∙ sym (stutter-more n marks (levels characters types))
 
@@ -150,7 +150,7 @@ put-double k (a ∷ places) (v ∷ values) done =
 
 -- the levels of all sequences
 module _ (look : ℕ → Option Bracket) (base : ℕ) (characters : List ℕ) (classes : List BidiClass) (levels : List ℕ) (types : List BidiClass) (k : ℕ)
-    (inner : IsInner (class_at classes k)) (none : look (slice_index characters k) ≡ None) (repeats : may_repeat (class_at types k) ≡ true)
+    (inner : IsInner (class_at classes k)) (none : look (slice_index characters k) ≡ None) (repeats : can_be_doubled (class_at types k) ≡ true)
     (in_classes : k < length classes) (in_levels : k < length levels) where
   abbrev old_levels : List ℕ → List ℕ
   old_levels = levels_in look base characters classes levels types
@@ -171,9 +171,9 @@ module _ (look : ℕ → Option Bracket) (base : ℕ) (characters : List ℕ) (c
       let calm : AreCalm look (slice_index levels a) (sos base levels s) (eos base classes levels s) own kinds 0 marks =
       λ i set. let at = marked-at k s i set in
       let e : 0 + i ≡ i = omega arith in
-      subst (λ j. (look (slice_index own j) ≡ None) × (may_repeat (class_at kinds j) ≡ true) × (j < length kinds)) (sym e) (
+      subst (λ j. (look (slice_index own j) ≡ None) × (can_be_doubled (class_at kinds j) ≡ true) × (j < length kinds)) (sym e) (
         ap look (get_or-map (slice_index characters) s i 0 0 at.0 ∙ ap (slice_index characters) at.1) ∙ none,
-        ap may_repeat (get_or-map (class_at types) s i 0 ON at.0 ∙ ap (class_at types) at.1) ∙ repeats,
+        ap can_be_doubled (get_or-map (class_at types) s i 0 ON at.0 ∙ ap (class_at types) at.1) ∙ repeats,
         omega (arith, at.0, length-map s (class_at types)),
       ) in
       ap (λ n. sequence_levels look n (sos base (double k levels) w) (eos base (double k classes) (double k levels) w) (map (slice_index (double k characters)) w) (map (class_at (double k types)) w)) level
@@ -202,7 +202,7 @@ module _ (look : ℕ → Option Bracket) (base : ℕ) (characters : List ℕ) (c
       ∙ put-all (sequences classes levels) levels
 
 -- the levels of a paragraph
-pub levels_by-double : (look : ℕ → Option Bracket) (text : List ℕ) (classes : List BidiClass) (base k : ℕ) → k < length classes → may_repeat (class_at classes k) ≡ true → look (slice_index text k) ≡ None
+pub levels_by-double : (look : ℕ → Option Bracket) (text : List ℕ) (classes : List BidiClass) (base k : ℕ) → k < length classes → can_be_doubled (class_at classes k) ≡ true → look (slice_index text k) ≡ None
     → levels_by look (double k text) (double k classes) base ≡ double k (levels_by look text classes base)
 levels_by-double look text classes base k within is none =
     let n = length classes in
@@ -239,14 +239,14 @@ levels_by-double look text classes base k within is none =
     ∙ ap (λ xs. put_back base (double k classes) (resolved look base (double place characters) (double place own) xs (map (type_at base (double k classes)) (stayed (double k classes))))) levels_are
     ∙ ap (λ xs. put_back base (double k classes) (resolved look base (double place characters) (double place own) (double place levels) xs)) types_are
     ∙ ap (put_back base (double k classes)) (resolved-double look base characters own levels types place
-    (subst IsInner (sym class.1) (repeat-inner (class_at classes k) is)) (ap look character.1 ∙ none) (ap may_repeat type.1 ∙ type-repeats base classes k is) class.0 level.0)
+    (subst IsInner (sym class.1) (repeat-inner (class_at classes k) is)) (ap look character.1 ∙ none) (ap can_be_doubled type.1 ∙ type-repeats base classes k is) class.0 level.0)
     ∙ ap (λ m. put_back base (double k classes) (double m (resolved look base characters own levels types))) place_is
     ∙ put_back-double k classes base (resolved look base characters own levels types) kept
 
-pub paragraph-double : (look : ℕ → Option Bracket) (text : List ℕ) (classes : List BidiClass) (base k : ℕ) → k < length classes → may_repeat (class_at classes k) ≡ true → look (slice_index text k) ≡ None
+pub paragraph-double : (look : ℕ → Option Bracket) (text : List ℕ) (classes : List BidiClass) (base k : ℕ) → k < length classes → can_be_doubled (class_at classes k) ≡ true → look (slice_index text k) ≡ None
     → paragraph_levels look (double k text) (double k classes) base ≡ double k (paragraph_levels look text classes base)
 paragraph-double look text classes base k within is none =
     let same = directed-here classes k within is in
     let long : k < length (directed classes) = (let e = length-map-range_with_len (λ j. directed_at classes j (class_at classes j)) 0 (length classes) in omega (arith, e, within)) in
     ap (λ cs. levels_by look (double k text) cs base) (directed-double classes k (repeat-inner (class_at classes k) is) within)
-    ∙ levels_by-double look text (directed classes) base k long (ap may_repeat same ∙ is) none
+    ∙ levels_by-double look text (directed classes) base k long (ap can_be_doubled same ∙ is) none

@@ -3,7 +3,7 @@ use Rattle.std.proofs.Common.{◌≡◌, ℕ, zero, suc, Bool, true, false, ◌|
 use Rattle.ucd.specs.declared.bidi_class.BidiClass.{BidiClass}
 use Rattle.ucd.specs.declared.bidi_class.BidiClass.TheVariants.{L, AL, EN, ES, ET, AN, CS, NSM, ON}
 use Rattle.ucd.specs.Classes.{class_at, is_mark, is_strong}
-use Rattle.bidi.specs.Doubling.{double, may_repeat}
+use Rattle.bidi.specs.Doubling.{double, can_be_doubled}
 use Rattle.bidi.specs.Neighbours.{each_by, nearest}
 use Rattle.bidi.specs.Neutral.{between, is_neutral, neutral, neutral_at}
 use Rattle.bidi.specs.Weak.{is_arabic, is_left, is_number, is_terminator, mark_after, w1, w1_at, w2, w2_at, w3, w3_type, w4, w4_at, w5, w5_at, w6, w6_type, w7, w7_at, weak}
@@ -72,7 +72,7 @@ w1-stable sos = record {
   second = λ before type after is. w1-second sos before type after;
 }
 
-w1-calm : (sos : BidiClass) (before : List BidiClass) (type : BidiClass) (after : List BidiClass) → may_repeat type ≡ true → may_repeat (w1_at sos before type after) ≡ true
+w1-calm : (sos : BidiClass) (before : List BidiClass) (type : BidiClass) (after : List BidiClass) → can_be_doubled type ≡ true → can_be_doubled (w1_at sos before type after) ≡ true
 w1-calm sos before NSM after is = absurd (cc)
 w1-calm sos before _ after is = is
 
@@ -97,16 +97,16 @@ w2-stable sos = record {
   second = λ before type after is. w2-second sos before type after;
 }
 
-either-repeats : (b : Bool) → may_repeat (if b then AN else EN) ≡ true
+either-repeats : (b : Bool) → can_be_doubled (if b then AN else EN) ≡ true
 either-repeats true = refl
 either-repeats false = refl
 
-w2-calm : (sos : BidiClass) (before : List BidiClass) (type : BidiClass) (after : List BidiClass) → may_repeat type ≡ true → may_repeat (w2_at sos before type after) ≡ true
+w2-calm : (sos : BidiClass) (before : List BidiClass) (type : BidiClass) (after : List BidiClass) → can_be_doubled type ≡ true → can_be_doubled (w2_at sos before type after) ≡ true
 w2-calm sos before EN after is = either-repeats (is_arabic (nearest is_strong sos before))
 w2-calm sos before _ after is = is
 
 -- W3
-w3-calm : (type : BidiClass) → may_repeat type ≡ true → may_repeat (w3_type type) ≡ true
+w3-calm : (type : BidiClass) → can_be_doubled type ≡ true → can_be_doubled (w3_type type) ≡ true
 w3-calm AL is = refl
 w3-calm _ is = is
 
@@ -147,7 +147,7 @@ w4-back k before type [] = refl
 w4-back zero before type (other ∷ after) = w4-tail before type other (other ∷ after) after
 w4-back (suc k) before type (other ∷ after) = w4-tail before type other (double k after) after
 
-w4-calm : (before : List BidiClass) (type : BidiClass) (after : List BidiClass) → may_repeat type ≡ true → w4_at before type after ≡ type
+w4-calm : (before : List BidiClass) (type : BidiClass) (after : List BidiClass) → can_be_doubled type ≡ true → w4_at before type after ≡ type
 w4-calm before ES after is = absurd (cc)
 w4-calm before CS after is = absurd (cc)
 w4-calm [] _ after is = refl
@@ -155,7 +155,7 @@ w4-calm (EN ∷ before) _ after is = refl
 w4-calm (AN ∷ before) _ after is = refl
 w4-calm (_ ∷ before) _ after is = refl
 
-w4-stable : IsStable w4_at may_repeat
+w4-stable : IsStable w4_at can_be_doubled
 w4-stable = record {
   front = w4-front;
   back = w4-back;
@@ -212,19 +212,19 @@ w7-stable sos = record {
 }
 
 -- the weak rules
-pub weak-double : (sos : BidiClass) (k : ℕ) (types : List BidiClass) → may_repeat (class_at types k) ≡ true → weak sos (double k types) ≡ double k (weak sos types)
+pub weak-double : (sos : BidiClass) (k : ℕ) (types : List BidiClass) → can_be_doubled (class_at types k) ≡ true → weak sos (double k types) ≡ double k (weak sos types)
 weak-double sos k types is =
     let one = w1 sos types in
     let two = w2 sos one in
     let three = w3 two in
     let four = w4 three in
-    let is_one : may_repeat (class_at one k) ≡ true = each_by-calm (w1_at sos) may_repeat (w1-calm sos) k [] types is in
-    let is_two : may_repeat (class_at two k) ≡ true = each_by-calm (w2_at sos) may_repeat (w2-calm sos) k [] one is_one in
-    let is_three : may_repeat (class_at three k) ≡ true = map-calm w3_type may_repeat w3-calm k two is_two in
+    let is_one : can_be_doubled (class_at one k) ≡ true = each_by-calm (w1_at sos) can_be_doubled (w1-calm sos) k [] types is in
+    let is_two : can_be_doubled (class_at two k) ≡ true = each_by-calm (w2_at sos) can_be_doubled (w2-calm sos) k [] one is_one in
+    let is_three : can_be_doubled (class_at three k) ≡ true = map-calm w3_type can_be_doubled w3-calm k two is_two in
     ap (λ xs. w7 sos (w6 (w5 (w4 (w3 (w2 sos xs)))))) (each_by-double (w1_at sos) any (w1-stable sos) k [] types refl)
     ∙ ap (λ xs. w7 sos (w6 (w5 (w4 (w3 xs))))) (each_by-double (w2_at sos) any (w2-stable sos) k [] one refl)
     ∙ ap (λ xs. w7 sos (w6 (w5 (w4 xs)))) (map-double w3_type k two)
-    ∙ ap (λ xs. w7 sos (w6 (w5 xs))) (each_by-double w4_at may_repeat w4-stable k [] three is_three)
+    ∙ ap (λ xs. w7 sos (w6 (w5 xs))) (each_by-double w4_at can_be_doubled w4-stable k [] three is_three)
     ∙ ap (λ xs. w7 sos (w6 xs)) (each_by-double w5_at any w5-stable k [] four refl)
     ∙ ap (w7 sos) (map-double w6_type k (w5 four))
     ∙ each_by-double (w7_at sos) any (w7-stable sos) k [] (w6 (w5 four)) refl

@@ -7,7 +7,7 @@ use Rattle.ucd.specs.declared.tables.Tables.{Tables}
 use Rattle.ucd.specs.Classes.{class_at}
 use Rattle.bidi.specs.declared.base.Base.{Base}
 use Rattle.bidi.specs.Base.{base_level_of}
-use Rattle.bidi.specs.Doubling.{AreOfOneKind, RepeatsKeepLevels, double, may_repeat}
+use Rattle.bidi.specs.Doubling.{AreOfOneKind, DoublingKeepsLevels, double, can_be_doubled}
 use Rattle.bidi.specs.Levels.{levels_of, paragraph_levels}
 use Rattle.bidi.proofs.DoublingCharacters.{AreAlike, IsAlike, paragraph-alike}
 use Rattle.bidi.proofs.DoublingExplicit.{repeat-inner}
@@ -61,9 +61,9 @@ module _ (tables : Tables) (before after : List ℕ) (base : Base) where
       ap (λ cs. paragraph_levels (bracket_of tables) (before ++ d ∷ after) cs (base_level_of cs base)) (classes-same (class_of tables) before after c d kind.class)
       ∙ paragraph-alike (bracket_of tables) (before ++ d ∷ after) (before ++ c ∷ after) (alike-here (bracket_of tables) c d (inr (kind.second, kind.first)) before after) classes (base_level_of classes base)
 
-  module _ (c d : ℕ) (kind : AreOfOneKind tables c d) (is : may_repeat (class_of tables c) ≡ true) where
-    here-is : may_repeat (class_at (map (class_of tables) (before ++ c ∷ after)) (length before)) ≡ true
-    here-is = ap may_repeat (class-here (class_of tables) before after c) ∙ is
+  module _ (c d : ℕ) (kind : AreOfOneKind tables c d) (is : can_be_doubled (class_of tables c) ≡ true) where
+    here-is : can_be_doubled (class_at (map (class_of tables) (before ++ c ∷ after)) (length before)) ≡ true
+    here-is = ap can_be_doubled (class-here (class_of tables) before after c) ∙ is
 
     base_level : base_level_of (map (class_of tables) (before ++ c ∷ d ∷ after)) base ≡ base_level_of (map (class_of tables) (before ++ c ∷ after)) base
     base_level =
@@ -86,12 +86,12 @@ module _ (tables : Tables) (before after : List ℕ) (base : Base) where
 turned : (tables : Tables) (c d : ℕ) → AreOfOneKind tables c d → AreOfOneKind tables d c
 turned tables c d kind = record { class = sym kind.class; first = kind.second; second = kind.first }
 
-pub repeats_keep_levels : RepeatsKeepLevels
-repeats_keep_levels = record {
+pub doubling_keeps_levels : DoublingKeepsLevels
+doubling_keeps_levels = record {
   replaced = λ tables before after c d base kind. replaced tables before after base c d kind;
   inserted_after = λ tables before after c d base kind is. inserted_after tables before after base c d kind is;
   inserted_before = λ tables before after c d base kind is.
-      inserted_after tables before after base d c (turned tables c d kind) (ap may_repeat (sym kind.class) ∙ is)
+      inserted_after tables before after base d c (turned tables c d kind) (ap can_be_doubled (sym kind.class) ∙ is)
       ∙ ap (double (length before)) (replaced tables before after base c d kind);
   base_level = λ tables before after c d base kind is. base_level tables before after base c d kind is;
 }

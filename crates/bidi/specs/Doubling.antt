@@ -14,19 +14,19 @@ double k [] = []
 double zero (item ∷ items) = item ∷ item ∷ items
 double (suc k) (item ∷ items) = item ∷ double k items
 
--- The classes whose characters can be repeated. CS and ES are not among them, since W4 changes a single separator
+-- The classes whose characters can be doubled. CS and ES are not among them, since W4 changes a single separator
 -- between numbers, but not two.
-abbrev pub may_repeat : BidiClass → Bool
-may_repeat L = true
-may_repeat R = true
-may_repeat AL = true
-may_repeat EN = true
-may_repeat ET = true
-may_repeat AN = true
-may_repeat S = true
-may_repeat WS = true
-may_repeat ON = true
-may_repeat class = false
+abbrev pub can_be_doubled : BidiClass → Bool
+can_be_doubled L = true
+can_be_doubled R = true
+can_be_doubled AL = true
+can_be_doubled EN = true
+can_be_doubled ET = true
+can_be_doubled AN = true
+can_be_doubled S = true
+can_be_doubled WS = true
+can_be_doubled ON = true
+can_be_doubled class = false
 
 -- two characters of the same class that are no brackets
 pub record AreOfOneKind (tables : Tables) (c d : ℕ) : Type 0 where
@@ -37,12 +37,12 @@ pub record AreOfOneKind (tables : Tables) (c d : ℕ) : Type 0 where
 -- A character can be replaced with one of the same kind. If a character of the same kind is inserted directly
 -- after or before it, both have the level that it had, and no other level changes. The paragraph level does not
 -- change either.
-pub record RepeatsKeepLevels : Type 0 where
+pub record DoublingKeepsLevels : Type 0 where
   pub replaced : (tables : Tables) (before after : List ℕ) (c d : ℕ) (base : Base) → AreOfOneKind tables c d
       → levels_of tables (before ++ d ∷ after) base ≡ levels_of tables (before ++ c ∷ after) base
-  pub inserted_after : (tables : Tables) (before after : List ℕ) (c d : ℕ) (base : Base) → AreOfOneKind tables c d → may_repeat (class_of tables c) ≡ true
+  pub inserted_after : (tables : Tables) (before after : List ℕ) (c d : ℕ) (base : Base) → AreOfOneKind tables c d → can_be_doubled (class_of tables c) ≡ true
       → levels_of tables (before ++ c ∷ d ∷ after) base ≡ double (length before) (levels_of tables (before ++ c ∷ after) base)
-  pub inserted_before : (tables : Tables) (before after : List ℕ) (c d : ℕ) (base : Base) → AreOfOneKind tables c d → may_repeat (class_of tables c) ≡ true
+  pub inserted_before : (tables : Tables) (before after : List ℕ) (c d : ℕ) (base : Base) → AreOfOneKind tables c d → can_be_doubled (class_of tables c) ≡ true
       → levels_of tables (before ++ d ∷ c ∷ after) base ≡ double (length before) (levels_of tables (before ++ c ∷ after) base)
-  pub base_level : (tables : Tables) (before after : List ℕ) (c d : ℕ) (base : Base) → AreOfOneKind tables c d → may_repeat (class_of tables c) ≡ true
+  pub base_level : (tables : Tables) (before after : List ℕ) (c d : ℕ) (base : Base) → AreOfOneKind tables c d → can_be_doubled (class_of tables c) ≡ true
       → base_level_of (map (class_of tables) (before ++ c ∷ d ∷ after)) base ≡ base_level_of (map (class_of tables) (before ++ c ∷ after)) base

@@ -37,6 +37,6 @@ pub use base::{
 };
 pub use bracket_type::BracketType;
 pub use cuts::{first_cut, is_cut, paragraphs_are_pieces};
-pub use doubling::repeats_keep_levels;
+pub use doubling::doubling_keeps_levels;
 pub use resolver::{Resolver, resolve, resolve_by};
 pub use text_cuts::first_cut_in_text;
