@@ -1,6 +1,7 @@
 pub mod BoolLemmas
 pub mod Computed
 pub mod Computed17
+pub mod FoundLemmas
 pub mod NarrowLemmas
 pub mod NumberLemmas
 pub mod OrdinaryLemmas
@@ -9,6 +10,8 @@ pub mod PassLemmas
 pub mod PassLemmas17
 pub mod QuestionLemmas
 pub mod QuestionLemmas17
+pub mod ReasonLemmas
+pub mod ReasonSteps
 pub mod StepLemmas
 pub mod StepLemmas17
 pub mod SymbolLemmas
