@@ -4,6 +4,7 @@ pub mod Computed17
 pub mod DoublingLemmas
 pub mod DoublingRows
 pub mod DoublingRows17
+pub mod FoundLemmas
 pub mod NarrowLemmas
 pub mod NumberLemmas
 pub mod OrdinaryLemmas
@@ -12,6 +13,8 @@ pub mod PassLemmas
 pub mod PassLemmas17
 pub mod QuestionLemmas
 pub mod QuestionLemmas17
+pub mod ReasonLemmas
+pub mod ReasonSteps
 pub mod StepLemmas
 pub mod StepLemmas17
 pub mod SymbolLemmas

@@ -4,7 +4,9 @@ pub mod Doubling
 pub mod Marks
 pub mod Numbers
 pub mod Passes
+pub mod Reasons
 pub mod Rules
+pub mod Seen
 pub mod Symbols
 pub mod Walk
 pub mod Walk17

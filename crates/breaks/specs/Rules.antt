@@ -134,15 +134,15 @@ is_future_pictograph [] = false
 is_future_pictograph (b ∷ bases) = b.first.is_future_pictograph
 
 -- The classes in each list are in the order of `LineClass`, as in the bit sets of the code.
-abbrev letters : List LineClass
+abbrev pub letters : List LineClass
 letters = AL ∷ HL ∷ []
 
-abbrev syllables : List LineClass
+abbrev pub syllables : List LineClass
 syllables = H2 ∷ H3 ∷ JL ∷ JT ∷ JV ∷ []
 
 -- ---- LB3 to LB24. Each list is named after its rules, and after its version if the versions differ.
 
-abbrev LB3_to_LB12 : List Row
+abbrev pub LB3_to_LB12 : List Row
 LB3_to_LB12 =
     -- LB3
     must any none ∷
@@ -166,15 +166,15 @@ LB3_to_LB12 =
     never (is (GL ∷ [])) any ∷
     []
 
-abbrev LB12a : Version → List Row
+abbrev pub LB12a : Version → List Row
 LB12a V15_0 = never (is_not (SP ∷ BA ∷ HY ∷ [])) (is (GL ∷ [])) ∷ []
 LB12a V17_0 = never (is_not (SP ∷ BA ∷ HY ∷ HH ∷ [])) (is (GL ∷ [])) ∷ []
 
-abbrev LB13 : Version → List Row
+abbrev pub LB13 : Version → List Row
 LB13 V15_0 = never any (is (CL ∷ CP ∷ EX ∷ IS ∷ SY ∷ [])) ∷ []
 LB13 V17_0 = never any (is (CL ∷ CP ∷ EX ∷ SY ∷ [])) ∷ []
 
-abbrev LB14 : List Row
+abbrev pub LB14 : List Row
 LB14 = never (is_spaced (OP ∷ [])) any ∷ []
 
 abbrev pub before_initial : List LineClass
@@ -186,7 +186,7 @@ after_final = BK ∷ CR ∷ GL ∷ LF ∷ NL ∷ SP ∷ WJ ∷ ZW ∷ CL ∷ CP 
 abbrev pub begins_quotation : List Base → Bool
 begins_quotation = followed (is_quote Initial) (or_edge (is before_initial))
 
-abbrev LB15 : Version → List Row
+abbrev pub LB15 : Version → List Row
 LB15 V15_0 = never (is_spaced (QU ∷ [])) (is (OP ∷ [])) ∷ []
 LB15 V17_0 =
     -- LB15a
@@ -199,7 +199,7 @@ LB15 V17_0 =
     never any (is (IS ∷ [])) ∷
     []
 
-abbrev LB16_to_LB18 : List Row
+abbrev pub LB16_to_LB18 : List Row
 LB16_to_LB18 =
     -- LB16
     never (is_spaced (CL ∷ CP ∷ [])) (is (NS ∷ [])) ∷
@@ -209,7 +209,7 @@ LB16_to_LB18 =
     may (is (SP ∷ [])) any ∷
     []
 
-abbrev LB19 : Version → List Row
+abbrev pub LB19 : Version → List Row
 LB19 V15_0 =
     never any (is (QU ∷ [])) ∷
     never (is (QU ∷ [])) any ∷
@@ -224,7 +224,7 @@ LB19 V17_0 =
     never (followed (is (QU ∷ [])) (or_edge is_not_east_asian)) any ∷
     []
 
-abbrev LB20 : List Row
+abbrev pub LB20 : List Row
 LB20 =
     may any (is (CB ∷ [])) ∷
     may (is (CB ∷ [])) any ∷
@@ -233,15 +233,15 @@ LB20 =
 abbrev pub before_word : List LineClass
 before_word = BK ∷ CR ∷ GL ∷ LF ∷ NL ∷ SP ∷ ZW ∷ CB ∷ []
 
-abbrev LB20a : Version → List Row
+abbrev pub LB20a : Version → List Row
 LB20a V15_0 = []
 LB20a V17_0 = never (followed (is (HY ∷ HH ∷ [])) (or_edge (is before_word))) (is letters) ∷ []
 
-abbrev LB21 : Version → List Row
+abbrev pub LB21 : Version → List Row
 LB21 V15_0 = never any (is (BA ∷ HY ∷ NS ∷ [])) ∷ []
 LB21 V17_0 = never any (is (BA ∷ HY ∷ NS ∷ HH ∷ [])) ∷ []
 
-abbrev LB21a : Version → List Row
+abbrev pub LB21a : Version → List Row
 LB21a V15_0 =
     never (is (BB ∷ [])) any ∷
     never (is_pair (HL ∷ []) (BA ∷ HY ∷ [])) any ∷
@@ -251,7 +251,7 @@ LB21a V17_0 =
     never (is_pair (HL ∷ []) (HY ∷ HH ∷ [])) (is_not (HL ∷ [])) ∷
     []
 
-abbrev LB21b_to_LB24 : List Row
+abbrev pub LB21b_to_LB24 : List Row
 LB21b_to_LB24 =
     -- LB21b
     never (is (SY ∷ [])) (is (HL ∷ [])) ∷
@@ -291,7 +291,7 @@ rows_of_numbers V17_0 =
 
 -- ---- LB26 to LB30b
 
-abbrev LB26_to_LB28 : List Row
+abbrev pub LB26_to_LB28 : List Row
 LB26_to_LB28 =
     -- LB26
     never (is (JL ∷ [])) (is (H2 ∷ H3 ∷ JL ∷ JV ∷ [])) ∷
@@ -304,7 +304,7 @@ LB26_to_LB28 =
     never (is letters) (is letters) ∷
     []
 
-abbrev LB28a : Version → List Row
+abbrev pub LB28a : Version → List Row
 LB28a V15_0 = []
 LB28a V17_0 =
     never (is (AP ∷ [])) (is_aksara (AK ∷ AS ∷ [])) ∷
@@ -313,7 +313,7 @@ LB28a V17_0 =
     never (is_aksara (AK ∷ AS ∷ [])) (followed (is_aksara (AK ∷ AS ∷ [])) (is (VF ∷ []))) ∷
     []
 
-abbrev LB29_to_LB30b : List Row
+abbrev pub LB29_to_LB30b : List Row
 LB29_to_LB30b =
     -- LB29
     never (is (IS ∷ [])) (is letters) ∷

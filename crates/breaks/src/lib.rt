@@ -2,6 +2,7 @@
 //! not end.
 //!
 //! `marks` returns the break mark after each character. `marks_into` writes the same marks to a reused list.
+//! `reasons` returns the rule that decides each mark.
 //! The crate `lines` finds where lines end at a given width.
 //!
 //! ```rust
@@ -12,12 +13,18 @@
 //! ```
 #![tactic(auto)]
 
+mod bases;
+mod before;
 mod characters;
+mod conditions;
 mod entries;
 mod entries_17;
+mod line_rule;
+mod line_rules;
 mod mark;
 mod ordinary_17;
 mod questions;
+mod reasons;
 mod rules;
 mod symbol;
 mod symbol_17;
@@ -26,7 +33,9 @@ mod table_17;
 mod walk;
 mod walk_17;
 
+pub use line_rule::LineRule;
 pub use mark::{
     Mark, doubling_keeps_marks, marks, marks_are_as_many, marks_into, numbers_are_whole,
     paragraphs_end_at_must,
 };
+pub use reasons::{Reason, reasons};

@@ -1,0 +1,21 @@
+-- What the code's characters and bases are in the rules.
+use Rattle.std.specs.Prelude.{ℕ, suc, List, [], ◌∷◌, map, if◌then◌else◌}
+use Rattle.breaks.specs.Bases.{Base, Character, stays_with}
+use Rattle.breaks.specs.declared.bases.Base.{Base as Found}
+use Rattle.breaks.specs.declared.bases.Character.{Character as Looked}
+
+abbrev pub character_in : Looked → Character
+character_in c = record { class = c.class; detail = c.detail; is_wide = c.is_wide; is_future_pictograph = c.is_future_pictograph }
+
+abbrev pub base_in : Found → Base
+base_in b = record { first = character_in b.first; attached = map character_in b.attached.now }
+
+-- how many of the characters after a character join it, directly or through others
+abbrev pub attached_len : Character → List Character → ℕ
+attached_len c [] = 0
+attached_len c (d ∷ text) = if stays_with c d then suc (attached_len d text) else 0
+
+-- the bases after the nearest one
+abbrev pub rest : List Base → List Base
+rest [] = []
+rest (b ∷ bases) = bases
