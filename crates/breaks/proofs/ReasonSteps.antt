@@ -14,7 +14,7 @@ use Rattle.breaks.specs.declared.bases.Base.{Base as Found}
 use Rattle.breaks.specs.declared.line_rule.LineRule.{LineRule}
 use Rattle.breaks.specs.declared.mark.Mark.{Mark}
 use Rattle.breaks.specs.declared.mark.Mark.TheVariants.{Never}
-use Rattle.breaks.specs.declared.reasons.Reason.{Reason}
+use Rattle.breaks.specs.declared.reason.Reason.{Reason}
 
 -- the bases before the k-th one, the nearest first
 abbrev pub before_at : List Found → ℕ → List Base

@@ -11,7 +11,7 @@ use Rattle.breaks.specs.Rules.{Row, Rule, mark_by, rule_of, rules, without_space
 use Rattle.breaks.specs.declared.mark.Mark.TheVariants.{Never}
 use Rattle.breaks.specs.declared.line_rule.LineRule.{LineRule}
 use Rattle.breaks.specs.declared.line_rule.LineRule.TheVariants.{LB3, LB4, LB5, LB6, LB7, LB8, LB8a, LB9, LB11, LB12, LB12a, LB13, LB14, LB15, LB15a, LB15b, LB15c, LB15d, LB16, LB17, LB18, LB19, LB19a, LB20, LB20a, LB21, LB21a, LB21b, LB22, LB23, LB23a, LB24, LB25, LB26, LB27, LB28, LB28a, LB29, LB30, LB30a, LB30b, LB31}
-use Rattle.breaks.specs.declared.reasons.Reason.{Reason}
+use Rattle.breaks.specs.declared.reason.Reason.{Reason}
 
 -- ---- The names of the rules, one for each row of Rules.antt. A list of names is named after its list of rows.
 

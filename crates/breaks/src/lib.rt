@@ -24,7 +24,7 @@ mod line_rules;
 mod mark;
 mod ordinary_17;
 mod questions;
-mod reasons;
+mod reason;
 mod rules;
 mod symbol;
 mod symbol_17;
@@ -38,4 +38,4 @@ pub use mark::{
     Mark, doubling_keeps_marks, marks, marks_are_as_many, marks_into, numbers_are_whole,
     paragraphs_end_at_must,
 };
-pub use reasons::{Reason, reasons};
+pub use reason::{Reason, reasons};

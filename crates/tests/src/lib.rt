@@ -9,6 +9,8 @@ mod levels;
 #[cfg(test)]
 mod marks;
 #[cfg(test)]
+mod reasons;
+#[cfg(test)]
 mod script_runs;
 #[cfg(test)]
 mod snippets;

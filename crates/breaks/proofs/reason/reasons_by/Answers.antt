@@ -6,9 +6,9 @@ use Rattle.breaks.specs.Reasons.{base_reasons, chars_in, names, reasons_after}
 use Rattle.breaks.specs.Rules.{mark_by, rules}
 use Rattle.breaks.specs.Seen.{base_in, character_in, rest}
 use Rattle.breaks.specs.declared.mark.Mark.TheVariants.{Never}
-use Rattle.breaks.specs.declared.reasons.Reason.{Reason}
+use Rattle.breaks.specs.declared.reason.Reason.{Reason}
 use Rattle.breaks.proofs.ReasonSteps.{before_at, chars_step, found_at, found_here, mark_below, mark_here, marks_step, nearest, next_before, reasons_step}
-use Rattle.breaks.proofs.reasons.reasons_by.Goals as goal
+use Rattle.breaks.proofs.reason.reasons_by.Goals as goal
 
 pub next-before-requires-clause-bases : goal.next-before-requires-clause-bases
 next-before-requires-clause-bases c =

@@ -4,7 +4,7 @@ use Rattle.breaks.specs.Reasons.{chars_in, names, reasons_after}
 use Rattle.breaks.specs.Rules.{rules}
 use Rattle.breaks.specs.Seen.{base_in}
 use Rattle.breaks.proofs.ReasonSteps.{before_at}
-use Rattle.breaks.proofs.reasons.reasons_by.Given as goal
+use Rattle.breaks.proofs.reason.reasons_by.Given as goal
 
 abbrev pub invariant-loop-k : goal.invariant-loop-k
 invariant-loop-k l =

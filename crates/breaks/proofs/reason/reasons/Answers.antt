@@ -5,7 +5,7 @@ use Rattle.breaks.specs.Marks.{marks_after, marks_of}
 use Rattle.breaks.specs.Reasons.{names, reasons_after, reasons_of}
 use Rattle.breaks.specs.Rules.{rules}
 use Rattle.breaks.specs.Seen.{base_in, character_in}
-use Rattle.breaks.proofs.reasons.reasons.Goals as goal
+use Rattle.breaks.proofs.reason.reasons.Goals as goal
 
 pub reasons_by-requires-clause-marks : goal.reasons_by-requires-clause-marks
 unfolding marks_of

@@ -2,7 +2,7 @@ use Rattle.std.proofs.Common.{◌≡◌, ◌++◌, drop, map}
 use Rattle.breaks.specs.Bases.{class_of}
 use Rattle.breaks.specs.Reasons.{reasons_inside}
 use Rattle.breaks.specs.Seen.{base_in, character_in}
-use Rattle.breaks.proofs.reasons.push_inside.Given as goal
+use Rattle.breaks.proofs.reason.push_inside.Given as goal
 
 abbrev pub invariant-loop-k : goal.invariant-loop-k
 invariant-loop-k l =
