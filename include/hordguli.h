@@ -90,7 +90,7 @@
  *     that are NULL. If another one is too small, they return NO_ROOM. If all are NULL, no room is needed, and the call
  *     succeeds with any capacity. In both cases, `hordguli_line` and `hordguli_paragraph` store the size in `*info`,
  *     and `hordguli_decode` in `*count`.
- *   - `hordguli_levels` and `hordguli_marks` need `count` elements. NULL is not skipped.
+ *   - `hordguli_levels` and `hordguli_marks` need `count` elements. NULL is an error.
  *
  * Call a function of the first kind in a loop, until the buffer is large enough. Keep the buffer, which is NULL at first,
  * and its capacity for the next call.
@@ -858,8 +858,8 @@ typedef struct hordguli_word {
     uint32_t zero;
 } hordguli_word;
 
-/* Stores the word of the character at `pos` in `*word`: the segment between two word boundaries (UAX #29) of its
- * paragraph. Fails with OUT_OF_RANGE if `pos` is the end of the text.
+/* Stores in `*word` the word that contains the character at `pos`: the segment between two word boundaries (UAX #29)
+ * in the paragraph. Fails with OUT_OF_RANGE if `pos` is the end of the text.
  *
  * The next word starts at `word.end`, and the previous one holds the character at `word.start - 1`.
  *

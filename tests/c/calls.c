@@ -1876,7 +1876,7 @@ typedef struct row {
     uint32_t characters[8], visual[8];
 } row;
 
-/* Returns whether digit k is a number. */
+/* Returns whether digit k equals `number`. */
 static int is_digit(const char *digits, size_t k, size_t number) { return (size_t)(digits[k] - '0') == number; }
 
 static void is_row(const row *r) {

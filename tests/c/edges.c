@@ -217,7 +217,7 @@ static void carets_and_steps_are_right(hordguli_session *session) {
         OK(hordguli_edge_caret(session, edge, &caret));
         HOLDS(memcmp(&caret, &wanted, sizeof caret) == 0);
         if (edge.side == HORDGULI_BEFORE) {
-            /* the character's own edge, which is inside its unit if that is in logical order at an odd level */
+            /* the character's own edge: inside its unit, if the unit is kept in logical order at an odd level */
             const character *c = &characters[edge.pos];
             hordguli_caret own = wanted;
             if (edge.pos < length && c->is_shown && (options & HORDGULI_REORDER_CLUSTERS) != 0)

@@ -1,8 +1,8 @@
 /* Finds the levels of UAX #9, rule by rule, for the predicates. Each bit selects a way in which FriBidi deviates:
  *
  * - AS_ONE: all isolates of a depth form one sequence, in logical order. Brackets are paired across its runs, except across adjacent runs.
- *   The level of the opening bracket counts. A mark at the start of a later isolate becomes ON, so the characters after it do not get the
- *   type that ended the isolate before. After an EN that W2 changes, the mark becomes AN. If an override changes the initiator, the mark
+ *   A pair takes the level of its opening bracket. A mark at the start of a later isolate becomes ON, so the characters after it do not
+ *   get the last type of the previous isolate. After an EN that W2 changes, the mark becomes AN. If an override changes the initiator, the mark
  *   stays NSM and counts as L.
  * - LATER: an FSI whose isolate has no strong type takes its direction from a later isolate of its depth.
  * - DEEP: an overflow isolate increases the isolate depth. An isolate whose level is at most 125 is valid even after an overflow.

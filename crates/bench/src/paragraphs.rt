@@ -14,7 +14,7 @@ use std::time::Instant;
 use tables::in_folder;
 use ucd::Tables;
 
-/// A kind of paragraph, whose words are in pseudorandom order.
+/// A kind of paragraph, which consists of these words in pseudorandom order.
 pub struct Kind {
     pub name: &'static str,
     pub words: &'static [&'static str],

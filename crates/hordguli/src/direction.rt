@@ -17,8 +17,8 @@ pub(crate) struct Start {
     pub is_whole: bool,
 }
 
-/// Reads a text until its direction is known. Lays out all paragraphs in this direction from now on. After an
-/// error, the direction is that of what was read.
+/// Reads a text until its direction is known, and sets it as the base direction of all paragraphs laid out
+/// later. After an error, the direction is that of what was read.
 pub(crate) fn read_start<R: Read>(
     rt: &HostRuntime,
     engine: &mut Engine,

@@ -218,7 +218,7 @@ fn find_word(session: &SessionObject, pos: usize, word: &mut WordOut) -> Status
     }
 }
 
-/// Stores the word of the character at a position.
+/// Stores the word that contains the character at a position.
 #[unsafe(no_mangle)]
 pub extern "C" fn hordguli_core_word_at(
     alloc: Global,

@@ -1,4 +1,4 @@
-//! Calls to a store that read its items, and exchanging the parts of items.
+//! Calls that read the items of a store or exchange their parts.
 ghost use Rattle.std.specs.Prelude.{◌≡◌, ◌-◌, ◌^◌, ◌<◌, sum_by};
 
 use crate::texts::mixed;

@@ -9,8 +9,8 @@ use ucd::{BidiClass, Classes};
 
 /// Classes for [`visual_order`](crate::visual_order) and [`visual_places`](crate::visual_places) with
 /// `reordernsm`. With these classes, L3 keeps grapheme clusters in logical order, instead of bases and marks.
-/// A character that continues a cluster, at the level of the character before it, counts as a mark, and all
-/// others count as bases.
+/// A character counts as a mark if it continues a cluster and has the same level as the character before it.
+/// All others count as bases.
 #[derive(Clone, Copy)]
 pub struct ClusterClasses<'a> {
     /// Whether a cluster ends after each character of the line.

@@ -51,7 +51,7 @@ long_len is_osc (c ∷ text) =
     else if terminator_len is_osc (c ∷ text) == 0 then suc (long_len is_osc text)
     else terminator_len is_osc (c ∷ text)
 
--- An unterminated string is incomplete, unless it is too long to have a meaning.
+-- An unterminated string is incomplete, unless it is longer than the limit, which drops it.
 abbrev pub string_len : Bool → List ℕ → Option ℕ
 string_len is_osc text =
     let n = string_end text in

@@ -1,5 +1,5 @@
-//! What a text for a terminal shows: the characters that remain without control sequences, overstrikes and
-//! dropped controls, and the style of each.
+//! Finds what a terminal shows for a text: the characters that remain after control sequences, overstrikes and
+//! dropped controls are removed, each with a style.
 //!
 //! A `Scanner` collects the characters of a paragraph. `push_between` writes what changes from one style to
 //! the next:

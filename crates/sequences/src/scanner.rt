@@ -159,7 +159,7 @@ impl Scanner {
         }
     }
 
-    // Appends characters that nothing is struck over.
+    // Appends characters without overstrikes.
     fn push_plain(&mut self, run: &[char]) -> Result<(), AllocError>
         requires { 0 < length run.now }
         ensures text { OnOk result (styled_of self.new.text

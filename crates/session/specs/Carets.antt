@@ -23,7 +23,7 @@ abbrev pub trailing_edge : Visual → ℕ → ℕ
 trailing_edge line k =
     columns_left line (if is_odd (slice_index line.levels k) then slice_index line.ltov k else slice_index line.ltov k + 1)
 
--- the caret before the character at a place of a line, or at the line's end if that character is not shown
+-- the caret before the character at a place in a line, or at the line's end if that character is not shown
 abbrev pub caret_in : Visual → Place → Caret
 caret_in line place =
     if nat_lt place.offset (length line.levels)

@@ -1,6 +1,6 @@
 //! Worked examples of sessions, and long lists of edits compared with new sessions, over both stores. The
-//! tests also pass if any one allocation fails: the edit then changes nothing and is retried. Only `run`
-//! is not retried.
+//! tests also pass if any one allocation fails: the edit then changes nothing and is retried. The
+//! exception is `run`, which is not retried.
 mod edges;
 mod hits;
 mod measured;

@@ -16,9 +16,10 @@ pub const IMAGE_NAME: &str = "tables.image";
 /// A folder of tables. The contracts of the functions that read a folder say which of its contents the tables
 /// come from.
 pub trait TableFolder {
-    // The file with this index in `FILE_NAMES` has these bytes, or cannot be read.
+    // The file with this index in `FILE_NAMES` has these bytes.
     ghost has_file: { Self → ℕ → List ℕ → Type 0 };
 
+    // That file cannot be read.
     ghost cannot_read: { Self → ℕ → Type 0 };
 
     // The image has these bytes, or there is none, or it cannot be read.

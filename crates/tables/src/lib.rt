@@ -103,8 +103,8 @@ pub fn from_installed<F: TableFolder>(alloc: Global, folder: &F) -> Result<Table
     from_installed_as(alloc, Version::V15_0, folder)
 }
 
-/// Reads tables of a version, as `from_installed` does. Refuses an image of another version with the fault
-/// `Version`.
+/// Reads tables of a version, as `from_installed` does. Fails with `Version` if the image is of another
+/// version.
 pub fn from_installed_as<F: TableFolder>(
     alloc: Global,
     version: Version,

@@ -59,8 +59,8 @@ pub record HasEnded (rules : Rules) (form : Form) (bytes : List ℕ) (ended : Li
   pub is_left : IsLeft (cut_by rules) form.strict upto rest
   pub holds : form.strict ≡ true → length rest ≡ 0 → length ended ≡ 0
 
--- Whatever follows, the first block of a text is too long. Or a sequence after its CR is not complete yet, and together
--- they are longer than two paragraphs may be.
+-- A text is too long in two cases: its first block is over the limit, whatever follows; or an incomplete sequence follows
+-- the block's CR, and block and sequence together exceed twice the limit.
 abbrev pub IsTooLong : (ℕ → ℕ → Bool) → List ℕ → Type 0
 IsTooLong is_cut text =
     ((more : List ℕ) → (first : List ℕ) × (others : List (List ℕ)) × (blocks is_cut (text ++ more) ≡ first ∷ others) × (PARAGRAPH_LIMIT < length first))

@@ -84,8 +84,8 @@ fault_after true stops n = Some f.ParagraphTooLong
 fault_after false true n = Some (f.NotUtf8 n)
 fault_after false false n = None
 
--- A chunk was decoded, and the lines of all blocks that have ended were added to the page, or only the lines of those
--- before one that is too long.
+-- A chunk was decoded, and the lines of all finished blocks were added to the page. If a block is too long, only the lines
+-- of the blocks before it were added.
 pub record Gathers (rules : Rules) (form : Form) (bytes : List ℕ) (old new : Held) (fault : Option Fault) : Type 0 where
   pub text : List ℕ
   pub takes : Takes form.strict form.escapes (good_part form.strict bytes) old.decoder new.decoder old.text.items text

@@ -1,4 +1,4 @@
--- What a text for a terminal shows, and what is written for it.
+-- What a terminal shows for a text, and the output that is written for the text.
 use Rattle.std.specs.Prelude.{ℕ, zero, suc, ◌+◌, nat_lt, ◌==◌, Bool, ◌&&◌, ◌||◌, not, List, [], ◌∷◌, length, map, take, drop, if◌then◌else◌}
 use Rattle.std.specs.List.{flat_map, onto_first}
 use Rattle.std.specs.Str.{chars}

@@ -7,7 +7,7 @@ use regex::Regex;
 /// What becomes of control sequences, overstrikes and other controls.
 #[derive(Clone, Copy, Debug, PartialEq, Eq)]
 pub enum Escapes {
-    /// They become styles in the output, or are dropped.
+    /// Control sequences become styles in the output, or are dropped.
     Keep,
     /// The output has no styles.
     Strip,

@@ -26,7 +26,7 @@ lines_among ending (line ∷ next ∷ parts) = line ∷ lines_among ending (next
 abbrev pub script_lines : Ending → List ℕ → List (List ℕ)
 script_lines ending bytes = lines_among ending (slice_split is_line_end bytes)
 
--- the command of the bytes of a line, if these are valid UTF-8 and within the length limit
+-- the command that a line's bytes encode, if they are valid UTF-8 and within the length limit
 abbrev pub command_of_line : Bool → List ℕ → Option Command
 command_of_line queries line =
     if nat_le (length line) LINE_LIMIT && utf8_valid_len line == length line then command_in queries (chars line) else None

@@ -1037,8 +1037,8 @@ extern "C" {
         pos: usize,
         cluster: *mut hordguli_cluster,
     ) -> hordguli_status;
-    /// Stores the word of the character at `pos` in `*word`: the segment between two word boundaries (UAX #29) of its
-    /// paragraph. Fails with OUT_OF_RANGE if `pos` is the end of the text.
+    /// Stores in `*word` the word that contains the character at `pos`: the segment between two word boundaries (UAX #29)
+    /// in the paragraph. Fails with OUT_OF_RANGE if `pos` is the end of the text.
     ///
     /// The next word starts at `word.end`, and the previous one holds the character at `word.start - 1`.
     ///

@@ -229,7 +229,7 @@ const SHOWN: Print = Print {
     ..LEVELS
 };
 
-// Returns whether the step's edit has the expected result, and the step's text is printed after it.
+// Returns whether the step's edit returns the expected result and the session then prints the step's text.
 fn is_step<S: ParagraphStore<Kept>>(
     rt: &impl Abort,
     edited: &mut Session<S>,
