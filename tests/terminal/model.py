@@ -475,6 +475,7 @@ def printed(texts, its):
         output += page(text, styles, its, direction_of(decoded(data), its))
     if text:
         last = hordguli.properties(text[-1])[0]
-        if last.bidi_class != "B" and last.line_class not in MANDATORY:
+        is_separator = text[-1] in "\n\r" if its.line_separators else last.bidi_class == "B"
+        if not is_separator and last.line_class not in MANDATORY:
             output = output.removesuffix("\n")
     return output.encode()
