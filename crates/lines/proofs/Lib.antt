@@ -28,6 +28,9 @@ pub mod RunColumnLemmas
 mod SegmentLemmas
 mod SelectionLemmas
 mod ReadingLemmas
+mod RefillingEnds
+mod RefillingLemmas
+mod RefillingWidths
 pub mod ReorderingLemmas
 pub mod ShowLemmas
 mod ShownColumnLemmas

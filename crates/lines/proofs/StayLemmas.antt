@@ -61,7 +61,7 @@ least_low p q low (suc count) d e stricter =
     ]
 
 -- at a position where a line must end, it may end
-must_may : (mark : Mark) (ends : Bool) → is_must mark ≡ true → (is_break mark || ends) ≡ true
+pub must_may : (mark : Mark) (ends : Bool) → is_must mark ≡ true → (is_break mark || ends) ≡ true
 must_may Never ends h = cc
 must_may May ends h = cc
 must_may Must ends h = refl

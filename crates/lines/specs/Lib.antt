@@ -27,6 +27,7 @@ pub mod Pages
 pub mod Paragraphs
 pub mod Parts
 pub mod Printing
+pub mod Refilling
 pub mod Selections
 pub mod Separators
 pub mod Showing

@@ -1,6 +1,6 @@
 //! Theorems about all layouts.
-ghost use Rattle.std.specs.Prelude.{◌≡◌, ◌⊎◌, ◌≤◌, ℕ, false, true, List, length, map, slice_get, slice_index};
-ghost use Rattle.std.specs.Prelude.{sum_by, All, Some};
+ghost use Rattle.std.specs.Prelude.{◌≡◌, ◌⊎◌, ◌≤◌, ℕ, Bool, false, true, List, length, map, slice_get};
+ghost use Rattle.std.specs.Prelude.{slice_index, sum_by, take, All, Some};
 ghost use Rattle.std.specs.List.{flat_map};
 ghost use Rattle.reorder.specs.Runs.{runs_of};
 ghost use Rattle.lines.specs.Bytes.{line_bytes};
@@ -9,8 +9,10 @@ ghost use Rattle.lines.specs.Columns.{run_columns};
 ghost use Rattle.lines.specs.Layouts.{Layout, Rules, layout_of, lines_of, start_of, visuals};
 ghost use Rattle.lines.specs.Ordered.{ClustersAdjoin, IsOrdered, MarksStay, RunsAdjoin};
 ghost use Rattle.lines.specs.Pages.{layout_bytes};
+ghost use Rattle.lines.specs.Refilling.{StartsFollow, StartsStay};
 ghost use Rattle.lines.specs.TabStops.{TabsEndAtStops};
 ghost use Rattle.lines.specs.Visual.{Visual};
+ghost use Rattle.lines.specs.declared.char_info.CharInfo.{CharInfo};
 ghost use Rattle.lines.specs.declared.printing.print.Print.{Print};
 
 use breaks::paragraphs_end_at_must;
@@ -82,4 +84,19 @@ pub fn tabs_end_at_stops()
     ensures { (rules : Rules) (width : ℕ) (text : List ℕ)
         → (rules.options.reorder_clusters ≡ true) ⊎ MarksStay rules text
         → All TabsEndAtStops (visuals (layout_of rules width text)) }
+{}
+
+/// States, as a theorem, that the line starts from a line start on do not depend on earlier characters, with
+/// and without `nobreak`, and at any width. Costs nothing at run time.
+pub fn later_lines_follow()
+    ensures { (nobreak : Bool) (width : ℕ) (before after : List CharInfo)
+        → StartsFollow nobreak width before after }
+{}
+
+/// States, as a theorem, which line starts a change leaves in place. Both paragraphs have the same first `n`
+/// characters. A line start stays, with all earlier ones, if there is a break opportunity between it and the
+/// first changed character, or if two lines from it on end before this character. Costs nothing at run time.
+pub fn earlier_lines_stay()
+    ensures { (nobreak : Bool) (width : ℕ) (before after : List CharInfo) (n : ℕ)
+        → take n before ≡ take n after → StartsStay nobreak width before after n }
 {}

@@ -65,8 +65,9 @@ pub use extents::Extents;
 pub use fill::Fill;
 pub use laid::Laid;
 pub use laws::{
-    clusters_adjoin, lines_are_few, lines_are_ordered, lines_have_all_characters,
-    paragraphs_print_their_lines, runs_adjoin, runs_have_all_columns, tabs_end_at_stops,
+    clusters_adjoin, earlier_lines_stay, later_lines_follow, lines_are_few, lines_are_ordered,
+    lines_have_all_characters, paragraphs_print_their_lines, runs_adjoin, runs_have_all_columns,
+    tabs_end_at_stops,
 };
 pub use options::Options;
 pub use printing::bytes::{WriteFault, write_chars};
