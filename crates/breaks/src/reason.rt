@@ -22,12 +22,13 @@ pub struct Reason {
     pub rule: LineRule,
     /// Where the base before the position starts.
     pub base: usize,
-    /// Where the nearest base before the position starts that is not a space, which the rules write as the class
+    /// Where the nearest base before the position starts that is not a space. The rules write it as a class
     /// followed by `SP*`.
     pub behind_spaces: Option<usize>,
     /// The class of the base before the position, after LB1 and LB10.
     pub class_before: LineClass,
-    /// The class after the position: of the next base, or of the next character inside a base. `None` at the end.
+    /// The class after the position: that of the next base, or of the next character inside a base. `None` at
+    /// the end.
     pub class_after: Option<LineClass>,
     /// The mark.
     pub mark: Mark,
@@ -82,8 +83,7 @@ fn push_inside(
     Ok(())
 }
 
-// Appends the reasons after the characters of a base, given the bases before the position after it, `base` among
-// them, and those after it.
+// Appends the reasons after the characters of a base, given the bases up to it, and those after it.
 fn push_base(
     list: &mut Vec<Reason>,
     edition: Edition,
@@ -94,7 +94,8 @@ fn push_base(
 ) -> Result<(), AllocError>
     requires before { before.now ≡ base_in base.now ∷ rest before.now }
     requires start { length list.old.items ≡ chars_in (rest before.now) }
-    requires mark { mark ≡ mark_by (rules edition.version edition.whole_numbers) before.now (map base_in after.now) }
+    requires mark { mark ≡ mark_by (rules edition.version edition.whole_numbers) before.now
+        (map base_in after.now) }
     ensures { OnOk result (list.new.items ≡ list.old.items ++ base_reasons
         (names edition.version edition.whole_numbers) (rules edition.version edition.whole_numbers)
         (base_in base.now) (rest before.now) (map base_in after.now)) }
@@ -122,7 +123,8 @@ fn reasons_by<'a>(
     marks: &[Mark],
 ) -> Result<Vec<Reason>, AllocError>
     requires reversed { reversed.now ≡ reverse bases.now }
-    requires marks { marks.now ≡ marks_after (rules edition.version edition.whole_numbers) [] (map base_in bases.now) }
+    requires marks { marks.now ≡ marks_after (rules edition.version edition.whole_numbers) []
+        (map base_in bases.now) }
     ensures { IfOk result (λ list. list.items ≡ reasons_after (names edition.version edition.whole_numbers)
         (rules edition.version edition.whole_numbers) [] (map base_in bases.now)) }
 {
@@ -140,8 +142,9 @@ fn reasons_by<'a>(
     Ok(list)
 }
 
-/// Returns the rule that decides the break mark after each character of a paragraph, and what it read. The marks
-/// are those of `marks`, by the rules of the tables' Unicode version. The time is proportional to the length.
+/// Returns the rule that decides the break mark after each character of a paragraph, and what it read. The
+/// marks are those of `marks`, by the rules of the tables' Unicode version. The time is proportional to the
+/// length.
 pub fn reasons(
     alloc: Global,
     tables: &Tables,

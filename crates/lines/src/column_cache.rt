@@ -11,8 +11,8 @@ use std::marker::Model;
 // The number of entries. Characters whose code points differ by a multiple of this number share an entry.
 const ENTRIES: usize = 1_024;
 
-/// A cache of the widths of characters, in columns. An entry is a code point, times 4, plus the columns of its character. A
-/// new entry is 0, which says that U+0000 has no columns.
+/// A cache of the widths of characters, in columns. An entry is a code point, times 4, plus the columns of its
+/// character. A new entry is 0, which says that U+0000 has no columns.
 pub(crate) struct ColumnCache {
     entries: Vec<u32>,
 }

@@ -1,5 +1,5 @@
-//! Finds what a terminal shows for a text: the characters that remain after control sequences, overstrikes and
-//! dropped controls are removed, each with a style.
+//! Finds what a terminal shows for a text: the characters that remain after control sequences, overstrikes
+//! and dropped controls are removed, each with a style.
 //!
 //! A `Scanner` collects the characters of a paragraph. `push_between` writes what changes from one style to
 //! the next:
