@@ -1,5 +1,5 @@
-//! The bases of a paragraph: its characters, each with the combining marks and ZWJ that join it (UAX #14, LB1, LB9 and
-//! LB10).
+//! The bases of a paragraph: its characters, each with the combining marks and ZWJ that join it (UAX #14, LB1,
+//! LB9 and LB10).
 ghost use Rattle.std.specs.Prelude.{◌≡◌, ◌<◌, ◌≤◌, ◌∷◌, length, map, drop, IfOk};
 ghost use Rattle.breaks.specs.Bases.{bases_of, character, class_of, known, known_detail, resolved};
 ghost use Rattle.breaks.specs.Bases.{end_of, is_east_asian, stays_with};
@@ -35,7 +35,7 @@ pub fn is_one_of(classes: &[LineClass], class: LineClass) -> bool
     classes.contains(&class)
 }
 
-// LB1: the class of a character whose class is one of those that depend on other properties.
+// LB1: returns the class of a character, given its class in the tables.
 fn resolved(class: LineClass, is_mark: bool) -> LineClass
     ensures { result ≡ resolved class is_mark }
 {
@@ -55,7 +55,7 @@ fn resolved(class: LineClass, is_mark: bool) -> LineClass
     }
 }
 
-// The class that a version knows.
+// Returns the class that a version knows.
 fn known(version: Version, class: LineClass) -> LineClass
     ensures { result ≡ known version class }
 {

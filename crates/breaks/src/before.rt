@@ -1,4 +1,5 @@
-//! The bases before a position, with what is known about a run of them, so that no run is read again.
+//! The bases before a position, with what the rules need to know about runs of spaces, digits and regional
+//! indicators, so that no run is read twice.
 ghost use Rattle.std.specs.Prelude.{◌≡◌, ◌∷◌, [], length, map};
 ghost use Rattle.breaks.specs.Numbers.{is_in_number};
 ghost use Rattle.breaks.specs.Reasons.{chars_in, start_of};
@@ -108,42 +109,42 @@ impl<'b, 'a> Before<'b, 'a> {
         &self.bases[self.spaces..]
     }
 
-    /// Whether the nearest base that is not a space has one of the classes.
+    /// Returns whether the nearest base that is not a space has one of the classes.
     pub fn is_spaced(&self, classes: &[LineClass]) -> bool
         ensures { result ≡ rules.is_spaced classes.now self.now }
     {
         is(classes, self.without_spaces())
     }
 
-    /// LB30a: whether the run of RI has an odd length.
+    /// LB30a: returns whether the run of RI has an odd length.
     pub fn ends_in_odd_run(&self) -> bool
         ensures { result ≡ rules.ends_in_odd_run self.now }
     {
         self.is_odd_run
     }
 
-    /// LB25 of 17.0: whether the bases end in a number.
+    /// LB25 of 17.0: returns whether the bases end in a number.
     pub fn ends_in_number(&self) -> bool
         ensures { result ≡ rules.ends_in_number self.now }
     {
         self.ends_in_number
     }
 
-    /// LB25 of 17.0: whether the nearest base is CL or CP after a number.
+    /// LB25 of 17.0: returns whether the nearest base is CL or CP after a number.
     pub fn ends_in_closed_number(&self) -> bool
         ensures { result ≡ rules.followed (rules.is (CL ∷ CP ∷ [])) rules.ends_in_number self.now }
     {
         is(&[LineClass::CL, LineClass::CP], self.bases) && self.rest_ends_in_number
     }
 
-    // Whether the nearest base is CL or CP after a number.
+    // Returns whether the nearest base is CL or CP after a number.
     fn ends_in_closed_digits(&self) -> bool
         ensures { result ≡ ends_in_closed_digits self.now }
     {
         is(&[LineClass::CL, LineClass::CP], self.bases) && self.rest_ends_in_digits
     }
 
-    /// LB25 of 15.0 for whole numbers: whether the position is inside a number.
+    /// LB25 of 15.0 for whole numbers: returns whether the position is inside a number.
     #[tactic(auto, using(crate::proofs::NumberLemmas::in_number_is))]
     pub fn is_in_number(&self, after: &[Base<'_>]) -> bool
         ensures { result ≡ is_in_number self.now (map base_in after.now) }

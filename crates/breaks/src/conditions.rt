@@ -1,5 +1,5 @@
-//! The conditions of the rules, on the bases before or after a position, the nearest first. Each function is the
-//! definition of the same name in specs/Rules.antt.
+//! The conditions of the rules, on the bases before or after a position, the nearest first. Most functions are
+//! the definitions of the same name in specs/Rules.antt.
 ghost use Rattle.std.specs.Prelude.{◌≡◌, ◌∷◌, [], map};
 ghost use Rattle.breaks.specs.Rules as rules;
 ghost use Rattle.ucd.specs.declared.line_detail.LineDetail.TheVariants.{Final};
@@ -104,7 +104,8 @@ pub fn is_future_pictograph(bases: &[Base<'_>]) -> bool
     }
 }
 
-/// LB15a: whether the nearest base is an initial quotation mark after the start of the text or one of some classes.
+/// LB15a: returns whether the nearest base is an initial quotation mark, at the start of the text or after
+/// one of some classes.
 pub fn begins_quotation(bases: &[Base<'_>]) -> bool
     ensures { result ≡ rules.begins_quotation (map base_in bases.now) }
 {
@@ -126,7 +127,8 @@ pub fn begins_quotation(bases: &[Base<'_>]) -> bool
             ))
 }
 
-/// LB15b: whether the nearest base is a final quotation mark before the end of the text or one of some classes.
+/// LB15b: returns whether the nearest base is a final quotation mark, at the end of the text or before
+/// one of some classes.
 pub fn ends_quotation(bases: &[Base<'_>]) -> bool
     ensures { result ≡ rules.followed (rules.is_quote Final) (rules.or_edge (rules.is rules.after_final))
         (map base_in bases.now) }
@@ -154,14 +156,14 @@ pub fn ends_quotation(bases: &[Base<'_>]) -> bool
             ))
 }
 
-/// LB19a: whether there are no bases, or the nearest one has an East Asian width other than F, W and H.
+/// LB19a: returns whether there are no bases, or the nearest one has an East Asian width other than F, W and H.
 pub fn is_edge_or_not_east_asian(bases: &[Base<'_>]) -> bool
     ensures { result ≡ rules.or_edge rules.is_not_east_asian (map base_in bases.now) }
 {
     bases.is_empty() || is_not_east_asian(bases)
 }
 
-/// LB20a: whether the nearest base is a hyphen at the start of a word.
+/// LB20a: returns whether the nearest base is a hyphen at the start of a word.
 pub fn is_first_hyphen(bases: &[Base<'_>]) -> bool
     ensures { result ≡ rules.followed (rules.is (HY ∷ HH ∷ [])) (rules.or_edge (rules.is rules.before_word))
         (map base_in bases.now) }
@@ -169,14 +171,14 @@ pub fn is_first_hyphen(bases: &[Base<'_>]) -> bool
     is(&[LineClass::HY, LineClass::HH], bases) && begins_word(rest(bases))
 }
 
-/// LB25 of 17.0: whether the bases begin with OP and then NU.
+/// LB25 of 17.0: returns whether the bases begin with OP and then NU.
 pub fn is_opened_number(bases: &[Base<'_>]) -> bool
     ensures { result ≡ rules.followed (rules.is (OP ∷ [])) (rules.is (NU ∷ [])) (map base_in bases.now) }
 {
     is(&[LineClass::OP], bases) && is(&[LineClass::NU], rest(bases))
 }
 
-/// LB25 of 17.0: whether the bases begin with OP, IS and then NU.
+/// LB25 of 17.0: returns whether the bases begin with OP, IS and then NU.
 pub fn is_opened_fraction(bases: &[Base<'_>]) -> bool
     ensures { result ≡ rules.followed (rules.is (OP ∷ []))
         (rules.followed (rules.is (IS ∷ [])) (rules.is (NU ∷ []))) (map base_in bases.now) }
@@ -184,14 +186,14 @@ pub fn is_opened_fraction(bases: &[Base<'_>]) -> bool
     is(&[LineClass::OP], bases) && is_fraction(rest(bases))
 }
 
-// Whether the bases begin with IS and then NU.
+// Returns whether the bases begin with IS and then NU.
 fn is_fraction(bases: &[Base<'_>]) -> bool
     ensures { result ≡ rules.followed (rules.is (IS ∷ [])) (rules.is (NU ∷ [])) (map base_in bases.now) }
 {
     is(&[LineClass::IS], bases) && is(&[LineClass::NU], rest(bases))
 }
 
-/// LB28a: whether the nearest base is VI after a letter of a Brahmic script.
+/// LB28a: returns whether the nearest base is VI after a letter of a Brahmic script.
 pub fn is_virama_after_aksara(bases: &[Base<'_>]) -> bool
     ensures { result ≡ rules.followed (rules.is (VI ∷ [])) (rules.is_aksara (AK ∷ AS ∷ []))
         (map base_in bases.now) }
@@ -199,7 +201,7 @@ pub fn is_virama_after_aksara(bases: &[Base<'_>]) -> bool
     is(&[LineClass::VI], bases) && is_aksara(&[LineClass::AK, LineClass::AS], rest(bases))
 }
 
-/// LB28a: whether the nearest base is a letter of a Brahmic script before VF.
+/// LB28a: returns whether the nearest base is a letter of a Brahmic script before VF.
 pub fn is_aksara_before_vf(bases: &[Base<'_>]) -> bool
     ensures { result ≡ rules.followed (rules.is_aksara (AK ∷ AS ∷ [])) (rules.is (VF ∷ []))
         (map base_in bases.now) }
@@ -207,7 +209,7 @@ pub fn is_aksara_before_vf(bases: &[Base<'_>]) -> bool
     is_aksara(&[LineClass::AK, LineClass::AS], bases) && is(&[LineClass::VF], rest(bases))
 }
 
-// Whether there are no bases, or the nearest one has one of some classes.
+// Returns whether there are no bases, or the nearest one has one of some classes.
 fn begins_word(bases: &[Base<'_>]) -> bool
     ensures { result ≡ rules.or_edge (rules.is rules.before_word) (map base_in bases.now) }
 {
@@ -227,7 +229,7 @@ fn begins_word(bases: &[Base<'_>]) -> bool
         )
 }
 
-/// LB25 of 15.0 for whole numbers: whether the bases begin with NU, or with OP or HY and then NU.
+/// LB25 of 15.0 for whole numbers: returns whether the bases begin with NU, or with OP or HY and then NU.
 pub fn begins_unaffixed(bases: &[Base<'_>]) -> bool
     ensures { result ≡ begins_unaffixed (map base_in bases.now) }
 {

@@ -1,10 +1,12 @@
-//! The first rule that applies between some bases, the nearest first on either side. Each function is for the rows of
-//! specs/Rules.antt that its contract names.
+//! The first rule that applies between some bases, the nearest first on either side. Each function is for the
+//! rows of specs/Rules.antt that its contract names.
 ghost use Rattle.std.specs.Prelude.{◌≡◌, ◌++◌, false, map, unwrap_or, Bool};
 ghost use Rattle.ucd.specs.declared.version.Version.TheVariants.{V15_0, V17_0};
-ghost use Rattle.breaks.specs.Reasons.{first_row, names_LB12a_to_LB14, names_LB15, names_LB16_to_LB18, names_LB19};
+ghost use Rattle.breaks.specs.Reasons.{first_row, names_LB12a_to_LB14, names_LB15, names_LB16_to_LB18};
+ghost use Rattle.breaks.specs.Reasons.{names_LB19};
 ghost use Rattle.breaks.specs.Reasons.{names_LB20, names_LB20a, names_LB21_and_LB21a, names_LB21b_to_LB24};
-ghost use Rattle.breaks.specs.Reasons.{names_LB26_to_LB28, names_LB28a, names_LB29_to_LB30b, names_LB3_to_LB12};
+ghost use Rattle.breaks.specs.Reasons.{names_LB26_to_LB28, names_LB28a, names_LB29_to_LB30b};
+ghost use Rattle.breaks.specs.Reasons.{names_LB3_to_LB12};
 ghost use Rattle.breaks.specs.Reasons.{first_by, names, names_before_numbers, names_of_numbers};
 ghost use Rattle.breaks.specs.Rules as rows;
 ghost use Rattle.breaks.specs.Seen.{base_in};
@@ -66,7 +68,8 @@ fn lb3_to_lb12(before: &Before<'_, '_>, after: &[Base<'_>]) -> Option<LineRule>
 
 // LB12a to LB14 of 15.0.
 fn lb12a_to_lb14(before: &Before<'_, '_>, after: &[Base<'_>]) -> Option<LineRule>
-    ensures { result ≡ first_row names_LB12a_to_LB14 (rows.LB12a V15_0 ++ (rows.LB13 V15_0 ++ rows.LB14)) before.now (map base_in after.now) }
+    ensures { result ≡ first_row names_LB12a_to_LB14 (rows.LB12a V15_0 ++ (rows.LB13 V15_0 ++ rows.LB14))
+        before.now (map base_in after.now) }
 {
     if is_not(&[LineClass::SP, LineClass::BA, LineClass::HY], before.bases)
         && is(&[LineClass::GL], after)
@@ -93,7 +96,8 @@ fn lb12a_to_lb14(before: &Before<'_, '_>, after: &[Base<'_>]) -> Option<LineRule
 
 // LB12a to LB14 of 17.0.
 fn lb12a_to_lb14_17(before: &Before<'_, '_>, after: &[Base<'_>]) -> Option<LineRule>
-    ensures { result ≡ first_row names_LB12a_to_LB14 (rows.LB12a V17_0 ++ (rows.LB13 V17_0 ++ rows.LB14)) before.now (map base_in after.now) }
+    ensures { result ≡ first_row names_LB12a_to_LB14 (rows.LB12a V17_0 ++ (rows.LB13 V17_0 ++ rows.LB14))
+        before.now (map base_in after.now) }
 {
     if is_not(
         &[LineClass::SP, LineClass::BA, LineClass::HY, LineClass::HH],
@@ -206,7 +210,9 @@ fn lb20(before: &Before<'_, '_>, after: &[Base<'_>]) -> Option<LineRule>
 
 // LB20a to LB21a of 15.0.
 fn lb21_and_lb21a(before: &Before<'_, '_>, after: &[Base<'_>]) -> Option<LineRule>
-    ensures { result ≡ first_row (names_LB20a V15_0 ++ names_LB21_and_LB21a) (rows.LB20a V15_0 ++ (rows.LB21 V15_0 ++ rows.LB21a V15_0)) before.now (map base_in after.now) }
+    ensures { result ≡ first_row (names_LB20a V15_0 ++ names_LB21_and_LB21a)
+        (rows.LB20a V15_0 ++ (rows.LB21 V15_0 ++ rows.LB21a V15_0))
+        before.now (map base_in after.now) }
 {
     if is(&[LineClass::BA, LineClass::HY, LineClass::NS], after) {
         return Some(LineRule::LB21);
@@ -226,7 +232,9 @@ fn lb21_and_lb21a(before: &Before<'_, '_>, after: &[Base<'_>]) -> Option<LineRul
 
 // LB20a to LB21a of 17.0.
 fn lb20a_to_lb21a_17(before: &Before<'_, '_>, after: &[Base<'_>]) -> Option<LineRule>
-    ensures { result ≡ first_row (names_LB20a V17_0 ++ names_LB21_and_LB21a) (rows.LB20a V17_0 ++ (rows.LB21 V17_0 ++ rows.LB21a V17_0)) before.now (map base_in after.now) }
+    ensures { result ≡ first_row (names_LB20a V17_0 ++ names_LB21_and_LB21a)
+        (rows.LB20a V17_0 ++ (rows.LB21 V17_0 ++ rows.LB21a V17_0))
+        before.now (map base_in after.now) }
 {
     if is_first_hyphen(before.bases) && is(&[LineClass::AL, LineClass::HL], after) {
         return Some(LineRule::LB20a);
@@ -293,7 +301,8 @@ fn lb21b_to_lb24(before: &Before<'_, '_>, after: &[Base<'_>]) -> Option<LineRule
 // LB25 of 15.0, on pairs of bases.
 #[tactic(auto, unfolding(crate::specs::Rules::rows_of_numbers))]
 fn lb25(before: &Before<'_, '_>, after: &[Base<'_>]) -> Option<LineRule>
-    ensures { result ≡ first_row (names_of_numbers V15_0 false) (rows.rows_of_numbers V15_0) before.now (map base_in after.now) }
+    ensures { result ≡ first_row (names_of_numbers V15_0 false) (rows.rows_of_numbers V15_0)
+        before.now (map base_in after.now) }
 {
     if is(&[LineClass::CL, LineClass::CP, LineClass::NU], before.bases)
         && is(&[LineClass::PO, LineClass::PR], after)
@@ -318,7 +327,8 @@ fn lb25(before: &Before<'_, '_>, after: &[Base<'_>]) -> Option<LineRule>
 // LB25 of 17.0.
 #[tactic(auto, unfolding(crate::specs::Rules::rows_of_numbers))]
 fn lb25_17(before: &Before<'_, '_>, after: &[Base<'_>]) -> Option<LineRule>
-    ensures { result ≡ first_row (names_of_numbers V17_0 false) (rows.rows_of_numbers V17_0) before.now (map base_in after.now) }
+    ensures { result ≡ first_row (names_of_numbers V17_0 false) (rows.rows_of_numbers V17_0)
+        before.now (map base_in after.now) }
 {
     let is_affix_before = is(&[LineClass::PO, LineClass::PR], before.bases);
     if before.ends_in_closed_number() && is(&[LineClass::PO, LineClass::PR], after) {
