@@ -27,6 +27,7 @@ pub mod LengthLemmas
 mod LevelLemmas
 mod MatchLemmas
 mod NeutralLemmas
+mod NeutralStepLemmas
 mod NeutralTableLemmas
 mod NoBracketLemmas
 mod OpenersLemmas
@@ -41,6 +42,7 @@ pub mod TextCutLemmas
 mod WaitingLemmas
 mod WeakLemmas
 mod WeakStateLemmas
+mod WeakStepLemmas
 mod WeakTableLemmas
 mod WorkedBrackets
 mod WorkedLevels

@@ -14,6 +14,7 @@ pub mod Openers
 pub mod Paragraphs
 pub mod Pieces
 pub mod Plain
+pub mod Reasons
 pub mod Resolving
 pub mod Rows
 pub mod Runs

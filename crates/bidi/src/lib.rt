@@ -24,12 +24,14 @@ mod groups;
 mod isolates;
 mod levels;
 mod neutral;
+mod neutral_steps;
 mod neutral_table;
 mod resolver;
 mod sequence_levels;
 mod sequences;
 mod text_cuts;
 mod weak;
+mod weak_steps;
 mod weak_table;
 
 pub use base::{

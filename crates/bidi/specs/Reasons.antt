@@ -1,0 +1,45 @@
+-- How the algorithm arrives at each level: the types after each step, and what the rules looked at.
+use Rattle.std.specs.Prelude.{ℕ, suc, ◌+◌, Bool, not, List, [], ◌∷◌, length, Option, Some, None, if◌then◌else◌}
+use Rattle.ucd.specs.declared.bidi_class.BidiClass.{BidiClass}
+use Rattle.bidi.specs.Neighbours.{nearest}
+use Rattle.bidi.specs.Neutral.{agree, is_neutral, neutral_at}
+use Rattle.bidi.specs.Weak.{is_left}
+use Rattle.bidi.specs.declared.neutral_steps.NeutralRule.{NeutralRule}
+use Rattle.bidi.specs.declared.neutral_steps.NeutralRule.TheVariants.{N1, N2}
+use Rattle.bidi.specs.declared.neutral_steps.NeutralStep.{NeutralStep}
+
+module _ {T : Type 0} (test : T → Bool) where
+  -- the index of the nearest item that passes the test, if there is one, among the items before an index
+  abbrev pub index_before : List T → Option ℕ
+  index_before [] = None
+  index_before (item ∷ before) = if test item then Some (length before) else index_before before
+
+  -- the same among the items from index k on
+  abbrev pub index_from : ℕ → List T → Option ℕ
+  index_from k [] = None
+  index_from k (item ∷ after) = if test item then Some k else index_from (suc k) after
+
+-- what a rule gives for each item of a list, with the arguments of `each_by`
+abbrev pub each_into : {T U : Type 0} → (List T → T → List T → U) → List T → List T → List U
+each_into rule before [] = []
+each_into rule before (item ∷ after) = rule before item after ∷ each_into rule (item ∷ before) after
+
+-- N1 and N2: whether a run of neutrals gets the direction of both sides or the embedding direction
+abbrev pub rule_between : BidiClass → BidiClass → NeutralRule
+rule_between before after = if agree (is_left before) (is_left after) then N1 else N2
+
+-- N1 and N2 for a type: the type after them, and for a neutral the rule that decides and the indices of the types on
+-- both sides of its run. A side without one is sos or eos.
+module _ (embedding sos eos : BidiClass) where
+  abbrev pub neutral_step : List BidiClass → BidiClass → List BidiClass → NeutralStep
+  neutral_step before type after = record {
+    class = neutral_at embedding sos eos before type after;
+    rule = if is_neutral type
+        then Some (rule_between (nearest (λ type. not (is_neutral type)) sos before) (nearest (λ type. not (is_neutral type)) eos after))
+        else None;
+    left = if is_neutral type then index_before (λ type. not (is_neutral type)) before else None;
+    right = if is_neutral type then index_from (λ type. not (is_neutral type)) (length before + 1) after else None;
+  }
+
+  abbrev pub neutral_steps : List BidiClass → List NeutralStep
+  neutral_steps types = each_into neutral_step [] types
