@@ -28,7 +28,7 @@ level_at-bound base classes k low =
     ]
 
 -- the numbers below k + 1 are the numbers below k, and k itself
-numbers-more : (k : ℕ) → range_with_len 0 (k + 1) ≡ range_with_len 0 k ++ k ∷ []
+pub numbers-more : (k : ℕ) → range_with_len 0 (k + 1) ≡ range_with_len 0 k ++ k ∷ []
 numbers-more k =
     sym (map-id (range_with_len 0 (k + 1))) ∙ map-range_with_len_more (λ x. x) 0 k k (zero-add k) ∙ ap (λ (l : List ℕ). l ++ k ∷ []) (map-id (range_with_len 0 k))
 
@@ -80,7 +80,7 @@ opened-length : (chain classes : List BidiClass) → length (fold open_after cha
 opened-length chain [] = omega arith
 opened-length chain (class ∷ classes) = omega (arith, opened-length (open_after chain class) classes, open_after-length chain class)
 
-open_chain-length : (classes : List BidiClass) (k : ℕ) → length (open_chain classes k) ≤ length classes
+pub open_chain-length : (classes : List BidiClass) (k : ℕ) → length (open_chain classes k) ≤ length classes
 open_chain-length classes k = omega (arith, opened-length [] (take k classes), length-take k classes)
 
 -- a PDI closes the innermost isolate
@@ -96,7 +96,7 @@ module _ (classes : List BidiClass) (k : ℕ) (within : k < length classes) (cla
   chain_at-other : is_pdi class ≡ false → chain_at classes k ≡ open_chain classes k
   chain_at-other other = ap (open_chain classes) (cond-false (is_pdi (class_at classes k)) (k + 1) k (sym (ap is_pdi at) ∙ other))
 
-  chain_at-is : (if is_pdi class then close_isolate (open_chain classes k) else open_chain classes k) ≡ chain_at classes k
+  pub chain_at-is : (if is_pdi class then close_isolate (open_chain classes k) else open_chain classes k) ≡ chain_at classes k
   chain_at-is =
       elim (cases_Bool (is_pdi class)) [
         | inl pdi ↦ let here : is_pdi (class_at classes k) ≡ true = sym (ap is_pdi at) ∙ pdi in
@@ -106,7 +106,7 @@ module _ (classes : List BidiClass) (k : ℕ) (within : k < length classes) (cla
         | inr other ↦ cond-false (is_pdi class) (close_isolate (open_chain classes k)) (open_chain classes k) other ∙ sym (chain_at-other other)
       ]
 
-  chain_at-next : (if is_pdi class then chain_at classes k else open_after (chain_at classes k) class) ≡ open_chain classes (k + 1)
+  pub chain_at-next : (if is_pdi class then chain_at classes k else open_after (chain_at classes k) class) ≡ open_chain classes (k + 1)
   chain_at-next =
       elim (cases_Bool (is_pdi class)) [
         | inl pdi ↦ cond-true (is_pdi class) (chain_at classes k) (open_after (chain_at classes k) class) pdi
@@ -116,12 +116,12 @@ module _ (classes : List BidiClass) (k : ℕ) (within : k < length classes) (cla
       ]
 
   -- the level and type that the pass appends for a character are its explicit level and type
-  level_is : (base : ℕ) (status : Status) → status ≡ innermost base (chain_at classes k) → (if is_separator class then base else status.level) ≡ level_at base classes k
+  pub level_is : (base : ℕ) (status : Status) → status ≡ innermost base (chain_at classes k) → (if is_separator class then base else status.level) ≡ level_at base classes k
   level_is base status inner =
       ap (λ (n : ℕ). if is_separator class then base else n) (ap (λ (s : Status). s.level) inner ∙ innermost-level base (chain_at classes k))
       ∙ ap (λ (c : BidiClass). if is_separator c then base else (inside_at base classes k).level) at
 
-  type_is : (base : ℕ) (status : Status) → status ≡ innermost base (chain_at classes k) → (if is_separator class then class else unwrap_or status.overriding class) ≡ type_at base classes k
+  pub type_is : (base : ℕ) (status : Status) → status ≡ innermost base (chain_at classes k) → (if is_separator class then class else unwrap_or status.overriding class) ≡ type_at base classes k
   type_is base status inner =
       ap (λ (o : Option BidiClass). if is_separator class then class else unwrap_or o class) (ap (λ (s : Status). s.overriding) inner ∙ innermost-override base (chain_at classes k))
       ∙ ap (λ (c : BidiClass). if is_separator c then c else unwrap_or (inside_at base classes k).override c) at

@@ -16,6 +16,7 @@ mod DoublingRules
 mod DoublingSequences
 mod DoublingTexts
 mod ExplicitLemmas
+mod ExplicitStepLemmas
 mod FlatLemmas
 pub mod FrontLemmas
 pub mod GroupLemmas

@@ -1,12 +1,26 @@
 -- How the algorithm arrives at each level: the types after each step, and what the rules looked at.
-use Rattle.std.specs.Prelude.{ℕ, suc, ◌+◌, Bool, not, List, [], ◌∷◌, length, Option, Some, None, if◌then◌else◌}
+use Rattle.std.specs.Prelude.{ℕ, suc, ◌+◌, Bool, not, List, [], ◌∷◌, length, map, Option, Some, None, if◌then◌else◌}
 use Rattle.ucd.specs.declared.bidi_class.BidiClass.{BidiClass}
+use Rattle.std.specs.List.{range_with_len}
+use Rattle.bidi.specs.Explicit.{inside_at, level_at, type_at}
 use Rattle.bidi.specs.Neighbours.{nearest}
 use Rattle.bidi.specs.Neutral.{agree, is_neutral, neutral_at}
 use Rattle.bidi.specs.Weak.{is_left}
+use Rattle.bidi.specs.declared.explicit_steps.ExplicitStep.{ExplicitStep}
 use Rattle.bidi.specs.declared.neutral_steps.NeutralRule.{NeutralRule}
 use Rattle.bidi.specs.declared.neutral_steps.NeutralRule.TheVariants.{N1, N2}
 use Rattle.bidi.specs.declared.neutral_steps.NeutralStep.{NeutralStep}
+
+-- X1 to X8 for the character at k: its explicit level and type, and the override that is in force at it
+abbrev pub explicit_step : ℕ → List BidiClass → ℕ → ExplicitStep
+explicit_step base classes k = record {
+  level = level_at base classes k;
+  class = type_at base classes k;
+  overriding = (inside_at base classes k).override;
+}
+
+abbrev pub explicit_steps : ℕ → List BidiClass → List ExplicitStep
+explicit_steps base classes = map (explicit_step base classes) (range_with_len 0 (length classes))
 
 module _ {T : Type 0} (test : T → Bool) where
   -- the index of the nearest item that passes the test, if there is one, among the items before an index

@@ -19,6 +19,7 @@ mod classes;
 mod cuts;
 mod doubling;
 mod explicit;
+mod explicit_steps;
 mod fill;
 mod groups;
 mod isolates;
