@@ -18,6 +18,7 @@ pub mod Reasons
 pub mod Resolving
 pub mod Rows
 pub mod Runs
+pub mod SequenceSteps
 pub mod Sequences
 pub mod Stayed
 pub mod TextCuts

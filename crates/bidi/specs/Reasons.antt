@@ -2,14 +2,19 @@
 use Rattle.std.specs.Prelude.{ℕ, suc, ◌+◌, Bool, not, List, [], ◌∷◌, length, map, Option, Some, None, if◌then◌else◌}
 use Rattle.ucd.specs.declared.bidi_class.BidiClass.{BidiClass}
 use Rattle.std.specs.List.{range_with_len}
+use Rattle.ucd.specs.Classes.{class_at}
+use Rattle.ucd.specs.declared.bracket.Bracket.{Bracket}
+use Rattle.bidi.specs.Brackets.{brackets}
 use Rattle.bidi.specs.Explicit.{inside_at, level_at, type_at}
 use Rattle.bidi.specs.Neighbours.{nearest}
-use Rattle.bidi.specs.Neutral.{agree, is_neutral, neutral_at}
-use Rattle.bidi.specs.Weak.{is_left}
+use Rattle.bidi.specs.Neutral.{agree, implicit_level, is_neutral, neutral_at}
+use Rattle.bidi.specs.Sequences.{direction}
+use Rattle.bidi.specs.Weak.{is_left, w1, w2, w3, w4, w5, w6, w7, weak}
 use Rattle.bidi.specs.declared.explicit_steps.ExplicitStep.{ExplicitStep}
 use Rattle.bidi.specs.declared.neutral_steps.NeutralRule.{NeutralRule}
 use Rattle.bidi.specs.declared.neutral_steps.NeutralRule.TheVariants.{N1, N2}
 use Rattle.bidi.specs.declared.neutral_steps.NeutralStep.{NeutralStep}
+use Rattle.bidi.specs.declared.sequence_steps.SequenceStep.{SequenceStep}
 
 -- X1 to X8 for the character at k: its explicit level and type, and the override that is in force at it
 abbrev pub explicit_step : ℕ → List BidiClass → ℕ → ExplicitStep
@@ -57,3 +62,30 @@ module _ (embedding sos eos : BidiClass) where
 
   abbrev pub neutral_steps : List BidiClass → List NeutralStep
   neutral_steps types = each_into neutral_step [] types
+
+-- what a function gives for each item of a list and its index, if the list starts at index k
+abbrev pub numbered : {T U : Type 0} → (ℕ → T → U) → ℕ → List T → List U
+numbered f k [] = []
+numbered f k (item ∷ items) = f k item ∷ numbered f (suc k) items
+
+-- the types of a sequence after each rule, at index k, given its explicit types and its types after N0
+module _ (level : ℕ) (sos : BidiClass) (types paired : List BidiClass) where
+  abbrev pub sequence_step : ℕ → NeutralStep → SequenceStep
+  sequence_step k neutral = record {
+    w1 = class_at (w1 sos types) k;
+    w2 = class_at (w2 sos (w1 sos types)) k;
+    w3 = class_at (w3 (w2 sos (w1 sos types))) k;
+    w4 = class_at (w4 (w3 (w2 sos (w1 sos types)))) k;
+    w5 = class_at (w5 (w4 (w3 (w2 sos (w1 sos types))))) k;
+    w6 = class_at (w6 (w5 (w4 (w3 (w2 sos (w1 sos types)))))) k;
+    w7 = class_at (weak sos types) k;
+    n0 = class_at paired k;
+    neutral = neutral;
+    level = implicit_level level neutral.class;
+  }
+
+-- the steps from the types before W1 to the levels of a sequence at the given level
+abbrev pub sequence_steps : (ℕ → Option Bracket) → ℕ → BidiClass → BidiClass → List ℕ → List BidiClass → List SequenceStep
+sequence_steps bracket_of level sos eos characters types =
+    let paired = brackets bracket_of (direction level) sos characters types (weak sos types) in
+    numbered (sequence_step level sos types paired) 0 (neutral_steps (direction level) sos eos paired)
