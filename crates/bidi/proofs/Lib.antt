@@ -39,6 +39,7 @@ mod PlainLemmas
 mod ResolverLemmas
 mod ReuseLemmas
 mod RunLemmas
+mod SequenceStartLemmas
 mod SequenceStepLemmas
 pub mod TextCutLemmas
 mod WaitingLemmas
