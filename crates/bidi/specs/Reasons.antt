@@ -1,5 +1,5 @@
 -- How the algorithm arrives at each level: the types after each step, and what the rules looked at.
-use Rattle.std.specs.Prelude.{ℕ, suc, ◌+◌, Bool, not, List, [], ◌∷◌, length, map, Option, Some, None, if◌then◌else◌}
+use Rattle.std.specs.Prelude.{ℕ, suc, ◌+◌, Bool, not, List, [], ◌∷◌, length, map, slice_index, Option, Some, None, if◌then◌else◌}
 use Rattle.ucd.specs.declared.bidi_class.BidiClass.{BidiClass}
 use Rattle.std.specs.List.{range_with_len}
 use Rattle.ucd.specs.Classes.{class_at}
@@ -8,12 +8,13 @@ use Rattle.bidi.specs.Brackets.{brackets}
 use Rattle.bidi.specs.Explicit.{inside_at, level_at, type_at}
 use Rattle.bidi.specs.Neighbours.{nearest}
 use Rattle.bidi.specs.Neutral.{agree, implicit_level, is_neutral, neutral_at}
-use Rattle.bidi.specs.Sequences.{direction}
+use Rattle.bidi.specs.Sequences.{direction, eos, first_of, sequences, sos}
 use Rattle.bidi.specs.Weak.{is_left, w1, w2, w3, w4, w5, w6, w7, weak}
 use Rattle.bidi.specs.declared.explicit_steps.ExplicitStep.{ExplicitStep}
 use Rattle.bidi.specs.declared.neutral_steps.NeutralRule.{NeutralRule}
 use Rattle.bidi.specs.declared.neutral_steps.NeutralRule.TheVariants.{N1, N2}
 use Rattle.bidi.specs.declared.neutral_steps.NeutralStep.{NeutralStep}
+use Rattle.bidi.specs.declared.sequence_reasons.SequenceReasons.{SequenceReasons}
 use Rattle.bidi.specs.declared.sequence_steps.SequenceStep.{SequenceStep}
 
 -- X1 to X8 for the character at k: its explicit level and type, and the override that is in force at it
@@ -89,3 +90,29 @@ abbrev pub sequence_steps : (ℕ → Option Bracket) → ℕ → BidiClass → B
 sequence_steps bracket_of level sos eos characters types =
     let paired = brackets bracket_of (direction level) sos characters types (weak sos types) in
     numbered (sequence_step level sos types paired) 0 (neutral_steps (direction level) sos eos paired)
+
+-- a sequence: the indices of its characters, its level, sos and eos, and what the rules W1 to I2 do with each character
+pub record Sequence : Type 0 where
+  pub places : List ℕ
+  pub level : ℕ
+  pub sos : BidiClass
+  pub eos : BidiClass
+  pub steps : List SequenceStep
+
+abbrev pub sequence_of : SequenceReasons → Sequence
+sequence_of found = record { places = found.places.items; level = found.level; sos = found.sos; eos = found.eos; steps = found.steps.items }
+
+-- The sequences of a paragraph. The lists have one item for each character that X9 keeps, as in `resolved`.
+module _ (bracket_of : ℕ → Option Bracket) (base : ℕ) (characters : List ℕ) (classes : List BidiClass) (levels : List ℕ) (types : List BidiClass) where
+  abbrev pub sequence_reasons : List ℕ → Sequence
+  sequence_reasons sequence = record {
+    places = sequence;
+    level = slice_index levels (first_of sequence);
+    sos = sos base levels sequence;
+    eos = eos base classes levels sequence;
+    steps = sequence_steps bracket_of (slice_index levels (first_of sequence)) (sos base levels sequence) (eos base classes levels sequence)
+        (map (slice_index characters) sequence) (map (class_at types) sequence);
+  }
+
+  abbrev pub all_sequences : List Sequence
+  all_sequences = map sequence_reasons (sequences classes levels)

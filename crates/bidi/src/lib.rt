@@ -29,6 +29,7 @@ mod neutral_steps;
 mod neutral_table;
 mod resolver;
 mod sequence_levels;
+mod sequence_reasons;
 mod sequence_starts;
 mod sequence_steps;
 mod sequences;
