@@ -1,9 +1,9 @@
 -- The pass over the classes of a paragraph (X1 to X9): its state after k characters, and how each character
 -- changes the state.
-use Rattle.std.proofs.Common.{◌≡◌, ℕ, ◌+◌, ◌^◌, ◌<◌, ◌≤◌, Bool, true, false, cond, not, List, [], ◌∷◌, ◌++◌, length, take, drop, map, filter, fold, unwrap_or, if◌then◌else◌, refl, sym, ap, subst, ◌∙◌, inl, inr, arith, zero-add, length-drop, length-take, Option}
+use Rattle.std.proofs.Common.{◌≡◌, ℕ, ◌+◌, ◌^◌, ◌<◌, ◌≤◌, Bool, true, false, cond, not, List, [], ◌∷◌, ◌++◌, length, get_or, take, drop, map, filter, fold, unwrap_or, if◌then◌else◌, refl, sym, ap, subst, ◌∙◌, inl, inr, arith, zero-add, length-drop, length-take, Option}
 use Rattle.std.specs.List.{list_any, prefix_len, range_with_len}
-use Rattle.std.proofs.lemmas.Bool.{cond-true, cond-false, cases_Bool}
-use Rattle.std.proofs.lemmas.List.{append-nil, map-append, map-id}
+use Rattle.std.proofs.lemmas.Bool.{cond-true, cond-false, cases_Bool, cases_lt}
+use Rattle.std.proofs.lemmas.List.{append-nil, get_or-map, get_or_past, length-map, map-append, map-id}
 use Rattle.std.proofs.lemmas.List.Elements.{filter-append}
 use Rattle.std.proofs.lemmas.List.FromFn.{map-range_with_len_more}
 use Rattle.std.proofs.lemmas.List.Sums.{fold_more}
@@ -15,6 +15,8 @@ use Rattle.bidi.specs.declared.explicit.Stayed.{Stayed}
 use Rattle.ucd.specs.Classes.{class_at, is_initiator, is_pdi, is_separator}
 use Rattle.bidi.specs.Explicit.{close_embedding, close_isolate, open_after, open_chain, inside_at, level_at, type_at}
 use Rattle.ucd.specs.Classes.{is_removed}
+use Rattle.bidi.specs.Sequences.{stayed}
+use Rattle.bidi.specs.Stayed.{HasAll, IsStayed}
 use Rattle.bidi.specs.Openers.{innermost, Holds, Follows, AreOpeners}
 use Rattle.bidi.proofs.OpenersLemmas.{innermost-level, innermost-override, level-le}
 
@@ -185,3 +187,17 @@ module _ {classes : List BidiClass} {base k : ℕ} {openers : Openers} {left : S
     short = omega (arith, open_chain-length classes (if is_pdi (class_at classes k) then k + 1 else k));
     holds = holds;
   }
+
+-- the pass keeps a class, a level and a type for each kept character
+pub kept_all : (classes : List BidiClass) (base : ℕ) (left : Stayed) → base ≤ 1 → IsStayed classes base left → HasAll left
+kept_all classes base left low kept =
+    let places = stayed classes in
+    let size : length left.levels.items ≡ length places = ap length kept.levels_are ∙ length-map places (level_at base classes) in
+    record {
+      classes = ap length kept.classes_are ∙ length-map places (class_at classes) ∙ sym size;
+      types = ap length kept.types_are ∙ length-map places (type_at base classes) ∙ sym size;
+      bounded = λ k. elim (cases_lt k (length places)) [
+        | inl within ↦ rw (ap (λ levels. get_or levels k 0) kept.levels_are ∙ get_or-map (level_at base classes) places k 0 0 within) (level_at-bound base classes (get_or places k 0) low)
+        | inr past ↦ rw (get_or_past left.levels.items k 0 (omega arith)) (omega arith)
+      ];
+    }

@@ -8,7 +8,7 @@ use Rattle.bidi.specs.Brackets.{brackets}
 use Rattle.bidi.specs.Explicit.{inside_at, level_at, type_at}
 use Rattle.bidi.specs.Neighbours.{nearest}
 use Rattle.bidi.specs.Neutral.{agree, implicit_level, is_neutral, neutral_at}
-use Rattle.bidi.specs.Sequences.{direction, eos, first_of, sequences, sos}
+use Rattle.bidi.specs.Sequences.{direction, eos, first_of, sequences, sos, stayed}
 use Rattle.bidi.specs.Weak.{is_left, w1, w2, w3, w4, w5, w6, w7, weak}
 use Rattle.bidi.specs.declared.explicit_steps.ExplicitStep.{ExplicitStep}
 use Rattle.bidi.specs.declared.neutral_steps.NeutralRule.{NeutralRule}
@@ -116,3 +116,9 @@ module _ (bracket_of : ℕ → Option Bracket) (base : ℕ) (characters : List �
 
   abbrev pub all_sequences : List Sequence
   all_sequences = map sequence_reasons (sequences classes levels)
+
+-- the sequences of a paragraph, given its characters, their classes and the paragraph level, as in `levels_by`
+abbrev pub sequences_by : (ℕ → Option Bracket) → List ℕ → List BidiClass → ℕ → List Sequence
+sequences_by bracket_of text classes base =
+    let places = stayed classes in
+    all_sequences bracket_of base (map (slice_index text) places) (map (class_at classes) places) (map (level_at base classes) places) (map (type_at base classes) places)

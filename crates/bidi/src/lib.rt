@@ -27,6 +27,7 @@ mod levels;
 mod neutral;
 mod neutral_steps;
 mod neutral_table;
+mod reasons;
 mod resolver;
 mod sequence_levels;
 mod sequence_reasons;
