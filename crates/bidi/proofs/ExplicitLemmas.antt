@@ -42,6 +42,14 @@ stayed_to-more : (classes : List BidiClass) (k : ℕ) → stayed_to classes (k +
 stayed_to-more classes k =
     ap (filter (λ i. not (is_removed (class_at classes i)))) (numbers-more k) ∙ filter-append (λ i. not (is_removed (class_at classes i))) (range_with_len 0 k) (k ∷ [])
 
+pub kept_more : (classes : List BidiClass) (k : ℕ) (kept : List ℕ) → kept ≡ stayed_to classes k → is_removed (class_at classes k) ≡ false → kept ++ k ∷ [] ≡ stayed_to classes (k + 1)
+kept_more classes k kept are e =
+    ap (λ (l : List ℕ). l ++ k ∷ []) are ∙ sym (stayed_to-more classes k ∙ ap (λ (b : Bool). stayed_to classes k ++ cond (not b) (k ∷ []) []) e)
+
+pub kept_same : (classes : List BidiClass) (k : ℕ) (kept : List ℕ) → kept ≡ stayed_to classes k → is_removed (class_at classes k) ≡ true → kept ≡ stayed_to classes (k + 1)
+kept_same classes k kept are e =
+    are ∙ sym (stayed_to-more classes k ∙ ap (λ (b : Bool). stayed_to classes k ++ cond (not b) (k ∷ []) []) e ∙ append-nil (stayed_to classes k))
+
 module _ {X : Type 0} (f : ℕ → X) (classes : List BidiClass) (k : ℕ) where
   pub stays : is_removed (class_at classes k) ≡ false → map f (stayed_to classes (k + 1)) ≡ map f (stayed_to classes k) ++ f k ∷ []
   stays e =

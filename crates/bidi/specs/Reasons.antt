@@ -1,11 +1,17 @@
 -- How the algorithm arrives at each level: the types after each step, and what the rules looked at.
-use Rattle.std.specs.Prelude.{ℕ, suc, ◌+◌, Bool, not, List, [], ◌∷◌, length, map, slice_index, Option, Some, None, if◌then◌else◌}
+use Rattle.std.specs.Prelude.{◌≡◌, ℕ, suc, ◌+◌, Bool, not, List, [], ◌∷◌, length, map, slice_index, Option, Some, None, if◌then◌else◌}
 use Rattle.ucd.specs.declared.bidi_class.BidiClass.{BidiClass}
 use Rattle.std.specs.List.{range_with_len}
 use Rattle.ucd.specs.Classes.{class_at}
+use Rattle.ucd.specs.Tables.{bracket_of, class_of}
+use Rattle.ucd.specs.declared.tables.Tables.{Tables}
+use Rattle.bidi.specs.Base.{base_level_of}
+use Rattle.bidi.specs.Levels.{levels_of}
+use Rattle.bidi.specs.declared.base.Base.{Base}
+use Rattle.bidi.specs.declared.paragraph_reasons.ParagraphReasons.{ParagraphReasons}
 use Rattle.ucd.specs.declared.bracket.Bracket.{Bracket}
 use Rattle.bidi.specs.Brackets.{brackets}
-use Rattle.bidi.specs.Explicit.{inside_at, level_at, type_at}
+use Rattle.bidi.specs.Explicit.{directed, inside_at, level_at, type_at}
 use Rattle.bidi.specs.Neighbours.{nearest}
 use Rattle.bidi.specs.Neutral.{agree, implicit_level, is_neutral, neutral_at}
 use Rattle.bidi.specs.Sequences.{direction, eos, first_of, sequences, sos, stayed}
@@ -122,3 +128,12 @@ abbrev pub sequences_by : (ℕ → Option Bracket) → List ℕ → List BidiCla
 sequences_by bracket_of text classes base =
     let places = stayed classes in
     all_sequences bracket_of base (map (slice_index text) places) (map (class_at classes) places) (map (level_at base classes) places) (map (type_at base classes) places)
+
+-- `reasons` holds what each rule does with the characters of a paragraph
+pub record AreReasons (tables : Tables) (text : List ℕ) (base : Base) (reasons : ParagraphReasons) : Type 0 where
+  pub classes_are : reasons.classes.items ≡ directed (map (class_of tables) text)
+  pub explicit_are : reasons.explicit.items ≡ explicit_steps (base_level_of (map (class_of tables) text) base) (directed (map (class_of tables) text))
+  pub kept_are : reasons.kept.items ≡ stayed (directed (map (class_of tables) text))
+  pub sequences_are : map sequence_of reasons.sequences.items
+      ≡ sequences_by (bracket_of tables) text (directed (map (class_of tables) text)) (base_level_of (map (class_of tables) text) base)
+  pub levels_are : reasons.levels.items ≡ levels_of tables text base

@@ -10,7 +10,7 @@ use Rattle.bidi.specs.Sequences.{stayed}
 use Rattle.bidi.specs.Stayed.{HasAll, IsStayed}
 use Rattle.bidi.proofs.BracketTypeLemmas.{types-kept}
 use Rattle.bidi.proofs.ExplicitLemmas.{kept_all}
-use Rattle.bidi.proofs.reasons.sequences_by.Goals as goal
+use Rattle.bidi.proofs.paragraph_reasons.sequences_by.Goals as goal
 
 pub all_sequences-requires-clause-paragraph : goal.all_sequences-requires-clause-paragraph
 all_sequences-requires-clause-paragraph c =
