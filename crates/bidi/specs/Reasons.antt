@@ -6,6 +6,7 @@ use Rattle.ucd.specs.Classes.{class_at}
 use Rattle.ucd.specs.Tables.{bracket_of, class_of}
 use Rattle.ucd.specs.declared.tables.Tables.{Tables}
 use Rattle.bidi.specs.Base.{base_level_of}
+use Rattle.bidi.specs.Isolates.{matches_of}
 use Rattle.bidi.specs.Levels.{levels_of}
 use Rattle.bidi.specs.declared.base.Base.{Base}
 use Rattle.bidi.specs.declared.paragraph_reasons.ParagraphReasons.{ParagraphReasons}
@@ -15,7 +16,7 @@ use Rattle.bidi.specs.Explicit.{directed, inside_at, level_at, type_at}
 use Rattle.bidi.specs.Neighbours.{nearest}
 use Rattle.bidi.specs.Neutral.{agree, implicit_level, is_neutral, neutral_at}
 use Rattle.bidi.specs.Sequences.{direction, eos, first_of, sequences, sos, stayed}
-use Rattle.bidi.specs.Weak.{is_left, w1, w2, w3, w4, w5, w6, w7, weak}
+use Rattle.bidi.specs.Weak.{is_left, w1, w2, w3, w4, w5, w6, weak}
 use Rattle.bidi.specs.declared.explicit_steps.ExplicitStep.{ExplicitStep}
 use Rattle.bidi.specs.declared.neutral_steps.NeutralRule.{NeutralRule}
 use Rattle.bidi.specs.declared.neutral_steps.NeutralRule.TheVariants.{N1, N2}
@@ -132,6 +133,7 @@ sequences_by bracket_of text classes base =
 -- `reasons` holds what each rule does with the characters of a paragraph
 pub record AreReasons (tables : Tables) (text : List ℕ) (base : Base) (reasons : ParagraphReasons) : Type 0 where
   pub classes_are : reasons.classes.items ≡ directed (map (class_of tables) text)
+  pub matches_are : reasons.matches.items ≡ matches_of (directed (map (class_of tables) text))
   pub explicit_are : reasons.explicit.items ≡ explicit_steps (base_level_of (map (class_of tables) text) base) (directed (map (class_of tables) text))
   pub kept_are : reasons.kept.items ≡ stayed (directed (map (class_of tables) text))
   pub sequences_are : map sequence_of reasons.sequences.items

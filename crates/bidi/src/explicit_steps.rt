@@ -1,5 +1,6 @@
-//! The explicit level and type of each character of a paragraph (UAX #9, X1 to X8), for callers that show how the
-//! algorithm arrives at a level. `explicit` has the fast pass, which skips the characters that X9 removes.
+//! The explicit level and type of each character of a paragraph (UAX #9, X1 to X8), for callers that
+//! show how the algorithm arrives at a level. `explicit` has the fast pass, which skips the characters
+//! that X9 removes.
 ghost use Rattle.std.specs.Prelude.{◌≡◌, ◌≤◌, unwrap_or, IfOk, if◌then◌else◌};
 ghost use Rattle.ucd.specs.Classes.{is_separator};
 ghost use Rattle.bidi.specs.Reasons.{explicit_steps};
@@ -22,7 +23,8 @@ pub struct ExplicitStep {
 // Returns the step of a character, given the state inside the innermost opener that does not overflow.
 fn step_in(status: Status, class: BidiClass, base: u8) -> ExplicitStep
     ensures level { result.level ≡ (if is_separator class then base else status.level) }
-    ensures class { result.class ≡ (if is_separator class then class else unwrap_or status.overriding class) }
+    ensures class { result.class ≡ (if is_separator class then class
+        else unwrap_or status.overriding class) }
     ensures overriding { result.overriding ≡ status.overriding }
 {
     let overriding = status.overriding;
@@ -40,8 +42,8 @@ fn step_in(status: Status, class: BidiClass, base: u8) -> ExplicitStep
     }
 }
 
-/// Returns what X1 to X8 do with each character of a paragraph. In `classes`, each FSI must already be replaced by
-/// LRI or RLI.
+/// Returns what X1 to X8 do with each character of a paragraph. In `classes`, each FSI must already be
+/// replaced by LRI or RLI.
 pub fn explicit_steps(
     alloc: Global,
     classes: &[BidiClass],

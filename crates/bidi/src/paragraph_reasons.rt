@@ -5,6 +5,7 @@ ghost use Rattle.ucd.specs.declared.bracket.Bracket.{Bracket};
 ghost use Rattle.bidi.specs.BracketTypes.{bracket_types};
 ghost use Rattle.bidi.specs.Reasons.{explicit_steps, sequence_of, sequences_by, AreReasons};
 ghost use Rattle.bidi.specs.Explicit.{directed};
+ghost use Rattle.bidi.specs.Isolates.{matches_of};
 ghost use Rattle.bidi.specs.Sequences.{stayed};
 
 use crate::base::{Base, base_level_of};
@@ -25,6 +26,8 @@ use ucd::{BidiClass, Tables};
 pub struct ParagraphReasons {
     /// The class of each character. Each FSI is replaced by the LRI or RLI that it acts as (X5c).
     pub classes: Vec<BidiClass>,
+    /// The index of the PDI that matches an isolate initiator (BD9), or the length.
+    pub matches: Vec<usize>,
     /// What X1 to X8 do with each character.
     pub explicit: Vec<ExplicitStep>,
     /// The indices of the characters that X9 keeps.
@@ -75,8 +78,8 @@ fn kept_indices(alloc: Global, classes: &[BidiClass]) -> Result<Vec<usize>, Allo
     Ok(list)
 }
 
-// Returns the sequences of a paragraph, given the bracket types and classes of its characters and the paragraph level.
-// In `classes`, each FSI must already be replaced by LRI or RLI.
+// Returns the sequences of a paragraph, given the bracket types and classes of its characters and the
+// paragraph level. In `classes`, each FSI must already be replaced by LRI or RLI.
 fn sequences_by(
     alloc: Global,
     kinds: &[BracketType],
@@ -85,7 +88,8 @@ fn sequences_by(
 ) -> Result<Vec<SequenceReasons>, AllocError>
     requires low { base ≤ 1 }
     requires kinds { length kinds.now ≡ length classes.now }
-    ensures { IfOk result (λ list. (look : ℕ → Option Bracket) (text : List ℕ) → kinds.now ≡ bracket_types look text
+    ensures { IfOk result (λ list. (look : ℕ → Option Bracket) (text : List ℕ) → kinds.now
+        ≡ bracket_types look text
         → map sequence_of list.items ≡ sequences_by look text classes.now base) }
 {
     let mut stayed = Stayed::new(alloc);
@@ -107,7 +111,8 @@ fn sequences_by(
     Ok(list)
 }
 
-// Returns the reasons, given the classes and bracket types of the characters, the paragraph level and the levels.
+// Returns the reasons, given the classes and bracket types of the characters, the paragraph level and
+// the levels.
 fn with_steps(
     alloc: Global,
     classes: &[BidiClass],
@@ -118,7 +123,9 @@ fn with_steps(
     requires low { base ≤ 1 }
     requires kinds { length kinds.now ≡ length classes.now }
     ensures classes { IfOk result (λ reasons. reasons.classes.items ≡ directed classes.now) }
-    ensures explicit { IfOk result (λ reasons. reasons.explicit.items ≡ explicit_steps base (directed classes.now)) }
+    ensures matches { IfOk result (λ reasons. reasons.matches.items ≡ matches_of (directed classes.now)) }
+    ensures explicit { IfOk result (λ reasons. reasons.explicit.items
+        ≡ explicit_steps base (directed classes.now)) }
     ensures kept { IfOk result (λ reasons. reasons.kept.items ≡ stayed (directed classes.now)) }
     ensures sequences { IfOk result (λ reasons. (look : ℕ → Option Bracket) (text : List ℕ)
         → kinds.now ≡ bracket_types look text
@@ -131,8 +138,12 @@ fn with_steps(
     let explicit = explicit_steps(alloc, &acting, base)?;
     let kept = kept_indices(alloc, &acting)?;
     let sequences = sequences_by(alloc, kinds, &acting, base)?;
+    let mut matches = Vec::new(alloc);
+    let mut pending = Vec::new(alloc);
+    find_matches(&acting, &mut matches, &mut pending)?;
     Ok(ParagraphReasons {
         classes: acting,
+        matches,
         explicit,
         kept,
         sequences,
@@ -140,8 +151,8 @@ fn with_steps(
     })
 }
 
-/// Returns how the algorithm arrives at the levels of one paragraph. The text need not be a paragraph: it may be any
-/// list of characters. The time is proportional to its length.
+/// Returns how the algorithm arrives at the levels of one paragraph. The text need not be a paragraph:
+/// it may be any list of characters. The time is proportional to its length.
 pub fn reasons(
     alloc: Global,
     tables: &Tables,

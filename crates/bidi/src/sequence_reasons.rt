@@ -1,5 +1,5 @@
-//! What the rules W1 to I2 (UAX #9) do with each isolating run sequence of a paragraph, for callers that show how the
-//! algorithm arrives at a level.
+//! What the rules W1 to I2 (UAX #9) do with each isolating run sequence of a paragraph, for callers
+//! that show how the algorithm arrives at a level.
 ghost use Rattle.std.specs.Prelude.{◌≡◌, ◌<◌, true, length, map, IfOk};
 ghost use Rattle.bidi.specs.Paragraphs.{IsReady, OfAllTexts, sequence_in};
 ghost use Rattle.bidi.specs.Reasons.{all_sequences, sequence_of, sequence_reasons};
@@ -33,7 +33,8 @@ fn sequence_at(
     requires paragraph { IsReady paragraph.now }
     requires any { paragraph.now.brackets.has_any ≡ true }
     requires within { start < length paragraph.now.stayed.now.levels.items }
-    ensures { IfOk result (λ found. OfAllTexts paragraph.now.brackets (length paragraph.now.stayed.now.levels.items)
+    ensures { IfOk result (λ found. OfAllTexts paragraph.now.brackets
+        (length paragraph.now.stayed.now.levels.items)
         (λ look text. sequence_of found ≡ sequence_reasons look paragraph.now.base text
         paragraph.now.stayed.now.classes.items paragraph.now.stayed.now.levels.items
         paragraph.now.stayed.now.types.items (sequence_in paragraph.now start))) }
@@ -71,7 +72,8 @@ fn sequences_at(
     requires paragraph { IsReady paragraph.now }
     requires any { paragraph.now.brackets.has_any ≡ true }
     requires within { AreWithin (length paragraph.now.stayed.now.levels.items) starts.now }
-    ensures { IfOk result (λ list. OfAllTexts paragraph.now.brackets (length paragraph.now.stayed.now.levels.items)
+    ensures { IfOk result (λ list. OfAllTexts paragraph.now.brackets
+        (length paragraph.now.stayed.now.levels.items)
         (λ look text. map sequence_of list.items ≡ map (λ start. sequence_reasons look paragraph.now.base text
         paragraph.now.stayed.now.classes.items paragraph.now.stayed.now.levels.items
         paragraph.now.stayed.now.types.items (sequence_in paragraph.now start)) starts.now)) }
@@ -90,7 +92,8 @@ pub(crate) fn all_sequences(
 ) -> Result<Vec<SequenceReasons>, AllocError>
     requires paragraph { IsReady paragraph.now }
     requires any { paragraph.now.brackets.has_any ≡ true }
-    ensures { IfOk result (λ list. OfAllTexts paragraph.now.brackets (length paragraph.now.stayed.now.levels.items)
+    ensures { IfOk result (λ list. OfAllTexts paragraph.now.brackets
+        (length paragraph.now.stayed.now.levels.items)
         (λ look text. map sequence_of list.items ≡ all_sequences look paragraph.now.base text
         paragraph.now.stayed.now.classes.items paragraph.now.stayed.now.levels.items
         paragraph.now.stayed.now.types.items)) }

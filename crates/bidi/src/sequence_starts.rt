@@ -1,5 +1,5 @@
-//! Where the isolating run sequences of a paragraph begin (UAX #9, BD13), for callers that show how the algorithm
-//! arrives at a level.
+//! Where the isolating run sequences of a paragraph begin (UAX #9, BD13), for callers that show how the
+//! algorithm arrives at a level.
 ghost use Rattle.std.specs.Prelude.{◌≡◌, [], false, length, map, replicate, IfOk, OnOk};
 ghost use Rattle.bidi.specs.Isolates.{matches_of};
 ghost use Rattle.bidi.specs.Runs.{sequence_at};
@@ -41,8 +41,8 @@ fn push_starts(
     Ok(())
 }
 
-/// Returns where each sequence begins, given the classes and levels of the characters that X9 keeps, and the
-/// matches of their isolate initiators.
+/// Returns where each sequence begins, given the classes and levels of the characters that X9 keeps,
+/// and the matches of their isolate initiators.
 pub fn sequence_starts(
     alloc: Global,
     classes: &[BidiClass],

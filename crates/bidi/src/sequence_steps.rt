@@ -1,5 +1,5 @@
-//! What the rules W1 to I2 (UAX #9) do with the types of one isolating run sequence, for callers that show how the
-//! algorithm arrives at a level. `sequence_levels` has the fast pass.
+//! What the rules W1 to I2 (UAX #9) do with the types of one isolating run sequence, for callers that
+//! show how the algorithm arrives at a level. `sequence_levels` has the fast pass.
 ghost use Rattle.std.specs.Prelude.{◌≡◌, ℕ, ◌≤◌, length, IfOk, List, Option};
 ghost use Rattle.ucd.specs.Classes.{class_at};
 ghost use Rattle.ucd.specs.declared.bracket.Bracket.{Bracket};
@@ -152,7 +152,8 @@ fn pair(
 ) -> Result<Vec<BidiClass>, AllocError>
     requires kinds { length kinds.now ≡ length types.now }
     requires explicit { length explicit.now ≡ length types.now }
-    ensures { IfOk result (λ paired. (look : ℕ → Option Bracket) (text : List ℕ) → kinds.now ≡ bracket_types look text
+    ensures { IfOk result (λ paired. (look : ℕ → Option Bracket) (text : List ℕ) → kinds.now
+        ≡ bracket_types look text
         → paired.items ≡ brackets look (direction sides.level) sides.sos text explicit.now types.now) }
 {
     let mut paired = Vec::from_slice(alloc, types)?;
@@ -176,7 +177,8 @@ fn gather_steps(
     neutral: &[NeutralStep],
 ) -> Result<Vec<SequenceStep>, AllocError>
     requires { level ≤ 125 }
-    ensures { IfOk result (λ list. (sos : BidiClass) (types : List BidiClass) → AreWeakSteps sos types weak.now
+    ensures { IfOk result (λ list. (sos : BidiClass) (types : List BidiClass)
+        → AreWeakSteps sos types weak.now
         → list.items ≡ numbered (sequence_step level sos types paired.now) 0 neutral.now) }
 {
     let mut list = Vec::with_capacity(alloc, neutral.len())?;
@@ -186,8 +188,8 @@ fn gather_steps(
     Ok(list)
 }
 
-/// Returns what the rules W1 to I2 do with each character of a sequence, given the bracket types and explicit types
-/// of its characters.
+/// Returns what the rules W1 to I2 do with each character of a sequence, given the bracket types and
+/// explicit types of its characters.
 pub fn sequence_steps(
     alloc: Global,
     kinds: &[BracketType],
@@ -196,7 +198,8 @@ pub fn sequence_steps(
 ) -> Result<Vec<SequenceStep>, AllocError>
     requires kinds { length kinds.now ≡ length types.now }
     requires bounded { sides.level ≤ 125 }
-    ensures { IfOk result (λ list. (look : ℕ → Option Bracket) (text : List ℕ) → kinds.now ≡ bracket_types look text
+    ensures { IfOk result (λ list. (look : ℕ → Option Bracket) (text : List ℕ) → kinds.now
+        ≡ bracket_types look text
         → list.items ≡ sequence_steps look sides.level sides.sos sides.eos text types.now) }
 {
     let weak = weak_steps(alloc, sides.sos, types)?;

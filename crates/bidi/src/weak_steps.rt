@@ -1,10 +1,11 @@
-//! The types of one isolating run sequence after each weak rule (UAX #9, W1 to W7), for callers that show how the
-//! algorithm arrives at a level. `weak` has the fast pass for all rules.
+//! The types of one isolating run sequence after each weak rule (UAX #9, W1 to W7), for callers that
+//! show how the algorithm arrives at a level. `weak` has the fast pass for all rules.
 ghost use Rattle.std.specs.Prelude.{◌≡◌, ◌∷◌, ◌&&◌, ◌||◌, [], not, if◌then◌else◌, IfOk};
 ghost use Rattle.ucd.specs.declared.bidi_class.BidiClass.TheVariants.{EN, ET, L, ON};
 ghost use Rattle.bidi.specs.Neighbours.{nearest};
 ghost use Rattle.bidi.specs.Waiting.{digit_type};
-ghost use Rattle.bidi.specs.Weak.{is_arabic, is_left, is_number, is_terminator, w1, w2, w3, w4, w4_at, w5, w6};
+ghost use Rattle.bidi.specs.Weak.{is_arabic, is_left, is_number, is_terminator, w1, w2, w3};
+ghost use Rattle.bidi.specs.Weak.{w4, w4_at, w5, w6};
 ghost use Rattle.bidi.specs.Weak.{w6_type, w7};
 
 use crate::weak::{is_left, is_strong, mark_type, w3_type};
@@ -67,7 +68,8 @@ fn nearest_other(types: &[BidiClass]) -> BidiClass
 
 // W5 for a type, given the nearest types before and after it that are not ET.
 fn terminator_type(before: BidiClass, class: BidiClass, next: BidiClass) -> BidiClass
-    ensures { result ≡ (if is_terminator class then (if is_number before || is_number next then EN else ET) else class) }
+    ensures { result ≡ (if is_terminator class then (if is_number before || is_number next then EN
+        else ET) else class) }
 {
     if is_terminator(class) && (is_number(before) || is_number(next)) {
         BidiClass::EN

@@ -1,4 +1,4 @@
-use Rattle.std.proofs.Common.{sym, ◌∙◌, arith}
+use Rattle.std.proofs.Common.{arith}
 use Rattle.std.proofs.lemmas.List.{get_or_default}
 use Rattle.ucd.specs.declared.bidi_class.BidiClass.TheVariants.{L, ON}
 use Rattle.bidi.proofs.ExplicitStepLemmas.{are_openers, are_reached, more_steps, reached_is}

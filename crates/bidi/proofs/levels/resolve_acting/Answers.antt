@@ -1,16 +1,15 @@
-use Rattle.std.proofs.Common.{◌≡◌, ℕ, ◌≤◌, List, length, map, get_or, slice_index, not, Bool, None, Option, refl, sym, ap, ◌∙◌, inl, inr, arith}
-use Rattle.std.proofs.lemmas.Bool.{cases_lt}
-use Rattle.std.proofs.lemmas.List.{get_or-map, get_or_past, length-map}
+use Rattle.std.proofs.Common.{◌≡◌, ℕ, List, length, map, slice_index, not, Bool, None, Option, refl, sym, ap, ◌∙◌, arith}
+use Rattle.std.proofs.lemmas.List.{length-map}
 use Rattle.bidi.specs.BracketTypes.{bracket_at}
 use Rattle.ucd.specs.declared.bracket.Bracket.{Bracket}
 use Rattle.ucd.specs.declared.bidi_class.BidiClass.{BidiClass}
 use Rattle.bidi.specs.declared.explicit.Stayed.{Stayed}
 use Rattle.ucd.specs.Classes.{class_at}
-use Rattle.bidi.specs.Explicit.{level_at, type_at}
+use Rattle.bidi.specs.Explicit.{level_at}
 use Rattle.bidi.specs.Levels.{levels_by, put_back, resolved}
 use Rattle.ucd.specs.Classes.{is_removed}
 use Rattle.bidi.specs.Sequences.{stayed}
-use Rattle.bidi.specs.Stayed.{HasAll, IsStayed}
+use Rattle.bidi.specs.Stayed.{IsStayed}
 use Rattle.bidi.specs.Paragraphs.{AreBracketsOf}
 use Rattle.bidi.proofs.BracketTypeLemmas.{types-kept}
 use Rattle.bidi.proofs.PartLemmas.{All-kept}

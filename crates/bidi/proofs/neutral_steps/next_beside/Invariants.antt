@@ -1,4 +1,4 @@
-use Rattle.std.proofs.Common.{◌≡◌, ◌≤◌, drop}
+use Rattle.std.proofs.Common.{◌≡◌, drop}
 use Rattle.bidi.specs.Neighbours.{nearest}
 use Rattle.bidi.specs.Reasons.{index_from}
 use Rattle.bidi.proofs.NeutralStepLemmas.{is_side}

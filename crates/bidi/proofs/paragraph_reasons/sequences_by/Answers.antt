@@ -2,7 +2,7 @@ use Rattle.std.proofs.Common.{◌≡◌, ℕ, Bool, true, not, length, map, slic
 use Rattle.std.proofs.lemmas.List.{length-map}
 use Rattle.ucd.specs.Classes.{class_at, is_removed}
 use Rattle.bidi.specs.BracketTypes.{bracket_at, type_by}
-use Rattle.bidi.specs.Explicit.{level_at, type_at}
+use Rattle.bidi.specs.Explicit.{level_at}
 use Rattle.bidi.specs.Isolates.{matches_of}
 use Rattle.bidi.specs.Paragraphs.{AreBracketsOf}
 use Rattle.bidi.specs.Reasons.{all_sequences}

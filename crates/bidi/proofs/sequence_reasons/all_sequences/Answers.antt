@@ -1,6 +1,5 @@
-use Rattle.std.proofs.Common.{◌≡◌, ℕ, List, length, map, sym, ap, ap₂, ◌∙◌}
+use Rattle.std.proofs.Common.{◌≡◌, ℕ, List, map, sym, ap, ap₂, ◌∙◌}
 use Rattle.std.proofs.lemmas.Simd.{map-map}
-use Rattle.ucd.specs.Within.{AreWithin}
 use Rattle.bidi.specs.Paragraphs.{sequence_in}
 use Rattle.bidi.specs.Reasons.{Sequence, sequence_reasons}
 use Rattle.bidi.specs.Runs.{sequence_at}

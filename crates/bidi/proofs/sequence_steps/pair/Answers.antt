@@ -1,7 +1,6 @@
 use Rattle.std.proofs.Common.{ap, ◌∙◌}
 use Rattle.std.proofs.lemmas.List.{with_items_is}
 use Rattle.bidi.specs.Brackets.{brackets}
-use Rattle.bidi.specs.Sequences.{direction}
 use Rattle.bidi.proofs.sequence_steps.pair.Goals as goal
 
 pub returns : goal.returns
