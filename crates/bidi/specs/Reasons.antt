@@ -98,6 +98,10 @@ sequence_steps bracket_of level sos eos characters types =
     let paired = brackets bracket_of (direction level) sos characters types (weak sos types) in
     numbered (sequence_step level sos types paired) 0 (neutral_steps (direction level) sos eos paired)
 
+-- the levels after I1 and I2
+abbrev pub levels_in : List SequenceStep → List ℕ
+levels_in steps = map (λ step. step.level) steps
+
 -- a sequence: the indices of its characters, its level, sos and eos, and what the rules W1 to I2 do with each character
 pub record Sequence : Type 0 where
   pub places : List ℕ

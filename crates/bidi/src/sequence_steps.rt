@@ -5,8 +5,9 @@ ghost use Rattle.ucd.specs.Classes.{class_at};
 ghost use Rattle.ucd.specs.declared.bracket.Bracket.{Bracket};
 ghost use Rattle.bidi.specs.BracketTypes.{bracket_types};
 ghost use Rattle.bidi.specs.Brackets.{brackets};
+ghost use Rattle.bidi.specs.Levels.{sequence_levels};
 ghost use Rattle.bidi.specs.Neutral.{implicit_level, rise_even, rise_odd};
-ghost use Rattle.bidi.specs.Reasons.{numbered, sequence_step, sequence_steps};
+ghost use Rattle.bidi.specs.Reasons.{levels_in, numbered, sequence_step, sequence_steps};
 ghost use Rattle.bidi.specs.SequenceSteps.{AreWeakSteps};
 ghost use Rattle.bidi.specs.Sequences.{direction};
 ghost use Rattle.ucd.specs.declared.bidi_class.BidiClass.{BidiClass};
@@ -198,9 +199,12 @@ pub fn sequence_steps(
 ) -> Result<Vec<SequenceStep>, AllocError>
     requires kinds { length kinds.now ≡ length types.now }
     requires bounded { sides.level ≤ 125 }
-    ensures { IfOk result (λ list. (look : ℕ → Option Bracket) (text : List ℕ) → kinds.now
+    ensures steps { IfOk result (λ list. (look : ℕ → Option Bracket) (text : List ℕ) → kinds.now
         ≡ bracket_types look text
         → list.items ≡ sequence_steps look sides.level sides.sos sides.eos text types.now) }
+    ensures levels { IfOk result (λ list. (look : ℕ → Option Bracket) (text : List ℕ) → kinds.now
+        ≡ bracket_types look text
+        → levels_in list.items ≡ sequence_levels look sides.level sides.sos sides.eos text types.now) }
 {
     let weak = weak_steps(alloc, sides.sos, types)?;
     let paired = pair(alloc, kinds, types, &weak.w7, sides)?;

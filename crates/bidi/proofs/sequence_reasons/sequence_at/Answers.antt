@@ -38,7 +38,7 @@ returns c look text are =
     let before : sides.sos ≡ sos p.base levels sequence = are_sides.sos_is ∙ ap (sos p.base levels) here in
     let after : sides.eos ≡ eos p.base classes levels sequence = are_sides.eos_is ∙ ap (eos p.base classes levels) here in
     let steps : c.in_ok-steps.steps.items ≡ sequence_steps look sides.level sides.sos sides.eos (map (slice_index text) sequence) (map (class_at explicit) sequence) =
-    c.in_ok-steps.ensures look part kinds ∙ ap (sequence_steps look sides.level sides.sos sides.eos part) types
+    c.in_ok-steps.ensures.steps look part kinds ∙ ap (sequence_steps look sides.level sides.sos sides.eos part) types
     ∙ ap (λ ps. sequence_steps look sides.level sides.sos sides.eos (map (slice_index text) ps) (map (class_at explicit) ps)) places in
     ap₂ (λ ps ss. made ps sides.level sides.sos sides.eos ss) places steps
     ∙ ap (λ l. made sequence l sides.sos sides.eos (sequence_steps look l sides.sos sides.eos (map (slice_index text) sequence) (map (class_at explicit) sequence))) level
