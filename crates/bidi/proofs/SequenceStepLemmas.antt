@@ -10,7 +10,6 @@ use Rattle.bidi.specs.Reasons.{each_into, levels_in, neutral_step, neutral_steps
 use Rattle.bidi.specs.Sequences.{direction}
 use Rattle.bidi.specs.Weak.{weak}
 use Rattle.bidi.specs.declared.neutral_steps.NeutralStep.{NeutralStep}
-use Rattle.bidi.specs.declared.sequence_steps.SequenceStep.{SequenceStep}
 
 -- N1 and N2 step by step give the types of N1 and N2
 classes_by : (embedding sos eos : BidiClass) (before types : List BidiClass)
