@@ -1,9 +1,9 @@
 -- The pass over the classes of a paragraph (X1 to X9): its state after k characters, and how each character
 -- changes the state.
-use Rattle.std.proofs.Common.{◌≡◌, ℕ, ◌+◌, ◌^◌, ◌<◌, ◌≤◌, Bool, true, false, cond, not, List, [], ◌∷◌, ◌++◌, length, take, drop, map, filter, fold, unwrap_or, if◌then◌else◌, refl, sym, ap, subst, ◌∙◌, inl, inr, arith, zero-add, length-drop, length-take, Option}
+use Rattle.std.proofs.Common.{◌≡◌, ℕ, ◌+◌, ◌^◌, ◌<◌, ◌≤◌, Bool, true, false, cond, not, List, [], ◌∷◌, ◌++◌, length, get_or, take, drop, map, filter, fold, unwrap_or, if◌then◌else◌, refl, sym, ap, subst, ◌∙◌, inl, inr, arith, zero-add, length-drop, length-take, Option}
 use Rattle.std.specs.List.{list_any, prefix_len, range_with_len}
-use Rattle.std.proofs.lemmas.Bool.{cond-true, cond-false, cases_Bool}
-use Rattle.std.proofs.lemmas.List.{append-nil, map-append, map-id}
+use Rattle.std.proofs.lemmas.Bool.{cond-true, cond-false, cases_Bool, cases_lt}
+use Rattle.std.proofs.lemmas.List.{append-nil, get_or-map, get_or_past, length-map, map-append, map-id}
 use Rattle.std.proofs.lemmas.List.Elements.{filter-append}
 use Rattle.std.proofs.lemmas.List.FromFn.{map-range_with_len_more}
 use Rattle.std.proofs.lemmas.List.Sums.{fold_more}
@@ -15,6 +15,8 @@ use Rattle.bidi.specs.declared.explicit.Stayed.{Stayed}
 use Rattle.ucd.specs.Classes.{class_at, is_initiator, is_pdi, is_separator}
 use Rattle.bidi.specs.Explicit.{close_embedding, close_isolate, open_after, open_chain, inside_at, level_at, type_at}
 use Rattle.ucd.specs.Classes.{is_removed}
+use Rattle.bidi.specs.Sequences.{stayed}
+use Rattle.bidi.specs.Stayed.{HasAll, IsStayed}
 use Rattle.bidi.specs.Openers.{innermost, Holds, Follows, AreOpeners}
 use Rattle.bidi.proofs.OpenersLemmas.{innermost-level, innermost-override, level-le}
 
@@ -28,7 +30,7 @@ level_at-bound base classes k low =
     ]
 
 -- the numbers below k + 1 are the numbers below k, and k itself
-numbers-more : (k : ℕ) → range_with_len 0 (k + 1) ≡ range_with_len 0 k ++ k ∷ []
+pub numbers-more : (k : ℕ) → range_with_len 0 (k + 1) ≡ range_with_len 0 k ++ k ∷ []
 numbers-more k =
     sym (map-id (range_with_len 0 (k + 1))) ∙ map-range_with_len_more (λ x. x) 0 k k (zero-add k) ∙ ap (λ (l : List ℕ). l ++ k ∷ []) (map-id (range_with_len 0 k))
 
@@ -39,6 +41,14 @@ stayed_to classes k = filter (λ i. not (is_removed (class_at classes i))) (rang
 stayed_to-more : (classes : List BidiClass) (k : ℕ) → stayed_to classes (k + 1) ≡ stayed_to classes k ++ cond (not (is_removed (class_at classes k))) (k ∷ []) []
 stayed_to-more classes k =
     ap (filter (λ i. not (is_removed (class_at classes i)))) (numbers-more k) ∙ filter-append (λ i. not (is_removed (class_at classes i))) (range_with_len 0 k) (k ∷ [])
+
+pub kept_more : (classes : List BidiClass) (k : ℕ) (kept : List ℕ) → kept ≡ stayed_to classes k → is_removed (class_at classes k) ≡ false → kept ++ k ∷ [] ≡ stayed_to classes (k + 1)
+kept_more classes k kept are e =
+    ap (λ (l : List ℕ). l ++ k ∷ []) are ∙ sym (stayed_to-more classes k ∙ ap (λ (b : Bool). stayed_to classes k ++ cond (not b) (k ∷ []) []) e)
+
+pub kept_same : (classes : List BidiClass) (k : ℕ) (kept : List ℕ) → kept ≡ stayed_to classes k → is_removed (class_at classes k) ≡ true → kept ≡ stayed_to classes (k + 1)
+kept_same classes k kept are e =
+    are ∙ sym (stayed_to-more classes k ∙ ap (λ (b : Bool). stayed_to classes k ++ cond (not b) (k ∷ []) []) e ∙ append-nil (stayed_to classes k))
 
 module _ {X : Type 0} (f : ℕ → X) (classes : List BidiClass) (k : ℕ) where
   pub stays : is_removed (class_at classes k) ≡ false → map f (stayed_to classes (k + 1)) ≡ map f (stayed_to classes k) ++ f k ∷ []
@@ -80,7 +90,7 @@ opened-length : (chain classes : List BidiClass) → length (fold open_after cha
 opened-length chain [] = omega arith
 opened-length chain (class ∷ classes) = omega (arith, opened-length (open_after chain class) classes, open_after-length chain class)
 
-open_chain-length : (classes : List BidiClass) (k : ℕ) → length (open_chain classes k) ≤ length classes
+pub open_chain-length : (classes : List BidiClass) (k : ℕ) → length (open_chain classes k) ≤ length classes
 open_chain-length classes k = omega (arith, opened-length [] (take k classes), length-take k classes)
 
 -- a PDI closes the innermost isolate
@@ -96,7 +106,7 @@ module _ (classes : List BidiClass) (k : ℕ) (within : k < length classes) (cla
   chain_at-other : is_pdi class ≡ false → chain_at classes k ≡ open_chain classes k
   chain_at-other other = ap (open_chain classes) (cond-false (is_pdi (class_at classes k)) (k + 1) k (sym (ap is_pdi at) ∙ other))
 
-  chain_at-is : (if is_pdi class then close_isolate (open_chain classes k) else open_chain classes k) ≡ chain_at classes k
+  pub chain_at-is : (if is_pdi class then close_isolate (open_chain classes k) else open_chain classes k) ≡ chain_at classes k
   chain_at-is =
       elim (cases_Bool (is_pdi class)) [
         | inl pdi ↦ let here : is_pdi (class_at classes k) ≡ true = sym (ap is_pdi at) ∙ pdi in
@@ -106,7 +116,7 @@ module _ (classes : List BidiClass) (k : ℕ) (within : k < length classes) (cla
         | inr other ↦ cond-false (is_pdi class) (close_isolate (open_chain classes k)) (open_chain classes k) other ∙ sym (chain_at-other other)
       ]
 
-  chain_at-next : (if is_pdi class then chain_at classes k else open_after (chain_at classes k) class) ≡ open_chain classes (k + 1)
+  pub chain_at-next : (if is_pdi class then chain_at classes k else open_after (chain_at classes k) class) ≡ open_chain classes (k + 1)
   chain_at-next =
       elim (cases_Bool (is_pdi class)) [
         | inl pdi ↦ cond-true (is_pdi class) (chain_at classes k) (open_after (chain_at classes k) class) pdi
@@ -116,12 +126,12 @@ module _ (classes : List BidiClass) (k : ℕ) (within : k < length classes) (cla
       ]
 
   -- the level and type that the pass appends for a character are its explicit level and type
-  level_is : (base : ℕ) (status : Status) → status ≡ innermost base (chain_at classes k) → (if is_separator class then base else status.level) ≡ level_at base classes k
+  pub level_is : (base : ℕ) (status : Status) → status ≡ innermost base (chain_at classes k) → (if is_separator class then base else status.level) ≡ level_at base classes k
   level_is base status inner =
       ap (λ (n : ℕ). if is_separator class then base else n) (ap (λ (s : Status). s.level) inner ∙ innermost-level base (chain_at classes k))
       ∙ ap (λ (c : BidiClass). if is_separator c then base else (inside_at base classes k).level) at
 
-  type_is : (base : ℕ) (status : Status) → status ≡ innermost base (chain_at classes k) → (if is_separator class then class else unwrap_or status.overriding class) ≡ type_at base classes k
+  pub type_is : (base : ℕ) (status : Status) → status ≡ innermost base (chain_at classes k) → (if is_separator class then class else unwrap_or status.overriding class) ≡ type_at base classes k
   type_is base status inner =
       ap (λ (o : Option BidiClass). if is_separator class then class else unwrap_or o class) (ap (λ (s : Status). s.overriding) inner ∙ innermost-override base (chain_at classes k))
       ∙ ap (λ (c : BidiClass). if is_separator c then c else unwrap_or (inside_at base classes k).override c) at
@@ -185,3 +195,17 @@ module _ {classes : List BidiClass} {base k : ℕ} {openers : Openers} {left : S
     short = omega (arith, open_chain-length classes (if is_pdi (class_at classes k) then k + 1 else k));
     holds = holds;
   }
+
+-- the pass keeps a class, a level and a type for each kept character
+pub kept_all : (classes : List BidiClass) (base : ℕ) (left : Stayed) → base ≤ 1 → IsStayed classes base left → HasAll left
+kept_all classes base left low kept =
+    let places = stayed classes in
+    let size : length left.levels.items ≡ length places = ap length kept.levels_are ∙ length-map places (level_at base classes) in
+    record {
+      classes = ap length kept.classes_are ∙ length-map places (class_at classes) ∙ sym size;
+      types = ap length kept.types_are ∙ length-map places (type_at base classes) ∙ sym size;
+      bounded = λ k. elim (cases_lt k (length places)) [
+        | inl within ↦ rw (ap (λ levels. get_or levels k 0) kept.levels_are ∙ get_or-map (level_at base classes) places k 0 0 within) (level_at-bound base classes (get_or places k 0) low)
+        | inr past ↦ rw (get_or_past left.levels.items k 0 (omega arith)) (omega arith)
+      ];
+    }

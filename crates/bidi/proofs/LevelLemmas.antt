@@ -11,7 +11,7 @@ use Rattle.bidi.specs.Isolates.{match_at}
 use Rattle.bidi.specs.Levels.{put, levels_in, resolved}
 use Rattle.bidi.specs.Runs.{IsRunEnd, runs_from, sequence_at, next_start, marked, joined_first}
 use Rattle.bidi.specs.Cuts.{paragraphs}
-use Rattle.bidi.specs.Sequences.{changes, first_of, last_of, is_match, continues_in, joined, sequences_from}
+use Rattle.bidi.specs.Sequences.{changes, runs, first_of, last_of, is_match, continues_in, joined, sequences_from}
 use Rattle.bidi.proofs.RunLemmas.{continues-match_at, next_start-within, runs_from-run, runs_from-end, first_of-range, last_of-range}
 
 -- writing values at some indices keeps the length of the list
@@ -24,40 +24,38 @@ length-put levels (place ∷ places) (value ∷ values) = length-put (set levels
 abbrev pub continued_at : List BidiClass → List (List ℕ) → ℕ → Bool
 continued_at classes earlier j = list_any (λ run. is_initiator (class_at classes (last_of run)) && is_match (match_of classes (last_of run)) j) earlier
 
-module _ (bracket_of : ℕ → Option Bracket) (base : ℕ) (characters : List ℕ) (classes : List BidiClass) (levels : List ℕ) (types : List BidiClass) where
-  -- the levels `done`, after the levels of one more sequence have been written into them
-  abbrev pub write : List ℕ → List ℕ → List ℕ
-  write done sequence = put done sequence (levels_in bracket_of base characters classes levels types sequence)
-
-  -- The state of the pass over the level runs, at the run that begins at `start`. `flags` marks the start of
-  -- each run in which an earlier run continues. Writing the levels of the sequences that begin at `start` or
-  -- later completes `done`.
-  pub record Resolves (start : ℕ) (flags : List Bool) (done : List ℕ) : Type 0 where
+-- A pass over the level runs that adds one sequence after the other to its result. `size` is kept.
+module _ {D : Type 0} (add : D → List ℕ → D) (size : D → ℕ) (keeps : (done : D) (sequence : List ℕ) → size (add done sequence) ≡ size done)
+    (none all : D) (classes : List BidiClass) (levels : List ℕ) where
+  -- The state of the pass at the run that begins at `start`. `flags` marks the start of each run in which an
+  -- earlier run continues. Adding the sequences that begin at `start` or later completes `done`.
+  pub record Adds (start : ℕ) (flags : List Bool) (done : D) : Type 0 where
     pub earlier : List (List ℕ)
     pub edge : 0 < start → start < length levels → slice_index levels (start - 1) ≢ slice_index levels start
-    pub size : length done ≡ length levels
+    pub sized : size done ≡ size none
     pub marks : length flags ≡ length levels
     pub told : (j : ℕ) → j < length levels → (0 < j → slice_index levels (j - 1) ≢ slice_index levels j) → get_or flags j false ≡ continued_at classes earlier j
-    pub whole : fold write done (sequences_from classes earlier (runs_from levels start)) ≡ resolved bracket_of base characters classes levels types
+    pub whole : fold add done (sequences_from classes earlier (runs_from levels start)) ≡ all
 
-  pub Resolves-start : (flags : List Bool) → length flags ≡ length levels → ((j : ℕ) → j < length levels → get_or flags j false ≡ false) → Resolves 0 flags levels
-  Resolves-start flags size none = record {
+  pub Adds-start : fold add none (sequences_from classes [] (runs levels)) ≡ all → (flags : List Bool) → length flags ≡ length levels
+      → ((j : ℕ) → j < length levels → get_or flags j false ≡ false) → Adds 0 flags none
+  Adds-start is flags size clear = record {
     earlier = [];
     edge = λ h. absurd (omega arith);
-    size = refl;
+    sized = refl;
     marks = size;
-    told = λ j within start. none j within;
+    told = λ j within start. clear j within;
     whole = let size : length levels - 0 ≡ length levels = omega arith in
-        ap (λ n. fold write levels (sequences_from classes [] (paragraphs (changes levels) (range_with_len 0 n)))) size;
+        ap (λ n. fold add none (sequences_from classes [] (paragraphs (changes levels) (range_with_len 0 n)))) size ∙ is;
   }
 
-  -- The pass moves on by one run. It writes the sequence that begins with the run, unless an earlier run
+  -- The pass moves on by one run. It adds the sequence that begins with the run, unless an earlier run
   -- continues in it. It flags the run in which the run continues, if there is one.
-  pub Resolves-next : (sizes : length classes ≡ length levels) (start end : ℕ) (flags after : List Bool) (done next : List ℕ) → IsRunEnd levels start end → (now : Resolves start flags done)
-      → next ≡ (if get_or flags start false then done else write done (sequence_at classes levels start)) → length after ≡ length levels
+  pub Adds-next : (sizes : length classes ≡ length levels) (start end : ℕ) (flags after : List Bool) (done next : D) → IsRunEnd levels start end → (now : Adds start flags done)
+      → next ≡ (if get_or flags start false then done else add done (sequence_at classes levels start)) → length after ≡ length levels
       → ((j : ℕ) → j < length levels → (0 < j → slice_index levels (j - 1) ≢ slice_index levels j) → get_or after j false ≡ ((match_at classes (end - 1) == j) || get_or flags j false))
-      → Resolves end after next
-  Resolves-next sizes start end flags after done next run now written marks marked =
+      → Adds end after next
+  Adds-next sizes start end flags after done next run now written marks marked =
       let above = run.above in
       let within = run.within in
       let first = range_with_len start (end - start) in
@@ -76,10 +74,10 @@ module _ (bracket_of : ℕ → Option Bracket) (base : ℕ) (characters : List �
       record {
         earlier = first ∷ now.earlier;
         edge = λ some inside. run.other inside;
-        size = elim (cases_Bool (get_or flags start false)) [
-          | inl skipped ↦ ap length (written ∙ cond-true (get_or flags start false) done (write done (sequence_at classes levels start)) skipped) ∙ now.size
-          | inr begun ↦ ap length (written ∙ cond-false (get_or flags start false) done (write done (sequence_at classes levels start)) begun)
-              ∙ length-put done (sequence_at classes levels start) (levels_in bracket_of base characters classes levels types (sequence_at classes levels start)) ∙ now.size
+        sized = elim (cases_Bool (get_or flags start false)) [
+          | inl skipped ↦ ap size (written ∙ cond-true (get_or flags start false) done (add done (sequence_at classes levels start)) skipped) ∙ now.sized
+          | inr begun ↦ ap size (written ∙ cond-false (get_or flags start false) done (add done (sequence_at classes levels start)) begun)
+              ∙ keeps done (sequence_at classes levels start) ∙ now.sized
         ];
         marks = marks;
         told = λ j inside edge. marked j inside edge
@@ -87,19 +85,43 @@ module _ (bracket_of : ℕ → Option Bracket) (base : ℕ) (characters : List �
             ∙ ap (λ b. (is_initiator (class_at classes (last_of first)) && is_match (match_of classes (last_of first)) j) || b) (now.told j inside edge);
         whole = elim (cases_Bool (get_or flags start false)) [
           | inl skipped ↦
-              ap (λ xs. fold write xs rest) (written ∙ cond-true (get_or flags start false) done (write done (sequence_at classes levels start)) skipped)
-              ∙ ap (fold write done) (sym (split ∙ cond-true test rest (joined classes first later ∷ rest) (is_told ∙ skipped)))
+              ap (λ xs. fold add xs rest) (written ∙ cond-true (get_or flags start false) done (add done (sequence_at classes levels start)) skipped)
+              ∙ ap (fold add done) (sym (split ∙ cond-true test rest (joined classes first later ∷ rest) (is_told ∙ skipped)))
               ∙ now.whole
           | inr begun ↦
-              ap (λ xs. fold write xs rest) (written ∙ cond-false (get_or flags start false) done (write done (sequence_at classes levels start)) begun ∙ ap (write done) here)
-              ∙ ap (fold write done) (sym (split ∙ cond-false test rest (joined classes first later ∷ rest) (is_told ∙ begun)))
+              ap (λ xs. fold add xs rest) (written ∙ cond-false (get_or flags start false) done (add done (sequence_at classes levels start)) begun ∙ ap (add done) here)
+              ∙ ap (fold add done) (sym (split ∙ cond-false test rest (joined classes first later ∷ rest) (is_told ∙ begun)))
               ∙ now.whole
         ];
       }
 
+  pub Adds-end : (start : ℕ) (flags : List Bool) (done : D) → length levels ≤ start → Adds start flags done → done ≡ all
+  Adds-end start flags done past now = ap (λ runs. fold add done (sequences_from classes now.earlier runs)) (sym (runs_from-end levels start past)) ∙ now.whole
+
+module _ (bracket_of : ℕ → Option Bracket) (base : ℕ) (characters : List ℕ) (classes : List BidiClass) (levels : List ℕ) (types : List BidiClass) where
+  -- the levels `done`, after the levels of one more sequence have been written into them
+  abbrev pub write : List ℕ → List ℕ → List ℕ
+  write done sequence = put done sequence (levels_in bracket_of base characters classes levels types sequence)
+
+  pub kept_by : (done sequence : List ℕ) → length (write done sequence) ≡ length done
+  kept_by done sequence = length-put done sequence (levels_in bracket_of base characters classes levels types sequence)
+
+  -- the pass that writes levels
+  abbrev pub Resolves : ℕ → List Bool → List ℕ → Type 0
+  Resolves start flags done = Adds write (λ xs. length xs) kept_by levels (resolved bracket_of base characters classes levels types) classes levels start flags done
+
+  pub Resolves-start : (flags : List Bool) → length flags ≡ length levels → ((j : ℕ) → j < length levels → get_or flags j false ≡ false) → Resolves 0 flags levels
+  Resolves-start = Adds-start write (λ xs. length xs) kept_by levels (resolved bracket_of base characters classes levels types) classes levels refl
+
+  pub Resolves-next : (sizes : length classes ≡ length levels) (start end : ℕ) (flags after : List Bool) (done next : List ℕ) → IsRunEnd levels start end → (now : Resolves start flags done)
+      → next ≡ (if get_or flags start false then done else write done (sequence_at classes levels start)) → length after ≡ length levels
+      → ((j : ℕ) → j < length levels → (0 < j → slice_index levels (j - 1) ≢ slice_index levels j) → get_or after j false ≡ ((match_at classes (end - 1) == j) || get_or flags j false))
+      → Resolves end after next
+  Resolves-next = Adds-next write (λ xs. length xs) kept_by levels (resolved bracket_of base characters classes levels types) classes levels
+
   -- at the end of the runs, all levels have been written
   pub Resolves-end : (start : ℕ) (flags : List Bool) (done : List ℕ) → length levels ≤ start → Resolves start flags done → done ≡ resolved bracket_of base characters classes levels types
-  Resolves-end start flags done past now = ap (λ runs. fold write done (sequences_from classes now.earlier runs)) (sym (runs_from-end levels start past)) ∙ now.whole
+  Resolves-end = Adds-end write (λ xs. length xs) kept_by levels (resolved bracket_of base characters classes levels types) classes levels
 
 -- The pass flags the run in which a run continues. If the run is the last of its sequence, the pass sets no
 -- flag.

@@ -16,6 +16,7 @@ mod DoublingRules
 mod DoublingSequences
 mod DoublingTexts
 mod ExplicitLemmas
+mod ExplicitStepLemmas
 mod FlatLemmas
 pub mod FrontLemmas
 pub mod GroupLemmas
@@ -27,6 +28,7 @@ pub mod LengthLemmas
 mod LevelLemmas
 mod MatchLemmas
 mod NeutralLemmas
+mod NeutralStepLemmas
 mod NeutralTableLemmas
 mod NoBracketLemmas
 mod OpenersLemmas
@@ -37,10 +39,13 @@ mod PlainLemmas
 mod ResolverLemmas
 mod ReuseLemmas
 mod RunLemmas
+mod SequenceStartLemmas
+mod SequenceStepLemmas
 pub mod TextCutLemmas
 mod WaitingLemmas
 mod WeakLemmas
 mod WeakStateLemmas
+mod WeakStepLemmas
 mod WeakTableLemmas
 mod WorkedBrackets
 mod WorkedLevels

@@ -11,7 +11,7 @@ use Rattle.bidi.specs.Weak.{is_number, is_left, is_terminator, w1_at, w1, w2_at,
 use Rattle.bidi.specs.Waiting.{carry, mark_type, digit_type, read_types, number_type, types_after}
 
 -- a rule that looks back only at the nearest item that passes a test can carry that item along
-carry-is : {T : Type 0} (rule : List T → T → List T → T) (by_nearest : T → T → List T → T) (test : T → Bool) (other : T)
+pub carry-is : {T : Type 0} (rule : List T → T → List T → T) (by_nearest : T → T → List T → T) (test : T → Bool) (other : T)
     → ((front : List T) (item : T) (after : List T) → rule front item after ≡ by_nearest (nearest test other front) item after)
     → (front items : List T) → each_by rule front items ≡ carry by_nearest test (nearest test other front) items
 carry-is rule by_nearest test other same front [] = refl
@@ -36,15 +36,15 @@ terminator_type before type after =
 abbrev pub left_type : BidiClass → BidiClass → List BidiClass → BidiClass
 left_type strong type after = if is_number type && is_left strong then L else type
 
-w1-by : (sos : BidiClass) (front : List BidiClass) (type : BidiClass) (after : List BidiClass) → w1_at sos front type after ≡ mark_type (nearest (λ t. not (is_mark t)) sos front) type
+pub w1-by : (sos : BidiClass) (front : List BidiClass) (type : BidiClass) (after : List BidiClass) → w1_at sos front type after ≡ mark_type (nearest (λ t. not (is_mark t)) sos front) type
 w1-by sos front NSM after = refl
 w1-by sos front _ after = refl
 
-w2-by : (sos : BidiClass) (front : List BidiClass) (type : BidiClass) (after : List BidiClass) → w2_at sos front type after ≡ digit_type (nearest is_strong sos front) type
+pub w2-by : (sos : BidiClass) (front : List BidiClass) (type : BidiClass) (after : List BidiClass) → w2_at sos front type after ≡ digit_type (nearest is_strong sos front) type
 w2-by sos front EN after = refl
 w2-by sos front _ after = refl
 
-w4-by : (front : List BidiClass) (type : BidiClass) (after : List BidiClass) → w4_at front type after ≡ separator_type (nearest any ON front) type after
+pub w4-by : (front : List BidiClass) (type : BidiClass) (after : List BidiClass) → w4_at front type after ≡ separator_type (nearest any ON front) type after
 w4-by [] type after = refl
 w4-by (EN ∷ front) ES [] = refl
 w4-by (EN ∷ front) ES (EN ∷ after) = refl
@@ -59,11 +59,11 @@ w4-by (AN ∷ front) CS (_ ∷ after) = refl
 w4-by (AN ∷ front) _ after = refl
 w4-by (_ ∷ front) type after = refl
 
-w5-by : (front : List BidiClass) (type : BidiClass) (after : List BidiClass) → w5_at front type after ≡ terminator_type (nearest ends_row ON front) type after
+pub w5-by : (front : List BidiClass) (type : BidiClass) (after : List BidiClass) → w5_at front type after ≡ terminator_type (nearest ends_row ON front) type after
 w5-by front ET after = refl
 w5-by front _ after = refl
 
-w7-by : (sos : BidiClass) (front : List BidiClass) (type : BidiClass) (after : List BidiClass) → w7_at sos front type after ≡ left_type (nearest is_strong sos front) type after
+pub w7-by : (sos : BidiClass) (front : List BidiClass) (type : BidiClass) (after : List BidiClass) → w7_at sos front type after ≡ left_type (nearest is_strong sos front) type after
 w7-by sos front EN after = refl
 w7-by sos front _ after = refl
 

@@ -14,9 +14,11 @@ pub mod Openers
 pub mod Paragraphs
 pub mod Pieces
 pub mod Plain
+pub mod Reasons
 pub mod Resolving
 pub mod Rows
 pub mod Runs
+pub mod SequenceSteps
 pub mod Sequences
 pub mod Stayed
 pub mod TextCuts

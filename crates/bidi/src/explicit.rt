@@ -64,9 +64,9 @@ impl Stayed {
 // The state inside an embedding, override or isolate: its level, the type that an override assigns, and
 // whether it is an isolate.
 #[derive(Clone, Copy, Default, PartialEq, Eq)]
-struct Status {
-    level: u8,
-    overriding: Option<BidiClass>,
+pub(crate) struct Status {
+    pub level: u8,
+    pub overriding: Option<BidiClass>,
     is_isolate: bool,
 }
 
@@ -74,7 +74,7 @@ struct Status {
 // status for each open embedding, override and isolate that did not overflow. The overflow counts are those
 // of X2 to X5c: embeddings inside an isolate that overflowed are not counted.
 #[derive(Drop)]
-struct Openers {
+pub(crate) struct Openers {
     statuses: ArrayVec<Status, MAX_ENTRIES>,
     isolates: usize,
     overflowed_isolates: usize,
@@ -82,7 +82,7 @@ struct Openers {
 }
 
 impl Openers {
-    fn new(base: u8) -> Openers
+    pub fn new(base: u8) -> Openers
         ensures { Holds base result [] }
     {
         let mut statuses = ArrayVec::new();
@@ -100,7 +100,7 @@ impl Openers {
     }
 
     // Returns the state inside the innermost open embedding, override or isolate.
-    fn status(&self) -> Status
+    pub fn status(&self) -> Status
         requires { AreOpeners self.now }
         ensures { IsInnermost self.now result }
     {
@@ -162,7 +162,7 @@ impl Openers {
 
     // Closes an isolate if the character is a PDI. The state of the PDI itself is read afterwards, because
     // the PDI is outside the isolate.
-    fn reach(&mut self, class: BidiClass)
+    pub fn reach(&mut self, class: BidiClass)
         requires { AreOpeners self.old }
         ensures { Follows self.old self.new (λ chain. if is_pdi class then close_isolate chain else chain) }
     {
@@ -173,7 +173,7 @@ impl Openers {
 
     // Handles a character other than PDI, which may open or close an embedding, override or isolate. The
     // character's own state is read before this, because an isolate initiator is outside its isolate.
-    fn pass(&mut self, class: BidiClass)
+    pub fn pass(&mut self, class: BidiClass)
         requires { AreOpeners self.old }
         ensures { Follows self.old self.new
             (λ chain. if is_pdi class then chain else open_after chain class) }

@@ -103,7 +103,7 @@ fn resolve_stayed(
 }
 
 // Replaces the contents of `brackets` with the bracket types of the characters that X9 keeps.
-fn stayed_brackets(
+pub(crate) fn stayed_brackets(
     all: &[BracketType],
     classes: &[BidiClass],
     brackets: &mut Vec<BracketType>,

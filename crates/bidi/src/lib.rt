@@ -19,17 +19,24 @@ mod classes;
 mod cuts;
 mod doubling;
 mod explicit;
+mod explicit_steps;
 mod fill;
 mod groups;
 mod isolates;
 mod levels;
 mod neutral;
+mod neutral_steps;
 mod neutral_table;
+mod paragraph_reasons;
 mod resolver;
 mod sequence_levels;
+mod sequence_reasons;
+mod sequence_starts;
+mod sequence_steps;
 mod sequences;
 mod text_cuts;
 mod weak;
+mod weak_steps;
 mod weak_table;
 
 pub use base::{
@@ -38,5 +45,10 @@ pub use base::{
 pub use bracket_type::BracketType;
 pub use cuts::{first_cut, is_cut, paragraphs_are_pieces};
 pub use doubling::doubling_keeps_levels;
+pub use explicit_steps::ExplicitStep;
+pub use neutral_steps::{NeutralRule, NeutralStep};
+pub use paragraph_reasons::{ParagraphReasons, reasons};
 pub use resolver::{Resolver, resolve, resolve_by};
+pub use sequence_reasons::SequenceReasons;
+pub use sequence_steps::SequenceStep;
 pub use text_cuts::first_cut_in_text;

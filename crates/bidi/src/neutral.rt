@@ -68,7 +68,7 @@ fn rise_beside(level: u8, class: BidiClass) -> u8
     }
 }
 
-fn is_neutral(class: BidiClass) -> bool
+pub(crate) fn is_neutral(class: BidiClass) -> bool
     ensures { result ≡ is_neutral class }
 {
     matches!(

@@ -45,7 +45,7 @@ pub(crate) struct Sides {
     pub eos: BidiClass,
 }
 
-fn sides_of(paragraph: &Paragraph<'_>, places: &[usize]) -> Sides
+pub(crate) fn sides_of(paragraph: &Paragraph<'_>, places: &[usize]) -> Sides
     requires paragraph { IsReady paragraph.now }
     requires some { 0 < length places.now }
     requires within { AreWithin (length paragraph.now.stayed.now.levels.items) places.now }
@@ -121,7 +121,7 @@ fn part<'a>(brackets: &Brackets<'a>, start: usize, end: usize) -> Brackets<'a>
 }
 
 // Replaces the contents of `types` with the types at the indices of a sequence.
-fn fill_types(
+pub(crate) fn fill_types(
     all: &[BidiClass],
     places: &[usize],
     types: &mut Vec<BidiClass>,
@@ -138,7 +138,7 @@ fn fill_types(
 }
 
 // Replaces the contents of `brackets` with the bracket types at the indices of a sequence.
-fn fill_brackets(
+pub(crate) fn fill_brackets(
     all: &[BracketType],
     places: &[usize],
     brackets: &mut Vec<BracketType>,
@@ -311,7 +311,7 @@ impl Sequence {
 }
 
 // Marks the start of a run that continues another one.
-fn mark(continued: &mut [bool], next: Option<usize>)
+pub(crate) fn mark(continued: &mut [bool], next: Option<usize>)
     requires { IfSome next (λ place. place < length continued.old) }
     ensures { continued.new ≡ marked continued.old next }
 {

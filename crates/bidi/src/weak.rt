@@ -145,13 +145,13 @@ fn strong_row(row: usize, class: BidiClass) -> usize
     }
 }
 
-fn is_strong(class: BidiClass) -> bool
+pub(crate) fn is_strong(class: BidiClass) -> bool
     ensures { result ≡ is_strong class }
 {
     matches!(class, BidiClass::L | BidiClass::R | BidiClass::AL)
 }
 
-fn w3_type(class: BidiClass) -> BidiClass
+pub(crate) fn w3_type(class: BidiClass) -> BidiClass
     ensures { result ≡ w3_type class }
 {
     match class {
@@ -180,7 +180,7 @@ fn act(types: &mut [BidiClass], start: usize, at: usize, done: u16, value: BidiC
 }
 
 // Applies W1: NSM gets the type of the character before it. `before` is the last type that was not NSM.
-fn mark_type(before: &mut BidiClass, class: BidiClass) -> BidiClass
+pub(crate) fn mark_type(before: &mut BidiClass, class: BidiClass) -> BidiClass
     ensures marked { result ≡ mark_type before.old class }
     ensures before { before.new ≡ (if not (is_mark class) then class else before.old) }
 {
@@ -193,7 +193,7 @@ fn mark_type(before: &mut BidiClass, class: BidiClass) -> BidiClass
     }
 }
 
-fn is_left(class: BidiClass) -> bool
+pub(crate) fn is_left(class: BidiClass) -> bool
     ensures { result ≡ is_left class }
 {
     matches!(class, BidiClass::L)

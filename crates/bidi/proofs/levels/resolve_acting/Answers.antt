@@ -1,37 +1,22 @@
-use Rattle.std.proofs.Common.{◌≡◌, ℕ, ◌≤◌, List, length, map, get_or, slice_index, not, Bool, None, Option, refl, sym, ap, ◌∙◌, inl, inr, arith}
-use Rattle.std.proofs.lemmas.Bool.{cases_lt}
-use Rattle.std.proofs.lemmas.List.{get_or-map, get_or_past, length-map}
+use Rattle.std.proofs.Common.{◌≡◌, ℕ, List, length, map, slice_index, not, Bool, None, Option, refl, sym, ap, ◌∙◌, arith}
+use Rattle.std.proofs.lemmas.List.{length-map}
 use Rattle.bidi.specs.BracketTypes.{bracket_at}
 use Rattle.ucd.specs.declared.bracket.Bracket.{Bracket}
 use Rattle.ucd.specs.declared.bidi_class.BidiClass.{BidiClass}
 use Rattle.bidi.specs.declared.explicit.Stayed.{Stayed}
 use Rattle.ucd.specs.Classes.{class_at}
-use Rattle.bidi.specs.Explicit.{level_at, type_at}
+use Rattle.bidi.specs.Explicit.{level_at}
 use Rattle.bidi.specs.Levels.{levels_by, put_back, resolved}
 use Rattle.ucd.specs.Classes.{is_removed}
 use Rattle.bidi.specs.Sequences.{stayed}
-use Rattle.bidi.specs.Stayed.{HasAll, IsStayed}
+use Rattle.bidi.specs.Stayed.{IsStayed}
 use Rattle.bidi.specs.Paragraphs.{AreBracketsOf}
 use Rattle.bidi.proofs.BracketTypeLemmas.{types-kept}
 use Rattle.bidi.proofs.PartLemmas.{All-kept}
-use Rattle.bidi.proofs.ExplicitLemmas.{level_at-bound}
+use Rattle.bidi.proofs.ExplicitLemmas.{kept_all}
 use Rattle.bidi.specs.Isolates.{matches_of}
 use Rattle.bidi.proofs.ReuseLemmas.{all_stay}
 use Rattle.bidi.proofs.levels.resolve_acting.Goals as goal
-
--- the pass keeps a class, a level and a type for each kept character
-whole : (classes : List BidiClass) (base : ℕ) (left : Stayed) → base ≤ 1 → IsStayed classes base left → HasAll left
-whole classes base left low kept =
-    let places = stayed classes in
-    let size : length left.levels.items ≡ length places = ap length kept.levels_are ∙ length-map places (level_at base classes) in
-    record {
-      classes = ap length kept.classes_are ∙ length-map places (class_at classes) ∙ sym size;
-      types = ap length kept.types_are ∙ length-map places (type_at base classes) ∙ sym size;
-      bounded = λ k. elim (cases_lt k (length places)) [
-        | inl within ↦ rw (ap (λ levels. get_or levels k 0) kept.levels_are ∙ get_or-map (level_at base classes) places k 0 0 within) (level_at-bound base classes (get_or places k 0) low)
-        | inr past ↦ rw (get_or_past left.levels.items k 0 (omega arith)) (omega arith)
-      ];
-    }
 
 -- putting back the characters that X9 removed results in the levels of the paragraph
 all_levels : (bracket : ℕ → Option Bracket) (text : List ℕ) (classes : List BidiClass) (base : ℕ) (characters : List ℕ) (left : Stayed) (done : List ℕ) → IsStayed classes base left
@@ -47,7 +32,7 @@ all_levels bracket text classes base characters left done kept there e =
     )
 
 pub resolve_stayed-requires-clause-stayed : goal.resolve_stayed-requires-clause-stayed
-resolve_stayed-requires-clause-stayed c = whole c.args.paragraph.now.classes.now c.args.paragraph.now.base c.explicit.new.stayed c.requires.low c.in_ok-explicit.ensures
+resolve_stayed-requires-clause-stayed c = kept_all c.args.paragraph.now.classes.now c.args.paragraph.now.base c.explicit.new.stayed c.requires.low c.in_ok-explicit.ensures
 
 pub resolve_stayed-requires-clause-brackets : goal.resolve_stayed-requires-clause-brackets
 resolve_stayed-requires-clause-brackets c = λ any.

@@ -1,0 +1,6 @@
+use Rattle.std.proofs.Common.{◌≡◌, map, take}
+use Rattle.bidi.specs.Weak.{w3_type}
+use Rattle.bidi.proofs.weak_steps.w3.Given as goal
+
+abbrev pub invariant-loop-k : goal.invariant-loop-k
+invariant-loop-k l = l.list.items ≡ map w3_type (take l.k l.types)

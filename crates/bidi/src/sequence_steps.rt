@@ -1,0 +1,214 @@
+//! What the rules W1 to I2 (UAX #9) do with the types of one isolating run sequence, for callers that
+//! show how the algorithm arrives at a level. `sequence_levels` has the fast pass.
+ghost use Rattle.std.specs.Prelude.{◌≡◌, ℕ, ◌≤◌, length, IfOk, List, Option};
+ghost use Rattle.ucd.specs.Classes.{class_at};
+ghost use Rattle.ucd.specs.declared.bracket.Bracket.{Bracket};
+ghost use Rattle.bidi.specs.BracketTypes.{bracket_types};
+ghost use Rattle.bidi.specs.Brackets.{brackets};
+ghost use Rattle.bidi.specs.Levels.{sequence_levels};
+ghost use Rattle.bidi.specs.Neutral.{implicit_level, rise_even, rise_odd};
+ghost use Rattle.bidi.specs.Reasons.{levels_in, numbered, sequence_step, sequence_steps};
+ghost use Rattle.bidi.specs.SequenceSteps.{AreWeakSteps};
+ghost use Rattle.bidi.specs.Sequences.{direction};
+ghost use Rattle.ucd.specs.declared.bidi_class.BidiClass.{BidiClass};
+
+use crate::bracket_type::BracketType;
+use crate::brackets::Pairs;
+use crate::neutral_steps::{NeutralStep, neutral_steps};
+use crate::sequence_levels::Sides;
+use crate::sequences::direction;
+use crate::weak_steps::{w1, w2, w3, w4, w5, w6, w7};
+use std::alloc::{AllocError, Global};
+use ucd::BidiClass;
+
+/// What the rules W1 to I2 do with a character of a sequence: its type after each rule, and its level.
+#[derive(Clone, Copy)]
+pub struct SequenceStep {
+    pub w1: BidiClass,
+    pub w2: BidiClass,
+    pub w3: BidiClass,
+    pub w4: BidiClass,
+    pub w5: BidiClass,
+    pub w6: BidiClass,
+    pub w7: BidiClass,
+    pub n0: BidiClass,
+    /// N1 and N2, with indices in the sequence.
+    pub neutral: NeutralStep,
+    /// The level after I1 and I2.
+    pub level: u8,
+}
+
+// The types of a sequence after each weak rule.
+#[derive(Drop)]
+pub(crate) struct WeakSteps {
+    pub w1: Vec<BidiClass>,
+    pub w2: Vec<BidiClass>,
+    pub w3: Vec<BidiClass>,
+    pub w4: Vec<BidiClass>,
+    pub w5: Vec<BidiClass>,
+    pub w6: Vec<BidiClass>,
+    pub w7: Vec<BidiClass>,
+}
+
+fn weak_steps(alloc: Global, sos: BidiClass, types: &[BidiClass]) -> Result<WeakSteps, AllocError>
+    ensures { IfOk result (λ steps. AreWeakSteps sos types.now steps) }
+{
+    let w1 = w1(alloc, sos, types)?;
+    let w2 = w2(alloc, sos, &w1)?;
+    let w3 = w3(alloc, &w2)?;
+    let w4 = w4(alloc, &w3)?;
+    let w5 = w5(alloc, &w4)?;
+    let w6 = w6(alloc, &w5)?;
+    let w7 = w7(alloc, sos, &w6)?;
+    Ok(WeakSteps {
+        w1,
+        w2,
+        w3,
+        w4,
+        w5,
+        w6,
+        w7,
+    })
+}
+
+// Returns the type at an index, or ON past the end.
+fn class_at(types: &[BidiClass], k: usize) -> BidiClass
+    ensures { result ≡ class_at types.now k }
+{
+    match types.get(k) {
+        Some(class) => *class,
+        None => BidiClass::ON,
+    }
+}
+
+fn rise_even(class: BidiClass) -> u8
+    ensures rise { result ≡ rise_even class }
+    ensures small { result ≤ 2 }
+{
+    match class {
+        BidiClass::R => 1,
+        BidiClass::AN => 2,
+        BidiClass::EN => 2,
+        _ => 0,
+    }
+}
+
+fn rise_odd(class: BidiClass) -> u8
+    ensures rise { result ≡ rise_odd class }
+    ensures small { result ≤ 2 }
+{
+    match class {
+        BidiClass::L => 1,
+        BidiClass::AN => 1,
+        BidiClass::EN => 1,
+        _ => 0,
+    }
+}
+
+// I1 and I2.
+fn implicit_level(level: u8, class: BidiClass) -> u8
+    requires { level ≤ 125 }
+    ensures { result ≡ implicit_level level class }
+{
+    if level % 2 == 0 {
+        level + rise_even(class)
+    } else {
+        level + rise_odd(class)
+    }
+}
+
+// Returns the step of the character at an index.
+fn sequence_step(
+    weak: &WeakSteps,
+    paired: &[BidiClass],
+    level: u8,
+    k: usize,
+    neutral: NeutralStep,
+) -> SequenceStep
+    requires { level ≤ 125 }
+    ensures { (sos : BidiClass) (types : List BidiClass) → AreWeakSteps sos types weak.now
+        → result ≡ sequence_step level sos types paired.now k neutral }
+{
+    SequenceStep {
+        w1: class_at(&weak.w1, k),
+        w2: class_at(&weak.w2, k),
+        w3: class_at(&weak.w3, k),
+        w4: class_at(&weak.w4, k),
+        w5: class_at(&weak.w5, k),
+        w6: class_at(&weak.w6, k),
+        w7: class_at(&weak.w7, k),
+        n0: class_at(paired, k),
+        neutral,
+        level: implicit_level(level, neutral.class),
+    }
+}
+
+// Returns the types after N0.
+fn pair(
+    alloc: Global,
+    kinds: &[BracketType],
+    explicit: &[BidiClass],
+    types: &[BidiClass],
+    sides: Sides,
+) -> Result<Vec<BidiClass>, AllocError>
+    requires kinds { length kinds.now ≡ length types.now }
+    requires explicit { length explicit.now ≡ length types.now }
+    ensures { IfOk result (λ paired. (look : ℕ → Option Bracket) (text : List ℕ) → kinds.now
+        ≡ bracket_types look text
+        → paired.items ≡ brackets look (direction sides.level) sides.sos text explicit.now types.now) }
+{
+    let mut paired = Vec::from_slice(alloc, types)?;
+    let mut pairs = Pairs::new(alloc);
+    pairs.resolve(
+        kinds,
+        explicit,
+        &mut paired,
+        direction(sides.level),
+        sides.sos,
+    )?;
+    Ok(paired)
+}
+
+// Returns the steps, given the types after each rule.
+fn gather_steps(
+    alloc: Global,
+    weak: &WeakSteps,
+    paired: &[BidiClass],
+    level: u8,
+    neutral: &[NeutralStep],
+) -> Result<Vec<SequenceStep>, AllocError>
+    requires { level ≤ 125 }
+    ensures { IfOk result (λ list. (sos : BidiClass) (types : List BidiClass)
+        → AreWeakSteps sos types weak.now
+        → list.items ≡ numbered (sequence_step level sos types paired.now) 0 neutral.now) }
+{
+    let mut list = Vec::with_capacity(alloc, neutral.len())?;
+    for k in 0..neutral.len() {
+        list.push(sequence_step(weak, paired, level, k, neutral[k]))?;
+    }
+    Ok(list)
+}
+
+/// Returns what the rules W1 to I2 do with each character of a sequence, given the bracket types and
+/// explicit types of its characters.
+pub fn sequence_steps(
+    alloc: Global,
+    kinds: &[BracketType],
+    sides: Sides,
+    types: &[BidiClass],
+) -> Result<Vec<SequenceStep>, AllocError>
+    requires kinds { length kinds.now ≡ length types.now }
+    requires bounded { sides.level ≤ 125 }
+    ensures steps { IfOk result (λ list. (look : ℕ → Option Bracket) (text : List ℕ) → kinds.now
+        ≡ bracket_types look text
+        → list.items ≡ sequence_steps look sides.level sides.sos sides.eos text types.now) }
+    ensures levels { IfOk result (λ list. (look : ℕ → Option Bracket) (text : List ℕ) → kinds.now
+        ≡ bracket_types look text
+        → levels_in list.items ≡ sequence_levels look sides.level sides.sos sides.eos text types.now) }
+{
+    let weak = weak_steps(alloc, sides.sos, types)?;
+    let paired = pair(alloc, kinds, types, &weak.w7, sides)?;
+    let neutral = neutral_steps(alloc, direction(sides.level), sides.sos, sides.eos, &paired)?;
+    let list = gather_steps(alloc, &weak, &paired, sides.level, &neutral)?;
+    Ok(list)
+}
