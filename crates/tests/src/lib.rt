@@ -5,6 +5,8 @@
 #[cfg(test)]
 mod files;
 #[cfg(test)]
+mod level_reasons;
+#[cfg(test)]
 mod levels;
 #[cfg(test)]
 mod marks;
