@@ -8,9 +8,9 @@ use Rattle.session.specs.Kept.{lines_in}
 use Rattle.session.specs.declared.edits.ChangedLines.{ChangedLines}
 use Rattle.session.specs.declared.edits.Damage.{Damage}
 
--- The damaged lines without the longest run of unchanged lines at their start, and then without the longest such
--- run at their end: the next line at the start differs, and so does the next one at the end, unless the old
--- lines or the new ones have no more.
+-- Whether the changed lines are the damaged lines without the longest run of unchanged lines at their start, and
+-- then without the longest such run at their end. The first lines that remain differ, and so do the last, unless
+-- no old or no new line remains.
 pub record AreChanged (old new : List Visual) (damage : Damage) (changed : ChangedLines) : Type 0 where
   pub start : damage.first_line ≤ changed.first_line
   pub end : changed.first_line + changed.old_lines ≤ damage.first_line + damage.old_lines
@@ -24,15 +24,15 @@ pub record AreChanged (old new : List Visual) (damage : Damage) (changed : Chang
 abbrev pub no_lines : ChangedLines
 no_lines = record { first_line = 0; old_lines = 0; new_lines = 0 }
 
--- right after a session is opened, all of its lines have changed
+-- all lines have changed, as right after a session is opened
 abbrev pub all_lines : List Layout → ChangedLines
 all_lines kept = record { first_line = 0; old_lines = 0; new_lines = length (lines_in kept) }
 
--- whether each paragraph has a line
+-- whether a paragraph has a line
 abbrev pub HasLines : Layout → Type 0
 HasLines l = 0 < length l.lines
 
--- the damaged lines after some are trimmed from their start, and then some from their end
+-- the damaged lines after unchanged ones are trimmed from their start, and then from their end
 abbrev pub without_same : Damage → ℕ → ℕ → ChangedLines
 without_same damage start end =
     let most = min damage.old_lines damage.new_lines in
@@ -40,6 +40,6 @@ without_same damage start end =
     let back = min end (most - front) in
     record { first_line = damage.first_line + front; old_lines = damage.old_lines - front - back; new_lines = damage.new_lines - front - back }
 
--- if each paragraph has a line, these are the lines that changed between two lists of paragraphs
+-- if each paragraph has a line: whether these are the lines that changed between two lists of paragraphs
 abbrev pub AreFound : List Layout → List Layout → Damage → ChangedLines → Type 0
 AreFound old new damage changed = All HasLines old → All HasLines new → AreChanged (lines_in old) (lines_in new) damage changed

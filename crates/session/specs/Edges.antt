@@ -31,12 +31,12 @@ abbrev pub is_edge_at : ℕ → Side → Bool
 is_edge_at pos Before = true
 is_edge_at pos After = not (pos == 0)
 
--- whether an edge exists in a text of `chars` characters: before any position up to the end, or after any of them
--- except 0
+-- whether an edge exists in a text of `chars` characters: a `Before` edge at any position up to the end, or an
+-- `After` edge at any of these except 0
 abbrev pub is_edge_in : ℕ → Edge → Bool
 is_edge_in chars edge = nat_le edge.pos chars && is_edge_at edge.pos edge.side
 
--- whether an edge is one of a character's two
+-- whether an edge is one of a character's two edges
 abbrev pub IsBeside : ℕ → ℕ → Side → Type 0
 IsBeside chars pos Before = pos < chars
 IsBeside chars pos After = (0 < pos) × (pos ≤ chars)
@@ -44,17 +44,19 @@ IsBeside chars pos After = (0 < pos) × (pos ≤ chars)
 abbrev pub HasCharacter : ℕ → Edge → Type 0
 HasCharacter chars edge = IsBeside chars edge.pos edge.side
 
--- the edges at the left and the right end of a unit, on a line that starts at `start`
+-- the edge at the left end of a unit, on a line that starts at `start`
 abbrev pub left_edge : ℕ → CaretUnit → Edge
 left_edge start unit = if is_odd unit.level then after (start + unit.end) else before (start + unit.start)
 
+-- the edge at the right end of a unit, on a line that starts at `start`
 abbrev pub right_edge : ℕ → CaretUnit → Edge
 right_edge start unit = if is_odd unit.level then before (start + unit.start) else after (start + unit.end)
 
--- the columns of the left and the right end of a unit
+-- the column of the left end of a unit
 abbrev pub left_column : CaretUnit → ℕ
 left_column unit = if is_odd unit.level then unit.trailing else unit.leading
 
+-- the column of the right end of a unit
 abbrev pub right_column : CaretUnit → ℕ
 right_column unit = if is_odd unit.level then unit.leading else unit.trailing
 
@@ -119,8 +121,8 @@ module _ (kept : List Layout) where
 abbrev pub is_next : Rules → List Layout → ℕ → Bool
 is_next rules kept n = (n == length (lines_in kept)) && is_closed rules (text_of kept)
 
--- The caret before or after a position, on the line of the character there. At the end of the text, it is the caret of
--- `caret_at`. `None` past the end, and after position 0.
+-- The caret at an edge, on the line of the character that the edge belongs to. The `Before` edge at the end of the
+-- text has the caret that `caret_at` returns. `None` past the end, and for the `After` edge of position 0.
 abbrev pub edge_caret_by : Rules → List Layout → Side → ℕ → Option Caret
 edge_caret_by rules kept Before pos =
     if nat_le (length (text_of kept)) pos then caret_at rules kept pos else caret_of kept Before pos (place_in kept pos)
@@ -152,9 +154,9 @@ nearest_edge rules kept n column =
 abbrev pub end_of : List Layout → ℕ → ℕ
 end_of kept n = unwrap_or (slice_get (line_starts kept) (suc n)) (length (text_of kept))
 
--- The last edge of a line from `start` up to `end`, of which `visible` characters are shown: before the separator that
--- ends the line, else before the end of the text on its last line, else before the first space that is not shown, or
--- else after the last character.
+-- The last edge of a line from `start` up to `end`, of which `visible` characters are shown. It is before the
+-- separator that ends the line, if there is one. Otherwise, on the text's last line, it is before the end of the text.
+-- On other lines, it is before the first space that is not shown, or else after the last character.
 abbrev pub last_edge : Rules → List ℕ → ℕ → ℕ → ℕ → Edge
 last_edge rules text start end visible =
     let separators = separator_len rules.tables (slice_index text (max (end - 2) start)) (slice_index text (end - 1)) in

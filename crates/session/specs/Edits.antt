@@ -22,10 +22,11 @@ replaced text edit = take edit.pos text ++ (edit.piece ++ drop (edit.pos + edit.
 abbrev pub replacing : ℕ → ℕ → List ℕ → Replacement
 replacing pos count piece = record { pos = pos; count = count; piece = piece }
 
--- an insertion deletes nothing, and a deletion inserts nothing
+-- an insertion, which deletes nothing
 abbrev pub insertion : ℕ → List ℕ → Replacement
 insertion pos piece = record { pos = pos; count = 0; piece = piece }
 
+-- a deletion, which inserts nothing
 abbrev pub deletion : ℕ → ℕ → Replacement
 deletion pos count = record { pos = pos; count = count; piece = [] }
 

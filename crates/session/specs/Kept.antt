@@ -13,20 +13,23 @@ use Rattle.session.specs.declared.offsets.Encoding.TheVariants.{Utf8, Utf16}
 abbrev pub IsCutAt : (ℕ → ℕ → Bool) → List ℕ → List ℕ → Type 0
 IsCutAt is_cut before after = 0 < length before → 0 < length after → is_cut (slice_index before (length before - 1)) (slice_index after 0) ≡ true
 
--- the paragraphs of a list of layouts, their whole text, and its visual lines
+-- the paragraphs of a list of layouts
 abbrev pub pars_of : List Layout → List (List ℕ)
 pars_of kept = map (λ l. l.text) kept
 
+-- the whole text of a list of layouts
 abbrev pub text_of : List Layout → List ℕ
 text_of kept = concat (pars_of kept)
 
+-- the visual lines of a list of layouts
 abbrev pub lines_in : List Layout → List Visual
 lines_in kept = flat_map visuals kept
 
--- the advances of each paragraph, and those of a measured text
+-- the advances of each paragraph
 abbrev pub advance_lists : List Layout → List (List ℕ)
 advance_lists kept = map (λ l. unwrap_or l.advances []) kept
 
+-- the advances of a text, if it is measured
 abbrev pub advances_in : Bool → List Layout → Option (List ℕ)
 advances_in is_measured kept = given_if is_measured (concat (advance_lists kept))
 
@@ -34,10 +37,11 @@ advances_in is_measured kept = given_if is_measured (concat (advance_lists kept)
 abbrev pub first_advances : Bool → ℕ → Option (List ℕ)
 first_advances is_measured n = given_if is_measured (replicate n 0)
 
--- the advances of the first n characters of a text, and of the remaining ones
+-- the advances of the first n characters of a text
 abbrev pub front_advances : ℕ → Option (List ℕ) → Option (List ℕ)
 front_advances n advances = option_map (take n) advances
 
+-- the advances of a text without those of its first n characters
 abbrev pub back_advances : ℕ → Option (List ℕ) → Option (List ℕ)
 back_advances n advances = option_map (drop n) advances
 
@@ -88,12 +92,12 @@ pub record ReflowState : Type 0 where
   pub by : Writer
   pub written : ℕ
 
--- A layout after its lines are rewritten from the given extents, if there are any, together with the extents of its old
--- lines.
+-- a layout after its lines are rewritten from the given extents, if there are any
 abbrev pub put_into : Writer → Layout → Option LineExtents → Layout
 put_into writer kept None = kept
 put_into writer kept (Some extents) = reflowed writer.rules kept extents
 
+-- the extents of the lines that are replaced, if there are new ones
 abbrev pub taken_from : Layout → Option LineExtents → Option LineExtents
 taken_from kept None = None
 taken_from kept (Some extents) = Some (extents_in kept.lines)
@@ -103,7 +107,7 @@ abbrev pub written_for : Layout → Option LineExtents → ℕ
 written_for kept None = 0
 written_for kept (Some extents) = length kept.text
 
--- the text stays the same, so its lengths do too
+-- rewriting the lines changes neither the text nor its lengths
 pub text_stays : (writer : Writer) (kept : Layout) (part : Option LineExtents) → (put_into writer kept part).text ≡ kept.text
 text_stays writer kept None = refl
 text_stays writer kept (Some extents) = refl

@@ -59,8 +59,8 @@ advances_refusal is_cut (Some old) text pos list =
     if nat_lt (length text) (pos + length list) then Some OutOfRange
     else (if have_room (advances_set old pos list) (paragraphs is_cut text) then None else Some ParagraphTooLong)
 
--- Whether some adjacent paragraphs cover a range: the first paragraph has the first character of the range,
--- and the last paragraph has the last. An empty range has no paragraphs.
+-- Whether `number` adjacent paragraphs cover a range: the first of them contains the range's first character,
+-- and the last contains the range's last character. An empty range has no paragraphs.
 pub record Cover (pars : List (List ℕ)) (pos count first number : ℕ) : Type 0 where
   pub none : count ≡ 0 → (first ≡ 0) × (number ≡ 0)
   pub within : first + number ≤ length pars
@@ -96,6 +96,6 @@ pub record SetsAdvances (pos : ℕ) (list : List ℕ) (old new : SessionState) (
 abbrev pub SetsAdvancesNot : ℕ → List ℕ → SessionState → SessionState → AdvanceFault → Type 0
 SetsAdvancesNot pos list old = Remains (advances_refusal (cuts_at old) old.advances (text_at old) pos list) (FillsAtMost (length (text_at old))) old
 
--- the advances of the paragraphs of a range once the new ones are set
+-- the advances of a range's paragraphs after the new ones are set
 abbrev pub spliced : Spliced → List ℕ
 spliced list = list.front.now ++ (list.new.now ++ list.back.now)

@@ -11,14 +11,16 @@ use Rattle.session.specs.declared.offsets.Encoding.TheVariants.{Utf8, Utf16}
 abbrev pub len_utf16 : ℕ → ℕ
 len_utf16 c = if nat_lt c 0x1_0000 then 1 else 2
 
--- the number of units of a character, of a text, and of the text of a paragraph
+-- the number of units of a character
 abbrev pub size_in : Encoding → ℕ → ℕ
 size_in Utf8 = len_utf8
 size_in Utf16 = len_utf16
 
+-- the number of units of a text
 abbrev pub length_in : Encoding → List ℕ → ℕ
 length_in encoding text = sum_by (size_in encoding) text
 
+-- the number of units of a paragraph's text
 abbrev pub units_of : Encoding → Layout → ℕ
 units_of encoding kept = length_in encoding kept.text
 

@@ -5,20 +5,21 @@ use Rattle.lines.specs.Layouts.{cut_by, Layout, Rules}
 use Rattle.session.specs.Kept.{lines_in, text_of}
 use Rattle.session.specs.declared.places.Place.{Place}
 
--- the starts of the lines and the starts of the paragraphs, in a list of paragraphs whose first one starts at
--- `place`
+-- the starts of the lines in a list of paragraphs whose first one starts at `place`
 abbrev pub lines_from : ℕ → List Layout → List ℕ
 lines_from place [] = []
 lines_from place (l ∷ kept) = map (λ line. place + line.start) l.lines ++ lines_from (place + length l.text) kept
 
+-- the starts of the paragraphs in such a list
 abbrev pub paragraphs_from : ℕ → List Layout → List ℕ
 paragraphs_from place [] = []
 paragraphs_from place (l ∷ kept) = place ∷ paragraphs_from (place + length l.text) kept
 
--- the starts of a text's lines, and the starts of its paragraphs
+-- the starts of a text's lines
 abbrev pub line_starts : List Layout → List ℕ
 line_starts kept = lines_from 0 kept
 
+-- the starts of a text's paragraphs
 abbrev pub paragraph_starts : List Layout → List ℕ
 paragraph_starts kept = paragraphs_from 0 kept
 
@@ -56,7 +57,7 @@ place_at rules kept pos =
     if nat_lt (length (text_of kept)) pos then None
     else (if pos == length (text_of kept) && is_closed rules (text_of kept) then Some (next_place kept) else Some (place_in kept pos))
 
--- whether a paragraph is not empty, and its lines start in order
+-- whether a paragraph is not empty, and the starts of its lines ascend
 pub record IsLined (l : Layout) : Type 0 where
   pub some : 0 < length l.text
   pub lines : BeginInOrder l.text l.lines

@@ -20,13 +20,13 @@ module _ (rules : Rules) where
   edit_refusal held (Delete pos count) = refusal (cut_by rules) held.advances held.text (deletion pos count)
   edit_refusal held (SetWidth width) = width_refusal width
 
-  -- upper bounds for an edit that is not refused: how many characters it analyses, and how many it fills into
-  -- lines and writes
+  -- an upper bound on how many characters an edit analyses, if it is not refused
   abbrev pub analysed_by : Held → Edit → ℕ
   analysed_by held (Insert pos text) = fresh (paragraphs (cut_by rules) held.text) (insertion pos (chars text.now))
   analysed_by held (Delete pos count) = fresh (paragraphs (cut_by rules) held.text) (deletion pos count)
   analysed_by held (SetWidth width) = 0
 
+  -- an upper bound on how many characters an edit fills into lines and writes, if it is not refused
   abbrev pub filled_by : Held → Edit → ℕ
   filled_by held (Insert pos text) = fresh (paragraphs (cut_by rules) held.text) (insertion pos (chars text.now))
   filled_by held (Delete pos count) = fresh (paragraphs (cut_by rules) held.text) (deletion pos count)
@@ -52,7 +52,7 @@ module _ (rules : Rules) where
   TakesMemory held (Delete pos count) = 0 < length held.text
   TakesMemory held (SetWidth width) = 0 < length held.text
 
-  -- The run stopped at `edit`, after the edits of `front`. That edit is not refused and may allocate. The counters may
+  -- The run stopped at `edit`, after the edits in `front`. That edit is not refused and may allocate. The counters may
   -- include its work.
   pub record StopsAt (start : Held) (edits : List Edit) (now : Held) (old new : Engine) : Type 0 where
     pub front : List Edit

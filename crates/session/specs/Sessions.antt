@@ -33,10 +33,11 @@ state_of engine width is_measured kept = record { engine = engine; width = width
 abbrev pub with_changed : SessionState → ChangedLines → SessionState
 with_changed state changed = record state { changed = changed }
 
--- the text of a session, and the paragraph boundaries of its engine
+-- the text of a session
 abbrev pub text_at : SessionState → List ℕ
 text_at state = text_of state.kept
 
+-- the paragraph boundaries of a session's engine
 abbrev pub cuts_at : SessionState → ℕ → ℕ → Bool
 cuts_at state = cut_by (rules_of state.engine)
 
@@ -47,10 +48,11 @@ rules_at state = with_advances (rules_of state.engine) state.advances
 abbrev pub held_at : SessionState → Held
 held_at state = record { text = text_at state; width = state.width; advances = state.advances }
 
--- the fresh layouts of a text with its advances, and their printed bytes
+-- the fresh layouts of a text with its advances
 abbrev pub layouts_at : Rules → Held → List Layout
 layouts_at rules held = layouts_of (with_advances rules held.advances) held.width held.text
 
+-- the printed bytes of these layouts
 abbrev pub page_of : Rules → Print → Held → List ℕ
 page_of rules print held = flat_map (layout_bytes held.width print) (layouts_at rules held)
 

@@ -10,10 +10,11 @@ use Rattle.session.specs.declared.edges.Direction.TheVariants.{Left, Right}
 use Rattle.session.specs.declared.edges.Edge.{Edge}
 use Rattle.session.specs.declared.units.CaretUnit.{CaretUnit}
 
--- the columns of the left and the right end of a unit
+-- the column of the left end of a unit
 abbrev pub left_of : CaretUnit → ℕ
 left_of unit = if is_odd unit.level then unit.trailing else unit.leading
 
+-- the column of the right end of a unit
 abbrev pub right_of : CaretUnit → ℕ
 right_of unit = if is_odd unit.level then unit.leading else unit.trailing
 
@@ -27,7 +28,7 @@ module _ (kept : List Layout) (line : Visual) (start : ℕ) where
     pub within : right_of unit ≤ line.columns
     pub whole : (c : ℕ) → left_of unit ≤ c → c < right_of unit → unit_at kept line start c ≡ Some unit
 
-  -- whether the units of a line tile its columns: each column is in the columns of exactly one unit
+  -- whether the units of a line tile its columns: each column belongs to exactly one unit
   abbrev pub UnitsTile : Type 0
   UnitsTile = (column : ℕ) → column < line.columns → (unit : CaretUnit) × Covers column unit
 
@@ -59,8 +60,7 @@ after_steps rules kept direction (suc count) edge = option_and_then (after_steps
 
 -- steps from a caret on a line that starts at the position `start`
 module _ (rules : Rules) (kept : List Layout) (line : Visual) (start : ℕ) (direction : Direction) (caret : Caret) where
-  -- A step leads to the nearest boundary in its direction: the edge returned is at that boundary, and on the same line. Without an edge,
-  -- there is no boundary in that direction.
+  -- whether the edge that a step returns is at the nearest boundary in its direction, on the same line
   pub record StepsTo (next : Edge) : Type 0 where
     pub to : Caret
     pub drawn : edge_caret_at rules kept next ≡ Some to
@@ -69,12 +69,13 @@ module _ (rules : Rules) (kept : List Layout) (line : Visual) (start : ℕ) (dir
     pub boundary : IsBoundary kept line start to.column
     pub nearest : (c : ℕ) → IsBoundary kept line start c → IsFurther direction caret.column c → IsFurther direction to.column c ⊎ (c ≡ to.column)
 
+  -- whether a step returns such an edge or, if it returns none, there is no boundary in its direction
   abbrev pub IsStep : Option Edge → Type 0
   IsStep (Some next) = StepsTo next
   IsStep None = (c : ℕ) → IsBoundary kept line start c → IsFurther direction caret.column c → ⊥
 
--- Repeated steps from the edge of a caret reach a column: after some number of steps, the caret is at that column, on
--- the same line.
+-- whether repeated steps from the edge of a caret reach a column: after some number of steps, the caret is at that
+-- column, on the same line
 pub record Meets (rules : Rules) (kept : List Layout) (direction : Direction) (edge : Edge) (caret : Caret) (column : ℕ) : Type 0 where
   pub count : ℕ
   pub last : Edge
@@ -99,8 +100,9 @@ pub record IsLastTo (rules : Rules) (kept : List Layout) (n : ℕ) (line : Visua
   pub within : to.column ≤ column
   pub last : (c : ℕ) → IsBoundary kept line start c → c ≤ column → c ≤ to.column
 
--- Whether the units of each line tile its columns, and the edge at a column is at the last boundary up to it. From each edge, a step leads to
--- the nearest boundary, repeated steps reach all boundaries in their direction, and a step back returns.
+-- Whether the units of each line tile its columns, and the edge at a column is at the last boundary up to that column.
+-- From each edge, a step leads to the nearest boundary, repeated steps reach all boundaries in their direction, and a
+-- step back returns.
 pub record StepsAreNearest (rules : Rules) (kept : List Layout) : Type 0 where
   pub tile : (n : ℕ) (line : Visual) (start : ℕ) → line_at kept n ≡ Some (line, start) → UnitsTile kept line start
   pub at : (n : ℕ) (line : Visual) (start : ℕ) → line_at kept n ≡ Some (line, start)

@@ -13,10 +13,11 @@ module _ (pars : List (List ℕ)) (edit : Replacement) where
   abbrev pub is_touched : ℕ → Bool
   is_touched i = nat_le (start_of pars i) (edit.pos + edit.count) && nat_le edit.pos (start_of pars (i + 1))
 
-  -- the first touched paragraph, and how many are touched
+  -- the first touched paragraph
   abbrev pub first_touched : ℕ
   first_touched = unwrap_or (least is_touched 0 (length pars)) 0
 
+  -- the number of touched paragraphs
   abbrev pub touched_count : ℕ
   touched_count = count_by is_touched (range_with_len 0 (length pars))
 
@@ -36,7 +37,7 @@ pub record Span : Type 0 where
   pub stop : ℕ
 
 -- The paragraphs that an edit of the characters from `pos` to `end` touches. If another paragraph precedes
--- them, they have a character before the edited range. If another paragraph follows them, they have a
+-- them, they contain a character before the edited range. If another paragraph follows them, they contain a
 -- character after it.
 pub record AreTouched (pars : List (List ℕ)) (pos end : ℕ) (touched : Span) : Type 0 where
   pub first : touched.first ≡ first_touched pars (region_edit pos end [])

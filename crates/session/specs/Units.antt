@@ -21,40 +21,45 @@ module _ (line : Visual) where
   abbrev pub is_at_other : ℕ → ℕ → Bool
   is_at_other k j = not (slice_index line.levels j == slice_index line.levels k)
 
-  -- the level run of character k: its first character, and the character after its last one
+  -- the first character of the level run of character k
   abbrev pub run_begin : ℕ → ℕ
   run_begin k = after (greatest (is_at_other k) k) 0
 
+  -- the character after the last one of the level run of character k
   abbrev pub run_end : ℕ → ℕ
   run_end k = unwrap_or (least (is_at_other k) k (length line.levels - k)) (length line.levels)
 
-  -- The column of the leading end of a unit. At an even level, this is the left edge of its first character. At an odd level, it is the
-  -- right edge of its rightmost character, which may be a mark with columns after its base (L3).
+  -- whether the character at a visual position is from `first` up to `end`, and takes columns
   abbrev pub is_in_unit : ℕ → ℕ → ℕ → Bool
   is_in_unit first end place =
       let k = slice_index line.vtol place in
       (nat_le first k && nat_lt k end) && takes_columns k
 
+  -- The column of the leading end of a unit. At an even level, this is the left edge of its first character. At an
+  -- odd level, it is the right edge of its rightmost character, which may be a mark with columns after its base (L3).
   abbrev pub leading_of : ℕ → ℕ → ℕ → ℕ
   leading_of level first end =
       if is_odd level then columns_left line (after (greatest (is_in_unit first end) (length line.vtol)) 0) else leading_edge line first
 
 -- a line that starts at the position `start`, and a cluster of the text that has a character on the line
 module _ (line : Visual) (start : ℕ) (cluster : Cluster) where
-  -- the shown part of the cluster
+  -- the start of the shown part of the cluster
   abbrev pub shown_begin : ℕ
   shown_begin = cluster.start - start
 
+  -- the end of the shown part of the cluster
   abbrev pub shown_end : ℕ
   shown_end = min (cluster.end - start) (length line.levels)
 
-  -- The unit of character k, which takes columns. It starts with the first character of its cluster and level run that
-  -- takes columns. It ends at the first such character of a later run in the cluster.
+  -- The start of the unit of character k, which takes columns: the first character of its cluster and level run that
+  -- takes columns.
   abbrev pub unit_start : ℕ → ℕ
   unit_start k =
       let low = max shown_begin (run_begin line k) in
       unwrap_or (least (takes_columns line) low (k - low)) k
 
+  -- the end of this unit: the first character of a later run in the cluster that takes columns, or else the end of
+  -- the shown part
   abbrev pub unit_end : ℕ → ℕ
   unit_end k = unwrap_or (least (takes_columns line) (run_end line k) (shown_end - run_end line k)) shown_end
 

@@ -75,7 +75,7 @@ pub fn back<T: Copy>(items: &[T], from: usize) -> &[T]
     &items[from.min(items.len())..]
 }
 
-// Returns the advances of a paragraph, or none if it is not measured.
+// Returns the advances of a paragraph, or an empty slice if it is not measured.
 fn advances_of(kept: &Kept) -> &[u32]
     ensures { result.now ≡ unwrap_or kept.now.advances [] }
 {

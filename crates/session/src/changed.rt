@@ -21,7 +21,7 @@ pub struct Matching {
     pub is_whole: bool,
 }
 
-// Returns a count of matching lines, given the numbers of lines of both paragraphs.
+// Returns a `Matching` with a count of matching lines, given the number of lines in each paragraph.
 fn matching_of(count: usize, lines: usize, others: usize) -> Matching
     ensures count { result.count ≡ count }
     ensures whole { IsWhole lines others result }
@@ -78,7 +78,7 @@ fn staying_end(kept: &Kept, part: &Option<Extents>) -> Matching
     }
 }
 
-/// Returns how many lines at the start of adjacent paragraphs are the same as those of new ones.
+/// Returns how many lines at the start of adjacent paragraphs are the same as at the start of the new ones.
 pub fn matching_at_start<S: ParagraphStore<Kept>>(
     store: &S,
     first: usize,
@@ -106,7 +106,7 @@ pub fn matching_at_start<S: ParagraphStore<Kept>>(
     count
 }
 
-/// Returns how many lines at the end of adjacent paragraphs are the same as those of new ones.
+/// Returns how many lines at the end of adjacent paragraphs are the same as at the end of the new ones.
 pub fn matching_at_end<S: ParagraphStore<Kept>>(
     store: &S,
     first: usize,
@@ -183,7 +183,8 @@ pub fn staying_at_end<S: ParagraphStore<Kept>>(store: &S, parts: &[Option<Extent
     count
 }
 
-/// Returns the damaged lines without those that are the same at the start and then at the end.
+/// Returns the damaged lines without `start` unchanged ones at their start and then `end` unchanged ones at
+/// their end.
 pub fn without_same(damage: Damage, start: usize, end: usize) -> ChangedLines
     requires { damage.first_line + damage.old_lines < 2 ^ 64 }
     ensures { result ≡ without_same damage start end }

@@ -25,7 +25,7 @@ pub struct Cluster {
 }
 
 /// Returns the cluster of the character at a position, or `None` past the last character. Reads only the
-/// characters around it (`Laid::cluster`).
+/// characters around that position (see `Laid::cluster`).
 pub fn cluster_of<S: ParagraphStore<Kept>>(
     store: &S,
     alloc: Global,

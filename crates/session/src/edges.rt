@@ -30,8 +30,8 @@ pub enum Side {
     After,
 }
 
-/// One of the two edges of a position. The two are drawn at different places where the direction changes or a
-/// line wraps. Edits happen at `pos` either way.
+/// One of the two edges of a position. The two edges are drawn at different places where the direction
+/// changes or a line wraps. Edits happen at `pos` either way.
 #[derive(Clone, Copy, Debug, PartialEq, Eq)]
 pub struct Edge {
     pub pos: usize,
@@ -206,18 +206,18 @@ impl<S: ParagraphStore<Kept>> Session<S> {
         }
     }
 
-    /// Returns where to draw a caret at an edge, or `None` past the end of the text and for the edge after
-    /// position 0.
+    /// Returns where to draw a caret at an edge, or `None` past the end of the text and for the `After` edge
+    /// of position 0.
     ///
     /// A `Before` edge belongs to the character at the position, and an `After` edge to the character before
-    /// it. The caret is on that character's line, and has its level. It is drawn:
+    /// that position. The caret is on the character's line, and has the character's level. It is drawn:
     /// - If a caret unit (see `step`) begins or ends with the character: at that end of the unit.
     /// - Otherwise, at the character's own edge.
     /// - If the character is not shown: at the end of the line in the base direction.
     ///
     /// At the end of the text, the caret of the `Before` edge is that of `caret`.
     ///
-    /// Fails if memory runs out, but only at an edge of a character. Needs time linear in the lengths of the
+    /// Can fail only at an edge of a character, if memory runs out. Needs time linear in the lengths of the
     /// line and of the character's cluster (see `cluster`).
     pub fn edge_caret(&self, edge: Edge) -> Result<Option<Caret>, AllocError>
         ensures ok { IfOk result (λ caret. caret
@@ -242,14 +242,13 @@ impl<S: ParagraphStore<Kept>> Session<S> {
         }
     }
 
-    /// Moves a caret by one step on its line. Returns the edge where the caret stops, or `None` at the end of
-    /// the line in that direction, or if `edge_caret` returns `None`.
+    /// Moves a caret by one step on its line. Returns the edge where the caret stops, or `None` if the caret
+    /// is at the end of the line in that direction, or if `edge_caret` returns `None`.
     ///
     /// A step moves over one caret unit: a grapheme cluster or, if its characters are in several level runs,
     /// the part in one of them. The returned edge is the unit's far edge.
     ///
-    /// Fails if memory runs out, but only from an edge of a text that is not empty. Costs as much as
-    /// `edge_caret`.
+    /// Can fail only if the text is not empty, if memory runs out. Costs as much as `edge_caret`.
     pub fn step(&self, edge: Edge, direction: Direction) -> Result<Option<Edge>, AllocError>
         ensures ok { IfOk result (λ next. next
             ≡ step_at (rules_of self.now.engine) self.now.kept edge direction) }
@@ -366,11 +365,12 @@ impl<S: ParagraphStore<Kept>> Session<S> {
         after(end)
     }
 
-    /// Returns the edge at a column of line `n`: the left end of the caret unit that covers the column. To
-    /// the right of the text, this is the right end of the text. So columns 0 and `usize::MAX` stand for the
-    /// two ends of the line on the screen. Returns `None` past the line that contains the end of the text.
+    /// Returns the edge at a column of line `n`: the left end of the caret unit that covers the column. For a
+    /// column to the right of the text, this is the text's right end. So the columns 0 and `usize::MAX` find
+    /// the two ends of the line on the screen. Returns `None` past the line that contains the end of the
+    /// text.
     ///
-    /// Fails if memory runs out, but only on a line that exists. Costs as much as `edge_caret`.
+    /// Can fail only on a line that exists, if memory runs out. Costs as much as `edge_caret`.
     pub fn edge_at(&self, n: usize, column: usize) -> Result<Option<Edge>, AllocError>
         ensures ok { IfOk result (λ edge. edge
             ≡ edge_at (rules_of self.now.engine) self.now.kept n column) }
@@ -386,10 +386,10 @@ impl<S: ParagraphStore<Kept>> Session<S> {
     }
 
     /// Returns the edge nearest to a column of line `n`: the nearer end of the caret unit that covers the
-    /// column, or the right end at the unit's middle. In a unit of one column, and outside the text, this is
-    /// the edge that `edge_at` returns.
+    /// column, or the right end at the unit's middle. For a unit of one column, and for a column outside the
+    /// text, this is the edge that `edge_at` returns.
     ///
-    /// Fails if memory runs out, but only on a line that exists. Costs as much as `edge_caret`.
+    /// Can fail only on a line that exists, if memory runs out. Costs as much as `edge_caret`.
     pub fn nearest_edge(&self, n: usize, column: usize) -> Result<Option<Edge>, AllocError>
         ensures ok { IfOk result (λ edge. edge
             ≡ nearest_edge (rules_of self.now.engine) self.now.kept n column) }
@@ -408,8 +408,9 @@ impl<S: ParagraphStore<Kept>> Session<S> {
     /// line that contains the end of the text.
     ///
     /// The first edge is before the line's first character. The last edge is before the separator that ends
-    /// the line (CR LF is one separator). If there is none, it is before the end of the text on the text's
-    /// last line, or before the first space that is not shown, or else after the line's last character.
+    /// the line (CR LF is one separator). If there is none, the last edge of the text's last line is before
+    /// the end of the text. On other lines, it is before the first space that is not shown, or else after the
+    /// line's last character.
     ///
     /// Costs as much as `place`. Allocates nothing.
     pub fn line_edges(&self, n: usize) -> Option<LineEdges>

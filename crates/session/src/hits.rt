@@ -11,8 +11,8 @@ use lines::VisualLine;
 pub struct Hit {
     /// The position of the character in the text.
     pub pos: usize,
-    /// Whether the column is past the character in its direction, so that a caret belongs after it: to the
-    /// right of the character at an even level, and to its left at an odd level.
+    /// Whether the column is past the character in the character's direction, so that a caret belongs after
+    /// the character. This is on its right at an even level, and on its left at an odd level.
     pub trailing: bool,
 }
 

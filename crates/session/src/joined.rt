@@ -25,7 +25,8 @@ use lines::{Engine, PARAGRAPH_LIMIT};
 use std::alloc::{AllocError, Global};
 use stream::push_characters;
 
-// Returns an upper bound of the number of characters in the three parts: the inserted text counts in bytes.
+// Returns an upper bound on the number of characters in the three parts, with the length of the inserted text
+// in bytes.
 fn len_at_most(front: &[char], piece: &str, back: &[char]) -> usize
     ensures { result ≡ length front.now + length piece.now + length back.now }
 {
@@ -104,7 +105,8 @@ pub struct Form {
     pub width: u32,
 }
 
-/// Part of a paragraph. If the text is measured, there is one advance for each character, and otherwise none.
+/// Part of a paragraph. If the text is measured, there is one advance for each character. Otherwise, there
+/// are none.
 #[derive(Clone, Copy, Debug)]
 pub struct Part<'a> {
     pub text: &'a [char],
@@ -131,8 +133,8 @@ fn joined(
     Ok(text)
 }
 
-// Joins the advances of the three parts of a measured text of `len` characters. Those of inserted characters
-// are 0.
+// Joins the advances of the three parts of a measured text of `len` characters. The advances of inserted
+// characters are 0.
 #[inline(never)] // so that edits of other texts do not clear its frame
 fn measured_advances(
     alloc: Global,
@@ -240,7 +242,7 @@ fn lay_out_owned(
     }
 }
 
-// Frees the unused capacity of a list if it is more than an eighth of the length and 16 items.
+// Frees the unused capacity of a list if it is more than 16 items plus an eighth of the length.
 fn trim(list: Vec<char>) -> Vec<char>
     ensures { result.items ≡ list.items }
 {
@@ -251,7 +253,7 @@ fn trim(list: Vec<char>) -> Vec<char>
     list
 }
 
-// Lays out each paragraph of a nonempty text once. If the text is one paragraph, it moves into the layout.
+// Lays out each paragraph of a nonempty text once. A text that is a single paragraph moves into the layout.
 fn lay_out(
     alloc: Global,
     engine: &mut Engine,
@@ -376,8 +378,8 @@ fn lay_out_parts(
 }
 
 /// Lays out the paragraphs of the joined text, in which inserted characters have advance 0. Fails with
-/// `ParagraphTooLong`, without allocating, if a paragraph is too long or its advances add up to too much.
-/// Fails with `NoMemory` if an allocation fails.
+/// `ParagraphTooLong`, without allocating, if a paragraph is too long or the sum of its advances is too
+/// large. Fails with `NoMemory` if an allocation fails.
 pub fn lay_out_joined(
     alloc: Global,
     engine: &mut Engine,

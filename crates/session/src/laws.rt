@@ -36,10 +36,10 @@ pub fn texts_are_laid_out_in_parts()
     paragraphs_are_pieces();
 }
 
-/// States, as a theorem, which lines have to be drawn after an edit of a measured session, followed by a call
-/// that sets the advances of exactly the paragraphs that are new in the edit's damage. Starting at the
-/// `first_line` of the edit's damage, its `old_lines` lines have become the `new_lines` lines of the second
-/// damage, and all other lines are the same. Costs nothing at run time.
+/// States, as a theorem, which lines to redraw after two calls on a measured session: an edit, and a call
+/// that sets the advances of exactly the new paragraphs of the edit's damage. Starting at the `first_line` of
+/// the first damage, the `new_lines` lines of the second damage replace the `old_lines` lines of the first.
+/// All other lines are the same. Costs nothing at run time.
 pub fn measured_edits_are_drawn_at_once()
     ensures { (edit : Replacement) (pos : ℕ) (list : List ℕ) (old edited measured : SessionState)
         (damage second : Damage)

@@ -15,7 +15,7 @@ use store::{Found, Measured, ParagraphStore};
 // four numbers at a time.
 const BLOCK: usize = 65_536;
 
-/// An encoding, whose units are counted.
+/// An encoding whose code units are counted.
 #[derive(Clone, Copy)]
 pub enum Encoding {
     Utf8,
@@ -34,7 +34,7 @@ impl Encoding {
         }
     }
 
-    /// Returns the number of units of characters.
+    /// Returns the number of units in a text.
     pub fn length(self, text: &[char]) -> usize
         ensures { result ≡ length_in self text.now }
     {
@@ -48,7 +48,7 @@ impl Encoding {
         length + self.length_of_block(rest) as usize
     }
 
-    // Returns the number of units of a block of characters.
+    // Returns the number of units in a block of characters.
     fn length_of_block(self, block: &[char]) -> u32
         requires { length block.now ≤ BLOCK }
         ensures units { result ≡ length_in self block.now }
@@ -61,7 +61,7 @@ impl Encoding {
         length
     }
 
-    // Returns the number of units of a paragraph.
+    // Returns the number of units in a paragraph.
     fn units(self, kept: &Kept) -> usize
         ensures { result ≡ units_of self kept.now }
     {
@@ -71,7 +71,7 @@ impl Encoding {
         }
     }
 
-    // Returns the number of units of the text.
+    // Returns the number of units in the text.
     fn total<S: ParagraphStore<Kept>>(self, store: &S) -> usize
         ensures { result ≡ sum_by (units_of self) (S.items store.now) }
     {
@@ -104,7 +104,7 @@ impl Encoding {
     }
 }
 
-// Returns the largest character, or U+0000 if there are none.
+// Returns the largest character, or U+0000 if the text is empty.
 fn largest(text: &[char]) -> char
     ensures { (k : ℕ) → k < length text.now → slice_index text.now k ≤ result }
 {
@@ -126,7 +126,7 @@ fn size_below_800(c: char) -> u32
     if c < '\u{80}' { 1 } else { 2 }
 }
 
-// Returns the number of UTF-8 bytes of a block of characters below U+0800.
+// Returns the number of UTF-8 bytes in a block of characters below U+0800.
 fn length_below_800(block: &[char]) -> u32
     requires few { length block.now ≤ BLOCK }
     requires small { (k : ℕ) → k < length block.now → slice_index block.now k < 2048 }
@@ -139,13 +139,13 @@ fn length_below_800(block: &[char]) -> u32
     length
 }
 
-/// Returns the numbers of UTF-8 bytes and of UTF-16 code units of characters.
+/// Returns the numbers of UTF-8 bytes and of UTF-16 code units in a text.
 pub fn lengths(text: &[char]) -> (usize, usize)
     ensures bytes { result.0 ≡ length_in Utf8 text.now }
     ensures utf16 { result.1 ≡ length_in Utf16 text.now }
 {
-    // Fast paths: most texts have no characters of several units, or of more than two bytes. The largest
-    // character is found faster than the sums.
+    // Fast paths: in most texts, each character is one unit, or at most two bytes. Finding the largest
+    // character is faster than computing the sums.
     let largest = largest(text);
     if largest < '\u{80}' {
         return (text.len(), text.len());

@@ -16,7 +16,7 @@ use store::ParagraphStore;
 /// The place of a character of a text, or of the end of the text. All numbers start at 0.
 #[derive(Clone, Copy, Debug, PartialEq, Eq)]
 pub struct Place {
-    /// The paragraph that contains the place.
+    /// The index of the paragraph that contains the place.
     pub paragraph: usize,
     /// The line that contains the place, numbered across the whole text.
     pub line: usize,

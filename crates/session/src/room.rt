@@ -13,7 +13,7 @@ use crate::joined::Part;
 use bidi::paragraphs_are_pieces;
 use lines::Engine;
 
-/// What is known about the characters read so far.
+/// What a scan knows about the characters read so far.
 #[derive(Clone, Copy, Debug)]
 pub struct RoomScan {
     last: Option<char>,

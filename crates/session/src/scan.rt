@@ -6,7 +6,7 @@ ghost use Rattle.lines.specs.Layouts.{cut_by};
 
 use lines::{Engine, PARAGRAPH_LIMIT};
 
-/// What is known about the characters read so far.
+/// What a scan knows about the characters read so far.
 #[derive(Clone, Copy, Debug)]
 pub struct Scan {
     last: Option<char>,

@@ -97,14 +97,14 @@ impl<S: ParagraphStore<Kept>> Model for Session<S> {
         IsWholeLayout (state_of s.engine s.form.width s.form.is_measured (S.items s.store)) };
 }
 
-// Returns whether a measured session cannot have a width.
+// Returns whether a width is invalid for a measured session.
 fn is_no_width(width: u32) -> bool
     ensures { result ≡ is_no_width width }
 {
     width == 0 || width > MEASURED_WIDTH_LIMIT
 }
 
-// Returns all lines of a new session as changed.
+// Returns the changed lines of a new session, which are all of its lines.
 fn all_lines<S: ParagraphStore<Kept>>(store: &S) -> ChangedLines
     ensures { result ≡ all_lines (S.items store.now) }
 {
@@ -152,7 +152,8 @@ fn fill_store<S: ParagraphStore<Kept> + Drop>(
 }
 
 impl<S: ParagraphStore<Kept> + Drop> Session<S> {
-    /// Opens a session on a text at a width in columns. After an error, returns the engine with the error.
+    /// Opens a session on a text at a width in columns. If opening fails, returns the engine together with
+    /// the error.
     pub fn open(
         alloc: Global,
         engine: Engine,
@@ -186,8 +187,8 @@ impl<S: ParagraphStore<Kept> + Drop> Session<S> {
 
     /// Opens a measured session on a text at a width from 1 to 2,147,483,647. Each character has an advance:
     /// its width, in a unit that the caller chooses. All advances are 0 until [`Session::set_advances`] sets
-    /// them. All columns of the session, such as those of lines, carets and hits, are in this unit. After an
-    /// error, returns the engine with the error.
+    /// them. All columns of the session, such as those of lines, carets and hits, are in this unit. If
+    /// opening fails, returns the engine together with the error.
     pub fn open_measured(
         alloc: Global,
         engine: Engine,
@@ -341,9 +342,9 @@ impl<S: ParagraphStore<Kept>> Session<S> {
     /// last character.
     ///
     /// Reads back to the nearest place where a cluster ends regardless of other characters, such as before
-    /// most letters and emoji, and forward to the next such place. At worst, as in a paragraph of flags,
-    /// reads the whole paragraph. Allocates a copy of these characters if there is more than one. Fails if
-    /// memory runs out, but only at a character.
+    /// most letters and emoji, and forward to the next such place. In the worst case, such as a paragraph of
+    /// flags, reads the whole paragraph. Allocates a copy of these characters if there is more than one. Can
+    /// fail only at a character, if memory runs out.
     pub fn cluster(&self, pos: usize) -> Result<Option<Cluster>, AllocError>
         ensures ok { IfOk result (λ cluster. cluster ≡ cluster_at self.now.kept pos) }
         ensures memory { OnErr result (pos < length (text_at self.now)) }
@@ -355,10 +356,10 @@ impl<S: ParagraphStore<Kept>> Session<S> {
     }
 
     /// Returns where the grapheme clusters of line `n` end, in characters from the line's start, or `None`
-    /// past the last line. The last of these ends is that of the line, even if its last cluster continues on
-    /// the next line.
+    /// past the last line. The last of these ends is the end of the line, even if the line's last cluster
+    /// continues on the next line.
     ///
-    /// Reads the characters of the line, and the characters around it as `cluster` does. Allocates a copy of
+    /// Reads the characters of the line and, as `cluster` does, the characters around it. Allocates a copy of
     /// all of them.
     pub fn line_clusters(&self, n: usize) -> Result<Option<Vec<usize>>, AllocError>
         ensures ok { IfOk result (λ ends. option_map (λ ends. ends.items) ends
@@ -537,7 +538,8 @@ impl<S: ParagraphStore<Kept>> Session<S> {
         paragraph_first_line(&self.store, index)
     }
 
-    /// Returns the width, in columns. In a measured session, returns at most 65,535: use `measured_width`.
+    /// Returns the width, in columns. In a measured session, returns at most 65,535. Use `measured_width`
+    /// there.
     pub fn width(&self) -> u16
         ensures width { result ≡ min self.now.width 65535 }
         ensures laid_out { IsWholeLayout self.now }
@@ -651,9 +653,9 @@ impl<S: ParagraphStore<Kept>> Session<S> {
         )
     }
 
-    /// Sets the width, in columns, and rewraps every paragraph. A paragraph of one line is left as it is if
-    /// the line fits and, with `show_spaces`, hides no space that fits. Every other paragraph is filled and
-    /// written once. In a measured session, the width is in the caller's unit.
+    /// Sets the width, in columns, and rewraps every paragraph. A paragraph of one line stays as it is if the
+    /// line fits and, with `show_spaces`, no space that would fit is hidden. Every other paragraph is filled
+    /// and written once. In a measured session, the width is in the caller's unit.
     pub fn set_width(&mut self, width: u16) -> Result<Damage, EditFault>
         ensures ok { IfOk result (SetsWidth width self.old self.new) }
         ensures err { IfErr result (SetsWidthNot width self.old self.new) }
@@ -841,9 +843,9 @@ impl<S: ParagraphStore<Kept>> Session<S> {
         let _ = &self.engine;
     }
 
-    /// Executes edits in order. A refused edit changes nothing. Stops if an allocation fails for an edit that
-    /// is not refused. The work counters rise by at most the sum of the bounds of the edits, including the
-    /// edit that failed.
+    /// Executes edits in order. A refused edit changes nothing. Stops at an edit that is not refused if an
+    /// allocation fails. The work counters increase by at most the sum of the edits' bounds, including the
+    /// bound of the edit that failed.
     pub fn run(&mut self, edits: &[Edit<'_>]) -> Result<(), AllocError>
         ensures ok { OnOk result (held_at self.new
             ≡ after_all (cuts_at self.old) (held_at self.old) edits.now) }

@@ -1,4 +1,5 @@
-//! What a caret moves over on a line: characters of a grapheme cluster that are at one level.
+//! Caret units: what a caret moves over on a line in one step. A unit consists of characters of a grapheme
+//! cluster that are at one level.
 ghost use Rattle.std.specs.Prelude.{◌≡◌, ◌+◌, ◌-◌, ◌^◌, ◌<◌, ◌≤◌, length, slice_index, IfSome};
 ghost use Rattle.lines.specs.Columns.{columns_between};
 ghost use Rattle.lines.specs.Visual.{Visual};
@@ -14,19 +15,19 @@ use crate::clusters::Cluster;
 use crate::hits::logical;
 use lines::VisualLine;
 
-/// What a caret moves over on a line. Indices and columns are counted from the start of the line's shown
-/// part.
+/// A unit that a caret moves over on a line in one step. Indices and columns are counted from the start of
+/// the line's shown part.
 #[derive(Clone, Copy, Debug, PartialEq, Eq)]
 pub struct CaretUnit {
-    /// The index of its first character.
+    /// The index of the unit's first character.
     pub start: usize,
-    /// The index after its last character.
+    /// The index after the unit's last character.
     pub end: usize,
-    /// The column of its leading end: its left end if its level is even.
+    /// The column of the unit's leading end: the left end if the level is even.
     pub leading: usize,
-    /// The column of its trailing end.
+    /// The column of the unit's trailing end.
     pub trailing: usize,
-    /// Its level.
+    /// The unit's level.
     pub level: u8,
 }
 
@@ -38,7 +39,7 @@ fn takes_columns(line: &VisualLine<'_>, k: usize) -> bool
     line.columns_between(k, k + 1) > 0
 }
 
-// Returns the first character from `low` on, and before `end`, that takes columns.
+// Returns the first character from `low` up to `end` that takes columns.
 fn first_taking(line: &VisualLine<'_>, low: usize, end: usize) -> Option<usize>
     ensures value { result ≡ least (takes_columns line.now) low (end - low) }
     ensures before { IfSome result (λ k. k < end) }
@@ -178,7 +179,7 @@ pub fn unit_of(line: &VisualLine<'_>, start: usize, cluster: Cluster, k: usize) 
     }
 }
 
-// Returns the last character up to `k` of a cluster that takes columns.
+// Returns the last character of a cluster, up to `k`, that takes columns.
 fn holder(line: &VisualLine<'_>, start: usize, cluster: Cluster, k: usize) -> Option<usize>
     requires { k + 1 < 2 ^ 64 }
     ensures value { result ≡ holder line.now start cluster k }

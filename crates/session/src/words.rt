@@ -1,4 +1,4 @@
-//! The word of a character (UAX #29), for moving by words and for selecting a word.
+//! The word of a character (UAX #29), for moving by words and selecting a word.
 ghost use Rattle.std.specs.Prelude.{◌≡◌, ◌+◌, ◌^◌, ◌<◌, ◌≤◌, All, length, IfOk, OnErr};
 ghost use Rattle.session.specs.Kept.{text_of};
 ghost use Rattle.session.specs.Places.{IsLined};
@@ -12,11 +12,12 @@ use store::ParagraphStore;
 /// A segment between two word boundaries of a text.
 #[derive(Clone, Copy, Debug, PartialEq, Eq)]
 pub struct Word {
-    /// The position of its first character.
+    /// The position of the segment's first character.
     pub start: usize,
-    /// The position after its last character.
+    /// The position after the segment's last character.
     pub end: usize,
-    /// Whether it has an alphabetic or numeric character. Other segments are spaces and punctuation.
+    /// Whether the segment has an alphabetic or numeric character. If not, it consists of spaces or
+    /// punctuation.
     pub has_letter: bool,
 }
 
