@@ -15,7 +15,7 @@ abbrev pub is_other : BidiClass → Bool
 is_other ON = true
 is_other type = false
 
--- U+2329 and U+232A count as U+3008 and U+3009
+-- the canonical equivalent of a bracket: U+2329 counts as U+3008, and U+232A as U+3009
 abbrev pub canonical : ℕ → ℕ
 canonical c = if c == 0x2329 then 0x3008 else (if c == 0x232A then 0x3009 else c)
 
@@ -94,7 +94,7 @@ is_direction EN = true
 is_direction AN = true
 is_direction type = false
 
--- whether a type counts as strong in N0 and has the given direction: L if `left` is true, and R if not
+-- whether a type counts as strong in N0 and has the given direction: L if `left` is true, or else R
 abbrev pub is_toward : Bool → BidiClass → Bool
 is_toward left type = is_direction type && agree left (is_left type)
 
@@ -115,7 +115,7 @@ pair_direction left sos types a b =
     if stands left types a b then Some (side left)
     else (if stands (not left) types a b then Some (side (if agree left (is_left (context sos types a)) then left else not left)) else None)
 
--- whether k is the bracket at p, or one of the marks directly after it (NSM before W1)
+-- whether k is the bracket at p, or one of the marks directly after it, whose types were NSM before W1
 abbrev pub is_set_with : List Bool → ℕ → ℕ → Bool
 is_set_with marks p k = (p == k) || (nat_lt p k && list_all (λ mark. mark) (slice_range marks (p + 1) (k + 1)))
 
@@ -132,8 +132,8 @@ module _ (embedding : BidiClass) (sos : BidiClass) (marks : List Bool) where
   pair_step types a (Some b) = set_pair marks types a b (pair_direction (is_left embedding) sos types a b)
   pair_step types a None = types
 
-  -- resolves the pairs in the order of their opening brackets, each in the types that result from the earlier
-  -- pairs
+  -- resolves the pairs in the order of their opening brackets, each with the types that result from the
+  -- earlier pairs
   abbrev pub resolve_pairs : (ℕ → Option ℕ) → List BidiClass → List BidiClass
   resolve_pairs closer types = fold (λ current a. pair_step current a (closer a)) types (range_with_len 0 (length types))
 

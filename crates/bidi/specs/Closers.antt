@@ -41,7 +41,7 @@ pub record AreInOrder (pairs : List BracketPair) (k : ℕ) : Type 0 where
 
 -- the live opening brackets during the pass that finds the pairs, the newest last
 
--- the index in the list of opening brackets
+-- the index of an opener in the list of opening brackets
 abbrev pub index_of : List Opener → ℕ → ℕ
 index_of openers m = slice_index (map (λ (o : Opener). o.index) openers) m
 

@@ -49,14 +49,14 @@ open_after openers class = openers
 abbrev pub open_chain : List BidiClass → ℕ → List BidiClass
 open_chain classes k = fold open_after [] (take k classes)
 
--- X2 to X5b: whether an opener opens an odd level, and the level that it opens: the least odd or even level
--- above `level`
+-- X2 to X5b: whether an opener opens an odd level
 abbrev pub opens_odd : BidiClass → Bool
 opens_odd RLE = true
 opens_odd RLO = true
 opens_odd RLI = true
 opens_odd class = false
 
+-- the level that an opener opens: the least odd or even level above `level`
 abbrev pub level_above : BidiClass → ℕ → ℕ
 level_above opener level = if opens_odd opener then level + 1 + level % 2 else level + 2 - level % 2
 
@@ -87,11 +87,11 @@ inside base (opener ∷ outer) = enter (inside base outer) opener
 abbrev pub inside_at : ℕ → List BidiClass → ℕ → Inside
 inside_at base classes k = inside base (open_chain classes (if is_pdi (class_at classes k) then k + 1 else k))
 
--- The explicit level and explicit type of the character at k. A separator has the paragraph level and keeps
--- its type.
+-- the explicit level of the character at k, which is the paragraph level for a separator
 abbrev pub level_at : ℕ → List BidiClass → ℕ → ℕ
 level_at base classes k = if is_separator (class_at classes k) then base else (inside_at base classes k).level
 
+-- the explicit type of the character at k; a separator keeps its type
 abbrev pub type_at : ℕ → List BidiClass → ℕ → BidiClass
 type_at base classes k =
     if is_separator (class_at classes k) then class_at classes k else unwrap_or (inside_at base classes k).override (class_at classes k)

@@ -14,8 +14,8 @@ use Rattle.bidi.specs.Sequences.{stayed, sequences, first_of, sos, eos, directio
 use Rattle.bidi.specs.Weak.{weak}
 use Rattle.bidi.specs.Neutral.{neutral, implicit_level}
 
--- the levels of one sequence at the given level, after the weak rules, bracket pairs, and the neutral and
--- implicit rules
+-- the levels of one sequence at the given level, after the weak rules, the rule for bracket pairs, and the
+-- neutral and implicit rules
 abbrev pub sequence_levels : (ℕ → Option Bracket) → ℕ → BidiClass → BidiClass → List ℕ → List BidiClass → List ℕ
 sequence_levels bracket_of level sos eos characters types =
     map (implicit_level level) (neutral (direction level) sos eos (brackets bracket_of (direction level) sos characters types (weak sos types)))

@@ -17,11 +17,12 @@ is_neutral FSI = true
 is_neutral PDI = true
 is_neutral type = false
 
--- N1: whether two sides have the same direction, and the type for a direction. `true` means L. Numbers count as R.
+-- N1: whether two sides have the same direction. `true` means L. Numbers count as R.
 abbrev pub agree : Bool → Bool → Bool
 agree true other = other
 agree false other = not other
 
+-- the type for a direction
 abbrev pub side : Bool → BidiClass
 side true = L
 side false = R
@@ -40,13 +41,14 @@ neutral_at embedding sos eos before type after =
 abbrev pub neutral : BidiClass → BidiClass → BidiClass → List BidiClass → List BidiClass
 neutral embedding sos eos types = each_by (neutral_at embedding sos eos) [] types
 
--- I1 and I2: how far a type raises an even level, and how far it raises an odd level
+-- I1: how far a type raises an even level
 abbrev pub rise_even : BidiClass → ℕ
 rise_even R = 1
 rise_even AN = 2
 rise_even EN = 2
 rise_even type = 0
 
+-- I2: how far a type raises an odd level
 abbrev pub rise_odd : BidiClass → ℕ
 rise_odd L = 1
 rise_odd AN = 1

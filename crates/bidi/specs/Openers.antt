@@ -25,12 +25,13 @@ module _ (base : ℕ) where
   statuses (opener ∷ outer) =
       if (inside base (opener ∷ outer)).is_void then statuses outer else statuses outer ++ innermost (opener ∷ outer) ∷ []
 
-  -- the number of isolates that do not overflow, and the number of isolates that do
+  -- the number of isolates that do not overflow
   abbrev pub isolates : List BidiClass → ℕ
   isolates [] = 0
   isolates (opener ∷ outer) =
       if is_initiator opener && not (inside base (opener ∷ outer)).is_void then isolates outer + 1 else isolates outer
 
+  -- the number of isolates that overflow
   abbrev pub overflowed_isolates : List BidiClass → ℕ
   overflowed_isolates [] = 0
   overflowed_isolates (opener ∷ outer) =

@@ -1,4 +1,4 @@
--- How the algorithm arrives at each level: the types after each step, and what the rules looked at.
+-- How the algorithm arrives at each level: the types after each step, and what the rules read.
 use Rattle.std.specs.Prelude.{◌≡◌, ℕ, suc, ◌+◌, Bool, not, List, [], ◌∷◌, length, map, slice_index, Option, Some, None, if◌then◌else◌}
 use Rattle.ucd.specs.declared.bidi_class.BidiClass.{BidiClass}
 use Rattle.std.specs.List.{range_with_len}
@@ -41,12 +41,12 @@ module _ {T : Type 0} (test : T → Bool) where
   index_before [] = None
   index_before (item ∷ before) = if test item then Some (length before) else index_before before
 
-  -- the same among the items from index k on
+  -- the index of the nearest item that passes the test, if there is one, among the items from index k on
   abbrev pub index_from : ℕ → List T → Option ℕ
   index_from k [] = None
   index_from k (item ∷ after) = if test item then Some k else index_from (suc k) after
 
--- what a rule gives for each item of a list, with the arguments of `each_by`
+-- the results of a rule for each item of a list, with the arguments of `each_by`
 abbrev pub each_into : {T U : Type 0} → (List T → T → List T → U) → List T → List T → List U
 each_into rule before [] = []
 each_into rule before (item ∷ after) = rule before item after ∷ each_into rule (item ∷ before) after
@@ -55,8 +55,8 @@ each_into rule before (item ∷ after) = rule before item after ∷ each_into ru
 abbrev pub rule_between : BidiClass → BidiClass → NeutralRule
 rule_between before after = if agree (is_left before) (is_left after) then N1 else N2
 
--- N1 and N2 for a type: the type after them, and for a neutral the rule that decides and the indices of the types on
--- both sides of its run. A side without one is sos or eos.
+-- N1 and N2 for a type: the type after these rules. For a neutral, also the rule that decides, and the indices of
+-- the types on both sides of its run. A side without an index is sos or eos.
 module _ (embedding sos eos : BidiClass) where
   abbrev pub neutral_step : List BidiClass → BidiClass → List BidiClass → NeutralStep
   neutral_step before type after = record {
@@ -71,7 +71,7 @@ module _ (embedding sos eos : BidiClass) where
   abbrev pub neutral_steps : List BidiClass → List NeutralStep
   neutral_steps types = each_into neutral_step [] types
 
--- what a function gives for each item of a list and its index, if the list starts at index k
+-- the results of a function for each item of a list and the item's index, counted from k
 abbrev pub numbered : {T U : Type 0} → (ℕ → T → U) → ℕ → List T → List U
 numbered f k [] = []
 numbered f k (item ∷ items) = f k item ∷ numbered f (suc k) items

@@ -1,4 +1,4 @@
--- Searches of the pass for N0 in the types before N0.
+-- How the pass for N0 searches the types before N0.
 use Rattle.std.specs.Prelude.{◌≡◌, ℕ, ◌<◌, ◌≤◌, Bool, false, List, length}
 use Rattle.ucd.specs.declared.bidi_class.BidiClass.{BidiClass}
 use Rattle.bidi.specs.Brackets.{is_toward}

@@ -28,17 +28,20 @@ pub record AreLevelsSoFar (level : ℕ) (sos eos : BidiClass) (types : List Bidi
 abbrev pub is_opposite : ℕ → BidiClass → Bool
 is_opposite level type = not (agree (is_left (direction level)) (is_left type))
 
--- the level of neutrals between types that have the same direction, and how far it is above the sequence's level
+-- the level of neutrals between types that have the same direction
 abbrev pub raised : ℕ → Bool → ℕ
 raised level opposite = if opposite then level + 1 else level
 
+-- how far the level of neutrals next to a type is above the sequence's level, if the types on both sides have the
+-- same direction
 abbrev pub beside : ℕ → BidiClass → ℕ
 beside level type = if is_opposite level type then 1 else 0
 
--- the entries of the tables for a type
+-- the entry of `TURNS` for a type
 abbrev pub turn : ℕ → BidiClass → ℕ
 turn level type = if is_neutral type then 1 else (if is_opposite level type then 2 else 0)
 
+-- the entry of `ABOVE` for a type
 abbrev pub above : ℕ → BidiClass → ℕ
 above level type = if is_neutral type then 1 else (implicit_level level type + 1) - (level + beside level type)
 
@@ -58,7 +61,7 @@ pub record AreGuessed (level : ℕ) (sos eos : BidiClass) (types : List BidiClas
   pub direction_is : is_opposite level before ≡ opposite
   pub guessed : take at levels ≡ take start levels ++ replicate (at - start) (raised level opposite)
 
--- `put` is the result of writing the embedding level for the run of neutrals that ends at `at`.
+-- `put` is the result of writing the embedding level to the run of neutrals that ends at `at`.
 abbrev pub LowersRun : ℕ → List BidiClass → List ℕ → ℕ → List ℕ → Type 0
 LowersRun level types levels at put =
     (start : ℕ) → IsRun types start at → take at put ≡ take start levels ++ replicate (at - start) level

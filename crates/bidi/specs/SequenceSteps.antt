@@ -1,4 +1,4 @@
--- The lists of types that the weak rules give one after the other.
+-- The lists of types after each of the weak rules.
 use Rattle.std.specs.Prelude.{◌≡◌, List}
 use Rattle.ucd.specs.declared.bidi_class.BidiClass.{BidiClass}
 use Rattle.bidi.specs.Weak.{w1, w2, w3, w4, w5, w6, weak}

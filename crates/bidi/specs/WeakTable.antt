@@ -16,10 +16,11 @@ is_side L = true
 is_side R = true
 is_side _ = false
 
--- the run and the last strong type of each state, and the state with a given run and strong type
+-- the run of a state
 abbrev pub run_at : ℕ → Row
 run_at state = get_or (Nothing ∷ European ∷ Arabic ∷ EuropeanTerminators ∷ EuropeanSeparator ∷ ArabicSeparator ∷ Terminators ∷ []) (state / 3) Nothing
 
+-- the last strong type of a state
 abbrev pub strong_at : ℕ → BidiClass
 strong_at state = get_or (L ∷ R ∷ AL ∷ []) (state % 3) R
 
@@ -37,6 +38,7 @@ strong_number L = 0
 strong_number R = 1
 strong_number _ = 2
 
+-- the state with a given run and last strong type
 abbrev pub state_of : Row → BidiClass → ℕ
 state_of run strong = run_number run * 3 + strong_number strong
 

@@ -287,7 +287,7 @@ fn stands_inside(
 }
 
 // Returns the direction of a pair. `has_same` says whether a strong type of the embedding direction is inside
-// the pair. `has_other` says the same for the other direction.
+// the pair. `has_other` says whether one of the other direction is.
 fn pair_direction(
     types: &[BidiClass],
     place: usize,
@@ -310,8 +310,8 @@ fn pair_direction(
     }
 }
 
-// Returns the nearest strong type before an index, or `sos`. This is only called for a pair that then becomes
-// strong itself, so the search for a later pair stops at this one.
+// Returns the nearest strong type before an index, or `sos`. Called only for a pair that then becomes strong
+// itself, so the search for a later pair stops at that pair.
 fn strong_before(types: &[BidiClass], place: usize, sos: BidiClass) -> BidiClass
     requires { place ≤ length types.now }
     ensures { result ≡ context sos types.now place }
@@ -350,7 +350,7 @@ fn side(left: bool) -> BidiClass
     if left { BidiClass::L } else { BidiClass::R }
 }
 
-// Returns whether a type counts as strong in N0, as numbers do.
+// Returns whether a type counts as strong in N0, where numbers do too.
 fn is_direction(class: BidiClass) -> bool
     ensures { result ≡ is_direction class }
 {

@@ -83,8 +83,8 @@ fn uncut_len(tables: &Tables, text: &[char]) -> usize
     }
 }
 
-/// Returns the index of the first paragraph boundary in a text, greater than 0 and less than the length, or
-/// `None` if there is none.
+/// Returns the index of the first paragraph boundary in a text, or `None` if there is none. The index is
+/// greater than 0 and less than the length.
 pub fn first_cut(tables: &Tables, text: &[char]) -> Option<usize>
     ensures place { result ≡ first_cut (cut (class_of tables.now)) text.now }
     ensures paragraphs { SplitsAt (cut (class_of tables.now)) text.now result }

@@ -1,9 +1,9 @@
-//! Characters beside others of the same kind.
+//! Characters next to others of the same kind.
 ghost use Rattle.bidi.specs.Doubling.{DoublingKeepsLevels};
 
 /// States, as a theorem, that a character directly beside another one of the same class has the same level,
-/// and changes no other level. This holds for the classes L, R, AL, EN, ET, AN, S, WS and ON, and for
-/// characters that are no brackets. Costs nothing at run time.
+/// and changes no other level. This holds for characters of the classes L, R, AL, EN, ET, AN, S, WS and ON
+/// that are not brackets. Costs nothing at run time.
 pub fn doubling_keeps_levels()
     ensures { DoublingKeepsLevels }
 {}

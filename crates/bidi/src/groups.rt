@@ -10,7 +10,7 @@ use ucd::BidiClass;
 /// group before it: visiting a few characters twice costs less than a mispredicted branch.
 pub(crate) const GROUP: usize = 16;
 
-/// Writes classes to the front of a reused list, which is never shortened.
+/// Writes classes to the front of a reused list, without ever shortening the list.
 pub(crate) fn copy_to_front(from: &[BidiClass], to: &mut Vec<BidiClass>) -> Result<(), AllocError>
     ensures enough { OnOk result (length from.now ≤ length to.new.items) }
     ensures front { OnOk result (take (length from.now) to.new.items ≡ from.now) }

@@ -121,7 +121,7 @@ pub(crate) fn stayed_brackets(
     Ok(())
 }
 
-// Replaces the contents of `brackets` in the same way, but only if the paragraph has any brackets.
+// Does the same as `stayed_brackets`, but only if the paragraph has any brackets.
 fn any_stayed_brackets(
     all: &Brackets<'_>,
     classes: &[BidiClass],
@@ -163,8 +163,8 @@ fn put_back(
     Ok(())
 }
 
-// Returns whether the matches are known and X9 removed nothing. If so, they are also the matches of the kept
-// characters.
+// Returns whether the matches are known and X9 removed nothing. If so, the known matches are also those of
+// the kept characters.
 fn are_still_found(is_found: bool, stayed: &[BidiClass], acting: &[BidiClass]) -> bool
     ensures { result ≡ true → (is_found ≡ true) × (length stayed.now ≡ length acting.now) }
 {

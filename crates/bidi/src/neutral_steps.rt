@@ -1,5 +1,5 @@
-//! The neutral rules (UAX #9, N1 and N2) for the types of one isolating run sequence, with what they
-//! look at, for callers that show how the algorithm arrives at a level. `neutral` has the fast pass.
+//! The neutral rules (UAX #9, N1 and N2) for the types of one isolating run sequence, and what these rules
+//! read, for callers that show how the algorithm arrives at a level. `neutral` has the fast pass.
 ghost use Rattle.std.specs.Prelude.{◌≡◌, ◌≤◌, drop, length, not, IfOk};
 ghost use Rattle.bidi.specs.Neighbours.{nearest};
 ghost use Rattle.bidi.specs.Neutral.{between, is_neutral};
@@ -15,7 +15,7 @@ use ucd::BidiClass;
 pub enum NeutralRule {
     /// The types on both sides have the same direction.
     N1,
-    /// They have not, so the embedding direction decides.
+    /// The types on both sides have different directions, so the embedding direction decides.
     N2,
 }
 
@@ -26,12 +26,13 @@ pub struct NeutralStep {
     pub class: BidiClass,
     /// The rule that decides, if the type is neutral.
     pub rule: Option<NeutralRule>,
-    /// The indices of the types on both sides of the run of neutrals. `None` stands for sos and eos.
+    /// The index of the type before the run of neutrals, or `None` for sos.
     pub left: Option<usize>,
+    /// The index of the type after the run of neutrals, or `None` for eos.
     pub right: Option<usize>,
 }
 
-// A type beside a run of neutrals, and its index, unless it is sos or eos.
+// A type next to a run of neutrals, and its index unless the type is sos or eos.
 #[derive(Clone, Copy)]
 struct Beside {
     class: BidiClass,
@@ -58,7 +59,7 @@ fn between(embedding: BidiClass, before: BidiClass, after: BidiClass) -> BidiCla
     }
 }
 
-// Returns the first type from an index on that is not neutral, or eos.
+// Returns the first type from an index on that is not neutral, or eos if there is none.
 fn next_beside(types: &[BidiClass], from: usize, eos: BidiClass) -> Beside
     requires { from ≤ length types.now }
     ensures class { result.class ≡ nearest (λ type. not (is_neutral type)) eos (drop from types.now) }

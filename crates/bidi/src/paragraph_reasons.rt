@@ -26,7 +26,8 @@ use ucd::{BidiClass, Tables};
 pub struct ParagraphReasons {
     /// The class of each character. Each FSI is replaced by the LRI or RLI that it acts as (X5c).
     pub classes: Vec<BidiClass>,
-    /// The index of the PDI that matches an isolate initiator (BD9), or the length.
+    /// For each character, the index of the PDI that matches the isolate initiator there (BD9), or the
+    /// length.
     pub matches: Vec<usize>,
     /// What X1 to X8 do with each character.
     pub explicit: Vec<ExplicitStep>,
@@ -34,7 +35,7 @@ pub struct ParagraphReasons {
     pub kept: Vec<usize>,
     /// The isolating run sequences, in the order of their first characters.
     pub sequences: Vec<SequenceReasons>,
-    /// The level of each character, as `resolve` returns them.
+    /// The level of each character, as `resolve` returns it.
     pub levels: Vec<u8>,
 }
 

@@ -1,4 +1,4 @@
-//! Finds the levels of isolating run sequences (UAX #9, W1 to I2), one sequence at a time.
+//! Finds the levels of isolating run sequences (UAX #9, W1 to I2), one after another.
 ghost use Rattle.std.specs.Prelude.{◌≡◌, ◌-◌, ◌<◌, ◌≤◌, true, false, map, replicate, length, take, drop};
 ghost use Rattle.std.specs.Prelude.{IfSome, OnOk};
 ghost use Rattle.std.specs.List.{range_with_len};
@@ -154,7 +154,7 @@ pub(crate) fn fill_brackets(
     Ok(())
 }
 
-// Replaces the contents of `brackets` in the same way, but only if the paragraph has any brackets.
+// Does the same as `fill_brackets`, but only if the paragraph has any brackets.
 fn fill_any_brackets(
     all: &Brackets<'_>,
     places: &[usize],

@@ -15,12 +15,12 @@ use ucd::BidiClass;
 /// An isolating run sequence, and what the rules do with its characters.
 #[derive(Drop)]
 pub struct SequenceReasons {
-    /// The indices of its characters, in the list of the characters that X9 keeps.
+    /// The indices of the sequence's characters in the list of the characters that X9 keeps.
     pub places: Vec<usize>,
     pub level: u8,
     pub sos: BidiClass,
     pub eos: BidiClass,
-    /// What the rules W1 to I2 do with each of its characters.
+    /// What the rules W1 to I2 do with each of the sequence's characters.
     pub steps: Vec<SequenceStep>,
 }
 

@@ -11,7 +11,7 @@ use crate::sequences::{next_run, run_end};
 use std::alloc::{AllocError, Global};
 use ucd::BidiClass;
 
-// Appends the starts, given a list with a flag for each character, all of which are `false`.
+// Appends where each sequence begins. `continued` must have a flag for each character, all of them `false`.
 fn push_starts(
     classes: &[BidiClass],
     levels: &[u8],

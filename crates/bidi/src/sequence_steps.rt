@@ -32,7 +32,7 @@ pub struct SequenceStep {
     pub w6: BidiClass,
     pub w7: BidiClass,
     pub n0: BidiClass,
-    /// N1 and N2, with indices in the sequence.
+    /// What N1 and N2 do, with indices in the sequence.
     pub neutral: NeutralStep,
     /// The level after I1 and I2.
     pub level: u8,
@@ -105,7 +105,7 @@ fn rise_odd(class: BidiClass) -> u8
     }
 }
 
-// I1 and I2.
+// Returns the level after I1 and I2.
 fn implicit_level(level: u8, class: BidiClass) -> u8
     requires { level ≤ 125 }
     ensures { result ≡ implicit_level level class }

@@ -14,7 +14,7 @@ use crate::fill::fill;
 use crate::weak_table::{COMPLETES, KEEPS, LEFT, PARTS, RIGHT, ROW_LEN, RUN_LEN, next, value};
 use ucd::BidiClass;
 
-// The state of the pass after the types that it has read.
+// The state of the pass after the types read so far.
 #[derive(Clone, Copy)]
 struct State {
     // The last type that was not NSM.
@@ -123,7 +123,8 @@ fn are_simple(types: &[BidiClass]) -> bool
     all
 }
 
-// Compares numbers instead of using `match`, for the same reason.
+// Returns whether only W3 changes a type. Compares numbers instead of using `match`, to keep the loop of
+// `are_simple` free of branches.
 fn is_simple(class: BidiClass) -> bool
     ensures { result ≡ is_simple class }
 {
@@ -199,8 +200,8 @@ pub(crate) fn is_left(class: BidiClass) -> bool
     matches!(class, BidiClass::L)
 }
 
-// Returns the type of a mark after a type. Marks are rare, and a separate function keeps them out of the
-// loop.
+// Returns the type of a mark that follows a type. Marks are rare, so a separate function keeps their code out
+// of the loop.
 #[cold]
 #[inline(never)]
 fn mark_after(before: BidiClass) -> BidiClass

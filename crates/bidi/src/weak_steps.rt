@@ -30,7 +30,7 @@ fn is_terminator(class: BidiClass) -> bool
     matches!(class, BidiClass::ET)
 }
 
-// W2 for a type, given the nearest strong type before it.
+// Applies W2 to a type, given the nearest strong type before it.
 fn digit_type(strong: BidiClass, class: BidiClass) -> BidiClass
     ensures { result ≡ digit_type strong class }
 {
@@ -41,7 +41,7 @@ fn digit_type(strong: BidiClass, class: BidiClass) -> BidiClass
     }
 }
 
-// W4 for a type, given the type before it, and the types after it.
+// Applies W4 to a type, given the type before it and the types after it.
 fn separator_type(before: BidiClass, class: BidiClass, after: &[BidiClass]) -> BidiClass
     ensures { result ≡ w4_at (before ∷ []) class after.now }
 {
@@ -66,7 +66,7 @@ fn nearest_other(types: &[BidiClass]) -> BidiClass
     BidiClass::ON
 }
 
-// W5 for a type, given the nearest types before and after it that are not ET.
+// Applies W5 to a type, given the nearest types before and after it that are not ET.
 fn terminator_type(before: BidiClass, class: BidiClass, next: BidiClass) -> BidiClass
     ensures { result ≡ (if is_terminator class then (if is_number before || is_number next then EN
         else ET) else class) }
@@ -89,7 +89,7 @@ fn w6_type(class: BidiClass) -> BidiClass
     }
 }
 
-// W7 for a type, given the nearest strong type before it.
+// Applies W7 to a type, given the nearest strong type before it.
 fn left_type(strong: BidiClass, class: BidiClass) -> BidiClass
     ensures { result ≡ (if is_number class && is_left strong then L else class) }
 {

@@ -43,18 +43,20 @@ pub const PARTS: u16 = 4;
 /// The number of states: one for each run and each of the strong types L, R and AL.
 pub const STATE_COUNT: usize = 21;
 
-/// The number of entries of a row. There are fewer classes, so the last entries are not used.
+/// The number of entries in a row. There are fewer classes, so the last entries are not used.
 pub const ROW_LEN: usize = 32;
 
-/// The number of entries of a run's rows, one for each strong type. The states without a run come first.
+/// The number of entries in the rows of a run, which has one row for each strong type. The states without a
+/// run come first.
 pub const RUN_LEN: usize = 3 * ROW_LEN;
 
 /// The index at which the last state's row starts.
 pub const LAST_ROW: usize = (STATE_COUNT - 1) * ROW_LEN;
 
-/// The indices at which the rows for the last strong type L or R, without a run, start.
+/// The index at which the row for the last strong type L, without a run, starts.
 pub const LEFT: usize = 0;
 
+/// The index at which the row for the last strong type R, without a run, starts.
 pub const RIGHT: usize = ROW_LEN;
 
 // The summands of an entry of `NEXT` that select the next state: its last strong type, and its run.
@@ -66,7 +68,7 @@ const AL: u16 = 2 * R;
 
 const RUN: u16 = 3 * R;
 
-// Short names, for the rows below.
+// Short names for use in the rows below.
 const K: u16 = KEEPS;
 
 const B: u16 = BEGINS;
