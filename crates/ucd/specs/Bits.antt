@@ -1,4 +1,4 @@
--- Encoding properties as bits and decoding bits are inverse to each other.
+-- Encoding properties as bits and decoding bits are inverse operations.
 use Rattle.std.proofs.Common.{◌*◌, ◌==◌, if◌then◌else◌, ◌≡◌, ℕ, ◌/◌, ◌%◌, ◌<◌, ◌==◌, map, get_or, refl, sym, ◌∙◌, ap, arith, zero-add, lit<, ◌⊎◌, inl, inr, zero, suc}
 use Rattle.std.specs.List.{range_with_len}
 use Rattle.std.proofs.lemmas.List.FromFn.{get_or-range_with_len, get_or-map-range_with_len}
@@ -81,7 +81,7 @@ line_index_in bits are =
     let wide = times 4 (bits / 512 % 2) (omega arith) in
     rw (line, wide, mark, pictograph) (omega arith)
 
--- the properties for line breaking can be decoded from this number
+-- the bits above the lowest seven determine the properties for line breaking
 pub line_answers_in : (bits : ℕ) → line_answers (answers_in bits) ≡ line_answers_at (bits / 128)
 line_answers_in bits =
     let number : bits / 128 / 8 ≡ bits / 1024 = omega arith in

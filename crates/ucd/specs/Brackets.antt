@@ -6,11 +6,12 @@ use Rattle.ucd.specs.Grammar.{Form, code_point}
 use Rattle.ucd.specs.declared.bracket.Bracket.{Bracket}
 use Rattle.ucd.specs.declared.bracket.Mirror.{Mirror}
 
--- the character that 4 to 6 hexadecimal digits denote, if it is a scalar value
+-- a number, if it is a scalar value
 abbrev pub scalar_only : Option ℕ → Option ℕ
 scalar_only None = None
 scalar_only (Some c) = if scalar c then Some c else None
 
+-- the character that 4 to 6 hexadecimal digits denote, if it is a scalar value
 abbrev pub character_of : List ℕ → Option ℕ
 character_of digits = scalar_only (code_point digits)
 

@@ -10,7 +10,7 @@ is_strong R = true
 is_strong AL = true
 is_strong _ = false
 
--- an isolate initiator
+-- whether characters of a class are isolate initiators
 abbrev pub is_initiator : BidiClass → Bool
 is_initiator LRI = true
 is_initiator RLI = true
@@ -21,12 +21,12 @@ abbrev pub is_pdi : BidiClass → Bool
 is_pdi PDI = true
 is_pdi _ = false
 
--- a paragraph separator
+-- whether characters of a class are paragraph separators
 abbrev pub is_separator : BidiClass → Bool
 is_separator B = true
 is_separator _ = false
 
--- a nonspacing mark
+-- whether characters of a class are nonspacing marks
 abbrev pub is_mark : BidiClass → Bool
 is_mark NSM = true
 is_mark _ = false

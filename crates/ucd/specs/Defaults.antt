@@ -1,4 +1,5 @@
--- Properties that depend on the version alone: defaults of code points that the files do not list, and U+25CC.
+-- Properties that depend only on the version: the defaults of code points that the files do not list, and the
+-- detail of U+25CC.
 use Rattle.std.specs.Prelude.{ℕ, List, [], ◌∷◌, unwrap_or}
 use Rattle.ucd.specs.Entries.{value_at}
 use Rattle.ucd.specs.declared.bidi_class.BidiClass.{BidiClass}
@@ -12,7 +13,7 @@ abbrev pub missing : ℕ → ℕ → BidiClass → Entry BidiClass
 missing first last class = record { first = first; last = last; value = class }
 
 -- The `@missing` lines of DerivedBidiClass.txt of Unicode 17.0, except the first one, which assigns class L to
--- all other code points. tests/ucd/run compares them with the file.
+-- all other code points. tests/ucd/run compares this list with the file.
 unfoldable pub missing_17 : List (Entry BidiClass)
 missing_17 =
     missing 0x0590 0x05FF R

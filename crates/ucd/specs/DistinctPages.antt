@@ -1,4 +1,4 @@
--- Lists of pages in which no two are equal.
+-- Lists of pages, no two of which are equal.
 use Rattle.std.specs.Prelude.{◌≡◌, ℕ, ◌+◌, ◌*◌, ◌%◌, ◌<◌, ◌≤◌, ◌&&◌, false, List, length, slice_index, slice_index_or}
 use Rattle.ucd.specs.Answers.{PropertyAnswers, unnamed}
 use Rattle.ucd.specs.Pages.{answers_at}
@@ -22,7 +22,7 @@ abbrev pub AreDistinct : List PropertyAnswers → Type 0
 AreDistinct entries = (p q : ℕ) → p < q → q * 256 + 256 ≤ length entries
     → ¬ ((k : ℕ) → k < 256 → slice_index_or entries (p * 256 + k) unnamed ≡ slice_index_or entries (q * 256 + k) unnamed)
 
--- the index and the entries determine the properties of each code point of the first `place` blocks
+-- the index and the entries determine the properties of each code point in the first `place` blocks
 pub record HoldsPages (answers : ℕ → PropertyAnswers) (index : List ℕ) (entries : List PropertyAnswers) (place : ℕ) : Type 0 where
   pub places : length index ≡ place
   pub whole : length entries % 256 ≡ 0

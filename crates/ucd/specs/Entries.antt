@@ -29,7 +29,7 @@ module _ {V : Type 0} where
     pub free : (c : ℕ) → IsTrue (covers e c) → value_at old c ≡ None
     pub values : (c : ℕ) → value_at new c ≡ (if covers e c then Some e.value else value_at old c)
 
-  -- one entry is added, and then the other
+  -- two entries are added, one after the other
   abbrev pub AddsBoth : List (Entry V) → List (Entry V) → Entry V → Entry V → Type 0
   AddsBoth old new one other = (mid : List (Entry V)) × AddsEntry old mid one × AddsEntry mid new other
 

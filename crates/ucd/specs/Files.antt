@@ -19,15 +19,17 @@ module _ {V : Type 0} (form : Form V) where
   abbrev pub given : List ℕ → ℕ → Option V
   given line c = given_by (reading_of form line) c
 
-  -- the value from the first line that lists the character
+  -- the first value if there is one, or else the second
   abbrev pub or_else : Option V → Option V → Option V
   or_else (Some v) other = Some v
   or_else None other = other
 
+  -- the value from the first line that lists the character
   abbrev pub value_in : List (List ℕ) → ℕ → Option V
   value_in [] c = None
   value_in (line ∷ lines) c = or_else (given line c) (value_in lines c)
 
+  -- line k, or an empty line past the end
   abbrev pub line_at : List (List ℕ) → ℕ → List ℕ
   line_at lines k = slice_index_or lines k []
 

@@ -6,7 +6,7 @@ use Rattle.ucd.specs.declared.fault.Cause.{Cause}
 use Rattle.ucd.specs.declared.fault.Cause.TheVariants as cause
 use Rattle.ucd.specs.declared.grammar.Entry.{Entry}
 
--- whether a byte is the given separator: of lines, of fields, or of the ends of a range
+-- whether a byte is the given separator, which can separate lines, fields, or the ends of a range
 abbrev pub is_mark : ℕ → ℕ → Bool
 is_mark mark b = b == mark
 
@@ -29,14 +29,15 @@ spaces = 32 ∷ 9 ∷ []
 abbrev pub blanks : List ℕ
 blanks = 32 ∷ 9 ∷ 13 ∷ []
 
--- the part of a line before the first `#`, and that part without the white space at both ends
+-- the part of a line before the first `#`
 abbrev pub before_comment : List ℕ → List ℕ
 before_comment line = before_first (is_mark 35) line
 
+-- that part without the white space at both ends
 abbrev pub content_of : List ℕ → List ℕ
 content_of line = trimmed (is_one_of blanks) (before_comment line)
 
--- the fields, separated by `;`
+-- the fields of a line, which are separated by `;`
 abbrev pub fields_of : List ℕ → List (List ℕ)
 fields_of content = map (trimmed (is_one_of spaces)) (slice_split (is_mark 59) content)
 
@@ -51,8 +52,8 @@ is_code_point digits = nat_le 4 (length digits) && (nat_le (length digits) 6 && 
 abbrev pub code_point : List ℕ → Option ℕ
 code_point digits = if is_code_point digits then Some (hex_value digits) else None
 
--- The first and last code points of a field: `X`, or `X..Y` if the file has ranges. The field is passed as
--- its parts between dots.
+-- The first and last code points of a field: `X`, or `X..Y` if the file has ranges. `points_by` takes the
+-- parts of the field between dots.
 abbrev pub both : Option ℕ → Option ℕ → Option (ℕ × ℕ)
 both (Some x) (Some y) = Some (x, y)
 both (Some x) None = None

@@ -9,6 +9,6 @@ pub record IsQuiet (a : PropertyAnswers) : Type 0 where
   pub bracket : a.has_bracket ≡ false
   pub mirror : a.has_mirror ≡ false
 
--- a flag that is not set in quiet properties
+-- whether quiet properties never have a flag set
 abbrev pub IsFlag : (PropertyAnswers → Bool) → Type 0
 IsFlag flag = (a : PropertyAnswers) → IsQuiet a → flag a ≡ false

@@ -8,12 +8,13 @@ use Rattle.ucd.specs.Images.{u16_at, u32_at, u64_at, checksum, image_version, pa
 pub record Shows (bytes : List ℕ) (at : ℕ) (part : List ℕ) (from count : ℕ) : Type 0 where
   pub each : (i j : ℕ) → at ≤ i → i < at + count → i + from ≡ j + at → slice_index bytes i ≡ slice_index part j
 
--- a number is appended, and the bytes before it are unchanged
+-- a 16-bit number is appended, and the bytes before it are unchanged
 pub record Adds16 (old new : List ℕ) (number : ℕ) : Type 0 where
   pub kept : Shows new 0 old 0 (length old)
   pub len : length new ≡ length old + 2
   pub here : u16_at new (length old) ≡ number
 
+-- a 32-bit number is appended, and the bytes before it are unchanged
 pub record Adds32 (old new : List ℕ) (number : ℕ) : Type 0 where
   pub kept : Shows new 0 old 0 (length old)
   pub len : length new ≡ length old + 4
@@ -32,7 +33,7 @@ pub record AddsChecksum (old new : List ℕ) : Type 0 where
   pub len : length new ≡ length old + 8
   pub here : u64_at new (length old) ≡ checksum old (length old / 8)
 
--- a framed image with this version and these pages, brackets and mirrors
+-- `bytes` is a framed image with this version and these pages, brackets and mirrors
 pub record Joins (version : Version) (bytes index pages brackets mirrors : List ℕ) : Type 0 where
   pub framed : IsFramed bytes
   pub of_version : image_version bytes ≡ version
@@ -44,7 +45,7 @@ pub record Joins (version : Version) (bytes index pages brackets mirrors : List 
   pub brackets_shown : Shows bytes (brackets_at bytes) brackets 0 (length brackets)
   pub mirrors_shown : Shows bytes (mirrors_at bytes) mirrors 0 (length mirrors)
 
--- page numbers and pages as bytes, which determine the properties of each code point
+-- the page numbers and the pages, as bytes, determine the properties of each code point
 pub record ArePages (version : Version) (answers : ℕ → PropertyAnswers) (index pages : List ℕ) : Type 0 where
   pub places : length index ≡ 8704
   pub whole : length pages % 512 ≡ 0

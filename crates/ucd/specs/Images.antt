@@ -22,13 +22,15 @@ use Rattle.ucd.specs.declared.version.Version.{Version}
 use Rattle.ucd.specs.declared.version.Version.TheVariants.{V15_0, V17_0}
 use Rattle.ucd.specs.Versions.{number_count}
 
--- the number in the two, four or eight bytes from byte i
+-- the number in the two bytes from byte i
 unfoldable pub u16_at : List ℕ → ℕ → ℕ
 u16_at bytes i = slice_index bytes i + 256 * slice_index bytes (i + 1)
 
+-- the number in the four bytes from byte i
 unfoldable pub u32_at : List ℕ → ℕ → ℕ
 u32_at bytes i = u16_at bytes i + 65536 * u16_at bytes (i + 2)
 
+-- the number in the eight bytes from byte i
 unfoldable pub u64_at : List ℕ → ℕ → ℕ
 u64_at bytes i = u32_at bytes i + 4294967296 * u32_at bytes (i + 4)
 
@@ -37,40 +39,48 @@ unfoldable pub checksum : List ℕ → ℕ → ℕ
 checksum bytes zero = 0
 checksum bytes (suc k) = (checksum bytes k * 11400714819323198485 % 2 ^ 64 + u64_at bytes (8 * k)) % 2 ^ 64
 
--- the version of Unicode, and its number
+-- the number of a version of Unicode
 abbrev pub version_number : Version → ℕ
 version_number V15_0 = 0x000F_0000
 version_number V17_0 = 0x0011_0000
 
+-- the version of Unicode of an image, or 15.0 if the image does not have the number of 17.0
 abbrev pub image_version : List ℕ → Version
 image_version bytes = if u32_at bytes 16 == 0x0011_0000 then V17_0 else V15_0
 
--- the numbers of pages, brackets and mirrors, and where the parts after the pages begin
+-- the number of pages
 abbrev pub page_count : List ℕ → ℕ
 page_count bytes = u32_at bytes 20
 
+-- the number of brackets
 abbrev pub bracket_count : List ℕ → ℕ
 bracket_count bytes = u32_at bytes 24
 
+-- the number of mirrors
 abbrev pub mirror_count : List ℕ → ℕ
 mirror_count bytes = u32_at bytes 28
 
+-- the offset of the brackets
 abbrev pub brackets_at : List ℕ → ℕ
 brackets_at bytes = 8736 + 512 * page_count bytes
 
+-- the offset of the mirrors
 abbrev pub mirrors_at : List ℕ → ℕ
 mirrors_at bytes = brackets_at bytes + 8 * bracket_count bytes
 
+-- the offset of the checksum
 abbrev pub checksum_at : List ℕ → ℕ
 checksum_at bytes = mirrors_at bytes + 8 * mirror_count bytes
 
--- the page of a block of 256 code points, a number in the pages, and the properties of a code point as bits
+-- the page number of a block of 256 code points
 abbrev pub page_number : List ℕ → ℕ → ℕ
 page_number bytes block = u16_at bytes (32 + 2 * block)
 
+-- the entry at an index of the concatenated pages, as bits
 abbrev pub entry_at : List ℕ → ℕ → ℕ
 entry_at bytes i = u16_at bytes (8736 + 2 * i)
 
+-- the properties of a code point, as bits
 abbrev pub bits_at : List ℕ → ℕ → ℕ
 bits_at bytes c = entry_at bytes (page_number bytes (c / 256) * 256 + c % 256)
 
@@ -79,10 +89,11 @@ bits_at bytes c = entry_at bytes (page_number bytes (c / 256) * 256 + c % 256)
 abbrev pub is_entry : Version → ℕ → Bool
 is_entry version bits = nat_lt (bits % 32) 23 && (nat_lt (bits / 1024) (number_count version) && not (bits / 128 % 4 == 3))
 
--- the bracket and the mirror that a number encodes
+-- the bracket that a number encodes
 abbrev pub bracket_in : ℕ → Option Bracket
 bracket_in number = option_map (λ pair. record { pair = pair; opens = number % 2 == 1 }) (scalar_only (Some (number / 2)))
 
+-- the mirror that a number encodes
 abbrev pub mirror_in : ℕ → Option Mirror
 mirror_in number = option_map (λ mirror. record { 0 = mirror }) (scalar_only (Some number))
 
@@ -112,15 +123,16 @@ module _ {V : Type 0} (decode : ℕ → Option V) (bytes : List ℕ) (start : �
   abbrev pub AreFlags : (PropertyAnswers → Bool) → ℕ → Type 0
   AreFlags flag count = (c : ℕ) → c < 1114112 → flag (answers_in (bits_at bytes c)) ≡ is_some (found count c)
 
--- the bracket and the mirror of a code point
+-- the bracket of a code point
 abbrev pub bracket_at : List ℕ → ℕ → Option Bracket
 bracket_at bytes c = found bracket_in bytes (brackets_at bytes) (bracket_count bytes) c
 
+-- the mirror of a code point
 abbrev pub mirror_at : List ℕ → ℕ → Option Mirror
 mirror_at bytes c = found mirror_in bytes (mirrors_at bytes) (mirror_count bytes) c
 
--- The conditions on an image, in the order in which they are checked. First, its frame: the header, the
--- length and the checksum.
+-- The conditions on an image, in the order in which they are checked. First, the frame is checked: the
+-- header, the length and the checksum.
 pub record IsFramed (bytes : List ℕ) : Type 0 where
   pub header : 32 ≤ length bytes
   pub magic : take 12 bytes ≡ codes "hordguli-ucd"
@@ -130,7 +142,7 @@ pub record IsFramed (bytes : List ℕ) : Type 0 where
   pub end : length bytes ≤ checksum_at bytes + 8
   pub checksum : u64_at bytes (checksum_at bytes) ≡ checksum bytes (checksum_at bytes / 8)
 
--- then the parts between the header and the checksum
+-- Then the parts between the header and the checksum are checked.
 abbrev pub ArePagesKnown : List ℕ → Type 0
 ArePagesKnown bytes = (block : ℕ) → block < 4352 → page_number bytes block < page_count bytes
 

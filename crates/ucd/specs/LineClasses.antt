@@ -4,7 +4,7 @@ use Rattle.std.specs.Str.{bytes_eq}
 use Rattle.ucd.specs.declared.line_class.LineClass.{LineClass}
 use Rattle.ucd.specs.declared.line_class.LineClass.TheVariants.{BK, CM, CR, GL, LF, NL, SP, WJ, ZW, ZWJ, B2, BA, BB, CB, HY, CL, CP, EX, IN, NS, OP, QU, IS, NU, PO, PR, SY, AI, AL, CJ, EB, EM, H2, H3, HL, ID, JL, JT, JV, RI, SA, SG, XX, AK, AP, AS, HH, VF, VI}
 
--- the classes of Unicode 15.0 come first
+-- all classes; those of Unicode 15.0 come first
 abbrev pub all_classes : List LineClass
 all_classes = BK ∷ CM ∷ CR ∷ GL ∷ LF ∷ NL ∷ SP ∷ WJ ∷ ZW ∷ ZWJ ∷ B2 ∷ BA ∷ BB ∷ CB ∷ HY ∷ CL ∷ CP ∷ EX ∷ IN ∷ NS ∷ OP ∷ QU ∷ IS ∷ NU ∷ PO ∷ PR ∷ SY ∷ AI ∷ AL ∷ CJ ∷ EB ∷ EM ∷ H2 ∷ H3 ∷ HL ∷ ID ∷ JL ∷ JT ∷ JV ∷ RI ∷ SA ∷ SG ∷ XX ∷ AK ∷ AP ∷ AS ∷ HH ∷ VF ∷ VI ∷ []
 

@@ -17,7 +17,7 @@ is_rare_separator c = (nat_le 28 c && nat_le c 30) || (c == 133 || c == 8233)
 abbrev pub class_for_lines : ℕ → BidiClass → BidiClass
 class_for_lines c class = if is_rare_separator c && is_separator class then S else class
 
--- the same tables with these classes
+-- the same tables with bidi classes by `class_for_lines`
 unfoldable pub with_line_separators : TableContents → TableContents
 with_line_separators t = record t {
   bidi_classes = singles (λ c. Some (class_for_lines c (unwrap_or (value_at t.bidi_classes c) (default_class t.version c)))) 1114112;
@@ -27,7 +27,7 @@ abbrev pub contents_if : Bool → TableContents → TableContents
 contents_if false t = t
 contents_if true t = with_line_separators t
 
--- the properties of a code point in such tables
+-- the properties of a code point in tables changed by `with_line_separators`
 abbrev pub answers_for_lines : ℕ → PropertyAnswers → PropertyAnswers
 answers_for_lines c a = record a { bidi_class = class_for_lines c a.bidi_class }
 

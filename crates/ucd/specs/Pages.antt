@@ -21,13 +21,15 @@ unfoldable pub singles : {V : Type 0} → (ℕ → Option V) → ℕ → List (E
 singles f zero = []
 singles f (suc n) = singles f n ++ single n (f n)
 
--- the values in the files that result in these properties
+-- a general category that results in these properties
 abbrev pub category_in : PropertyAnswers → Category
 category_in a = if a.is_future_pictograph then category.Unassigned else (if a.is_mark then category.Mark else category.Other)
 
+-- an East Asian width that results in these properties
 abbrev pub width_in : PropertyAnswers → Width
 width_in a = if a.is_wide then width.Wide else width.Other
 
+-- a pictograph entry that results in these properties, if one is needed
 abbrev pub pictograph_in : PropertyAnswers → Option Pictograph
 pictograph_in a = if a.is_future_pictograph then Some (record {}) else None
 

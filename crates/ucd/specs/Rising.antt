@@ -10,14 +10,15 @@ module _ {V : Type 0} where
   AreRisingFrom low [] = ⊤
   AreRisingFrom low (e ∷ es) = (low ≤ e.first) × (e.first ≤ e.last) × (e.last < 1114112) × AreRisingFrom (e.last + 1) es
 
-  -- the entry, if it has code points
+  -- a list of the entry if it has code points, or else an empty list
   abbrev pub if_any : Entry V → List (Entry V)
   if_any e = if nat_le e.first e.last then e ∷ [] else []
 
-  -- the part of an entry below the surrogates, and the part above them
+  -- the part of an entry below the surrogates
   abbrev pub below_surrogates : Entry V → Entry V
   below_surrogates e = record { first = e.first; last = min e.last 55295; value = e.value }
 
+  -- the part of an entry above the surrogates
   abbrev pub above_surrogates : Entry V → Entry V
   above_surrogates e = record { first = max e.first 57344; last = e.last; value = e.value }
 

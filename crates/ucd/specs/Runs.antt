@@ -26,7 +26,7 @@ layers_left l = record {
   categories = l.categories;
 }
 
--- the first entry of no file ends before the code point
+-- in each file, the first remaining entry does not end before the code point
 pub record AllEndFrom (point : ℕ) (k : Layers) : Type 0 where
   pub default_classes : EndsFrom point k.default_classes
   pub bidi_classes : EndsFrom point k.bidi_classes

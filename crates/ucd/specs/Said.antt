@@ -16,10 +16,11 @@ use Rattle.ucd.specs.declared.line_class.LineClass.{LineClass}
 use Rattle.ucd.specs.declared.line_class.LineClass.TheVariants.{XX}
 use Rattle.ucd.specs.declared.version.Version.{Version}
 
--- the line breaking class and the category that the entries assign to a code point, or the defaults
+-- the line breaking class that the entries assign to a code point, or XX if they assign none
 abbrev pub line_class_by : Entries → ℕ → LineClass
 line_class_by e c = unwrap_or (value_at e.breaks.classes c) XX
 
+-- the category that the entries assign to a code point, or Cn if they assign none
 abbrev pub category_by : Entries → ℕ → Category
 category_by e c = unwrap_or (value_at e.breaks.categories c) Unassigned
 

@@ -40,11 +40,12 @@ abbrev pub is_wide_by : Option Width → Bool
 is_wide_by (Some Wide) = true
 is_wide_by _ = false
 
--- whether a category is a mark (Mn or Mc), and whether it is unassigned (Cn)
+-- whether a category is that of marks (Mn or Mc)
 abbrev pub is_mark_by : Category → Bool
 is_mark_by Mark = true
 is_mark_by _ = false
 
+-- whether a category is that of unassigned code points (Cn)
 abbrev pub is_unassigned_by : Category → Bool
 is_unassigned_by Unassigned = true
 is_unassigned_by _ = false
@@ -130,7 +131,7 @@ module _ {V : Type 0} (number : ℕ) (form : Form V) (lines : List (List ℕ)) w
   abbrev pub IsInOr : (TableFault → Type 0) → TableFault → Type 0
   IsInOr after fault = IsFaultIn fault ⊎ (IsGood form lines × after fault)
 
--- the first fault in the files, with the files for bidirectional text before those for line breaking
+-- the first fault in the files; the files for bidirectional text come before those for line breaking
 abbrev pub IsBidiFaultOf : UcdFiles → TableFault → Type 0
 IsBidiFaultOf files =
     IsInOr 1 bidi_class_form (lines_of files.bidi_class.now) (

@@ -79,7 +79,7 @@ impl BidiClass {
         requires { place < BIDI_CLASS_COUNT }
         ensures { result ≡ slice_index_or all_classes place L }
     {
-        // The compiler turns these arms into a copy of the number. A table would need a load for each
+        // The compiler turns these arms into a copy of the number. A table would cost a load for each
         // character.
         match place {
             0 => BidiClass::L,

@@ -65,8 +65,8 @@ fn append_page(entries: &mut Vec<Properties>, page: &[Properties]) -> Result<u16
     Ok((end / PAGE) as u16)
 }
 
-// Returns the number of a page that equals this one, if there is one. Tries the last page first, because most
-// pages equal the one before.
+// Returns the number of a page in `entries` that equals `page`, if there is one. Tries the last page first,
+// because most pages equal the page before them.
 fn page_among(entries: &[Properties], page: &[Properties]) -> Option<usize>
     requires page { length page.now ≡ 256 }
     requires whole { length entries.now % 256 ≡ 0 }

@@ -75,7 +75,7 @@ pub(crate) fn cut(bytes: &[u8], mark: u8) -> (&[u8], Option<&[u8]>)
     }
 }
 
-// Does the same byte by byte, which is faster if the mark is among the first bytes.
+// Does the same as `cut`, but byte by byte, which is faster if the mark is among the first bytes.
 fn cut_near(bytes: &[u8], mark: u8) -> (&[u8], Option<&[u8]>)
     ensures front { result.0.now ≡ before_first (is_mark mark) bytes.now }
     ensures rest { option_map (λ rest. rest.now) result.1 ≡ rest_after mark bytes.now }

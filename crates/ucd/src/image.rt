@@ -41,7 +41,7 @@ pub fn decode_pages(alloc: Global, bytes: &[u8]) -> Result<ImagePages, ImageFaul
     }
 }
 
-// Stores pages that have been checked.
+// Decodes pages that have already been checked.
 fn stored_pages(alloc: Global, bytes: &[u8], pages: usize) -> Result<ImagePages, AllocError>
     requires room { 8736 + 512 * pages ≤ length bytes.now }
     requires pages { pages ≡ page_count bytes.now }

@@ -33,7 +33,7 @@ pub trait Point: Copy + Drop {
     fn number(self) -> u32
         ensures { decode result ≡ Some self };
 
-    /// Returns the flag.
+    /// Returns the flag for this property.
     fn is_flagged(properties: Properties) -> bool
         ensures { result ≡ flag properties };
 }

@@ -178,8 +178,8 @@ impl PagedTables {
         requires { length properties.old ≡ length text.now }
         ensures { properties.new ≡ map (properties_of self.now) text.now }
     {
-        // Borrowed once, the lists stay in registers. Otherwise, the compiler must assume that each write may
-        // move them.
+        // Borrowing the lists once keeps them in registers. Otherwise, the compiler would have to assume that
+        // each write may move them.
         let index = self.pages.index.as_slice();
         let entries = self.pages.entries.as_slice();
         for k in 0..text.len() {

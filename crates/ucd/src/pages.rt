@@ -69,7 +69,7 @@ pub fn entry_of(index: &[u16], entries: &[Properties], c: char) -> Properties
 }
 
 /// Returns the pages of all code points. A block in the same run as the whole block before it is not
-/// examined: both have the same page.
+/// examined, because both have the same page.
 pub fn pages_of(alloc: Global, version: Version, entries: &Entries) -> Result<Pages, AllocError>
     ensures { IfOk result (λ pages. (c : ℕ) → c < 1114112
         → answers_at pages.index.items pages.entries.items c ≡ said (layers_of version entries.now) c) }
@@ -98,7 +98,7 @@ pub fn pages_of(alloc: Global, version: Version, entries: &Entries) -> Result<Pa
     })
 }
 
-// Returns the properties of `len` code points that no line names.
+// Returns the properties of `len` code points that no line lists.
 fn unnamed_points(alloc: Global, len: usize) -> Result<Vec<Properties>, AllocError>
     ensures { IfOk result (λ points. length points.items ≡ len) }
 {
@@ -212,7 +212,7 @@ fn has_separator(entries: &[Properties], first: usize, end: usize) -> bool
     found
 }
 
-// Returns the number of a page. If the page equals the last one in `entries`, returns the last one's number.
+// Returns the number of a page. If the page equals the last page in `entries`, returns that page's number.
 // Otherwise, appends the page.
 fn page_number(entries: &mut Vec<Properties>, page: &[Properties]) -> Result<u16, AllocError>
     requires page { length page.now ≡ 256 }

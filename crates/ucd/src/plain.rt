@@ -8,7 +8,7 @@ ghost use Rattle.ucd.specs.PlainLines.{AreSpaces, AreWord, IsPlain, IsWordByte};
 
 use crate::digits::digit_of;
 
-/// The code points of such a line, and its name.
+/// The code points and the name in a line of one of these forms.
 #[derive(Clone, Copy)]
 pub struct PlainLine<'a> {
     pub first: u32,
@@ -50,7 +50,7 @@ fn leading_points(line: &[u8]) -> Option<(u32, u32, usize)>
     Some((first, last, end + 2 + count))
 }
 
-// Parses the code point with which a text begins. Returns it, and the number of its digits.
+// Parses the code point with which a text begins. Returns the code point and the number of its digits.
 fn leading_code_point(text: &[u8]) -> Option<(u32, usize)>
     ensures within { IfSome result (λ r. r.1 ≤ length text.now) }
     ensures point { IfSome result (λ r. code_point (take r.1 text.now) ≡ Some r.0) }
@@ -106,7 +106,8 @@ fn is_end(line: &[u8], at: usize) -> bool
     at == line.len() || line[at] == b'#'
 }
 
-// Accepts digits, dots, letters, the underscore and some other ASCII bytes, but no white space, `#` or `;`.
+// Returns whether a byte may belong to a word. Accepts digits, dots, letters, the underscore and some other
+// ASCII bytes, but no white space, `#` or `;`.
 fn is_word(byte: u8) -> bool
     ensures { IsTrue result → IsWordByte byte }
 {

@@ -247,7 +247,7 @@ impl Properties {
         (self.bits % 32 != BidiClass::B as u16) & (self.bits / 32 % 4 == 0)
     }
 
-    /// Returns whether both have the same bits.
+    /// Returns whether these properties have the same bits as `other`.
     pub(crate) fn is(self, other: Properties) -> bool
         ensures same { IsTrue result → self ≡ other }
         ensures all { self ≡ other → IsTrue result }

@@ -1,7 +1,7 @@
 //! Runs of code points with the same properties.
 //!
-//! One pass goes through the entries of all files in parallel, and through those that a version adds. A run
-//! ends where an entry begins or ends.
+//! One pass goes through the entries of all files in parallel, and through the entries that the version adds.
+//! A run ends where an entry begins or ends.
 ghost use Rattle.std.specs.Prelude.{◌≡◌, ℕ, ◌<◌, ◌≤◌, List};
 ghost use Rattle.ucd.specs.declared.grammar.Entry.{Entry};
 ghost use Rattle.ucd.specs.Entries.{value_at};
@@ -64,8 +64,8 @@ impl<'a, V: Layer> Cursor<'a, V> {
         Cursor { entries }
     }
 
-    // Skips the entries that end before `point`. Most runs skip no entry of most files, and then no loop is
-    // needed.
+    // Skips the entries that end before `point`. Usually, there are none to skip in a file, and then no loop
+    // is needed.
     fn pass(&mut self, point: usize)
         ensures values { (c : ℕ) → point ≤ c
             → value_at self.new c ≡ value_at self.old c }
@@ -241,7 +241,8 @@ impl<'a> Runs<'a> {
         self.run
     }
 
-    /// Moves to the run that contains `point`: this one, or the next one if this one ends there.
+    /// Moves to the run that contains `point`: the current run, or the next one if the current run ends
+    /// there.
     pub fn move_to(&mut self, point: usize)
         requires run { (self.old.run.start ≤ point) × (point ≤ self.old.run.end)
             × (self.old.run.end ≤ 1114112) }
@@ -255,7 +256,7 @@ impl<'a> Runs<'a> {
         }
     }
 
-    // Moves to the run that starts where this one ends.
+    // Moves to the run that starts where the current run ends.
     fn move_on(&mut self)
         requires { self.old.run.end < 1114112 }
         ensures start { self.new.run.start ≡ self.old.run.end }

@@ -95,7 +95,7 @@ impl Tables {
 
     /// Decodes a compiled image of tables, as returned by `to_image`. Fails with the first fault of the image
     /// (docs/reference.md), or if memory runs out. Allocates nothing before the faults up to `Entry` have
-    /// been ruled out. Linear in the length of the image.
+    /// been ruled out. Needs time linear in the length of the image.
     pub fn from_image(alloc: Global, bytes: &[u8]) -> Result<Tables, ImageFault>
         ensures ok { IfOk result (IsImageOf bytes.now) }
         ensures err { IfErr result (IsImageFault bytes.now) }
@@ -248,8 +248,8 @@ impl Tables {
         self.properties(c).is_future_pictograph()
     }
 
-    /// Returns all these properties in one lookup, except the other bracket of the character's pair and its
-    /// mirror.
+    /// Returns all properties of the character in one lookup, except its mirror and the other bracket of its
+    /// pair.
     pub fn properties(&self, c: char) -> Properties
         ensures { result ≡ properties_of self.now c }
     {
@@ -258,8 +258,8 @@ impl Tables {
             .for_lines_if(self.separates_lines, u32::from(c))
     }
 
-    /// Overwrites `properties` with the properties of each character of a text. Faster than a call for each
-    /// character.
+    /// Overwrites `properties` with the properties of each character of a text. Faster than a separate call
+    /// for each character.
     pub fn look_up(&self, text: &[char], properties: &mut [Properties])
         requires { length properties.old ≡ length text.now }
         ensures { properties.new ≡ map (properties_of self.now) text.now }
