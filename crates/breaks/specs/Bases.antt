@@ -22,8 +22,7 @@ resolved SA false = AL
 resolved CJ is_mark = NS
 resolved class is_mark = class
 
--- The classes and details that exist in a version. Tables of Unicode 15.0 never contain the others. Other classes
--- would count as XX here.
+-- The class itself if it exists in the version, or else XX. Tables of Unicode 15.0 never contain other classes.
 abbrev pub known : Version → LineClass → LineClass
 known V17_0 class = class
 known V15_0 AK = XX
@@ -34,6 +33,7 @@ known V15_0 VF = XX
 known V15_0 VI = XX
 known V15_0 class = class
 
+-- the detail itself if the version has details, or else `Plain`
 abbrev pub known_detail : Version → LineDetail → LineDetail
 known_detail V15_0 detail = Plain
 known_detail V17_0 detail = detail
@@ -64,14 +64,16 @@ abbrev pub stays_with : Character → Character → Bool
 stays_with before c =
     is_one_of (CM ∷ ZWJ ∷ []) c.class && not (is_one_of (BK ∷ CR ∷ LF ∷ NL ∷ SP ∷ ZW ∷ []) before.class)
 
--- Adds a character before some bases. It forms a base of its own, or becomes the first character of the first base.
+-- a character as a base of its own
 abbrev pub alone : Character → Base
 alone c = record { first = c; attached = [] }
 
+-- Adds a character before some bases. It forms a base of its own, or becomes the first character of the first base.
 abbrev pub joined : Character → List Base → List Base
 joined c [] = alone c ∷ []
 joined c (b ∷ bases) = record { first = c; attached = b.first ∷ b.attached } ∷ bases
 
+-- the bases of a list of characters
 abbrev pub bases_of : List Character → List Base
 bases_of [] = []
 bases_of (a ∷ []) = alone a ∷ []

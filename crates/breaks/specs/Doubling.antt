@@ -1,4 +1,4 @@
--- Doubled characters: a character directly beside another of its own kind.
+-- Doubled characters: a character directly next to another one of the same kind.
 use Rattle.std.specs.Prelude.{◌≡◌, ℕ, Bool, true, not, ◌&&◌, List, [], ◌∷◌, ◌++◌, length}
 use Rattle.std.specs.List.{insert}
 use Rattle.ucd.specs.declared.line_class.LineClass.{LineClass}
@@ -11,22 +11,22 @@ use Rattle.breaks.specs.Marks.{marks_of}
 use Rattle.breaks.specs.declared.mark.Mark.{Mark}
 use Rattle.breaks.specs.declared.mark.Mark.TheVariants.{Never, May}
 
--- The characters that can be doubled have one of these classes, and are not U+25CC of 17.0, which LB28a treats as a letter
--- of a Brahmic script.
+-- The characters that can be doubled have one of these classes, and are not U+25CC in 17.0, which LB28a treats as a
+-- letter of a Brahmic script.
 abbrev pub doubled_classes : List LineClass
 doubled_classes = SP ∷ NU ∷ AL ∷ HL ∷ ID ∷ []
 
 abbrev pub can_be_doubled : Character → Bool
 can_be_doubled c = is_one_of doubled_classes c.class && not (is_detail c.detail DottedCircle)
 
--- the mark between two characters of one of these classes (LB7, LB25 and LB28, and for ID LB31)
+-- the mark between two characters of one of these classes (LB7, LB25, LB28 or, for ID, LB31)
 abbrev pub mark_between : LineClass → Mark
 mark_between ID = May
 mark_between class = Never
 
--- Two characters are of one kind if the rules read the same in both. A character d directly after a character c of its
--- kind adds the mark between the two and changes no other mark. So does d directly before c, since the rules read the same
--- in both texts.
+-- Two characters are of the same kind if the rules read the same properties of both. Inserting a character d of the
+-- same kind directly after a character c adds the mark between the two, and changes no other mark. Inserting d directly
+-- before c has the same effect, because the rules cannot distinguish the two texts.
 abbrev pub DoublingKeepsMarks : Type 0
 DoublingKeepsMarks =
     (tables : Tables) (whole_numbers : Bool) (before after : List ℕ) (c d : ℕ) → can_be_doubled (character tables c) ≡ true

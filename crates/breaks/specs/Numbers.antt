@@ -1,5 +1,5 @@
--- Whole numbers (UAX #14, LB25 in the form of section 8.2, example 7). No line ends inside any bases that
--- match the expression `(PR | PO)? (OP | HY)? NU (NU | SY | IS)* (CL | CP)? (PR | PO)?`.
+-- Whole numbers (UAX #14, LB25 in the form of section 8.2, example 7). No line ends inside bases that match
+-- the expression `(PR | PO)? (OP | HY)? NU (NU | SY | IS)* (CL | CP)? (PR | PO)?`.
 use Rattle.std.specs.Prelude.{Bool, true, false, ◌&&◌, List, [], ◌∷◌, ◌++◌, map, reverse, if◌then◌else◌}
 use Rattle.std.specs.List.{list_any}
 use Rattle.ucd.specs.declared.line_class.LineClass.{LineClass}
@@ -20,11 +20,12 @@ middle = NU ∷ SY ∷ IS ∷ []
 abbrev pub closing : List LineClass
 closing = CL ∷ CP ∷ []
 
--- a list without its first item, if that is in `classes`, and a list without all leading items that are in `classes`
+-- a list without its first item, if that item is in `classes`
 abbrev pub after_one : List LineClass → List LineClass → List LineClass
 after_one classes [] = []
 after_one classes (class ∷ rest) = if is_one_of classes class then rest else class ∷ rest
 
+-- a list without all leading items that are in `classes`
 abbrev pub after_all : List LineClass → List LineClass → List LineClass
 after_all classes [] = []
 after_all classes (class ∷ rest) = if is_one_of classes class then after_all classes rest else class ∷ rest

@@ -1,4 +1,4 @@
--- The rule that decides each break mark, and what it read.
+-- The rule that decides each break mark, and what this rule read.
 use Rattle.std.specs.Prelude.{ℕ, ◌+◌, Bool, true, false, ◌&&◌, List, [], ◌∷◌, ◌++◌, length, map, slice_get, option_map, unwrap_or, Option, Some, None, if◌then◌else◌}
 use Rattle.ucd.specs.declared.line_class.LineClass.{LineClass}
 use Rattle.ucd.specs.declared.line_class.LineClass.TheVariants.{SP, ZWJ}
@@ -81,7 +81,7 @@ first_by (name ∷ names) (rule ∷ rules) before after = if rule.holds before a
 abbrev pub first_row : List LineRule → List Row → List Base → List Base → Option LineRule
 first_row names rows before after = first_by names (map rule_of rows) before after
 
--- how many characters some bases have
+-- the number of characters in some bases
 abbrev pub chars_in : List Base → ℕ
 chars_in [] = 0
 chars_in (b ∷ bases) = chars_in bases + (length b.attached + 1)

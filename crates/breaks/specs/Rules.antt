@@ -31,20 +31,23 @@ pub record Row : Type 0 where
 abbrev pub rule_of : Row → Rule
 rule_of row = record { holds = λ before after. row.before before && row.after after; mark = row.mark }
 
--- the rows for `×`, `÷` and `!`
+-- a row for `×`
 abbrev pub never : (List Base → Bool) → (List Base → Bool) → Row
 never before after = record { before = before; after = after; mark = Never }
 
+-- a row for `÷`
 abbrev may : (List Base → Bool) → (List Base → Bool) → Row
 may before after = record { before = before; after = after; mark = May }
 
+-- a row for `!`
 abbrev must : (List Base → Bool) → (List Base → Bool) → Row
 must before after = record { before = before; after = after; mark = Must }
 
--- the condition that is always true, and the one that is true if there are no bases
+-- the condition that is always true
 abbrev pub any : List Base → Bool
 any bases = true
 
+-- the condition that is true if there are no bases
 abbrev pub none : List Base → Bool
 none [] = true
 none (b ∷ bases) = false
@@ -69,12 +72,13 @@ abbrev pub is_pair : List LineClass → List LineClass → List Base → Bool
 is_pair firsts classes (b ∷ a ∷ bases) = is_one_of firsts (class_of a) && is_one_of classes (class_of b)
 is_pair firsts classes bases = false
 
--- whether the nearest base that is not a space has one of the classes, which the rules write as the class
--- followed by `SP*`
+-- the bases without the spaces nearest to the position
 abbrev pub without_spaces : List Base → List Base
 without_spaces [] = []
 without_spaces (b ∷ bases) = if is_same (class_of b) SP then without_spaces bases else b ∷ bases
 
+-- whether the nearest base that is not a space has one of the classes, which the rules write as the class followed by
+-- `SP*`
 abbrev pub is_spaced : List LineClass → List Base → Bool
 is_spaced classes bases = is classes (without_spaces bases)
 
@@ -97,19 +101,22 @@ abbrev pub is_not_east_asian : List Base → Bool
 is_not_east_asian [] = false
 is_not_east_asian (b ∷ bases) = not (is_east_asian b)
 
--- whether the nearest base is QU with this detail, or QU with another detail
+-- whether the nearest base is QU with this detail
 abbrev pub is_quote : LineDetail → List Base → Bool
 is_quote detail [] = false
 is_quote detail (b ∷ bases) = is_same (class_of b) QU && is_detail b.first.detail detail
 
+-- whether the nearest base is QU with another detail
 abbrev pub is_quote_but : LineDetail → List Base → Bool
 is_quote_but detail [] = false
 is_quote_but detail (b ∷ bases) = is_same (class_of b) QU && not (is_detail b.first.detail detail)
 
--- whether the nearest base is a letter of a Brahmic script in the sense of LB28a: AK or U+25CC, or also AS
+-- whether a base is U+25CC with class AL
 abbrev pub is_dotted_circle : Base → Bool
 is_dotted_circle b = is_same b.first.class AL && is_detail b.first.detail DottedCircle
 
+-- whether the nearest base is a letter of a Brahmic script in the sense of LB28a: U+25CC, or one of the classes,
+-- which are AK and, in most conditions, AS
 abbrev pub is_aksara : List LineClass → List Base → Bool
 is_aksara classes [] = false
 is_aksara classes (b ∷ bases) = is_one_of classes (class_of b) || is_dotted_circle b
@@ -330,7 +337,7 @@ LB29_to_LB30b =
 unfoldable pub rows_after_numbers : Version → List Row
 rows_after_numbers v = LB26_to_LB28 ++ (LB28a v ++ LB29_to_LB30b)
 
--- LB25: one rule on whole numbers, or the rows. In 17.0, the rows themselves cover whole numbers.
+-- LB25: one rule for whole numbers, or the rows. In 17.0, the rows themselves cover whole numbers.
 abbrev pub numbers : Version → Bool → List Rule
 numbers V15_0 true = record { holds = is_in_number; mark = Never } ∷ []
 numbers V15_0 false = map rule_of (rows_of_numbers V15_0)

@@ -107,8 +107,8 @@ mark_given whole_numbers decided rest = mark_of whole_numbers decided (is (class
 abbrev pub unattached : List LineClass
 unattached = class.BK ∷ class.CR ∷ class.LF ∷ class.NL ∷ class.SP ∷ class.ZW ∷ []
 
--- LB25 with whole numbers: for each place in the expression, the conditions on the bases before it and after
--- it
+-- LB25 with whole numbers: for each position inside the expression, the conditions on the bases before and
+-- after that position
 abbrev pub ends_in_digits : List Base → Bool
 ends_in_digits [] = false
 ends_in_digits (b ∷ bases) = is_same (class_of b) class.NU || (is_one_of middle (class_of b) && ends_in_digits bases)

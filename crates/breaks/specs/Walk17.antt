@@ -121,9 +121,7 @@ by_width answer is_wide = if answer == LB19A then (if is_wide then MAY else NEVE
 unfoldable pub rows_17 : List Row
 rows_17 = rows_before_numbers V17_0 ++ (rows_of_numbers V17_0 ++ rows_after_numbers V17_0)
 
--- The result of each rule's condition on these bases. Those that depend on the bits of a walk count as false: LB8a,
--- the first and the last rule of LB19a, and LB30b for pictographs. The last rule of LB19a counts as if the base before
--- the last one were narrow.
+-- the rows whose conditions depend on the bits of a walk
 abbrev pub LB8a_row : ℕ
 LB8a_row = 7
 
@@ -136,6 +134,9 @@ LB19a_last_row = 26
 abbrev pub LB30b_row : ℕ
 LB30b_row = 61
 
+-- The result of each rule's condition on these bases. The conditions of LB8a, of the first rule of LB19a, and of
+-- LB30b for pictographs depend on the bits of a walk, and count as false. The last rule of LB19a counts as if the
+-- base before the last one were narrow.
 abbrev pub answers_17 : List Base → List Bool
 answers_17 bases =
     set (set (set (set (map (λ row. row.before bases) rows_17) LB8a_row false) LB19a_first_row false) LB19a_last_row (is (class.QU ∷ []) bases))

@@ -12,7 +12,7 @@ ghost use Rattle.breaks.specs.Seen.{attached_len, base_in, character_in};
 use std::alloc::{AllocError, Global};
 use ucd::{LineClass, LineDetail, Properties, Tables, Version};
 
-/// What the rules need to know about a character, with the class that LB1 gives it.
+/// What the rules need to know about a character, including its class after LB1.
 #[derive(Clone, Copy)]
 pub struct Character {
     pub class: LineClass,
@@ -55,7 +55,7 @@ fn resolved(class: LineClass, is_mark: bool) -> LineClass
     }
 }
 
-// Returns the class that a version knows.
+// Returns the class itself if it exists in the version, or else XX.
 fn known(version: Version, class: LineClass) -> LineClass
     ensures { result ≡ known version class }
 {
@@ -175,7 +175,8 @@ impl Base<'_> {
             class => class,
         }
     }
-    /// Returns whether the base has East Asian width F, W or H. LB10: a CM or ZWJ that is AL has not.
+    /// Returns whether the base has East Asian width F, W or H. A CM or ZWJ that LB10 treats as AL does not
+    /// count as wide.
     pub fn is_east_asian(&self) -> bool
         ensures { result ≡ is_east_asian (base_in self.now) }
     {

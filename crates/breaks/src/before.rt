@@ -17,13 +17,14 @@ use ucd::LineClass;
 #[derive(Drop)]
 pub struct Before<'b, 'a> {
     pub bases: &'b [Base<'a>],
-    // How many of the nearest bases are spaces, and where the base before these starts.
+    // How many of the nearest bases are spaces.
     spaces: usize,
+    // Where the base before these spaces starts.
     behind_spaces: Option<usize>,
     is_odd_run: bool,
     ends_in_number: bool,
     ends_in_digits: bool,
-    // The same for the bases before the nearest one.
+    // The last two fields, for the bases before the nearest one.
     rest_ends_in_number: bool,
     rest_ends_in_digits: bool,
 }
@@ -68,7 +69,8 @@ impl<'b, 'a> Before<'b, 'a> {
         }
     }
 
-    /// Returns the bases before a later position, which are `base`, starting at `start`, and these.
+    /// Returns the bases before the next position: these bases and, nearest to the position, `base`, which
+    /// starts at `start`.
     pub fn next(&self, base: &Base<'a>, bases: &'b [Base<'a>], start: usize) -> Before<'b, 'a>
         requires bases { map base_in bases.now ≡ base_in base.now ∷ self.now }
         requires start { start ≡ chars_in self.now }
@@ -95,14 +97,14 @@ impl<'b, 'a> Before<'b, 'a> {
         }
     }
 
-    /// Returns where the nearest base starts that is not a space.
+    /// Returns where the nearest base that is not a space starts.
     pub fn behind_spaces(&self) -> Option<usize>
         ensures { result ≡ start_of (rules.without_spaces self.now) }
     {
         self.behind_spaces
     }
 
-    /// Returns the bases from the nearest one on that is not a space.
+    /// Returns the bases without the spaces nearest to the position.
     pub fn without_spaces(&self) -> &'b [Base<'a>]
         ensures { map base_in result.now ≡ rules.without_spaces self.now }
     {
@@ -116,7 +118,7 @@ impl<'b, 'a> Before<'b, 'a> {
         is(classes, self.without_spaces())
     }
 
-    /// LB30a: returns whether the run of RI has an odd length.
+    /// LB30a: returns whether the run of RI before the position has an odd length.
     pub fn ends_in_odd_run(&self) -> bool
         ensures { result ≡ rules.ends_in_odd_run self.now }
     {

@@ -105,7 +105,7 @@ pub fn is_future_pictograph(bases: &[Base<'_>]) -> bool
 }
 
 /// LB15a: returns whether the nearest base is an initial quotation mark, at the start of the text or after
-/// one of some classes.
+/// one of the classes that the rule lists.
 pub fn begins_quotation(bases: &[Base<'_>]) -> bool
     ensures { result ≡ rules.begins_quotation (map base_in bases.now) }
 {
@@ -127,8 +127,8 @@ pub fn begins_quotation(bases: &[Base<'_>]) -> bool
             ))
 }
 
-/// LB15b: returns whether the nearest base is a final quotation mark, at the end of the text or before
-/// one of some classes.
+/// LB15b: returns whether the nearest base is a final quotation mark, at the end of the text or before one of
+/// the classes that the rule lists.
 pub fn ends_quotation(bases: &[Base<'_>]) -> bool
     ensures { result ≡ rules.followed (rules.is_quote Final) (rules.or_edge (rules.is rules.after_final))
         (map base_in bases.now) }
@@ -209,7 +209,7 @@ pub fn is_aksara_before_vf(bases: &[Base<'_>]) -> bool
     is_aksara(&[LineClass::AK, LineClass::AS], bases) && is(&[LineClass::VF], rest(bases))
 }
 
-// Returns whether there are no bases, or the nearest one has one of some classes.
+// Returns whether there are no bases, or the nearest one has one of the classes that LB20a lists.
 fn begins_word(bases: &[Base<'_>]) -> bool
     ensures { result ≡ rules.or_edge (rules.is rules.before_word) (map base_in bases.now) }
 {

@@ -208,7 +208,7 @@ fn lb20(before: &Before<'_, '_>, after: &[Base<'_>]) -> Option<LineRule>
     None
 }
 
-// LB20a to LB21a of 15.0.
+// LB21 and LB21a of 15.0, which has no LB20a.
 fn lb21_and_lb21a(before: &Before<'_, '_>, after: &[Base<'_>]) -> Option<LineRule>
     ensures { result ≡ first_row (names_LB20a V15_0 ++ names_LB21_and_LB21a)
         (rows.LB20a V15_0 ++ (rows.LB21 V15_0 ++ rows.LB21a V15_0))
@@ -458,7 +458,7 @@ fn lb29_to_lb30b(before: &Before<'_, '_>, after: &[Base<'_>]) -> Option<LineRule
     None
 }
 
-// The rules before LB25, of 15.0.
+// The rules of 15.0 before LB25.
 fn before_numbers(before: &Before<'_, '_>, after: &[Base<'_>]) -> Option<LineRule>
     ensures { result ≡ first_row (names_before_numbers V15_0) (rows.rows_before_numbers V15_0)
         before.now (map base_in after.now) }
@@ -473,7 +473,7 @@ fn before_numbers(before: &Before<'_, '_>, after: &[Base<'_>]) -> Option<LineRul
         .or(lb21b_to_lb24(before, after))
 }
 
-// The rules before LB25, of 17.0.
+// The rules of 17.0 before LB25.
 fn before_numbers_17(before: &Before<'_, '_>, after: &[Base<'_>]) -> Option<LineRule>
     ensures { result ≡ first_row (names_before_numbers V17_0) (rows.rows_before_numbers V17_0)
         before.now (map base_in after.now) }

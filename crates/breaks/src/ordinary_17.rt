@@ -48,7 +48,7 @@ impl Walk<Rules17> for OrdinaryWalk17 {
         let symbol = symbol_17(next);
         let outcome = outcome(self.row, symbol);
         self.row = next_row(self.row, symbol);
-        // Most outcomes are marks, so they are tested first.
+        // Most outcomes are marks, so marks are tested first.
         if NEVER <= outcome && outcome <= MUST {
             return self.begin(outcome, next);
         }

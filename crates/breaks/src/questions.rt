@@ -53,7 +53,7 @@ fn answer_at(place: usize) -> u8
     ANSWERS[place]
 }
 
-/// Returns the mark of an outcome. That of a question is its answer at the end of a text.
+/// Returns the mark of an outcome. The mark of a question is its answer at the end of a text.
 pub fn mark_17(decided: u8) -> Mark
     requires { decided < DECIDED_COUNT }
     ensures end { result ≡ mark_of_17 decided [] }

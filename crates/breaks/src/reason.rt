@@ -15,15 +15,15 @@ use crate::mark::{Mark, marks};
 use std::alloc::{AllocError, Global};
 use ucd::{LineClass, Tables, Version};
 
-/// Why the mark after a character is what it is.
+/// The reason for the mark after a character.
 #[derive(Clone, Copy)]
 pub struct Reason {
-    /// The first rule that decides.
+    /// The first rule that applies, which decides the mark.
     pub rule: LineRule,
     /// Where the base before the position starts.
     pub base: usize,
-    /// Where the nearest base before the position starts that is not a space. The rules write it as a class
-    /// followed by `SP*`.
+    /// Where the nearest base before the position that is not a space starts. The rules write such a base as
+    /// a class followed by `SP*`.
     pub behind_spaces: Option<usize>,
     /// The class of the base before the position, after LB1 and LB10.
     pub class_before: LineClass,
@@ -51,7 +51,8 @@ fn next_class(bases: &[Base<'_>]) -> Option<LineClass>
     }
 }
 
-// Appends the reasons inside a base, whose start and whose nearest base that is not a space are given.
+// Appends the reasons inside a base. `start` is where the base starts, and `behind_spaces` is where the
+// nearest base that is not a space starts.
 fn push_inside(
     list: &mut Vec<Reason>,
     base: &Base<'_>,
@@ -142,9 +143,9 @@ fn reasons_by<'a>(
     Ok(list)
 }
 
-/// Returns the rule that decides the break mark after each character of a paragraph, and what it read. The
-/// marks are those of `marks`, by the rules of the tables' Unicode version. The time is proportional to the
-/// length.
+/// Returns the rule that decides the break mark after each character of a paragraph, and what that rule read.
+/// The marks are those of `marks`, by the rules of the tables' Unicode version. Needs time proportional to
+/// the length of the paragraph.
 pub fn reasons(
     alloc: Global,
     tables: &Tables,

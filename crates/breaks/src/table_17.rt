@@ -48,7 +48,7 @@ pub enum State {
     CB,
     /// BA, or an HH that has no state of its own.
     BA,
-    /// An HY that is in none of the next states.
+    /// An HY that belongs to none of the later states for HY.
     HY,
     /// LB20a: HY at the start of a word.
     WordHY,
@@ -75,7 +75,7 @@ pub enum State {
     JT,
     /// An odd number of RI.
     RI,
-    /// EX, IN, NS, VF, a VI in no other state, or an even number of RI.
+    /// EX, IN, NS, VF, a VI that has no state of its own, or an even number of RI.
     Other,
     /// IS after a number, as in `NU (SY | IS)*`. The number may continue after the IS.
     NumberIS,
@@ -106,23 +106,24 @@ pub const MAY: u8 = 2;
 /// A line must end before the next character.
 pub const MUST: u8 = 3;
 
-/// LB15b: no line ends there if the base after the next one is one of those that the rule lists, or if there
-/// is none.
+/// LB15b: no line ends before the next character if the base after the next one is one of those that the rule
+/// lists, or if there is none.
 pub const LB15B: u8 = 4;
 
-/// LB15c: a line may end there only if the base after the next one is NU.
+/// LB15c: a line may end before the next character only if the base after the next one is NU.
 pub const LB15C: u8 = 5;
 
-/// LB19a: no line ends there if the base after the next one is not wide, or if there is none.
+/// LB19a: no line ends before the next character if the base after the next one is not wide, or if there is
+/// none.
 pub const LB19A: u8 = 6;
 
-/// LB25 before OP: no line ends there if the bases after the next one are `NU` or `IS NU`.
+/// LB25 before OP: no line ends before the OP if the bases after the next one are `NU` or `IS NU`.
 pub const LB25: u8 = 7;
 
-/// LB25 before OP IS: no line ends there if the base after the IS is NU.
+/// LB25 before OP IS: no line ends before the OP if the base after the IS is NU.
 pub const LB25_IS: u8 = 8;
 
-/// LB28a: no line ends there if the base after the next one is VF.
+/// LB28a: no line ends before the next character if the base after the next one is VF.
 pub const LB28A: u8 = 9;
 
 /// The number of questions.

@@ -184,8 +184,8 @@ static NARROW: [u8; 15] = [
     NEVER,
 ];
 
-/// Returns whether a base that begins with this character is wide. A CM or ZWJ is then an AL that is not wide
-/// (LB10).
+/// Returns whether a base that begins with this character is wide. A CM or ZWJ that begins a base is an AL
+/// that is not wide (LB10).
 pub fn is_wide(symbol: u8, first: Properties) -> bool
     requires below { symbol < SYMBOL_COUNT }
     requires shown { shown_17 symbol ≡ told_17 (character_by V17_0 first) }
