@@ -37,7 +37,6 @@ module _ (tables : Tables) (options : Options) (base : ℕ) (is_first : Bool) (l
   abbrev pub visual_shown : List ℕ → Shown → Visual
   visual_shown old part = visual_part part.columns (take part.len (line_levels base (map (class_of tables) line) old))
 
--- whether position maps are computed: if they are printed, or if one is needed to print characters unmirrored or tabs
--- as spaces
+-- whether position maps are computed: they are needed to print the maps, unmirrored characters, or tabs as spaces
 abbrev pub asks_places : ℕ → Print → Bool
 asks_places tab_width print = print.ltov || (print.vtol || (not print.novisual && (print.nomirror || nat_lt 0 tab_width)))

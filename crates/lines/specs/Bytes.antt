@@ -16,8 +16,8 @@ direction_line base = if is_odd base then codes "RTL\n" else codes "LTR\n"
 abbrev pub numbers_line : List ℕ → List ℕ
 numbers_line numbers = join_with_byte 32 (map decimal numbers) ++ codes "\n"
 
--- the spaces before a line of a right-to-left paragraph that is narrower than the width; none with `nopad` or in a
--- measured paragraph
+-- the spaces before a line that is narrower than the width, in a right-to-left paragraph; there are none with
+-- `nopad` or in a measured paragraph
 abbrev pub padding : ℕ → Print → Visual → List ℕ
 padding width print visual =
     if is_odd visual.base && (not print.nopad && not (is_measured visual)) then replicate (width - visual.columns) 32 else []
@@ -35,7 +35,7 @@ abbrev pub expanded : Visual → List ℕ → List ℕ → List ℕ
 expanded visual (c ∷ chars) (k ∷ vtol) = cells visual c k ++ expanded visual chars vtol
 expanded visual chars vtol = []
 
--- in a measured paragraph, tabs are printed as they are
+-- the characters that are printed; tabs become spaces, except in a measured paragraph
 abbrev pub shown_chars : Print → Visual → List ℕ
 shown_chars print visual =
     if nat_lt 0 visual.tab_width && not (is_measured visual) then expanded visual (ordered_chars print visual) visual.vtol else ordered_chars print visual

@@ -20,8 +20,8 @@ use Rattle.lines.specs.declared.options.Options.{Options}
 abbrev pub columns_of : ℕ → ℕ
 columns_of c = unwrap_or (char_width false c) 0
 
--- the size of a character, which determines its width: its columns, or the distance between tab stops for a tab that
--- moves to one
+-- the size of a character, which determines its width: its columns or, for a tab that moves to a tab stop, the
+-- distance between tab stops
 abbrev pub size_in : ℕ → ℕ → ℕ
 size_in tab_width c = if is_tab tab_width c then tab_width else columns_of c
 
@@ -37,12 +37,13 @@ trailing_in t c = trailing_by (resolved (line_class_of t c) (is_mark_in t c))
 abbrev pub trailing_with : Tables → ℕ → ℕ → Trailing
 trailing_with t tab_width c = if is_tab tab_width c then Tab else trailing_in t c
 
--- whether a character with this role may be in a tail, and whether it is a space
+-- whether a character with this role may be in a tail
 abbrev pub may_trail : Trailing → Bool
 may_trail No = false
 may_trail Tab = false
 may_trail other = true
 
+-- whether a character with this role is a space
 abbrev pub is_space : Trailing → Bool
 is_space Space = true
 is_space other = false
@@ -67,7 +68,7 @@ infos t tab_width (c ∷ text) (mark ∷ marks) (ends ∷ clusters) = info t tab
 infos t tab_width text marks clusters = []
 
 -- the characters of a measured paragraph, with advances in the caller's unit in place of columns; a character without
--- an advance has 0
+-- an advance counts as 0
 abbrev pub measured : List ℕ → List CharInfo → List CharInfo
 measured advances [] = []
 measured [] (p ∷ infos) = record p { columns = 0 } ∷ measured [] infos
@@ -82,6 +83,6 @@ unfoldable pub infos_of : Tables → Options → Option (List ℕ) → List ℕ 
 infos_of t options advances text =
     sized advances (infos t (tab_width_in t options) text (marks_of t options.whole_numbers text) (cluster_ends text))
 
--- the columns of a line after one more character, given those before it
+-- the columns of a line after one more character, given the columns before it
 abbrev pub advance : ℕ → CharInfo → ℕ
 advance column p = column + (if moves p.trailing then to_stop p.columns column else p.columns)

@@ -14,8 +14,8 @@ use Rattle.ucd_derived.specs.declared.IndicConjunctBreak.TheVariants as InCb
 use Rattle.unicode_segmentation.specs.Grapheme.{is_grapheme_break}
 use Rattle.unicode_segmentation.specs.Segments.{Rule}
 
--- whether a segment by a rule, such as a cluster or a word, ends after each character of a text; `before` holds the
--- characters before the text, nearest first
+-- for each character of a text, whether a segment by a rule, such as a cluster or a word, ends after it; `before`
+-- holds the characters before the text, nearest first
 abbrev pub ends_after : Rule → List ℕ → List ℕ → List Bool
 ends_after rule before [] = []
 ends_after rule before (c ∷ text) = rule (c ∷ before) text ∷ ends_after rule (c ∷ before) text
@@ -31,11 +31,11 @@ abbrev pub after : Option ℕ → ℕ → ℕ
 after (Some k) other = k + 1
 after None other = other
 
--- the cluster of character k starts after the last cluster end before k, and ends at the first cluster end at
--- or after k
+-- where the cluster of character k starts: after the last cluster end before k
 abbrev pub cluster_begin : List Bool → ℕ → ℕ
 cluster_begin ends k = after (greatest (ends_at ends) k) 0
 
+-- where the cluster of character k ends: at the first cluster end at or after k
 abbrev pub cluster_end : List Bool → ℕ → ℕ
 cluster_end ends k = after (least (ends_at ends) k (length ends - k)) (length ends)
 
@@ -48,11 +48,12 @@ ends_in ends start len = filter (λ k. k == len || ends_at ends (start + k - 1))
 abbrev pub ends_of : List ℕ → List Bool
 ends_of cluster = replicate (length (chars cluster) - 1) false ++ true ∷ []
 
--- Some characters that no rule joins to one another, namely Latin, Greek, Cyrillic, Armenian and kana without combining marks,
--- Hebrew and Arabic letters, ideographs, punctuation and some controls.
+-- whether a number is from `first` to `last`, inclusive
 abbrev pub lies_in : ℕ → ℕ → ℕ → Bool
 lies_in first last c = nat_le first c && nat_le c last
 
+-- Whether a character is one of those that no rule joins to one another: Latin, Greek, Cyrillic, Armenian and kana
+-- without combining marks, Hebrew and Arabic letters, ideographs, punctuation and some controls.
 abbrev pub is_alone : ℕ → Bool
 is_alone c =
     lies_in 0x20 0x2FF c
@@ -73,7 +74,8 @@ is_alone c =
 -- start of the text, its end, or a place between two characters at which a cluster ends, whatever comes before and
 -- after them.
 
--- no rule except GB9c joins such a character to the next one, if that one may start a cluster
+-- whether no rule except GB9c joins a character of this class to the next one, if the next one may start a
+-- cluster
 abbrev pub may_end : GraphemeClusterBreak → Bool
 may_end Control = true
 may_end Extend = true
@@ -82,15 +84,15 @@ may_end Other = true
 may_end SpacingMark = true
 may_end _ = false
 
--- no rule except GB9c joins such a character to the one before it, if that one may end a cluster, and no rule looks
--- further back
+-- whether no rule except GB9c joins a character of this class to the one before it, if that one may end a cluster,
+-- and no rule looks further back from it
 abbrev pub may_start : GraphemeClusterBreak → Bool
 may_start Extend = false
 may_start SpacingMark = false
 may_start Zwj = false
 may_start _ = true
 
--- GB9c does not join the two characters, and no later match of it reaches back past the second one
+-- whether GB9c does not join the two characters, and no later match of GB9c extends back past the second one
 abbrev pub no_conjunct : IndicConjunctBreak → IndicConjunctBreak → Bool
 no_conjunct _ InCb.Extend = false
 no_conjunct InCb.Extend InCb.Consonant = false
@@ -108,6 +110,6 @@ is_split_point text k = can_split (slice_index_or text (k - 1) 0) (slice_index_o
 abbrev pub IsSplitPoint : List ℕ → ℕ → Type 0
 IsSplitPoint text k = (k ≡ 0) ⊎ ((k ≡ length text) ⊎ (is_split_point text k ≡ true))
 
--- whether the nearest split points around character k have no other character between them
+-- whether character k is the only one between the nearest split points around it
 abbrev pub IsAloneBetweenSplits : List ℕ → ℕ → Type 0
 IsAloneBetweenSplits text k = IsSplitPoint text k × IsSplitPoint text (k + 1)

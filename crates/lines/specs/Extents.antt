@@ -14,16 +14,18 @@ pub record LineExtents : Type 0 where
   pub starts : List ℕ
   pub shown : List Shown
 
--- a list with the length and the columns of each shown part, and the shown parts that such a list describes
+-- a list with the length and the columns of each shown part
 abbrev pub in_pairs : List Shown → List ℕ
 in_pairs [] = []
 in_pairs (part ∷ parts) = part.len ∷ part.columns ∷ in_pairs parts
 
+-- the shown parts that such a list describes
 abbrev pub from_pairs : List ℕ → List Shown
 from_pairs (len ∷ columns ∷ items) = record { len = len; columns = columns } ∷ from_pairs items
 from_pairs items = []
 
--- the extents in a list of the start of each line, and then the length and the columns of each shown part
+-- the extents that a list describes, with the start of each line, and then the length and the columns of each
+-- shown part
 abbrev pub unpacked : List ℕ → LineExtents
 unpacked items = record { starts = take (length items / 3) items; shown = from_pairs (drop (length items / 3) items) }
 
@@ -47,10 +49,11 @@ extents_of rules width text =
     let starts = line_starts_of rules.options.nobreak width infos in
     record { starts = starts; shown = shown_from (margin_of rules.options width) (length text) infos starts }
 
--- the shown part of a line, and the extents of given lines
+-- the shown part of a line
 abbrev pub shown_in : Line → Shown
 shown_in line = record { len = length line.levels; columns = line.columns }
 
+-- the extents of given lines
 abbrev pub extents_in : List Line → LineExtents
 extents_in lines = record { starts = map start_of lines; shown = map shown_in lines }
 

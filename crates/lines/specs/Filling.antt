@@ -17,10 +17,11 @@ columns piece = fold advance 0 piece
 abbrev pub trails : CharInfo → Bool
 trails p = may_trail p.trailing
 
--- the characters before the tail, and their number
+-- the number of characters before the tail
 abbrev pub text_len : List CharInfo → ℕ
 text_len piece = length piece - suffix_len trails piece
 
+-- the characters before the tail
 abbrev pub before_tail : List CharInfo → List CharInfo
 before_tail piece = take (text_len piece) piece
 
@@ -36,10 +37,11 @@ abbrev pub is_break : Mark → Bool
 is_break Never = false
 is_break mark = true
 
--- the character at an index, or `nothing` past the end
+-- a placeholder for a character past the end
 abbrev pub nothing : CharInfo
 nothing = record { columns = 0; trailing = No; mark = Never; ends_cluster = false }
 
+-- the character at an index, or `nothing` past the end
 abbrev pub place_at : List CharInfo → ℕ → CharInfo
 place_at rest k = slice_index_or rest k nothing
 
@@ -50,13 +52,15 @@ or_else None other = other
 
 -- A line that starts at the first character of `rest`. A position is the index of the character before it.
 module _ (rest : List CharInfo) where
-  -- whether a line must or may end after a character, and whether a cluster ends there
+  -- whether a line must end after a character
   abbrev pub must_end : ℕ → Bool
   must_end k = is_must (place_at rest k).mark
 
+  -- whether a line may or must end after a character
   abbrev pub may_end : ℕ → Bool
   may_end k = is_break (place_at rest k).mark
 
+  -- whether a cluster ends after a character
   abbrev pub cluster_ends_at : ℕ → Bool
   cluster_ends_at k = (place_at rest k).ends_cluster
 

@@ -13,9 +13,10 @@ narrow_ranges = (0xAE, 0x2FF) ∷ (0x370, 0x482) ∷ (0x5D0, 0x5DB) ∷ (0x5DD, 
 abbrev pub is_narrow : ℕ → Bool
 is_narrow c = lies_in_any narrow_ranges c
 
--- `is_printable`: printable ASCII; `is_common`: also the ranges above and U+05DC
+-- whether a code point is printable ASCII
 abbrev pub is_printable : ℕ → Bool
 is_printable c = lies_in 0x20 0x7E c
 
+-- whether a code point is printable ASCII, in one of the ranges above, or U+05DC
 abbrev pub is_common : ℕ → Bool
 is_common c = is_printable c || (lies_in 0xAE 0x2FF c || (lies_in 0x370 0x482 c || (lies_in 0x5D0 0x5EA c || lies_in 0x620 0x64A c)))

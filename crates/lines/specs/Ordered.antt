@@ -31,8 +31,8 @@ pub record AreInRun (line : Visual) (j k : ℕ) : Type 0 where
   pub last : 0 < columns_between line k (suc k)
 
 -- Whether the characters of each level run are next to each other, from left to right at an even level, and from right
--- to left at an odd one. So the distance between the leading edges of two of them is the total width of the characters
--- from the first up to the second.
+-- to left at an odd one. So the distance between the leading edges of two of these characters is the total width of
+-- the characters from the first up to the second.
 pub record RunsAdjoin (line : Visual) : Type 0 where
   pub even : (j k : ℕ) → AreInRun line j k → is_odd (slice_index line.levels j) ≡ false
       → columns_left line (slice_index line.ltov k) ≡ columns_left line (slice_index line.ltov j) + columns_between line j k

@@ -41,10 +41,11 @@ pub record IsResolved (text : Text) (levels : List ℕ) : Type 0 where
   pub levels_are : levels ≡ levels_of text.rules.tables.now text.characters.now text.rules.options.base
   pub len : length levels ≡ length text.characters.now
 
--- the advances of a paragraph, if it is measured, and the rules for it
+-- the advances of a paragraph, if it is measured
 abbrev pub advances_in : Paragraph → Option (List ℕ)
 advances_in paragraph = option_map (λ advances. advances.now) paragraph.advances
 
+-- the rules for a paragraph
 abbrev pub rules_by : Paragraph → Rules
 rules_by paragraph = with_advances (rules_in paragraph.text.rules) (advances_in paragraph)
 

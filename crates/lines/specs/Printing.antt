@@ -9,7 +9,8 @@ use Rattle.lines.specs.declared.printing.print.PrintFault.TheVariants.{Memory, W
 abbrev pub skips_lines : Print → Bool
 skips_lines print = print.novisual && (not print.ltov && (not print.vtol && not print.levels))
 
--- `Memory` means that nothing was written, `Write` that the sink failed while these bytes were being written.
+-- `Memory` means that nothing was written. `Write` means that the sink failed while these bytes were being
+-- written.
 abbrev pub FailedAs : PrintFault → List ℕ → Device → Device → Type 0
 FailedAs Memory bytes old new = new ≡ old
 FailedAs (Write fault) bytes old new = StoppedAt fault.written bytes old new

@@ -3,23 +3,23 @@ use Rattle.std.specs.Prelude.{◌≡◌, ℕ, suc, ◌+◌, ◌-◌, ◌<◌, �
 use Rattle.lines.specs.Filling.{cluster_ends_at, line_starts_of, may_end}
 use Rattle.lines.specs.declared.char_info.CharInfo.{CharInfo}
 
--- Where a line starts, the paragraph could begin as well: from there on, the line starts are those of the characters
--- from there on. So if two paragraphs have the same characters from a line start of each, s and t, to their ends, all
--- later line starts are equally far from s and from t.
+-- From each line start on, the line starts are the same as if the paragraph began there. So if two paragraphs have
+-- the same characters from line starts s and t to their ends, all later line starts are equally far from s and from
+-- t.
 pub record StartsFollow (nobreak : Bool) (width : ℕ) (ps qs : List CharInfo) : Type 0 where
   pub alone : (i s : ℕ) → slice_get (line_starts_of nobreak width ps) i ≡ Some s
       → drop i (line_starts_of nobreak width ps) ≡ map (λ k. s + k) (line_starts_of nobreak width (drop s ps))
   pub moved : (i j s t : ℕ) → slice_get (line_starts_of nobreak width ps) i ≡ Some s → slice_get (line_starts_of nobreak width qs) j ≡ Some t → drop s ps ≡ drop t qs
       → drop j (line_starts_of nobreak width qs) ≡ map (λ k. t + (k - s)) (drop i (line_starts_of nobreak width ps))
 
--- If two paragraphs have the same first n characters, the line starts of the first one up to the i-th, s, are also
--- those of the second one in each of these cases:
+-- Two paragraphs have the same first n characters, and s is the i-th line start of the first paragraph. The second
+-- paragraph has the same line starts up to s in each of these cases:
 -- - from s on and before n, there is a break opportunity
 -- - from s on and before n, a cluster ends, and the line before s does not end at a break opportunity
--- - two lines from s on end at n or before, and a third one follows
+-- - two lines from s on end at or before n, and a third line follows
 --
--- One line from s on that ends before n is not enough. If it does not end at a break opportunity, the line before it may
--- become longer.
+-- It is not enough that one line from s on ends before n. If this line does not end at a break opportunity, the line
+-- before it may become longer.
 pub record StartsStay (nobreak : Bool) (width : ℕ) (ps qs : List CharInfo) (n : ℕ) : Type 0 where
   pub before_break : (i s k : ℕ) → slice_get (line_starts_of nobreak width ps) i ≡ Some s → s ≤ k → k < n → may_end ps k ≡ true
       → take (suc i) (line_starts_of nobreak width qs) ≡ take (suc i) (line_starts_of nobreak width ps)

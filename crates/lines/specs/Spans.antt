@@ -57,6 +57,6 @@ module _ (line : Visual) (start end : ℕ) where
   unfoldable pub spans_from : ℕ → List Span
   spans_from column = intervals_from is_covered (columns_left line (length line.vtol)) column
 
-  -- all of these intervals
+  -- the columns that the range covers, as maximal intervals
   abbrev pub spans_of : List Span
   spans_of = spans_from 0

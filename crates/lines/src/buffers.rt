@@ -11,7 +11,7 @@ use std::alloc::{AllocError, Global};
 /// The levels, the position maps, and the characters in visual order. `maps` holds the visual position of
 /// each logical position, and then the logical position of each visual position. If the buffers hold the
 /// lines of a paragraph, each map has one item per character, and a line's items start at the index of its
-/// first character. If the buffers are used for one line at a time, its items are at the front.
+/// first character. If the buffers are used for one line at a time, the line's items are at the front.
 #[derive(Drop)]
 pub(crate) struct VisualBuffers {
     pub(crate) levels: Vec<u8>,

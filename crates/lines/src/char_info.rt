@@ -166,10 +166,10 @@ pub(crate) fn is_must(mark: Mark) -> bool
 /// A summary of some consecutive characters.
 #[derive(Clone, Copy)]
 pub(crate) struct Sum {
-    /// Their total columns, if none of them is a tab that moves to a tab stop.
+    /// The total columns of the characters, if none of them is a tab that moves to a tab stop.
     pub(crate) columns: u32,
     pub(crate) has_tab: bool,
-    /// Whether a line must end after one of them.
+    /// Whether a line must end after one of the characters.
     pub(crate) has_must: bool,
 }
 
@@ -180,7 +180,7 @@ impl Sum {
     ghost use Rattle.lines.specs.Filling.{is_must};
     ghost use Rattle.lines.specs.declared.engine.TheConstants.{PARAGRAPH_LIMIT};
 
-    /// Adds up the columns of some characters.
+    /// Returns the summary of some characters.
     #[inline(always)] // so that a group of known length needs no loop
     pub(crate) fn of(piece: &[CharInfo]) -> Sum
         requires { length piece.now ≤ PARAGRAPH_LIMIT }

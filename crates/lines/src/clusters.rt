@@ -17,7 +17,7 @@ use ucd_breaks::GraphemeClusterBreak;
 use ucd_derived::IndicConjunctBreak;
 use unicode_segmentation::UnicodeSegmentation;
 
-/// The memory in which grapheme clusters are found. If it is large enough for a paragraph, finding them
+/// Buffers for finding grapheme clusters. If they are large enough for a paragraph, finding its clusters
 /// allocates nothing.
 #[derive(Drop)]
 pub(crate) struct ClusterBuffers {
@@ -34,8 +34,8 @@ impl ClusterBuffers {
         }
     }
 
-    /// Replaces the contents of `ends`: for each character of a paragraph, whether a grapheme cluster ends
-    /// after it.
+    /// Replaces the contents of `ends` with a flag for each character of a paragraph, which says whether a
+    /// grapheme cluster ends after the character.
     pub(crate) fn fill(&mut self, text: &[char], ends: &mut Vec<bool>) -> Result<(), AllocError>
         ensures { OnOk result (ends.new.items ≡ cluster_ends text.now) }
     {
@@ -65,8 +65,8 @@ pub fn cluster_ends(alloc: Global, text: &[char]) -> Result<Vec<bool>, AllocErro
     Ok(ends)
 }
 
-// Replaces the contents of `ends`: for each character of a paragraph, whether a grapheme cluster ends after
-// it. Overwrites `utf8` with the text.
+// Replaces the contents of `ends` with a flag for each character of a paragraph, which says whether a
+// grapheme cluster ends after the character. Overwrites `utf8` with the text.
 fn fill_cluster_ends(
     text: &[char],
     utf8: &mut String,
@@ -103,7 +103,8 @@ fn spell(text: &[char], utf8: &mut String) -> Result<(), AllocError>
 }
 
 /// Returns the start and the end of the grapheme cluster of character `k` of a paragraph. Finds only the
-/// clusters between the nearest two split points. Allocates only if there is another character between them.
+/// clusters between the nearest two split points. Allocates only if another character is between these split
+/// points.
 pub fn cluster_of(alloc: Global, text: &[char], k: usize) -> Result<(usize, usize), AllocError>
     requires { k < length text.now }
     ensures start { IfOk result (λ found. found.0 ≡ cluster_begin (cluster_ends text.now) k) }
@@ -140,7 +141,7 @@ pub fn ends_in(
     part_ends(alloc, &ends, start - first, len)
 }
 
-// Returns where the clusters of `len` characters from `start` on end, given where those of the text end.
+// Returns where the clusters of `len` characters from `start` on end, given where the text's clusters end.
 fn part_ends(
     alloc: Global,
     ends: &[bool],

@@ -11,7 +11,7 @@ use std::marker::Model;
 // The number of entries. Characters whose code points differ by a multiple of this number share an entry.
 const ENTRIES: usize = 1_024;
 
-/// A cache of the widths of characters, in columns. An entry is a code point, times 4, plus the columns of its
+/// A cache of the widths of characters, in columns. An entry is a code point times 4, plus the columns of the
 /// character. A new entry is 0, which says that U+0000 has no columns.
 pub(crate) struct ColumnCache {
     entries: Vec<u32>,
@@ -82,7 +82,7 @@ impl ColumnCache {
         sum
     }
 
-    // Finds the columns of a character that has no entry, and overwrites an entry with them.
+    // Finds the columns of a character that has no entry, and stores them in the character's entry.
     #[inline(never)]
     fn look_up(&mut self, c: char) -> u8
         ensures { result ≡ columns_of c }

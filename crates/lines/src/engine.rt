@@ -140,8 +140,8 @@ impl Engine {
         self.options
     }
 
-    /// Frees the buffers that are reused from one paragraph to the next. They are as large as the longest
-    /// paragraph so far needed.
+    /// Frees the buffers that are reused from one paragraph to the next. They have grown to the size that the
+    /// longest paragraph so far needed.
     pub fn free_buffers(&mut self)
         ensures { self.new ≡ self.old }
     {
@@ -166,8 +166,8 @@ impl Engine {
         }
     }
 
-    /// Returns an empty list for the next paragraph's text, of about `len` characters. It has the capacity of
-    /// a recycled text if that fits. Allocates nothing.
+    /// Returns an empty list for the next paragraph's text, of about `len` characters. The list has the
+    /// capacity of a recycled text, if that capacity is suitable. Allocates nothing.
     pub fn take_text(&mut self, alloc: Global, len: usize) -> Vec<char>
         ensures text { result.items ≡ [] }
         ensures same { self.new ≡ self.old }

@@ -99,7 +99,7 @@ impl Fill {
         }
     }
 
-    /// Returns the lists, to be used again.
+    /// Returns the lists for reuse.
     pub(crate) fn into_buffers(self) -> LineBuffers {
         let Fill {
             extents,

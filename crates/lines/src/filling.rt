@@ -83,8 +83,8 @@ fn line_len<S: Sizes>(
     Ok((line_end(&infos[start..], ruler.from(start)) + 1, true))
 }
 
-// Returns the length of the first line, or `None` if the length depends on clusters. It does not depend on
-// clusters if the line ends at a break opportunity or `nobreak` is set.
+// Returns the length of the first line, or `None` if the length depends on clusters. The length does not
+// depend on clusters if the line ends at a break opportunity or `nobreak` is set.
 fn broken_len<S: Sizes>(rest: &[CharInfo], ruler: Ruler<S>, nobreak: bool) -> Option<usize>
     requires { (0 < length rest.now) × (length rest.now ≤ PARAGRAPH_LIMIT) }
     ensures len { (known : List CharInfo) → AreAlike rest.now known
@@ -144,7 +144,7 @@ fn first_end(rest: &[CharInfo]) -> usize
     rest.len() - 1
 }
 
-// Returns the index of the last character of the first line.
+// Returns the index of the first line's last character.
 fn line_end<S: Sizes>(rest: &[CharInfo], ruler: Ruler<S>) -> usize
     requires { (0 < length rest.now) × (length rest.now ≤ PARAGRAPH_LIMIT) }
     ensures end { result ≡ line_end ruler.width (sized (S.given ruler.sizes) rest.now) }

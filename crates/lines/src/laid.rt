@@ -95,7 +95,7 @@ impl Laid {
     ghost use Rattle.lines.specs.Visual.{visual_of};
     ghost use Rattle.lines.specs.Writing.{PassedOn, StoppedIn};
 
-    /// Returns the list of the text, and the lists that every paragraph has, to be used again.
+    /// Returns, for reuse, the list of the text and the lists that every paragraph has.
     pub(crate) fn into_lists(self) -> (Vec<char>, LayoutBuffers) {
         let Laid {
             text,
@@ -411,9 +411,9 @@ impl Laid {
     /// Returns the start and the end of the grapheme cluster of character `k` (UAX #29).
     ///
     /// Reads backward and forward from the character to the nearest places where a cluster ends regardless of
-    /// other characters, such as before most letters and emoji. At worst, as in a paragraph of flags, reads
-    /// the whole paragraph. Allocates a copy of these characters if there is more than one, and otherwise
-    /// cannot fail.
+    /// other characters, such as before most letters and emoji. In the worst case, such as a paragraph of
+    /// flags, reads the whole paragraph. Allocates a copy of these characters if there is more than one.
+    /// Otherwise, cannot fail.
     pub fn cluster(
         &self,
         alloc: std::alloc::Global,
@@ -433,7 +433,8 @@ impl Laid {
     /// Returns where the grapheme clusters of `len` characters from `start` on end, counted from `start`. The
     /// last of these ends is `len`, even if a cluster continues after it.
     ///
-    /// Reads the characters around `start` and `start + len` as `cluster` does, and those between.
+    /// Reads the characters around `start` and `start + len` as `cluster` does, and the characters between
+    /// them.
     pub fn cluster_ends_in(
         &self,
         alloc: std::alloc::Global,

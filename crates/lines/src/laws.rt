@@ -86,8 +86,8 @@ pub fn tabs_end_at_stops()
         → All TabsEndAtStops (visuals (layout_of rules width text)) }
 {}
 
-/// States, as a theorem, that the line starts from a line start on do not depend on earlier characters, with
-/// and without `nobreak`, and at any width. Costs nothing at run time.
+/// States, as a theorem, that all line starts after a given one do not depend on the characters before it,
+/// with and without `nobreak`, and at any width. Costs nothing at run time.
 pub fn later_lines_follow()
     ensures { (nobreak : Bool) (width : ℕ) (before after : List CharInfo)
         → StartsFollow nobreak width before after }
@@ -95,7 +95,8 @@ pub fn later_lines_follow()
 
 /// States, as a theorem, which line starts a change leaves in place. Both paragraphs have the same first `n`
 /// characters. A line start stays, with all earlier ones, if there is a break opportunity between it and the
-/// first changed character, or if two lines from it on end before this character. Costs nothing at run time.
+/// first changed character, or if two lines from that start on end before this character. Costs nothing at
+/// run time.
 pub fn earlier_lines_stay()
     ensures { (nobreak : Bool) (width : ℕ) (before after : List CharInfo) (n : ℕ)
         → take n before ≡ take n after → StartsStay nobreak width before after n }

@@ -8,8 +8,8 @@ use crate::extents::{Extents, end_of};
 use crate::laid::Laid;
 
 impl Laid {
-    /// Returns how many lines at the start are the same as those of another layout, as `VisualLine::is_same`
-    /// compares them.
+    /// Returns how many lines at the start are the same as those at the start of another layout, as
+    /// `VisualLine::is_same` compares them.
     pub fn matching_at_start(&self, other: &Laid) -> usize
         ensures { MatchAtStart (visuals self.now) (visuals other.now) result }
     {
@@ -22,8 +22,8 @@ impl Laid {
         most
     }
 
-    /// Returns how many lines at the end are the same as those of another layout, as `VisualLine::is_same`
-    /// compares them.
+    /// Returns how many lines at the end are the same as those at the end of another layout, as
+    /// `VisualLine::is_same` compares them.
     pub fn matching_at_end(&self, other: &Laid) -> usize
         ensures { MatchAtEnd (visuals self.now) (visuals other.now) result }
     {
@@ -92,8 +92,8 @@ impl Extents {
         self.starts().len()
     }
 
-    // Returns whether line `k` has the same place in a paragraph of `len` characters as line `m` by other
-    // extents, and shows as much.
+    // Returns whether line `k` has the same place in a paragraph of `len` characters as line `m` of other
+    // extents, and an equally large shown part.
     fn has_same_place(&self, k: usize, other: &Extents, m: usize, len: usize) -> bool
         requires k { k < length self.now.starts }
         requires m { m < length other.now.starts }

@@ -22,7 +22,7 @@ pub struct Options {
     /// Whether spaces at the end of a line are shown, as far as they fit in the width.
     pub show_spaces: bool,
     /// The distance between tab stops in columns, or 0 for none. A tab, U+0009 of bidi class S, moves to the
-    /// next tab stop, counted from the start of its line. Without tab stops it has no columns.
+    /// next tab stop, counted from the start of its line. Without tab stops, a tab has no columns.
     pub tab_width: u8,
 }
 

@@ -30,7 +30,7 @@ impl LentRules<'_> {
 }
 
 /// The characters of a paragraph or of a line, with their properties and the base level. If lines are ordered
-/// by clusters, `ends` says whether a grapheme cluster ends after each character. Otherwise it is empty.
+/// by clusters, `ends` says whether a grapheme cluster ends after each character. Otherwise, `ends` is empty.
 #[derive(Clone, Copy)]
 pub(crate) struct Text<'a> {
     pub(crate) rules: LentRules<'a>,

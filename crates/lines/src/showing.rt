@@ -232,7 +232,7 @@ pub(crate) fn reset_line(properties: &[Properties], base: u8, levels: &mut [u8])
     false
 }
 
-// The number of levels that are tested together. If the number of levels is not a multiple of it, the last
+// The number of levels that are tested together. If the number of levels is not a multiple of this, the last
 // group overlaps the one before it, so that no levels have to be tested one by one.
 const AT_ONCE: usize = 16;
 

@@ -17,7 +17,7 @@ use crate::sizes::Sizes;
 use std::alloc::AllocError;
 
 /// Appends the length and the columns of each line's shown part to the starts of the lines. The shown part is
-/// all but the tail, and the spaces of the tail that end within the margin.
+/// the line without its tail, plus the spaces of the tail that end within the margin.
 pub(crate) fn fill_shown<S: Sizes>(
     infos: &[CharInfo],
     sizes: S,

@@ -149,7 +149,7 @@ fn pass(selection: &Selection<'_>, at: Reached, inside: bool) -> Reached
     Reached { place, column }
 }
 
-// Whether the character at a visual position is selected.
+// Returns whether the character at a visual position is selected.
 fn is_selected(selection: &Selection<'_>, place: usize) -> bool
     requires { place < length selection.now.vtol.now }
     ensures { result ≡ is_selected (selected_in selection.now) selection.now.start selection.now.end place }

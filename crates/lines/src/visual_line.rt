@@ -148,7 +148,7 @@ impl<'a> VisualLine<'a> {
 
     /// Returns whether all methods return the same for both lines: the characters, the levels, the maps, the
     /// columns, the base level, the length, and whether they are the first of their paragraph. In a measured
-    /// paragraph, compares the advances, too.
+    /// paragraph, also compares the advances.
     pub fn is_same(&self, other: &VisualLine<'_>) -> bool
         ensures yes { result ≡ true → self.now ≡ other.now }
         ensures no { self.now ≡ other.now → result ≡ true }
@@ -235,7 +235,7 @@ impl<'a> VisualLine<'a> {
 
     /// Returns the columns that the characters from position `start` up to `end` cover, as maximal intervals
     /// from left to right: no span is empty, and no two spans touch. Positions past the last one are ignored.
-    /// Finding all spans is linear in the length of the line. Allocates nothing.
+    /// Finding all spans needs time linear in the length of the line. Allocates nothing.
     pub fn spans(&self, start: usize, end: usize) -> Spans<'a>
         ensures spans { result ≡ spans_of self.now start end }
         ensures maximal { AreMaximal (is_covered self.now start end)
@@ -254,7 +254,7 @@ impl<'a> VisualLine<'a> {
     }
 
     /// Returns the level runs of the shown part, from left to right: the longest ranges of characters at one
-    /// level after L1, in L2's order. They do not depend on `reordernsm` and `reorder_clusters`, since L3
+    /// level after L1, in L2's order. The runs do not depend on `reordernsm` or `reorder_clusters`, since L3
     /// moves characters only inside runs. Has the same cost as `reorder::level_runs`. Allocates nothing.
     pub fn runs(&self) -> Runs<'a>
         ensures runs { result ≡ runs_of self.now.levels }
@@ -266,7 +266,8 @@ impl<'a> VisualLine<'a> {
     }
 
     /// Returns the number of columns of padding that the line has at a width, unless printing omits padding.
-    /// Only lines of right-to-left paragraphs have padding. In a measured paragraph it is not printed.
+    /// Only lines of right-to-left paragraphs have padding. In a measured paragraph, the padding is not
+    /// printed.
     pub fn padding(&self, width: u32) -> u32
         ensures value { result ≡ padding_of width self.now }
         ensures spaces { (print : Print) → print.nopad ≡ false → is_measured self.now ≡ false

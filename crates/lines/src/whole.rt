@@ -34,8 +34,8 @@ pub(crate) fn is_whole(text: &Text<'_>) -> bool
     end_no_line(&properties[..properties.len().saturating_sub(1)])
 }
 
-// The number of characters that are tested together. If the number of characters is not a multiple of it, the
-// last group overlaps the one before it, so that no characters have to be tested one by one.
+// The number of characters that are tested together. If the number of characters is not a multiple of this,
+// the last group overlaps the one before it, so that no characters have to be tested one by one.
 const AT_ONCE: usize = 16;
 
 // Returns whether none of the characters has a mandatory break after it, except between CR and LF.

@@ -88,7 +88,7 @@ pub(crate) fn is_tab(tab_width: u8, c: char) -> bool
 }
 
 // Returns the columns of the characters before index `k` that follow the last tab, or the start of the line.
-// Both are at a tab stop.
+// A tab ends at a tab stop, and a line starts at one.
 fn since_stop(text: &[char], k: usize) -> usize
     requires { k ≤ length text.now }
     ensures { (tab_width : ℕ) → 0 < tab_width
@@ -103,7 +103,7 @@ fn since_stop(text: &[char], k: usize) -> usize
     sum
 }
 
-/// Returns the next tab stop, or the column itself if there are no tab stops.
+/// Returns the next tab stop after a column, or the column itself if there are no tab stops.
 #[inline(never)] // so that the loops over characters have all registers
 pub(crate) fn next_stop(column: usize, tab_width: usize) -> usize
     requires columns { column < 2 ^ 60 }

@@ -29,11 +29,11 @@ pub(crate) struct Workspace {
     pub(crate) analysis: Analysis,
     pub(crate) infos: InfoBuffers,
     pub(crate) clusters: ClusterBuffers,
-    // For paragraphs that are printed and not kept.
+    // The lists for paragraphs that are printed and not kept.
     pub(crate) lists: LayoutBuffers,
-    // For the next paragraph that is kept.
+    // Recycled lists for the next paragraph that is kept.
     recycled: LayoutBuffers,
-    // For the text of the next paragraph that is kept.
+    // A recycled list for the text of the next paragraph that is kept.
     text: Vec<char>,
 }
 

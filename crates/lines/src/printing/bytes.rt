@@ -156,7 +156,7 @@ const ROW_BYTES_AT_ONCE: usize = 512;
 // The maximum length of a formatted number in bytes, including the space before it.
 const NUMBER_LEN: usize = 41;
 
-// Not inlined, to keep the buffer off the stack when no numbers are written.
+// Writes a line of numbers. Not inlined, to keep the buffer off the stack when no numbers are written.
 #[inline(never)]
 fn write_row<W: Sink, I: Integer>(
     writer: &mut W,
@@ -300,7 +300,7 @@ fn write_shown_chars<W: Sink>(
     write_expanded(writer, before, line, print)
 }
 
-// Returns the number of characters in visual order.
+// Returns the number of characters that are printed in visual order.
 fn ordered_len(line: &VisualLine<'_>, print: &Print) -> usize
     ensures { result ≡ length (ordered_chars print.now line.now) }
 {
@@ -373,7 +373,8 @@ fn is_tab_at(line: &VisualLine<'_>, place: usize) -> bool
     is_tab(line.tab_width, line.text[line.vtol[place] as usize])
 }
 
-// Returns the visual position after a tab at position `start`, or that of the next tab, or `len`.
+// Returns the visual position after `start` if there is a tab at `start`. Otherwise, returns the position of
+// the next tab, or `len` if there is none.
 fn cells_end(line: &VisualLine<'_>, start: usize, len: usize) -> usize
     requires within { (start < len) × (len ≤ length line.now.vtol) }
     ensures within { (start < result) × (result ≤ len) }
