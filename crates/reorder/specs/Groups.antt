@@ -20,7 +20,7 @@ module _ (classes : List BidiClass) (levels : List ℕ) where
     pub reversed : (k : ℕ) → k ≤ n → slice_index (vtol_of false classes levels) (at + k) ≡ base + (n - k)
     pub read : (k : ℕ) → k ≤ n → slice_index (vtol_of true classes levels) (at + k) ≡ base + k
 
-  -- a character in no group: neither it nor the character after it is a mark with a base
+  -- a character in no group: neither the character itself nor the one after it is a mark with a base
   pub record IsAlone (place : ℕ) : Type 0 where
     pub no_base : has_base classes levels place ≡ false
     pub no_marks : has_base classes levels (suc place) ≡ false

@@ -13,10 +13,11 @@ module _ (levels : List ℕ) where
   abbrev pub level_run_len : ℕ → ℕ
   level_run_len s = suc (same_len (slice_index levels s) (s + 1) (length levels - (s + 1)))
 
-  -- the logical positions of the run that starts at s, in logical order and in visual order
+  -- the logical positions of the run that starts at s, in logical order
   abbrev pub run_at : ℕ → List ℕ
   run_at s = range_with_len s (level_run_len s)
 
+  -- the same positions in visual order
   abbrev pub run_shown : ℕ → List ℕ
   run_shown s = if is_odd (slice_index levels s) then reverse (run_at s) else run_at s
 

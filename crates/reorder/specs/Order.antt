@@ -22,10 +22,11 @@ module _ (levels : List ℕ) where
   abbrev pub highest : ℕ
   highest = fold max 0 levels
 
-  -- whether a level is odd and occurs in the line, and the lowest such level
+  -- whether a level is odd and occurs in the line
   abbrev pub has_odd : ℕ → Bool
   has_odd level = is_odd level && list_any (λ other. other == level) levels
 
+  -- the lowest odd level in the line, if there is one
   abbrev pub lowest_odd : Option ℕ
   lowest_odd = least has_odd 0 (suc highest)
 
@@ -72,7 +73,7 @@ module _ (classes : List BidiClass) (levels : List ℕ) where
   has_base (suc i) = precedes_mark i && (not (is_mark_at classes i) || has_base i)
 
 -- The logical position of each visual position. L2 puts marks with a base to the left of the base, the last one
--- first. With `reordernsm`, they are to its right, in logical order (L3).
+-- first. With `reordernsm`, the marks are to the right of the base, in logical order (L3).
 unfoldable pub vtol_of : Bool → List BidiClass → List ℕ → List ℕ
 vtol_of reordernsm classes levels = if reordernsm then reverse_with_next (has_base classes levels) [] (order_of levels) else order_of levels
 

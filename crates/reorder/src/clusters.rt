@@ -10,10 +10,10 @@ use ucd::{BidiClass, Classes};
 /// Classes for [`visual_order`](crate::visual_order) and [`visual_places`](crate::visual_places) with
 /// `reordernsm`. With these classes, L3 keeps grapheme clusters in logical order, instead of bases and marks.
 /// A character counts as a mark if it continues a cluster and has the same level as the character before it.
-/// All others count as bases.
+/// All other characters count as bases.
 #[derive(Clone, Copy)]
 pub struct ClusterClasses<'a> {
-    /// Whether a cluster ends after each character of the line.
+    /// For each character of the line, whether a cluster ends after it.
     pub ends: &'a [bool],
     /// The levels of the characters to be ordered, after L1.
     pub levels: &'a [u8],
@@ -51,8 +51,8 @@ fn ends_after(ends: &[bool], place: usize) -> bool
 }
 
 /// States, as a theorem, that adjacent characters of a cluster at the same odd level are adjacent in visual
-/// order, too. With `ClusterClasses` they are in logical order, and with L2 alone in reverse order. Costs
-/// nothing at run time.
+/// order, too. With `ClusterClasses`, these characters are in logical order. With L2 alone, they are in
+/// reverse order. Costs nothing at run time.
 pub fn clusters_stand_together()
     ensures { (ends : List Bool) (levels : List ℕ) (first n : ℕ) → IsSequence ends levels first n
         → StandsTogether (cluster_classes ends levels) levels first n }

@@ -32,7 +32,7 @@ pub fn visual_chars(
 }
 
 /// Writes the characters of a line in visual order. `runs` holds the logical position at which each level run
-/// starts, in visual order. Left-to-right runs are copied.
+/// starts, in visual order. The characters of left-to-right runs are copied unchanged.
 pub fn visual_runs(
     tables: &Tables,
     line: &[char],

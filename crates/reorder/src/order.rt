@@ -48,8 +48,8 @@ pub fn maps_are_inverse()
         (vtol_of reordernsm classes levels) (ltov_of reordernsm classes levels) }
 {}
 
-/// States, as a theorem, that a base at an odd level and its marks are adjacent in visual order. With L3 they
-/// are in logical order, and without it in reverse order. Costs nothing at run time.
+/// States, as a theorem, that a base at an odd level and its marks are adjacent in visual order. With L3,
+/// they are in logical order. Without L3, they are in reverse order. Costs nothing at run time.
 pub fn groups_stand_together()
     ensures { (classes : List BidiClass) (levels : List ℕ) (base n : ℕ)
         → IsGroup classes levels base n → StandsTogether classes levels base n }
@@ -130,7 +130,7 @@ pub fn order_runs(levels: &[u8], items: &mut [u32]) -> Option<usize>
 }
 
 // Writes the start of each level run of a line to the front of a list. Returns the number of runs, the
-// highest level, or 0 if there is none, and the lowest odd level, if there is one.
+// highest level, or 0 if the line is empty, and the lowest odd level, if there is one.
 fn find_runs(levels: &[u8], items: &mut [u32]) -> (usize, u8, Option<u8>)
     requires len { length items.old ≡ length levels.now }
     requires limit { length levels.now ≤ u32.MAX }

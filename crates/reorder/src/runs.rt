@@ -40,8 +40,8 @@ impl<'a> Model for Runs<'a> {
 }
 
 /// Returns the level runs of a line, from left to right, given its levels after L1. L3 moves characters only
-/// inside runs. The cost of each call of `next` is at most linear in the length of the line, and that of all
-/// calls together in the length times the highest level. Allocates nothing.
+/// inside runs. Each call of `next` needs time at most linear in the length of the line. All calls together
+/// need time at most linear in the length times the highest level. Allocates nothing.
 pub fn level_runs(levels: &[u8]) -> Runs<'_>
     ensures runs { result ≡ runs_of levels.now }
     ensures are { AreRuns levels.now result }
@@ -107,8 +107,8 @@ fn run_start(levels: &[u8], place: usize) -> usize
     start
 }
 
-// Returns the character directly to the right of another one. Skips the characters that adjoin it and are to
-// its left, level by level.
+// Returns the character directly to the right of another one. Skips, level by level, the adjoining characters
+// that are to the left of the given one.
 fn right_of(levels: &[u8], place: usize) -> Option<usize>
     requires { place < length levels.now }
     ensures { IsNext levels.now place result }
@@ -159,8 +159,8 @@ fn extent_on(levels: &[u8], level: u8, start: usize) -> usize
     end
 }
 
-// Returns the leftmost of the characters from `start` on, up to the first one below an even level. The first
-// one at that level is to the left of those after it.
+// Returns the leftmost of the characters from `start` on, up to the first one below `level`, which is even.
+// The first character at `level` is to the left of the characters after it.
 fn leftmost_on(levels: &[u8], level: u8, start: usize) -> usize
     requires start { start < length levels.now }
     requires level { is_odd level ≡ false }
@@ -181,8 +181,8 @@ fn leftmost_on(levels: &[u8], level: u8, start: usize) -> usize
     first
 }
 
-// Returns the leftmost of the characters before `end`, back to the last one below an odd level. The last one
-// at that level is to the left of those before it.
+// Returns the leftmost of the characters before `end`, back to the last one below `level`, which is odd. The
+// last character at `level` is to the left of the characters before it.
 fn leftmost_back(levels: &[u8], level: u8, end: usize) -> usize
     requires end { (0 < end) × (end ≤ length levels.now) }
     requires level { is_odd level ≡ true }
