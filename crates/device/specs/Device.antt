@@ -61,10 +61,11 @@ pub record Took (old new : Device) (given : List ℕ) : Type 0 where
   pub bytes : Appends old.bytes new.bytes given
   pub passed : new.passed ≡ old.passed + length given
 
--- all bytes were accepted without a failure, or the sink failed after the first n bytes
+-- all bytes were accepted without a failure
 abbrev pub Wrote : List ℕ → Device → Device → Type 0
 Wrote given old new = Took old new given × (new.failures ≡ old.failures)
 
+-- the sink failed after it had accepted the first n bytes
 abbrev pub StoppedAt : ℕ → List ℕ → Device → Device → Type 0
 StoppedAt n given old new = (n < length given) × Took old new (take n given) × FailedLast old new
 

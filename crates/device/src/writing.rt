@@ -4,7 +4,7 @@ ghost use Rattle.device.specs.Device.{Wrote, StaysCounted, StoppedAt};
 
 use crate::Sink;
 
-/// Writes all the bytes. If the sink fails, returns how many were written before.
+/// Writes all the bytes. If the sink fails, returns how many bytes were written before the failure.
 pub fn write_all<W: Sink>(writer: &mut W, bytes: &[u8]) -> Result<(), usize>
     ensures ok { OnOk result (Wrote bytes.now (W.state writer.old) (W.state writer.new)) }
     ensures err { IfErr result (λ n.
