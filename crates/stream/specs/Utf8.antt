@@ -11,7 +11,7 @@ front_of bytes = chars (take (utf8_valid_len bytes) bytes)
 abbrev pub is_bad : List ℕ → Bool
 is_bad bytes = is_some (utf8_error_len (drop (utf8_valid_len bytes) bytes))
 
--- the length in bytes of a character, from its first byte, which is at least 0xC0
+-- the length in bytes of a character, given its first byte, which is at least 0xC0
 abbrev pub char_len : ℕ → ℕ
 char_len first = if nat_lt first 0xE0 then 2 else (if nat_lt first 0xF0 then 3 else 4)
 

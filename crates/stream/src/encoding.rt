@@ -7,7 +7,8 @@ ghost use Rattle.stream.specs.Packing.{fits_two_bytes};
 
 use crate::packing::{LANES, lanes, pack_any, pack_ascii, pack_short};
 
-// The number of characters in a group. All of them are encoded by the function that the highest one requires.
+// The number of characters in a group. All characters of a group are encoded by the function that the highest
+// of them requires.
 const GROUP: usize = 16;
 
 /// Encodes characters as UTF-8 at the front of a buffer, and returns the number of bytes written.
@@ -113,7 +114,7 @@ pub fn encode_at(c: char, buffer: &mut [u8], at: usize) -> usize
     ensures bytes { take result buffer.new ≡ take at buffer.old ++ encode_utf8 c }
 {
     let code = c as u32;
-    // Each byte after the first has six bits of the code.
+    // Each byte after the first holds six bits of the code point.
     let low = 0x80 + code % 64;
     let middle = 0x80 + code / 64 % 64;
     let high = 0x80 + code / 4_096 % 64;

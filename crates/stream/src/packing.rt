@@ -286,7 +286,7 @@ static LENGTHS: [u8; 256] = [
     11, 16, 15, 15, 14, 15, 14, 14, 13, 15, 14, 14, 13, 14, 13, 13, 12,
 ];
 
-/// Returns the codes of four characters.
+/// Returns the code points of the four characters from index `from` on.
 #[inline(always)]
 pub fn lanes(group: &[char], from: usize) -> u32x4
     requires { from + 4 ≤ length group.now }
@@ -335,7 +335,7 @@ pub fn pack_any(codes: u32x4, buffer: &mut [u8], at: usize) -> usize
     ensures within { result ≤ at + 16 }
     ensures bytes { take result buffer.new ≡ take at buffer.old ++ encode_utf8_all codes }
 {
-    // Each byte after the first has six bits of the code.
+    // Each byte after the first holds six bits of the code point.
     let last = codes & u32x4::splat(0x3f);
     let middle = (codes >> 6) & u32x4::splat(0x3f);
     let second = (codes >> 12) & u32x4::splat(0x3f);

@@ -48,8 +48,8 @@ fn with_all(text: &str, characters: Vec<char>) -> Vec<char>
 }
 
 // Adds characters at the start of a text, and returns the rest of the text. If the first 16 bytes are in
-// characters of one or two bytes, these are decoded together. A branch for each change of the length would
-// often be mispredicted, as in Hebrew with spaces and digits.
+// characters of one or two bytes, these characters are decoded together. A branch for each change of the
+// length would often be mispredicted, as in Hebrew with spaces and digits.
 #[inline(always)]
 fn push_lanes<'a>(text: &'a str, characters: &mut Vec<char>) -> &'a str
     requires long { LANES ≤ length text.now }
@@ -63,7 +63,7 @@ fn push_lanes<'a>(text: &'a str, characters: &mut Vec<char>) -> &'a str
     if is_ascii(bytes) {
         let (_, rest) = text.split_at(LANES);
         // Passes a copy. Otherwise, the text would be read again after each character, since the list might
-        // overlap it.
+        // overlap the text.
         push_ascii(&bytes.to_array(), characters);
         return rest;
     }
@@ -77,7 +77,7 @@ fn push_lanes<'a>(text: &'a str, characters: &mut Vec<char>) -> &'a str
 }
 
 // Returns how many of the first `LANES` bytes form whole characters, if all of these have one or two bytes.
-// That is all bytes, or all but the first byte of a character at the end.
+// These are all bytes, or all except the first byte of a character at the end.
 #[inline(always)]
 fn short_len(text: &str) -> usize
     requires long { LANES ≤ length text.now }
