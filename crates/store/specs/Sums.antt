@@ -12,7 +12,7 @@ measure G Line = G.lines
 measure G Byte = G.bytes
 measure G Utf16 = G.utf16
 
--- one of the sums
+-- the sum in one unit
 abbrev pub part : Sums → Counted → ℕ
 part sums Char = sums.chars
 part sums Line = sums.lines

@@ -31,7 +31,7 @@ module _ {A : Type 0} where
       let n = length (in_order l) in
       (if nat_lt i n then nodes_to l i + 1 else (if nat_lt n i then nodes_to r (i - n - 1) + 1 else 1))
 
-  -- a tree as a list: each node after its two subtrees, an empty tree as None
+  -- a tree as a list, where each node comes after its two subtrees, and an empty tree is `None`
   abbrev pub listed : Tree A → List (Option A)
   listed Empty = None ∷ []
   listed (Fork l x r) = listed l ++ (listed r ++ Some x ∷ [])

@@ -7,9 +7,9 @@ use crate::sums::Sums;
 /// The item that contains a character, a line, a byte or a UTF-16 code unit.
 #[derive(Clone, Copy, Debug, PartialEq, Eq)]
 pub struct Found {
-    /// The index of the item, from 0.
+    /// The index of the item, starting at 0.
     pub index: usize,
-    /// The index of the character, line, byte or code unit within the item, from 0.
+    /// The index of the character, line, byte or code unit within the item, starting at 0.
     pub rest: usize,
     /// The number of characters in the items before this one.
     pub chars_before: usize,

@@ -35,9 +35,10 @@ pub trait Exchange: Measured {
     // Whether a part fits an item.
     ghost fits: { Self → Self.Part → Type 0 };
 
-    // The item after an exchange, and the part that is taken out of it.
+    // The item after an exchange.
     ghost exchanged: { Self → Self.Part → Self };
 
+    // The part that an exchange takes out of an item.
     ghost handed_out: { Self → Self.Part → Self.Part };
 
     /// Exchanges the item's part for `part`, which must fit.
@@ -62,8 +63,8 @@ pub trait Exchanger<P: Measured> {
     /// The type of the parts that are exchanged.
     type Part;
 
-    // The facts that determine which parts fit, and the result of an exchange. They do not change while the
-    // exchanger counts its work.
+    // The facts that determine which parts fit, and the result of an exchange. These facts do not change
+    // while the exchanger counts its work.
     ghost Kind: { Type 0 };
 
     ghost kind: { Self → Kind };
@@ -71,14 +72,16 @@ pub trait Exchanger<P: Measured> {
     // Whether a part fits an item.
     ghost fits: { Kind → P → Self.Part → Type 0 };
 
-    // The item after an exchange, and the part that is taken out of it.
+    // The item after an exchange.
     ghost exchanged: { Kind → P → Self.Part → P };
 
+    // The part that an exchange takes out of an item.
     ghost handed_out: { Kind → P → Self.Part → Self.Part };
 
-    // The work counted so far, saturating at `u64::MAX`, and the cost of an exchange.
+    // The work counted so far, saturating at `u64::MAX`.
     ghost worked: { Self → ℕ };
 
+    // The cost of an exchange.
     ghost cost: { P → Self.Part → ℕ };
 
     /// Exchanges the item's part for `part`, which must fit.

@@ -119,7 +119,7 @@ impl<P: Measured> Subtree<P> {
         self.sums().total(unit)
     }
 
-    /// Returns the sums of all items, of one more item, and of all items of another tree.
+    /// Returns the sums over all items, one more item, and all items of another tree.
     pub(crate) fn sums_with(&self, item: &P, right: &Subtree<P>) -> Sums
         requires { SumsFit P.Measured (in_order self.now ++ item.now ∷ in_order right.now) }
         ensures { AreSums P.Measured (in_order self.now ++ item.now ∷ in_order right.now) result }
@@ -138,7 +138,7 @@ impl<P: Measured> Subtree<P> {
         }
     }
 
-    /// Takes a tree apart. Returns its left subtree, its root and its right subtree, or `None` if it is
+    /// Takes a tree apart. Returns its left subtree, its root and its right subtree, or `None` if the tree is
     /// empty.
     pub(crate) fn open(self) -> Option<(Subtree<P>, DetachedNode<P>, Subtree<P>)>
         ensures parts { MatchOption result (self ≡ Empty) (λ p. self ≡ Fork p.0 p.1 p.2) }

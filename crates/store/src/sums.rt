@@ -38,7 +38,7 @@ pub(crate) struct Sums {
 }
 
 impl Sums {
-    /// Returns the sums of no items.
+    /// Returns the sums of an empty list of items.
     pub(crate) fn none() -> Sums
         ensures { (unit : Counted) → part result unit ≡ 0 }
     {

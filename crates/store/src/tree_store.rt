@@ -52,7 +52,8 @@ impl<P: Measured> Model for TreeStore<P> {
 
 impl<P: Measured> TreeStore<P> {
     /// States, as a theorem, a bound on the height: the store has at least as many items as the smallest
-    /// balanced tree of its height. That tree at least doubles in size with every second level.
+    /// balanced tree of its height. The size of the smallest balanced tree at least doubles with every two
+    /// levels of height.
     pub fn stays_balanced(&self)
         ensures balanced { IsBalanced self.now }
         ensures items { fewest_nodes (height self.now) ≤ length (in_order self.now) }
