@@ -61,7 +61,7 @@ fn pairs_of(
     Ok(pairs)
 }
 
-// Returns the character as a bracket, if it is one. Only characters of type ON count as brackets.
+// Returns the bracket data of a character, if it is a bracket. Only characters of type ON count as brackets.
 fn bracket_at(tables: &Tables, c: char, class: BidiClass) -> Option<Bracket> {
     match class {
         BidiClass::ON => tables.bracket(c),
@@ -99,7 +99,7 @@ fn newest(openers: &[Opener], c: char) -> Option<(usize, usize)> {
     newest
 }
 
-// U+2329 and U+232A count as U+3008 and U+3009.
+// Returns the canonical equivalent of a bracket: U+3008 for U+2329, and U+3009 for U+232A.
 fn canonical(c: char) -> char {
     match c {
         '\u{2329}' => '\u{3008}',
@@ -131,9 +131,9 @@ fn set_pair(
     }
 }
 
-// Returns the direction of a pair. If the pair contains a strong type of the embedding direction, that is its
-// direction. Otherwise, if it contains a strong type of the other direction, its direction is that of the
-// nearest strong type before the pair.
+// Returns the direction of a pair. If the pair contains a strong type of the embedding direction, the pair
+// gets that direction. Otherwise, if it contains a strong type of the other direction, it gets the direction
+// of the nearest strong type before the pair.
 fn pair_direction(
     types: &[BidiClass],
     opener: usize,
@@ -183,7 +183,7 @@ fn opposite(side: BidiClass) -> BidiClass {
     }
 }
 
-// Sets the type at an index, and those of the marks directly after it.
+// Sets the type at an index, and the types of the marks directly after it.
 fn set_with_marks(
     types: &mut [BidiClass],
     classes: &[BidiClass],

@@ -32,7 +32,7 @@ impl Before {
         Before::begun(first, None, None, false)
     }
 
-    /// Returns the mark of the position before the next character, and moves past it.
+    /// Returns the mark of the position before the next character, and moves past that character.
     pub fn pass(&mut self, next: &Character, numbers: Numbers) -> Mark {
         if self.keeps(next) {
             self.end = next.class;
@@ -43,7 +43,7 @@ impl Before {
         mark
     }
 
-    /// LB9: whether the character joins the last base.
+    /// LB9: returns whether the character joins the last base.
     pub fn keeps(&self, next: &Character) -> bool {
         has(CM | ZWJ, next.class) && !has(BK | CR | LF | NL | SP | ZW, self.end)
     }

@@ -5,7 +5,7 @@ use ucd::LineClass;
 /// A set of line breaking classes: a bit for each, in the order of `LineClass`.
 pub type Classes = u64;
 
-/// Whether the class is in the set.
+/// Returns whether the class is in the set.
 pub fn has(classes: Classes, class: LineClass) -> bool {
     classes >> (class as u64) & 1 == 1
 }

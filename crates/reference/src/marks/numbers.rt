@@ -14,7 +14,8 @@ enum Place {
     End,
 }
 
-/// Whether some bases directly before an index and some bases from it on form a number together.
+/// Returns whether some bases directly before an index and some bases from that index on form a number
+/// together.
 pub fn is_in_number(classes: &[LineClass], place: usize) -> bool {
     for start in 0..place {
         if begins_number(classes, start, place) {
@@ -24,7 +25,7 @@ pub fn is_in_number(classes: &[LineClass], place: usize) -> bool {
     false
 }
 
-// Whether a number that begins with the base at `start` contains the base at `place`.
+// Returns whether a number that begins with the base at `start` contains the base at `place`.
 fn begins_number(classes: &[LineClass], start: usize, place: usize) -> bool {
     let mut at = Place::Start;
     for i in start..classes.len() {
