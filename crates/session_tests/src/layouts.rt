@@ -173,8 +173,8 @@ fn refill(alloc: Global, engine: &mut Engine, laid: &Laid, width: u16) -> Result
     Ok(engine.refill(alloc, laid, u32::from(width))?)
 }
 
-// Returns whether the engine has counted this many analysed and filled characters, and as many written as
-// filled ones.
+// Returns whether the engine has counted these numbers of analysed and filled characters, and as many written
+// characters as filled ones.
 fn counts(engine: &Engine, analysed: u64, filled: u64) -> bool {
     engine.analysed() == analysed && engine.filled() == filled && engine.written() == filled
 }

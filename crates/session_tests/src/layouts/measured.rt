@@ -41,9 +41,9 @@ struct Row {
     edges: &'static [&'static [usize]],
 }
 
-// A line ends at a break opportunity if the rest is too wide. A ligature's first character has its advance,
-// and the others have 0. If the ligature is wider than its line, the line ends after its first character. A
-// tab has its advance.
+// A line ends at a break opportunity if the rest is too wide. The first character of a ligature has the
+// ligature's advance, and its other characters have advance 0. If the ligature is wider than its line, the
+// line ends after its first character. A tab is as wide as its advance.
 static ROWS: [Row; 8] = [
     Row {
         text: "a b",
@@ -239,7 +239,7 @@ fn lay_out_once(
     engine.lay_out_measured(alloc, text, advances, width).ok()
 }
 
-// Does the same, and tries again after an allocation failure.
+// Does the same as `lay_out_once`, and tries again after an allocation failure.
 fn lay_out(
     alloc: Global,
     engine: &mut Engine,
@@ -357,7 +357,7 @@ fn refill(alloc: Global, engine: &mut Engine, laid: &Laid, width: u32) -> Result
     }
 }
 
-// Returns whether the paragraph has the lines of its row after they overwrote the old lines.
+// Returns whether the paragraph has the lines of its row after these lines overwrite the old ones.
 fn is_reflowed(alloc: Global, engine: &mut Engine, row: &Row) -> Result<bool, Fail> {
     if row.width == 0 {
         return Err(Fail::new("width 0"));

@@ -37,8 +37,8 @@ type Row = (
     &'static [u32],
 );
 
-// Texts with the option. The last two have a mark whose level differs from that of its base, and a mark after
-// a space at the end of the line.
+// Texts that are ordered with the option. The last two have a mark whose level differs from that of its base,
+// and a mark after a space at the end of the line.
 static READ_ROWS: [Row; 7] = [
     (
         "\u{5D0}\u{300}\u{5D1}",
@@ -84,7 +84,7 @@ static READ_ROWS: [Row; 7] = [
     ),
 ];
 
-// The same texts without the option, if their order differs.
+// Those of these texts that are ordered differently without the option.
 static REVERSED_ROWS: [Row; 5] = [
     (
         "\u{5D0}\u{300}\u{5D1}",
@@ -118,7 +118,7 @@ static REVERSED_ROWS: [Row; 5] = [
     ),
 ];
 
-// At an even level a mark is after its base with or without the option.
+// At an even level, a mark is after its base with or without the option.
 static RTL_ROWS: [Row; 1] = [("a\u{300}", &['a', '\u{300}'], &[0, 1], &[0, 1])];
 
 static POINT_ROWS: [Row; 1] = [(

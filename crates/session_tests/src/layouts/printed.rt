@@ -118,7 +118,7 @@ fn write_paragraph(
     }
 }
 
-// Returns whether a layout's lines are these bytes, line by line and all at once.
+// Returns whether a layout's lines are written as these bytes, both line by line and all at once.
 pub(super) fn is_written(laid: &Laid, width: u16, print: &Print, bytes: &[u8]) -> bool {
     let mut by_lines = [b'?'; 64];
     let mut at_once = [b'?'; 64];
@@ -151,7 +151,8 @@ fn fills(
     result == wanted && holds(&taken, &bytes[..room.min(bytes.len())])
 }
 
-// Returns whether `fills` holds for a buffer that is larger than the output, as large, and half as large.
+// Returns whether `fills` holds for buffers that are larger than the output, exactly as large, and half as
+// large.
 fn fills_each(
     alloc: Global,
     engine: &mut Engine,

@@ -101,8 +101,8 @@ fn ends_cluster(text: &[char], k: usize) -> bool {
 }
 
 impl Reference {
-    // Returns where the line from `start` on ends, and the sum of the advances that it shows. The marks are
-    // those of its paragraph, which goes from `first` to `end`.
+    // Returns where the line from `start` on ends, and the sum of the advances that it shows. `marks` are the
+    // break marks of the line's paragraph, which goes from `first` to `end`.
     fn line(&self, marks: &[Mark], first: usize, start: usize, end: usize) -> (usize, u64) {
         let (mut all, mut shown) = (0u64, 0u64);
         let (mut by_break, mut by_cluster, mut least) = (None, None, None);

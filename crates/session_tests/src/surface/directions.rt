@@ -2,7 +2,7 @@
 
 use super::of_engine;
 
-// Writes the base direction of a paragraph of an allowed length, or returns `None` for another text.
+// Writes the base direction of a paragraph of an allowed length, or returns `None` for any other text.
 fn write_base_direction(
     engine: &mut lines::Engine,
     text: &str,
