@@ -58,8 +58,8 @@ pub record AreSidesBetween (p : Paragraph) (first last : ℕ) (sides : Sides) : 
 abbrev pub AreSides : Paragraph → List ℕ → Sides → Type 0
 AreSides p places sides = AreSidesBetween p (first_of places) (last_of places) sides
 
--- `sequence` is the one that begins at `start`, with its indices, bracket types and explicit types. Its
--- current types are still the explicit types.
+-- `sequence` is the one that begins at `start`, with its indices, bracket types and explicit types. The
+-- sequence's current types are still the explicit types.
 pub record Takes (p : Paragraph) (start : ℕ) (sequence : Sequence) : Type 0 where
   pub places_are : sequence.places.items ≡ sequence_in p start
   pub within : AreWithin (length p.stayed.now.levels.items) sequence.places.items

@@ -51,8 +51,8 @@ pub record IsRun (types : List BidiClass) (start at : ℕ) : Type 0 where
   pub neutrals : (k : ℕ) (d : BidiClass) → start ≤ k → k < at → is_neutral (get_or types k d) ≡ true
   pub bounded : (k : ℕ) (d : BidiClass) → k + 1 ≡ start → is_neutral (get_or types k d) ≡ false
 
--- The state of the pass at the index `at`. The levels of the latest run of neutrals are provisional: they are
--- right if the types before and after the run have the same direction.
+-- The state of the pass at the index `at`. The levels of the latest run of neutrals are provisional: these
+-- levels are right if the types before and after the run have the same direction.
 pub record AreGuessed (level : ℕ) (sos eos : BidiClass) (types : List BidiClass) (levels : List ℕ) (opposite : Bool) (at : ℕ) : Type 0 where
   pub before : BidiClass
   pub start : ℕ

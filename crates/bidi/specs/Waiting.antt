@@ -27,7 +27,7 @@ abbrev pub read_types : BidiClass → BidiClass → List BidiClass → List Bidi
 read_types before strong types =
     map w3_type (carry (λ s type after. digit_type s type) is_strong strong (carry (λ b type after. mark_type b type) (λ type. not (is_mark type)) before types))
 
--- W7 for a European number
+-- the type of a European number after W7, given whether the nearest strong type before it is L
 abbrev pub number_type : Bool → BidiClass
 number_type left = if left then L else EN
 

@@ -20,7 +20,7 @@ use crate::weak::resolve_weak;
 use std::alloc::{AllocError, Global};
 use ucd::BidiClass;
 
-/// The bracket types of a paragraph or of a part of it.
+/// The bracket types of a paragraph or of part of a paragraph.
 #[derive(Clone, Copy)]
 pub(crate) struct Brackets<'a> {
     pub types: &'a [BracketType],

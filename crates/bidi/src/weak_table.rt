@@ -17,7 +17,7 @@ pub enum Row {
     European,
     /// An Arabic number.
     Arabic,
-    /// European terminators after a European number. They have become numbers (W5).
+    /// European terminators after a European number. These terminators have become numbers (W5).
     EuropeanTerminators,
     /// A separator after a European number, pending until the next type is read.
     EuropeanSeparator,

@@ -68,7 +68,8 @@ stays_with before c =
 abbrev pub alone : Character → Base
 alone c = record { first = c; attached = [] }
 
--- Adds a character before some bases. It forms a base of its own, or becomes the first character of the first base.
+-- Adds a character before some bases. The character forms a base of its own, or becomes the first character of the
+-- first base.
 abbrev pub joined : Character → List Base → List Base
 joined c [] = alone c ∷ []
 joined c (b ∷ bases) = record { first = c; attached = b.first ∷ b.attached } ∷ bases

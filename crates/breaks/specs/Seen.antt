@@ -1,4 +1,4 @@
--- The characters and bases of the code, as characters and bases of the rules.
+-- Maps the characters and bases of the code to those of the rules.
 use Rattle.std.specs.Prelude.{ℕ, suc, List, [], ◌∷◌, map, if◌then◌else◌}
 use Rattle.breaks.specs.Bases.{Base, Character, stays_with}
 use Rattle.breaks.specs.declared.bases.Base.{Base as Found}

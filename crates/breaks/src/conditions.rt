@@ -1,5 +1,5 @@
-//! The conditions of the rules, on the bases before or after a position, the nearest first. Most functions are
-//! the definitions of the same name in specs/Rules.antt.
+//! The conditions of the rules, on the bases before or after a position, the nearest first. Most functions
+//! implement the definitions of the same name in specs/Rules.antt.
 ghost use Rattle.std.specs.Prelude.{◌≡◌, ◌∷◌, [], map};
 ghost use Rattle.breaks.specs.Rules as rules;
 ghost use Rattle.ucd.specs.declared.line_detail.LineDetail.TheVariants.{Final};

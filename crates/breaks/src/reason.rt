@@ -27,8 +27,8 @@ pub struct Reason {
     pub behind_spaces: Option<usize>,
     /// The class of the base before the position, after LB1 and LB10.
     pub class_before: LineClass,
-    /// The class after the position: that of the next base, or of the next character inside a base. `None` at
-    /// the end.
+    /// The class after the position: the class of the next base or, inside a base, of the next character.
+    /// `None` at the end.
     pub class_after: Option<LineClass>,
     /// The mark.
     pub mark: Mark,
@@ -84,7 +84,7 @@ fn push_inside(
     Ok(())
 }
 
-// Appends the reasons after the characters of a base, given the bases up to it, and those after it.
+// Appends the reasons after the characters of a base, given the bases up to this one, and the bases after it.
 fn push_base(
     list: &mut Vec<Reason>,
     edition: Edition,

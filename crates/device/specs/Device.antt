@@ -32,7 +32,7 @@ pub record Fails (old new : Device) : Type 0 where
   pub failures : new.failures ≡ min (old.failures + 1) greatest
   pub failed_at : new.failed_at ≡ old.passed
 
--- A read wrote n bytes to the front of a buffer. It wrote none only if the source had no bytes left.
+-- A read wrote n bytes to the front of a buffer. The read wrote no bytes only if the source had none left.
 pub record Gives (old new : Device) (n : ℕ) (buffer : List ℕ) : Type 0 where
   pub bytes : Consumes old.bytes new.bytes (take n buffer)
   pub end : n ≡ 0 → IsAtEnd new.bytes

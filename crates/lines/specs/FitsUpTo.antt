@@ -3,8 +3,8 @@ use Rattle.std.specs.Prelude.{◌≡◌, ◌*◌, ◌<◌, ◌≤◌, ℕ, true,
 use Rattle.lines.specs.Filling.{columns, fits_to, must_end}
 use Rattle.lines.specs.declared.char_info.CharInfo.{CharInfo}
 
--- The first `n` characters of `rest` have `sum` columns. The line fits up to each of them, and has no mandatory break
--- after any of them.
+-- The first `n` characters of `rest` have `sum` columns. The line fits up to each of these characters, and has no
+-- mandatory break after any of them.
 pub record FitsUpTo (width : ℕ) (rest : List CharInfo) (n sum : ℕ) : Type 0 where
   pub within : n ≤ length rest
   pub sum_is : sum ≡ columns (take n rest)

@@ -75,7 +75,7 @@ layout_of rules width text = record {
 abbrev pub visuals : Layout → List Visual
 visuals layout = map (λ nth. visual_of layout.base layout.tab_width layout.advances layout.text layout.lines nth.0 nth.1) (enumerate_from 0 layout.lines)
 
--- lines, and the length of their paragraph in characters
+-- the lines of a paragraph, and the paragraph's length in characters
 pub record Filled : Type 0 where
   pub lines : List Line
   pub len : ℕ

@@ -1,4 +1,4 @@
--- Which line starts of a paragraph stay the same when a part of it changes.
+-- Which line starts of a paragraph stay the same when part of the paragraph changes.
 use Rattle.std.specs.Prelude.{◌≡◌, ℕ, suc, ◌+◌, ◌-◌, ◌<◌, ◌≤◌, Bool, true, false, List, map, take, drop, slice_get, Some}
 use Rattle.lines.specs.Filling.{cluster_ends_at, line_starts_of, may_end}
 use Rattle.lines.specs.declared.char_info.CharInfo.{CharInfo}

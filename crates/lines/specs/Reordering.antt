@@ -15,7 +15,7 @@ module _ (options : Options) where
   abbrev pub reorders : Bool
   reorders = options.reorder_clusters || options.reordernsm
 
-  -- the classes with which L3 is applied to a line with these classes and cluster ends, given the levels of its shown
+  -- the classes to which L3 is applied, given the classes and cluster ends of a line, and the levels of its shown
   -- part
   abbrev pub classes_by : List BidiClass → List Bool → List ℕ → List BidiClass
   classes_by classes ends levels = if options.reorder_clusters then cluster_classes ends levels else classes

@@ -6,7 +6,7 @@ ghost use Rattle.lines.specs.Engine.{counted};
 use std::marker::Model;
 use ucd::Tables;
 
-/// A number of characters, saturating at 2^64−1. It is neither `Copy` nor `Drop`: a count can only be added
+/// A number of characters, saturating at 2^64−1. A count is neither `Copy` nor `Drop`: it can only be added
 /// to another one, or be dropped together with the tables used for the work.
 #[derive(Debug)]
 pub(crate) struct Count {
@@ -54,8 +54,8 @@ impl Count {
     }
 }
 
-/// Proof that a number of characters was counted as filled into lines. It is not `Copy`, so filling the same
-/// characters twice requires two proofs.
+/// Proof that a number of characters was counted as filled into lines. The proof is not `Copy`, so filling
+/// the same characters twice requires two proofs.
 #[derive(Drop)]
 pub(crate) struct Counted {
     len: usize,

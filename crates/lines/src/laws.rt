@@ -67,8 +67,8 @@ pub fn runs_adjoin()
 {}
 
 /// States, as a theorem, that with `reorder_clusters` the characters of a cluster that are in one level run
-/// are next to each other in logical order, at any width. So are those of a level run at an even level.
-/// Costs nothing at run time.
+/// are next to each other in logical order, at any width. The same holds for the characters of a level run at
+/// an even level. Costs nothing at run time.
 pub fn clusters_adjoin()
     ensures { (rules : Rules) (width : ℕ) (text : List ℕ) → rules.options.reorder_clusters ≡ true
         → (n : ℕ) (line : Visual) → slice_get (visuals (layout_of rules width text)) n ≡ Some line

@@ -22,9 +22,9 @@
 //! }
 //! ```
 //!
-//! An engine also writes a paragraph's lines without keeping them (`write_paragraph`), or its base direction
-//! without decoding it (`write_base_direction`). It changes the width of a layout in place (`extents`,
-//! `reflow`). For a text of many paragraphs, see the crate `session`.
+//! An engine also writes a paragraph's lines without keeping them (`write_paragraph`), or the base direction
+//! of a paragraph without decoding it (`write_base_direction`). With `extents` and `reflow`, it changes the
+//! width of a layout in place. For a text of many paragraphs, see the crate `session`.
 #![tactic(auto)]
 
 mod buffers;

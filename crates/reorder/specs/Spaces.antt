@@ -5,13 +5,13 @@ use Rattle.ucd.specs.declared.bidi_class.BidiClass.TheVariants.{B, S, WS}
 use Rattle.ucd.specs.Classes.{is_initiator, is_pdi}
 use Rattle.ucd.specs.Classes.{is_removed}
 
--- whether a class is that of segment or paragraph separators
+-- whether characters of a class are segment or paragraph separators
 abbrev pub ends_segment : BidiClass → Bool
 ends_segment S = true
 ends_segment B = true
 ends_segment class = false
 
--- whether a class is that of whitespace or isolate initiators, is PDI, or is removed by X9
+-- whether characters of a class are whitespace, isolate initiators or PDI, or are removed by X9
 abbrev pub is_blank : BidiClass → Bool
 is_blank WS = true
 is_blank class = is_initiator class || is_pdi class || is_removed class

@@ -11,7 +11,7 @@ use crate::order::level_run_len;
 use std::marker::Model;
 
 /// A level run of a line: the `len` characters from position `start` on, in logical order, all at one level.
-/// It is read from left to right if the level is even.
+/// The run is read from left to right if the level is even.
 #[derive(Clone, Copy, Debug, PartialEq, Eq)]
 pub struct Run {
     pub start: usize,

@@ -15,7 +15,7 @@ use Rattle.session.specs.declared.edits.AdvanceFault.TheVariants.{NotMeasured, O
 use Rattle.session.specs.declared.edits.Damage.{Damage}
 use Rattle.session.specs.declared.measuring.Spliced.{Spliced}
 
--- the reason for refusing to set a width, given the advances of a session if it is measured, or `None`
+-- the reason for refusing to set a width, if there is one, given the session's advances if it is measured
 abbrev pub measured_width_refusal : Option (List ℕ) → ℕ → Option AdvanceFault
 measured_width_refusal None width = Some NotMeasured
 measured_width_refusal (Some advances) width = if is_no_width width then Some WidthOutOfRange else None
@@ -52,7 +52,8 @@ SetsMeasuredWidthNot width old = Remains (measured_width_refusal old.advances wi
 abbrev pub advances_set : List ℕ → ℕ → List ℕ → List ℕ
 advances_set old pos list = replaced old (replacing pos (length list) list)
 
--- the reason for refusing to set advances, given those of a session if it is measured, or `None`
+-- the reason for refusing to set advances, if there is one, given the session's old advances if it is
+-- measured
 abbrev pub advances_refusal : (ℕ → ℕ → Bool) → Option (List ℕ) → List ℕ → ℕ → List ℕ → Option AdvanceFault
 advances_refusal is_cut None text pos list = Some NotMeasured
 advances_refusal is_cut (Some old) text pos list =

@@ -67,7 +67,7 @@ pub record IsWholeLayout (state : SessionState) : Type 0 where
   pub filled : 0 < state.width
   pub advances : AreForEach state.advances (text_at state)
 
--- the reason for refusing to open a session on a text at a width, or `None`
+-- the reason for refusing to open a session on a text at a width, if there is one
 abbrev pub opening_refusal : (ℕ → ℕ → Bool) → List ℕ → ℕ → Option EditFault
 opening_refusal is_cut text width = if width == 0 then Some WidthOutOfRange else text_refusal is_cut text
 
@@ -75,7 +75,7 @@ opening_refusal is_cut text width = if width == 0 then Some WidthOutOfRange else
 abbrev pub is_no_width : ℕ → Bool
 is_no_width width = (width == 0) || nat_lt (2 ^ 31 - 1) width
 
--- the reason for refusing to open a measured session, or `None`
+-- the reason for refusing to open a measured session, if there is one
 abbrev pub measured_refusal : (ℕ → ℕ → Bool) → List ℕ → ℕ → Option EditFault
 measured_refusal is_cut text width = if is_no_width width then Some WidthOutOfRange else text_refusal is_cut text
 

@@ -215,7 +215,7 @@ impl<S: ParagraphStore<Kept>> Session<S> {
     /// - Otherwise, at the character's own edge.
     /// - If the character is not shown: at the end of the line in the base direction.
     ///
-    /// At the end of the text, the caret of the `Before` edge is that of `caret`.
+    /// At the end of the text, the caret of the `Before` edge is the one that `caret` returns.
     ///
     /// Can fail only at an edge of a character, if memory runs out. Needs time linear in the lengths of the
     /// line and of the character's cluster (see `cluster`).
@@ -245,8 +245,8 @@ impl<S: ParagraphStore<Kept>> Session<S> {
     /// Moves a caret by one step on its line. Returns the edge where the caret stops, or `None` if the caret
     /// is at the end of the line in that direction, or if `edge_caret` returns `None`.
     ///
-    /// A step moves over one caret unit: a grapheme cluster or, if its characters are in several level runs,
-    /// the part in one of them. The returned edge is the unit's far edge.
+    /// A step moves over one caret unit: a grapheme cluster or, if the cluster's characters are in several
+    /// level runs, the part in one of these runs. The returned edge is the unit's far edge.
     ///
     /// Can fail only if the text is not empty, if memory runs out. Costs as much as `edge_caret`.
     pub fn step(&self, edge: Edge, direction: Direction) -> Result<Option<Edge>, AllocError>

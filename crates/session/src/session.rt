@@ -302,8 +302,8 @@ impl<S: ParagraphStore<Kept>> Session<S> {
     /// a separator, the caret is at column 0 of the line after the last line.
     ///
     /// Where the direction changes, a position has a second edge: the trailing edge of the character before
-    /// it. This second edge is opposite the caret at `pos - 1`. For example, in a text of Latin letters
-    /// followed by a Hebrew word:
+    /// it. This second edge and the caret at `pos - 1` are on opposite sides of that character. For example,
+    /// in a text of Latin letters followed by a Hebrew word:
     ///
     /// ```text
     /// positions   0 1 2 3 4 5 6       a b c, a space, and the letters 4, 5 and 6
@@ -360,7 +360,7 @@ impl<S: ParagraphStore<Kept>> Session<S> {
     /// continues on the next line.
     ///
     /// Reads the characters of the line and, as `cluster` does, the characters around it. Allocates a copy of
-    /// all of them.
+    /// all these characters.
     pub fn line_clusters(&self, n: usize) -> Result<Option<Vec<usize>>, AllocError>
         ensures ok { IfOk result (λ ends. option_map (λ ends. ends.items) ends
             ≡ line_clusters self.now.kept n) }

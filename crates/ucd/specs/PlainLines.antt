@@ -17,7 +17,8 @@ AreWord line from to = (k : ℕ) → from ≤ k → k < to → IsWordByte (slice
 abbrev pub AreSpaces : List ℕ → ℕ → ℕ → Type 0
 AreSpaces line from to = (k : ℕ) → from ≤ k → k < to → slice_index line k ≡ 32
 
--- The line has no fault before its value is parsed. Its two fields are these code points and this name.
+-- The line has no fault before its value is parsed. The line's two fields are these code points and this
+-- name.
 pub record IsPlain (line : List ℕ) (first last : ℕ) (name : List ℕ) : Type 0 where
   pub ascii : list_all is_ascii (before_comment line) ≡ true
   pub some : (length (content_of line) == 0) ≡ false

@@ -38,8 +38,8 @@ pub record AllEndFrom (point : ℕ) (k : Layers) : Type 0 where
   pub pictographs : EndsFrom point k.pictographs
   pub categories : EndsFrom point k.categories
 
--- The run contains `point` or ends there. Its code points have its properties. The remaining entries determine
--- the properties of all code points after the run.
+-- The run contains `point` or ends there. The code points of the run have the run's properties. The remaining
+-- entries determine the properties of all code points after the run.
 pub record ReachesTo (k : Layers) (runs : Runs) (point : ℕ) : Type 0 where
   pub from : runs.run.start ≤ point
   pub to : point ≤ runs.run.end

@@ -40,12 +40,12 @@ abbrev pub is_wide_by : Option Width → Bool
 is_wide_by (Some Wide) = true
 is_wide_by _ = false
 
--- whether a category is that of marks (Mn or Mc)
+-- whether characters of a category are marks (Mn or Mc)
 abbrev pub is_mark_by : Category → Bool
 is_mark_by Mark = true
 is_mark_by _ = false
 
--- whether a category is that of unassigned code points (Cn)
+-- whether code points of a category are unassigned (Cn)
 abbrev pub is_unassigned_by : Category → Bool
 is_unassigned_by Unassigned = true
 is_unassigned_by _ = false

@@ -41,7 +41,7 @@ pub enum BidiClass {
 /// The number of classes.
 pub(crate) const BIDI_CLASS_COUNT: usize = 23;
 
-// The classes in the order of the enum. The lists of variants and of names are generated from them.
+// The classes in the order of the enum. The lists of variants and of names are generated from this list.
 macro_rules! classes {
     ($list:ident) => {
         $list! {

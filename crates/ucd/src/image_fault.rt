@@ -23,7 +23,7 @@ pub enum ImageFault {
     /// The checksum does not match the bytes before it.
     #[error("the checksum of the image is wrong")]
     Checksum,
-    /// The page number of a block is not that of a page in the image.
+    /// A block has a page number that does not belong to a page in the image.
     #[error("a page number of the image is out of range")]
     PageNumber,
     /// A bidi class is out of range, a line breaking class does not exist in the version, or a mark is a

@@ -13,7 +13,7 @@ use crate::pages::{PAGE, PLACES, Pages};
 use crate::properties::Properties;
 use std::alloc::{AllocError, Global};
 
-/// Returns whether the page number of each block is that of a page in the image.
+/// Returns whether the page number of each block belongs to a page in the image.
 pub fn are_pages_known(bytes: &[u8], pages: usize) -> bool
     requires { 8736 ≤ length bytes.now }
     ensures yes { result ≡ true → (block : ℕ) → block < 4352 → page_number bytes.now block < pages }
@@ -102,8 +102,8 @@ fn loud_pages(alloc: Global, entries: &[Properties]) -> Result<Vec<bool>, AllocE
     Ok(loud)
 }
 
-// Returns whether the page that starts at an index has a separator, a bracket or a mirror. Reads all of it,
-// which is faster than exiting the loop early.
+// Returns whether the page that starts at an index has a separator, a bracket or a mirror. Reads the whole
+// page, which is faster than exiting the loop early.
 fn is_loud(entries: &[Properties], start: usize) -> bool
     requires { start + 256 ≤ length entries.now }
     ensures { result ≡ false → (k : ℕ) → k < 256 → IsQuiet (slice_index_or entries.now (start + k) unnamed) }

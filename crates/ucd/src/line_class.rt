@@ -77,7 +77,7 @@ pub(crate) const LINE_CLASS_COUNT_15: usize = 43;
 /// The number of line-breaking numbers. Each encodes a class and a detail (specs/LineNumbers.antt).
 pub(crate) const LINE_NUMBER_COUNT: usize = 56;
 
-// The classes in the order of the enum. The lists of variants and of names are generated from them.
+// The classes in the order of the enum. The lists of variants and of names are generated from this list.
 macro_rules! classes {
     ($list:ident) => {
         $list! {

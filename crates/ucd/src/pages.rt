@@ -196,8 +196,8 @@ fn block_has_separator(
     has_separator(entries, start + first, start + end)
 }
 
-// Returns whether any of the entries in `first..end` has class B. Reads all of them, which is faster than
-// exiting the loop early.
+// Returns whether any of the entries in `first..end` has class B. Reads all these entries, which is faster
+// than exiting the loop early.
 fn has_separator(entries: &[Properties], first: usize, end: usize) -> bool
     requires { (first ≤ end) × (end ≤ length entries.now) }
     ensures no { result ≡ false → (c : ℕ) → first ≤ c → c < end

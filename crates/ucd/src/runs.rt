@@ -64,8 +64,8 @@ impl<'a, V: Layer> Cursor<'a, V> {
         Cursor { entries }
     }
 
-    // Skips the entries that end before `point`. Usually, there are none to skip in a file, and then no loop
-    // is needed.
+    // Skips the entries that end before `point`. For most runs, most files have no such entry, and then no
+    // loop is needed.
     fn pass(&mut self, point: usize)
         ensures values { (c : ℕ) → point ≤ c
             → value_at self.new c ≡ value_at self.old c }

@@ -188,8 +188,8 @@ fn reset_front(line: &LogicalLine<'_>, levels: &mut [u8]) -> bool
     reset_line(line.text.properties, line.text.base, front)
 }
 
-// Applies L2, L3 and L4 to the shown part of a line. Its levels after L1 are at the front of `levels`. Writes
-// the position maps, one after the other, and the characters to the front of the other lists.
+// Applies L2, L3 and L4 to the shown part of a line. The line's levels after L1 are at the front of `levels`.
+// Writes the position maps, one after the other, and the characters to the front of the other lists.
 fn order_front(
     line: &LogicalLine<'_>,
     is_flat: bool,
@@ -225,8 +225,8 @@ fn order_front(
     );
 }
 
-// Writes the characters of a line's shown part, in visual order, to the front of `chars`. Its levels after L1
-// are at the front of `levels`.
+// Writes the characters of a line's shown part, in visual order, to the front of `chars`. The line's levels
+// after L1 are at the front of `levels`.
 fn chars_front(line: &LogicalLine<'_>, levels: &[u8], places: &mut [u32], chars: &mut [char])
     requires line { IsLookedUp line.now.text }
     requires limit { length line.now.text.characters.now ≤ PARAGRAPH_LIMIT }

@@ -294,7 +294,7 @@ fn lay_out_each(alloc: Global, engine: &mut Engine, rows: &[Row]) -> Result<bool
     Ok(all_right)
 }
 
-// Returns whether the paragraphs have the lines of their rows.
+// Returns whether each paragraph has the lines that its row lists.
 fn all_laid_out(alloc: Global, options: Options, rows: &[Row]) -> Result<bool, Fail> {
     let mut engine = engine(alloc, &FILES, options)?;
     let result = lay_out_each(alloc, &mut engine, rows);
@@ -379,7 +379,7 @@ fn change_each(alloc: Global, engine: &mut Engine, rows: &[Row]) -> Result<bool,
     Ok(all_right)
 }
 
-// Returns whether the paragraphs have the lines of their rows after a change of their width.
+// Returns whether each paragraph has the lines that its row lists after a change of its width.
 fn all_changed(alloc: Global, options: Options, rows: &[Row]) -> Result<bool, Fail> {
     let mut engine = engine(alloc, &FILES, options)?;
     let result = change_each(alloc, &mut engine, rows);

@@ -37,8 +37,8 @@ type Row = (
     &'static [u32],
 );
 
-// Texts that are ordered with the option. The last two have a mark whose level differs from that of its base,
-// and a mark after a space at the end of the line.
+// Texts that are ordered with the option. The last two have a mark at another level than its base, and a mark
+// after a space at the end of the line.
 static READ_ROWS: [Row; 7] = [
     (
         "\u{5D0}\u{300}\u{5D1}",
@@ -84,7 +84,7 @@ static READ_ROWS: [Row; 7] = [
     ),
 ];
 
-// Those of these texts that are ordered differently without the option.
+// The texts above that are ordered differently without the option.
 static REVERSED_ROWS: [Row; 5] = [
     (
         "\u{5D0}\u{300}\u{5D1}",
