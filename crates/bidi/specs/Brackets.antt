@@ -58,8 +58,8 @@ module _ (bracket_of : ℕ → Option Bracket) (characters : List ℕ) (types : 
   abbrev pub is_live : List Pair → ℕ → Bool
   is_live pairs i = is_opener i && not (list_any (λ pair. nat_le pair.opener i && nat_lt i pair.closer) pairs)
 
-  -- a list with the pair of the opening bracket at i and the closing bracket at j, or an empty list if there
-  -- is no i
+  -- a list with the pair of the opening bracket at i and the closing bracket at j, or an empty list if i is
+  -- `None`
   abbrev pub paired_with : Option ℕ → ℕ → List Pair
   paired_with (Some i) j = record { opener = i; closer = j } ∷ []
   paired_with None j = []

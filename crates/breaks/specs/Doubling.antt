@@ -11,8 +11,8 @@ use Rattle.breaks.specs.Marks.{marks_of}
 use Rattle.breaks.specs.declared.mark.Mark.{Mark}
 use Rattle.breaks.specs.declared.mark.Mark.TheVariants.{Never, May}
 
--- The characters that can be doubled have one of these classes, and are not U+25CC in 17.0, which LB28a treats as a
--- letter of a Brahmic script.
+-- Characters that can be doubled have one of these classes. In 17.0, U+25CC cannot be doubled, because LB28a treats
+-- it as a letter of a Brahmic script.
 abbrev pub doubled_classes : List LineClass
 doubled_classes = SP ∷ NU ∷ AL ∷ HL ∷ ID ∷ []
 

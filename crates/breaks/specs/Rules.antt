@@ -16,8 +16,8 @@ use Rattle.breaks.specs.Numbers.{is_in_number}
 use Rattle.breaks.specs.declared.mark.Mark.{Mark}
 use Rattle.breaks.specs.declared.mark.Mark.TheVariants.{Never, May, Must}
 
--- A rule: a condition on the bases before a position, nearest first, and on the bases after it, and the mark
--- if the condition holds.
+-- A rule: a condition on the bases before a position, nearest first, and on the bases after that position;
+-- and the mark if the condition holds.
 pub record Rule : Type 0 where
   pub holds : List Base → List Base → Bool
   pub mark : Mark
@@ -115,8 +115,8 @@ is_quote_but detail (b ∷ bases) = is_same (class_of b) QU && not (is_detail b.
 abbrev pub is_dotted_circle : Base → Bool
 is_dotted_circle b = is_same b.first.class AL && is_detail b.first.detail DottedCircle
 
--- whether the nearest base is a letter of a Brahmic script in the sense of LB28a: U+25CC, or one of the classes,
--- which are AK and, in most conditions, AS
+-- whether the nearest base is a letter of a Brahmic script in the sense of LB28a: U+25CC, or a base of one of
+-- the classes (AK and, in most conditions, AS)
 abbrev pub is_aksara : List LineClass → List Base → Bool
 is_aksara classes [] = false
 is_aksara classes (b ∷ bases) = is_one_of classes (class_of b) || is_dotted_circle b

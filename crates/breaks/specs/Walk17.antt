@@ -97,8 +97,8 @@ decided_17 outcome bits next_is_wide =
 abbrev pub is_stop_digit : List Base → Bool
 is_stop_digit = followed (is (class.IS ∷ [])) (is (class.NU ∷ []))
 
--- The mark of an outcome, given the bases after the next one: first the outcomes that are marks (the first is that of
--- LB9), and then the questions of LB15b, LB15c, LB19a, LB25 (after `OP`, and after `OP IS`) and LB28a.
+-- The mark of an outcome, given the bases after the next one. The outcomes that are marks come first, beginning with
+-- the outcome of LB9. Then come the questions of LB15b, LB15c, LB19a, LB25 (after `OP`, and after `OP IS`) and LB28a.
 abbrev pub marks_17 : List Base → List Mark
 marks_17 rest =
     Never ∷ Never ∷ May ∷ Must ∷

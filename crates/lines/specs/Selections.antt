@@ -33,8 +33,8 @@ IsMeasured s = AreMeasured s.tab_width s.text.now s.is_measured s.advances.now s
 abbrev pub columns_on : Visual → ℕ → ℕ
 columns_on line place = width_at line (slice_index line.vtol place)
 
--- whether a visual position is in the line, the columns to its left have been counted, and the line is no longer than a
--- paragraph may be
+-- whether a visual position is in the line, the columns to its left have been counted, and the line has at most as many
+-- characters as a paragraph may have
 pub record IsReached (line : Visual) (at : Reached) : Type 0 where
   pub within : at.place ≤ length line.vtol
   pub column : at.column ≡ columns_left line at.place

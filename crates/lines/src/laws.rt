@@ -94,9 +94,9 @@ pub fn later_lines_follow()
 {}
 
 /// States, as a theorem, which line starts a change leaves in place. Both paragraphs have the same first `n`
-/// characters. A line start stays, with all earlier ones, if there is a break opportunity between it and the
-/// first changed character, or if two lines from that start on end before this character. Costs nothing at
-/// run time.
+/// characters. A line start and all earlier ones stay if there is a break opportunity between that start and
+/// the first changed character, or if two lines from that start on end before the changed character. Costs
+/// nothing at run time.
 pub fn earlier_lines_stay()
     ensures { (nobreak : Bool) (width : ℕ) (before after : List CharInfo) (n : ℕ)
         → take n before ≡ take n after → StartsStay nobreak width before after n }

@@ -50,8 +50,8 @@ is_closed rules text =
     let last = slice_index text (length text - 1) in
     length text == 0 || cut_by rules last last
 
--- The paragraph, line and offset of a position in a text. The place of the text's end is after its last character or, if a new
--- paragraph would start there, at the start of that paragraph.
+-- The paragraph, line and offset of a position in a text. The end of the text is placed after the last character or, if
+-- a new paragraph would start there, at the start of that paragraph.
 abbrev pub place_at : Rules → List Layout → ℕ → Option Place
 place_at rules kept pos =
     if nat_lt (length (text_of kept)) pos then None

@@ -242,8 +242,8 @@ impl<S: ParagraphStore<Kept>> Session<S> {
         }
     }
 
-    /// Moves a caret by one step on its line. Returns the edge where the caret stops, or `None` if the caret
-    /// is at the end of the line in that direction, or if `edge_caret` returns `None`.
+    /// Moves a caret by one step on its line. Returns the edge where the caret stops. Returns `None` if the
+    /// caret is at the end of the line in that direction, or if `edge_caret` returns `None`.
     ///
     /// A step moves over one caret unit: a grapheme cluster or, if the cluster's characters are in several
     /// level runs, the part in one of these runs. The returned edge is the unit's far edge.

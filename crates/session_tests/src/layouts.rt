@@ -179,7 +179,7 @@ fn counts(engine: &Engine, analysed: u64, filled: u64) -> bool {
     engine.analysed() == analysed && engine.filled() == filled && engine.written() == filled
 }
 
-// Returns whether a paragraph has the right lines after they are exchanged for the lines at another width,
+// Returns whether a paragraph has the right lines after its lines are exchanged for those at another width,
 // and again after the exchange is undone.
 fn exchanges(
     alloc: Global,

@@ -88,8 +88,8 @@ pub fn decode_mirrors(alloc: Global, bytes: &[u8]) -> Result<BTreeMap<u32, Mirro
     }
 }
 
-/// Returns whether the flag in the properties of each code point is set exactly if the code point is in
-/// `points`, the map of the pairs from byte `start` on.
+/// Returns whether the flag is set in the properties of exactly the code points in `points`, which is the map
+/// of the pairs from byte `start` on.
 pub fn are_flags<P: Point>(
     pages: &ImagePages,
     points: &BTreeMap<u32, P>,
