@@ -24,7 +24,7 @@ joined_first classes (run ∷ later) = joined classes run later
 abbrev pub sequence_at : List BidiClass → List ℕ → ℕ → List ℕ
 sequence_at classes levels start = joined_first classes (runs_from levels start)
 
--- the index k, if a run begins there because its level differs from the level before it
+-- the index k, if a run begins there because the level at k differs from the level before k
 abbrev pub next_start : List ℕ → ℕ → Option ℕ
 next_start levels k = if nat_lt k (length levels) && not (slice_index levels k == slice_index levels (k - 1)) then Some k else None
 

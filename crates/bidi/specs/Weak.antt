@@ -23,7 +23,7 @@ is_left L = true
 is_left type = false
 
 -- W1: NSM gets the type of the nearest character before it that is not NSM. After an isolate initiator or
--- PDI, it becomes ON.
+-- PDI, an NSM becomes ON.
 abbrev pub mark_after : BidiClass → BidiClass
 mark_after LRI = ON
 mark_after RLI = ON

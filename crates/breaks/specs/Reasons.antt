@@ -86,7 +86,7 @@ abbrev pub chars_in : List Base → ℕ
 chars_in [] = 0
 chars_in (b ∷ bases) = chars_in bases + (length b.attached + 1)
 
--- where the nearest of some bases starts, if there is one
+-- where the nearest of some bases starts, if there are any
 abbrev pub start_of : List Base → Option ℕ
 start_of [] = None
 start_of (b ∷ bases) = Some (chars_in bases)

@@ -113,7 +113,7 @@ marks_17 rest =
 abbrev pub mark_of_17 : ℕ → List Base → Mark
 mark_of_17 decided rest = get_or (marks_17 rest) decided Never
 
--- an answer of the table, given the width of the base before which a question is asked
+-- an answer from the table, given the width of the base before which a question is asked
 abbrev pub by_width : ℕ → Bool → ℕ
 by_width answer is_wide = if answer == LB19A then (if is_wide then MAY else NEVER) else answer
 

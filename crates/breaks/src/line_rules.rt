@@ -1,4 +1,4 @@
-//! The first rule that applies between some bases, the nearest first on either side. Each function is for the
+//! The first rule that applies between some bases, the nearest first on either side. Each function tries the
 //! rows of specs/Rules.antt that its contract names.
 ghost use Rattle.std.specs.Prelude.{◌≡◌, ◌++◌, false, map, unwrap_or, Bool};
 ghost use Rattle.ucd.specs.declared.version.Version.TheVariants.{V15_0, V17_0};
@@ -23,7 +23,7 @@ use crate::conditions::{
 use crate::line_rule::LineRule;
 use ucd::{LineClass, LineDetail, Version};
 
-// LB3 to LB12.
+// Tries LB3 to LB12.
 fn lb3_to_lb12(before: &Before<'_, '_>, after: &[Base<'_>]) -> Option<LineRule>
     ensures { result ≡ first_row names_LB3_to_LB12 rows.LB3_to_LB12 before.now (map base_in after.now) }
 {
@@ -66,7 +66,7 @@ fn lb3_to_lb12(before: &Before<'_, '_>, after: &[Base<'_>]) -> Option<LineRule>
     None
 }
 
-// LB12a to LB14 of 15.0.
+// Tries LB12a to LB14 of 15.0.
 fn lb12a_to_lb14(before: &Before<'_, '_>, after: &[Base<'_>]) -> Option<LineRule>
     ensures { result ≡ first_row names_LB12a_to_LB14 (rows.LB12a V15_0 ++ (rows.LB13 V15_0 ++ rows.LB14))
         before.now (map base_in after.now) }
@@ -94,7 +94,7 @@ fn lb12a_to_lb14(before: &Before<'_, '_>, after: &[Base<'_>]) -> Option<LineRule
     None
 }
 
-// LB12a to LB14 of 17.0.
+// Tries LB12a to LB14 of 17.0.
 fn lb12a_to_lb14_17(before: &Before<'_, '_>, after: &[Base<'_>]) -> Option<LineRule>
     ensures { result ≡ first_row names_LB12a_to_LB14 (rows.LB12a V17_0 ++ (rows.LB13 V17_0 ++ rows.LB14))
         before.now (map base_in after.now) }
@@ -118,7 +118,7 @@ fn lb12a_to_lb14_17(before: &Before<'_, '_>, after: &[Base<'_>]) -> Option<LineR
     None
 }
 
-// LB15 of 15.0.
+// Tries LB15 of 15.0.
 fn lb15(before: &Before<'_, '_>, after: &[Base<'_>]) -> Option<LineRule>
     ensures { result ≡ first_row (names_LB15 V15_0) (rows.LB15 V15_0) before.now (map base_in after.now) }
 {
@@ -128,7 +128,7 @@ fn lb15(before: &Before<'_, '_>, after: &[Base<'_>]) -> Option<LineRule>
     None
 }
 
-// LB15a to LB15d of 17.0.
+// Tries LB15a to LB15d of 17.0.
 fn lb15_17(before: &Before<'_, '_>, after: &[Base<'_>]) -> Option<LineRule>
     ensures { result ≡ first_row (names_LB15 V17_0) (rows.LB15 V17_0) before.now (map base_in after.now) }
 {
@@ -150,7 +150,7 @@ fn lb15_17(before: &Before<'_, '_>, after: &[Base<'_>]) -> Option<LineRule>
     None
 }
 
-// LB16 to LB18.
+// Tries LB16 to LB18.
 fn lb16_to_lb18(before: &Before<'_, '_>, after: &[Base<'_>]) -> Option<LineRule>
     ensures { result ≡ first_row names_LB16_to_LB18 rows.LB16_to_LB18 before.now (map base_in after.now) }
 {
@@ -166,7 +166,7 @@ fn lb16_to_lb18(before: &Before<'_, '_>, after: &[Base<'_>]) -> Option<LineRule>
     None
 }
 
-// LB19 of 15.0.
+// Tries LB19 of 15.0.
 fn lb19(before: &Before<'_, '_>, after: &[Base<'_>]) -> Option<LineRule>
     ensures { result ≡ first_row (names_LB19 V15_0) (rows.LB19 V15_0) before.now (map base_in after.now) }
 {
@@ -176,7 +176,7 @@ fn lb19(before: &Before<'_, '_>, after: &[Base<'_>]) -> Option<LineRule>
     None
 }
 
-// LB19 and LB19a of 17.0.
+// Tries LB19 and LB19a of 17.0.
 fn lb19_17(before: &Before<'_, '_>, after: &[Base<'_>]) -> Option<LineRule>
     ensures { result ≡ first_row (names_LB19 V17_0) (rows.LB19 V17_0) before.now (map base_in after.now) }
 {
@@ -198,7 +198,7 @@ fn lb19_17(before: &Before<'_, '_>, after: &[Base<'_>]) -> Option<LineRule>
     None
 }
 
-// LB20.
+// Tries LB20.
 fn lb20(before: &Before<'_, '_>, after: &[Base<'_>]) -> Option<LineRule>
     ensures { result ≡ first_row names_LB20 rows.LB20 before.now (map base_in after.now) }
 {
@@ -208,7 +208,7 @@ fn lb20(before: &Before<'_, '_>, after: &[Base<'_>]) -> Option<LineRule>
     None
 }
 
-// LB21 and LB21a of 15.0, which has no LB20a.
+// Tries LB21 and LB21a of 15.0, which has no LB20a.
 fn lb21_and_lb21a(before: &Before<'_, '_>, after: &[Base<'_>]) -> Option<LineRule>
     ensures { result ≡ first_row (names_LB20a V15_0 ++ names_LB21_and_LB21a)
         (rows.LB20a V15_0 ++ (rows.LB21 V15_0 ++ rows.LB21a V15_0))
@@ -230,7 +230,7 @@ fn lb21_and_lb21a(before: &Before<'_, '_>, after: &[Base<'_>]) -> Option<LineRul
     None
 }
 
-// LB20a to LB21a of 17.0.
+// Tries LB20a to LB21a of 17.0.
 fn lb20a_to_lb21a_17(before: &Before<'_, '_>, after: &[Base<'_>]) -> Option<LineRule>
     ensures { result ≡ first_row (names_LB20a V17_0 ++ names_LB21_and_LB21a)
         (rows.LB20a V17_0 ++ (rows.LB21 V17_0 ++ rows.LB21a V17_0))
@@ -259,7 +259,7 @@ fn lb20a_to_lb21a_17(before: &Before<'_, '_>, after: &[Base<'_>]) -> Option<Line
     None
 }
 
-// LB21b to LB24.
+// Tries LB21b to LB24.
 fn lb21b_to_lb24(before: &Before<'_, '_>, after: &[Base<'_>]) -> Option<LineRule>
     ensures { result ≡ first_row names_LB21b_to_LB24 rows.LB21b_to_LB24 before.now (map base_in after.now) }
 {
@@ -298,7 +298,7 @@ fn lb21b_to_lb24(before: &Before<'_, '_>, after: &[Base<'_>]) -> Option<LineRule
     None
 }
 
-// LB25 of 15.0, on pairs of bases.
+// Tries LB25 of 15.0, on pairs of bases.
 #[tactic(auto, unfolding(crate::specs::Rules::rows_of_numbers))]
 fn lb25(before: &Before<'_, '_>, after: &[Base<'_>]) -> Option<LineRule>
     ensures { result ≡ first_row (names_of_numbers V15_0 false) (rows.rows_of_numbers V15_0)
@@ -324,7 +324,7 @@ fn lb25(before: &Before<'_, '_>, after: &[Base<'_>]) -> Option<LineRule>
     None
 }
 
-// LB25 of 17.0.
+// Tries LB25 of 17.0.
 #[tactic(auto, unfolding(crate::specs::Rules::rows_of_numbers))]
 fn lb25_17(before: &Before<'_, '_>, after: &[Base<'_>]) -> Option<LineRule>
     ensures { result ≡ first_row (names_of_numbers V17_0 false) (rows.rows_of_numbers V17_0)
@@ -353,7 +353,7 @@ fn lb25_17(before: &Before<'_, '_>, after: &[Base<'_>]) -> Option<LineRule>
     None
 }
 
-// LB26 to LB28.
+// Tries LB26 to LB28.
 fn lb26_to_lb28(before: &Before<'_, '_>, after: &[Base<'_>]) -> Option<LineRule>
     ensures { result ≡ first_row names_LB26_to_LB28 rows.LB26_to_LB28 before.now (map base_in after.now) }
 {
@@ -408,7 +408,7 @@ fn lb26_to_lb28(before: &Before<'_, '_>, after: &[Base<'_>]) -> Option<LineRule>
     None
 }
 
-// LB28a of 17.0.
+// Tries LB28a of 17.0.
 fn lb28a(before: &Before<'_, '_>, after: &[Base<'_>]) -> Option<LineRule>
     ensures { result ≡ first_row (names_LB28a V17_0) (rows.LB28a V17_0) before.now (map base_in after.now) }
 {
@@ -429,7 +429,7 @@ fn lb28a(before: &Before<'_, '_>, after: &[Base<'_>]) -> Option<LineRule>
     None
 }
 
-// LB29 to LB30b.
+// Tries LB29 to LB30b.
 fn lb29_to_lb30b(before: &Before<'_, '_>, after: &[Base<'_>]) -> Option<LineRule>
     ensures { result ≡ first_row names_LB29_to_LB30b rows.LB29_to_LB30b before.now (map base_in after.now) }
 {
@@ -458,7 +458,7 @@ fn lb29_to_lb30b(before: &Before<'_, '_>, after: &[Base<'_>]) -> Option<LineRule
     None
 }
 
-// The rules of 15.0 before LB25.
+// Tries the rules of 15.0 before LB25.
 fn before_numbers(before: &Before<'_, '_>, after: &[Base<'_>]) -> Option<LineRule>
     ensures { result ≡ first_row (names_before_numbers V15_0) (rows.rows_before_numbers V15_0)
         before.now (map base_in after.now) }
@@ -473,7 +473,7 @@ fn before_numbers(before: &Before<'_, '_>, after: &[Base<'_>]) -> Option<LineRul
         .or(lb21b_to_lb24(before, after))
 }
 
-// The rules of 17.0 before LB25.
+// Tries the rules of 17.0 before LB25.
 fn before_numbers_17(before: &Before<'_, '_>, after: &[Base<'_>]) -> Option<LineRule>
     ensures { result ≡ first_row (names_before_numbers V17_0) (rows.rows_before_numbers V17_0)
         before.now (map base_in after.now) }
@@ -488,7 +488,7 @@ fn before_numbers_17(before: &Before<'_, '_>, after: &[Base<'_>]) -> Option<Line
         .or(lb21b_to_lb24(before, after))
 }
 
-// LB25 of 15.0.
+// Tries LB25 of 15.0.
 fn numbers(whole_numbers: bool, before: &Before<'_, '_>, after: &[Base<'_>]) -> Option<LineRule>
     ensures { result ≡ first_by (names_of_numbers V15_0 whole_numbers) (rows.numbers V15_0 whole_numbers)
         before.now (map base_in after.now) }
@@ -502,7 +502,7 @@ fn numbers(whole_numbers: bool, before: &Before<'_, '_>, after: &[Base<'_>]) -> 
     None
 }
 
-// The rules of 15.0.
+// Tries the rules of 15.0.
 fn rule_15(whole_numbers: bool, before: &Before<'_, '_>, after: &[Base<'_>]) -> Option<LineRule>
     ensures { result ≡ first_by (names V15_0 whole_numbers) (rows.rules V15_0 whole_numbers)
         before.now (map base_in after.now) }
@@ -513,7 +513,7 @@ fn rule_15(whole_numbers: bool, before: &Before<'_, '_>, after: &[Base<'_>]) -> 
         .or(lb29_to_lb30b(before, after))
 }
 
-// The rules of 17.0.
+// Tries the rules of 17.0.
 fn rule_17(before: &Before<'_, '_>, after: &[Base<'_>]) -> Option<LineRule>
     ensures { (whole_numbers : Bool) → result ≡ first_by (names V17_0 whole_numbers)
         (rows.rules V17_0 whole_numbers) before.now (map base_in after.now) }

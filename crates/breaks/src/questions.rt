@@ -33,7 +33,7 @@ pub fn answer(question: u8, next: Properties) -> u8
     )
 }
 
-// Returns an answer of the table, given the width of the base before which the question is asked.
+// Returns an answer from the table, given the width of the base before which the question is asked.
 fn by_width(answer: u8, is_wide: bool) -> u8
     ensures { result ≡ by_width answer is_wide }
 {

@@ -40,7 +40,7 @@ pub enum State {
     OP,
     /// QU, or a QU of category Pi that LB15a does not name.
     QU,
-    /// LB15a: a QU of category Pi after one of the bases that it names.
+    /// LB15a: a QU of category Pi after one of the bases that the rule names.
     InitialQU,
     /// A QU of category Pf.
     FinalQU,

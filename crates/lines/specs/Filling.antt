@@ -89,7 +89,7 @@ by_cluster width rest = greatest (λ k. cluster_ends_at rest k && fits_to width 
 abbrev pub line_end : ℕ → List CharInfo → ℕ
 line_end width rest = unwrap_or (or_else (by_break width rest) (by_cluster width rest)) (first_end rest)
 
--- the length of the first line; with `nobreak`, it ends at the first mandatory break
+-- the length of the first line; with `nobreak`, the line ends at the first mandatory break
 abbrev pub line_len : Bool → ℕ → List CharInfo → ℕ
 line_len nobreak width rest = suc (if nobreak then stop rest else line_end width rest)
 

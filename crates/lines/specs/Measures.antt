@@ -12,7 +12,7 @@ abbrev pub known_or : Option (List ℕ) → List ℕ → List ℕ
 known_or None others = others
 known_or (Some widths) others = widths
 
--- whether the line is not measured, or the widths are those of its characters
+-- whether the widths are those of the line's characters, if the line is measured
 abbrev pub AreMeasured : ℕ → List ℕ → Bool → List ℕ → List ℕ → Type 0
 AreMeasured tab_width text is_measured advances widths = is_measured ≡ true → widths ≡ widths_of tab_width (Some advances) text
 

@@ -416,7 +416,7 @@ impl Engine {
         laid.with_lines(alloc, advances, lines)
     }
 
-    /// Writes the lines of one paragraph at a width in columns, which must not be 0, without keeping them. If
+    /// Writes the lines of one paragraph without keeping them. The width is in columns, and must not be 0. If
     /// an allocation fails, writes nothing. Allocates nothing if `print` selects no lines.
     pub fn write_paragraph<W: Sink>(
         &mut self,

@@ -12,7 +12,7 @@
 //! }
 //! ```
 //!
-//! A `Laid` is the layout. Its lines borrow from it:
+//! A `Laid` is the layout of a paragraph. The lines borrow from the layout:
 //!
 //! ```rust
 //! assert!(rt; laid.line_starts() == [0, 4].as_slice());

@@ -1,5 +1,5 @@
-//! A fast path for short paragraphs that fit in one line. Neither their break marks nor the info for each of
-//! their characters is needed to find their line.
+//! A fast path for short paragraphs that fit in one line. To find the line of such a paragraph, neither its
+//! break marks nor the infos of its characters are needed.
 ghost use Rattle.std.specs.Prelude.{◌≡◌, ◌<◌, ◌≤◌, true, false, length, IfSome};
 ghost use Rattle.lines.specs.OneLine.{IsOneLine};
 ghost use Rattle.lines.specs.Paragraphs.{IsLookedUp};

@@ -30,7 +30,7 @@ caret_in line place =
     then record { line = place.line; column = leading_edge line place.offset; level = slice_index line.levels place.offset }
     else line_end place.line line
 
--- the caret at a place of a line, or at column 0 of the line after the last, where an empty paragraph would
+-- the caret at a place in a line, or at column 0 of the line after the last, where an empty paragraph would
 -- start
 abbrev pub caret_on : Rules → Option Visual → Place → Caret
 caret_on rules (Some line) place = caret_in line place

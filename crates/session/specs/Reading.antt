@@ -10,8 +10,8 @@ use Rattle.session.specs.Touched.{start_of}
 abbrev pub paragraph_end : List Layout → ℕ → ℕ
 paragraph_end kept pos = start_of (pars_of kept) (count_to pos (paragraph_starts kept))
 
--- the characters of a range that are in the same paragraph as its first character; `None` if the range is
--- past the end
+-- the characters of a range that are in the same paragraph as the range's first character; `None` if the
+-- range is past the end
 abbrev pub text_part : List Layout → ℕ → ℕ → Option (List ℕ)
 text_part kept pos count =
     if nat_lt (length (text_of kept)) (pos + count) then None

@@ -69,7 +69,7 @@ module _ (rules : Rules) (kept : List Layout) (line : Visual) (start : ℕ) (dir
     pub boundary : IsBoundary kept line start to.column
     pub nearest : (c : ℕ) → IsBoundary kept line start c → IsFurther direction caret.column c → IsFurther direction to.column c ⊎ (c ≡ to.column)
 
-  -- whether a step returns such an edge or, if it returns none, there is no boundary in its direction
+  -- whether a step returns such an edge, or returns none because there is no boundary in its direction
   abbrev pub IsStep : Option Edge → Type 0
   IsStep (Some next) = StepsTo next
   IsStep None = (c : ℕ) → IsBoundary kept line start c → IsFurther direction caret.column c → ⊥

@@ -31,7 +31,7 @@ abbrev pub is_mark : BidiClass → Bool
 is_mark NSM = true
 is_mark _ = false
 
--- X9: the classes whose characters are removed
+-- X9: whether characters of a class are removed
 abbrev pub is_removed : BidiClass → Bool
 is_removed RLE = true
 is_removed LRE = true

@@ -170,7 +170,7 @@ pub record IsImage (bytes : List ℕ) : Type 0 where
   pub bracket_flags : AreBracketFlags bytes
   pub mirror_flags : AreMirrorFlags bytes
 
--- Either the condition fails and this is the cause, or it holds and the cause is a later one.
+-- Either the condition fails with this cause, or the condition holds and the cause is a later one.
 abbrev Fails : Type 0 → ImageFault → (ImageFault → Type 0) → ImageFault → Type 0
 Fails condition cause later why = ((¬ condition) × (why ≡ cause)) ⊎ (condition × later why)
 

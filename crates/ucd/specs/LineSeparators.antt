@@ -17,7 +17,7 @@ is_rare_separator c = (nat_le 28 c && nat_le c 30) || (c == 133 || c == 8233)
 abbrev pub class_for_lines : ℕ → BidiClass → BidiClass
 class_for_lines c class = if is_rare_separator c && is_separator class then S else class
 
--- the same tables with bidi classes by `class_for_lines`
+-- the same tables with the bidi classes that `class_for_lines` returns
 unfoldable pub with_line_separators : TableContents → TableContents
 with_line_separators t = record t {
   bidi_classes = singles (λ c. Some (class_for_lines c (unwrap_or (value_at t.bidi_classes c) (default_class t.version c)))) 1114112;

@@ -49,7 +49,7 @@ is_alphabetic SG = true
 is_alphabetic XX = true
 is_alphabetic _ = false
 
--- the detail of a character of this class, after its general category has been applied to its detail
+-- the detail of a character of this class, adjusted for the character's general category
 abbrev pub quote_by : Category → LineClass → LineDetail → LineDetail
 quote_by InitialQuote class detail = if is_quotation class then Initial else detail
 quote_by FinalQuote class detail = if is_quotation class then Final else detail

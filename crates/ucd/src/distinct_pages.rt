@@ -10,7 +10,7 @@ use crate::pages::{PAGE, PLACES, are_equal};
 use crate::properties::Properties;
 use std::alloc::{AllocError, Global};
 
-/// The page number of each block, and pages of which no two are equal.
+/// The page number of each block, and pages, no two of which are equal.
 #[derive(Drop)]
 pub struct DistinctPages {
     pub(crate) index: Vec<u16>,

@@ -179,8 +179,8 @@ impl Tables {
         self.shared.properties_fit_version();
     }
 
-    /// Returns the bidi class. If no line lists the character, it is `L`, or in tables of Unicode 17.0 the
-    /// class from an `@missing` line of the file.
+    /// Returns the bidi class. If no line lists the character, the class is `L` or, in tables of Unicode
+    /// 17.0, the class from an `@missing` line of the file.
     pub fn bidi_class(&self, c: char) -> BidiClass
         ensures { result ≡ class_of self.now c }
     {

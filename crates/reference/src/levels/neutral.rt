@@ -6,7 +6,7 @@ use ucd::BidiClass;
 /// embedding direction. The embedding direction is also sos and eos.
 pub fn resolve_neutral(types: &mut [BidiClass], side: BidiClass) {
     let mut before = side;
-    // The index after the current run of neutrals. It is found once per run.
+    // The index after the current run of neutrals. This index is found once per run.
     let mut end = 0;
     for at in 0..types.len() {
         let class = types[at];
