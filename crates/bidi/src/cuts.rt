@@ -27,7 +27,8 @@ fn may_separate(c: char) -> bool
     (c < ' ') | (c == '\u{85}') | (c == '\u{2029}')
 }
 
-// Returns whether any character may end a paragraph. All are tested, so the compiler can vectorize the loop.
+// Returns whether any character may end a paragraph. All characters are tested, so the compiler can vectorize
+// the loop.
 #[inline(always)]
 fn any_may_separate(text: &[char]) -> bool
     ensures { result ≡ false → AreNoSeparators text.now (length text.now) }

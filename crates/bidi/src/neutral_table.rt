@@ -1,5 +1,6 @@
-//! The tables of the pass for the neutral and implicit rules (UAX #9, N1, N2, I1 and I2). Each has a row for
-//! even levels and one for odd levels. A row has an entry for each bidi class. Each entry is proved correct.
+//! The tables of the pass for the neutral and implicit rules (UAX #9, N1, N2, I1 and I2). Each table has a
+//! row for even levels and one for odd levels. A row has an entry for each bidi class. Each entry is proved
+//! correct.
 ghost use Rattle.std.specs.Prelude.{◌≡◌, ◌≤◌};
 ghost use Rattle.bidi.specs.Rows.{above, turn};
 

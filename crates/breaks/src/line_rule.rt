@@ -1,6 +1,6 @@
 //! The rules of UAX #14.
 
-/// A rule of UAX #14 that decides break marks. LB1, LB2 and LB10 decide none.
+/// A rule of UAX #14 that decides break marks. LB1, LB2 and LB10 decide no marks.
 #[derive(Clone, Copy, Debug, PartialEq, Eq)]
 pub enum LineRule {
     LB3,

@@ -1,7 +1,7 @@
-//! The break table. For each state and each symbol of the next character, it has the outcome before that
-//! character and the next state. It implements LB4 to LB31, except for two rules that the walk decides with
-//! one bit each: LB8a, and LB30b for future pictographs. The entries are in entries.rt, in an array of next
-//! states and an array of outcomes, because the pass needs only the next state to read the next entry.
+//! The break table. For each state and each symbol of the next character, the table has the outcome before
+//! that character and the next state. It implements LB4 to LB31, except for two rules that the walk decides
+//! with one bit each: LB8a, and LB30b for future pictographs. The entries are in entries.rt, in an array of
+//! next states and an array of outcomes, because the pass needs only the next state to read the next entry.
 ghost use Rattle.std.specs.Prelude.{◌≡◌, ◌<◌, ◌≤◌, ◌+◌, slice_index};
 ghost use Rattle.breaks.specs.declared.table.TheConstants.{ENTRY_COUNT};
 

@@ -1,7 +1,7 @@
-//! The break table of Unicode 17.0. For each state and each symbol of the next character, it has the outcome
-//! before that character and the next state. It implements LB4 to LB31, except for the parts that the walk
-//! decides with one bit each: LB8a, the width in LB19a, and LB30b for future pictographs. The entries are in
-//! entries_17.rt.
+//! The break table of Unicode 17.0. For each state and each symbol of the next character, the table has the
+//! outcome before that character and the next state. It implements LB4 to LB31, except for the parts that the
+//! walk decides with one bit each: LB8a, the width in LB19a, and LB30b for future pictographs. The entries
+//! are in entries_17.rt.
 ghost use Rattle.std.specs.Prelude.{◌≡◌, ◌<◌, ◌≤◌, ◌+◌, slice_index};
 ghost use Rattle.breaks.specs.declared.table_17.TheConstants.{ENTRY_COUNT, OUTCOME_COUNT};
 

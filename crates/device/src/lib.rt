@@ -1,5 +1,5 @@
-//! Sources and sinks of bytes. Each counts the bytes transferred and the calls that failed, so a contract can
-//! say that an error is returned only if a call failed.
+//! Sources and sinks of bytes. Each source or sink counts the bytes transferred and the calls that failed, so
+//! a contract can say that an error is returned only if a call failed.
 //!
 //! A `Source` is read from and a `Sink` is written to. `FromRead` and `ToWrite` wrap std's readers and
 //! writers. `write_all` writes all bytes, or returns how many were written:

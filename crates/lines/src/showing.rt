@@ -300,8 +300,8 @@ pub(crate) fn is_plain(levels: &[u8], is_flat: bool) -> bool
     is_flat || are_even(levels)
 }
 
-// Writes the position maps and characters of a shown part without odd levels. Its visual order is its logical
-// order.
+// Writes the position maps and characters of a shown part without odd levels. The visual order of such a part
+// is its logical order.
 fn show_plain(part: &[char], ltov: &mut [u32], vtol: &mut [u32], chars: &mut [char])
     requires part { length part.now ≤ PARAGRAPH_LIMIT }
     requires ltov { length ltov.old ≡ length part.now }

@@ -11,8 +11,8 @@ use Rattle.ucd.specs.declared.line_class.LineClass.TheVariants.{BK}
 use Rattle.ucd.specs.declared.line_detail.LineDetail.TheVariants.{Plain}
 use Rattle.ucd.specs.Answers.{bidi_tag, bidi_class_at, line_tag, line_class_at, line_detail_at, line_number, bit, bits_of, answers_in, AreBits, line_answers, line_answers_at, line_index}
 
--- Converting an index to a class and converting a class to its index are inverse. The same holds for
--- line-breaking numbers. Indices are below the number of classes.
+-- Converting an index to a class and converting a class to its index are inverse operations. The same holds
+-- for line-breaking numbers. Indices are below the number of classes.
 pub bidi_tag_at : (k : ℕ) → k < BIDI_CLASS_COUNT → bidi_tag (bidi_class_at k) ≡ k
 bidi_tag_at k lt =
     let f : ℕ → ℕ = λ n. bidi_tag (bidi_class_at n) in

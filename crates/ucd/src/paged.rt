@@ -78,8 +78,8 @@ impl PagedTables {
         })
     }
 
-    /// Decodes an image. Its parts are checked in the order of `ImageFault`. Allocates nothing before the
-    /// frame, the page numbers and the entries have been checked.
+    /// Decodes an image. The parts of the image are checked in the order of the variants of `ImageFault`.
+    /// Allocates nothing before the frame, the page numbers and the entries have been checked.
     pub fn from_image(alloc: Global, bytes: &[u8]) -> Result<PagedTables, ImageFault>
         ensures ok { IfOk result (IsImageOf bytes.now) }
         ensures err { IfErr result (IsImageFault bytes.now) }

@@ -1,8 +1,8 @@
 //! The entries of a file in ascending order.
 //!
 //! The lines of most files are in ascending order, or form a few ascending runs. So the entries of all lines
-//! are collected, sorted and compared with their neighbours. This needs no flag for each code point, but does
-//! not find the first faulty line.
+//! are collected, sorted and compared with their neighbours. This method needs no flag for each code point,
+//! but does not find the first faulty line.
 ghost use Rattle.std.specs.Prelude.{◌≡◌, List, ◌++◌, false, IsTrue, OnOk, IfOk, IfSome, IsOk};
 ghost use Rattle.ucd.specs.declared.grammar.Entry.{Entry};
 ghost use Rattle.ucd.specs.Entries.{AreApart};

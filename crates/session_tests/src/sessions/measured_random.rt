@@ -1,6 +1,6 @@
 //! Makes random edits of a measured session, and sets random advances and widths. Each result is compared
 //! with a simple reference implementation, which keeps the text and its advances in two lists and finds the
-//! lines one after the other. Some are compared with a session that is opened on the text.
+//! lines one after the other. Some results are also compared with a session that is opened on the text.
 use super::random::{Numbers, random_piece};
 use super::{PAGE, pages, same, without_engine};
 use crate::files::{FILES, engine};
