@@ -24,7 +24,7 @@ use Rattle.bidi.specs.declared.neutral_steps.NeutralStep.{NeutralStep}
 use Rattle.bidi.specs.declared.sequence_reasons.SequenceReasons.{SequenceReasons}
 use Rattle.bidi.specs.declared.sequence_steps.SequenceStep.{SequenceStep}
 
--- X1 to X8 for the character at k: its explicit level and type, and the override that is in force at it
+-- X1 to X8 for the character at k: its explicit level and type, and the override that applies to it
 abbrev pub explicit_step : ℕ → List BidiClass → ℕ → ExplicitStep
 explicit_step base classes k = record {
   level = level_at base classes k;

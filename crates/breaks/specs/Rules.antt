@@ -96,7 +96,7 @@ abbrev pub or_edge : (List Base → Bool) → List Base → Bool
 or_edge condition [] = true
 or_edge condition (b ∷ bases) = condition (b ∷ bases)
 
--- whether there is a nearest base, and its East Asian width is none of F, W and H
+-- whether there is a nearest base, and its East Asian width is not F, W or H
 abbrev pub is_not_east_asian : List Base → Bool
 is_not_east_asian [] = false
 is_not_east_asian (b ∷ bases) = not (is_east_asian b)

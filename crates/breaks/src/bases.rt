@@ -1,5 +1,5 @@
-//! The bases of a paragraph: its characters, each with the combining marks and ZWJ that join it (UAX #14, LB1,
-//! LB9 and LB10).
+//! The bases of a paragraph: its characters, each with the combining marks and the ZWJ that join it (UAX #14,
+//! LB1, LB9 and LB10).
 ghost use Rattle.std.specs.Prelude.{◌≡◌, ◌<◌, ◌≤◌, ◌∷◌, length, map, drop, IfOk};
 ghost use Rattle.breaks.specs.Bases.{bases_of, character, class_of, known, known_detail, resolved};
 ghost use Rattle.breaks.specs.Bases.{end_of, is_east_asian, stays_with};

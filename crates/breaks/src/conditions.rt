@@ -156,7 +156,8 @@ pub fn ends_quotation(bases: &[Base<'_>]) -> bool
             ))
 }
 
-/// LB19a: returns whether there are no bases, or the nearest one has an East Asian width other than F, W and H.
+/// LB19a: returns whether there are no bases, or the nearest one has an East Asian width other than F, W or
+/// H.
 pub fn is_edge_or_not_east_asian(bases: &[Base<'_>]) -> bool
     ensures { result ≡ rules.or_edge rules.is_not_east_asian (map base_in bases.now) }
 {

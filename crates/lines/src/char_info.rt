@@ -180,7 +180,7 @@ impl Sum {
     ghost use Rattle.lines.specs.Filling.{is_must};
     ghost use Rattle.lines.specs.declared.engine.TheConstants.{PARAGRAPH_LIMIT};
 
-    /// Returns the summary of some characters.
+    /// Returns a summary of some consecutive characters.
     #[inline(always)] // so that a group of known length needs no loop
     pub(crate) fn of(piece: &[CharInfo]) -> Sum
         requires { length piece.now ≤ PARAGRAPH_LIMIT }
