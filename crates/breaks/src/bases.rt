@@ -1,4 +1,4 @@
-//! The bases of a paragraph: its characters, each with the combining marks and the ZWJ that join it (UAX #14,
+//! The bases of a paragraph: its characters, each with the combining marks and ZWJs that join it (UAX #14,
 //! LB1, LB9 and LB10).
 ghost use Rattle.std.specs.Prelude.{◌≡◌, ◌<◌, ◌≤◌, ◌∷◌, length, map, drop, IfOk};
 ghost use Rattle.breaks.specs.Bases.{bases_of, character, class_of, known, known_detail, resolved};

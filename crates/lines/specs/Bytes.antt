@@ -35,7 +35,8 @@ abbrev pub expanded : Visual → List ℕ → List ℕ → List ℕ
 expanded visual (c ∷ chars) (k ∷ vtol) = cells visual c k ++ expanded visual chars vtol
 expanded visual chars vtol = []
 
--- the characters that are printed; tabs become spaces, except in a measured paragraph
+-- the characters that are printed; tabs become spaces if there are tab stops and the paragraph is not
+-- measured
 abbrev pub shown_chars : Print → Visual → List ℕ
 shown_chars print visual =
     if nat_lt 0 visual.tab_width && not (is_measured visual) then expanded visual (ordered_chars print visual) visual.vtol else ordered_chars print visual
