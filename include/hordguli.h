@@ -2,16 +2,16 @@
  *
  * Lays out bidirectional text in lines of a given width (UAX #9, UAX #14). A session holds a text and its layout, and
  * keeps the layout up to date when the text is edited or the width changes. Each edit reports which lines it replaced.
- * The exact rules and limits are in share/doc/hordguli/reference.md, below the installation prefix. guide.md beside it
- * explains the terms, and has programs.
+ * The exact rules and limits are in share/doc/hordguli/reference.md, below the installation prefix. guide.md in the
+ * same folder explains the terms and has example programs.
  *
  * ROUTES
  *
- * Each route starts with tables (`hordguli_tables_open_builtin`). Its first calls are, for
+ * Each route starts by opening tables (`hordguli_tables_open_builtin`). The first calls after that are, for
  *   - one string: `hordguli_layout`
  *   - a text that is edited or resized: `hordguli_session_open`, `hordguli_insert`, `hordguli_set_width`,
  *     `hordguli_lines_utf8`
- *   - an editor: the same, and those that `Carets and edges` lists
+ *   - an editor: the same calls, and those listed in `Carets and edges`
  *   - text in any font: `hordguli_session_open_measured`, `hordguli_set_advances`
  *   - rows that the caller breaks, as in a terminal: `hordguli_decode`, `hordguli_base`, `hordguli_levels`,
  *     `hordguli_row`
@@ -30,11 +30,12 @@
  *
  * A line ends at the end of its paragraph, after U+000B, U+000C or U+2028, or at a break opportunity (UAX #14). If none
  * of these fits the width, the line ends inside a word, at the last grapheme cluster boundary that fits. If no such
- * boundary fits either, the line ends at the first boundary, and is wider than the width. What follows is on the next
- * line, even if it is only a separator: an emoji family of 6 columns and U+000A are two lines at width 5.
+ * boundary fits either, the line ends at the first boundary, and is wider than the width. The characters after it are
+ * on the next line, even if there is only a separator: an emoji family of 6 columns and U+000A are two lines at width
+ * 5.
  *
  * The tail of a line is all U+0020, U+000A to U+000D, U+0085, U+2028 and U+2029 at its end. It is not shown. The rest
- * of the line is its shown part, to which HORDGULI_SHOW_SPACES adds spaces of the tail.
+ * of the line is its shown part, to which HORDGULI_SHOW_SPACES adds spaces from the tail.
  *
  * COLUMNS
  *
@@ -48,16 +49,17 @@
  * A measured session (`hordguli_session_open_measured`) lays out text in any font. Each character has an advance, in a
  * unit that the caller chooses, such as 1/64 pixel. The width of the session, and all columns, spans and widths of its
  * lines, are in this unit. It differs from other sessions as follows:
- *   - A character that is inserted has advance 0. All others keep theirs, even if paragraphs are joined or split.
- *     `hordguli_set_advances` sets them.
+ *   - An inserted character has advance 0. All other characters keep their advances, even if paragraphs are joined or
+ *     split. `hordguli_set_advances` sets them.
  *   - The advances of a paragraph add up to at most 4,294,967,295. An edit that would exceed this returns
  *     PARAGRAPH_TOO_LONG.
- *   - With HORDGULI_TAB_WIDTH, a tab moves to the next multiple of its own advance, or stays where it is if that is 0. It
- *     is written as itself.
+ *   - With HORDGULI_TAB_WIDTH, a tab moves to the next multiple of its own advance, or stays where it is if its advance
+ *     is 0. The tab is written unchanged.
  *   - Lines are written without padding. `hordguli_line` stores the padding that aligns a line right.
  *
- * For a ligature, or another glyph of several characters, set its advance at the first of them, and 0 at the others.
- * Alternatively, divide the advance among them, so that a caret can be inside a ligature of several grapheme clusters.
+ * For a ligature, or another glyph for several characters, set its advance at the first character, and 0 at the others.
+ * Alternatively, divide the advance among the characters, so that a caret can be inside a ligature of several grapheme
+ * clusters.
  *
  * ERRORS
  *
@@ -80,20 +82,20 @@
  *
  * BUFFERS
  *
- * A function with a parameter `capacity` writes to arrays of the caller. What it does with NULL depends on the
+ * A function with a parameter `capacity` writes to the caller's arrays. What a NULL array means depends on the
  * function:
  *   - `hordguli_layout`, `hordguli_lines_utf8`, `hordguli_text`, `hordguli_text_utf32`, `hordguli_runs`,
  *     `hordguli_row_runs`, `hordguli_spans`, `hordguli_line_clusters`, `hordguli_clusters` and `hordguli_script_runs`
- *     have one array, and store its size in their last parameter. If the array is too small, they return NO_ROOM, leave
- *     it unchanged, and store the required size. So NULL with capacity 0 is not skipped: it requests the size.
- *   - `hordguli_line`, `hordguli_paragraph`, `hordguli_row` and `hordguli_decode` have several arrays. They skip those
- *     that are NULL. If another one is too small, they return NO_ROOM. If all are NULL, no room is needed, and the call
+ *     write one array, and store its size in their last parameter. If the array is too small, they return NO_ROOM,
+ *     leave it unchanged, and store the required size. So a call with NULL and capacity 0 requests the size.
+ *   - `hordguli_line`, `hordguli_paragraph`, `hordguli_row` and `hordguli_decode` write several arrays. They skip
+ *     arrays that are NULL. If another array is too small, they return NO_ROOM. If all arrays are NULL, the call
  *     succeeds with any capacity. In both cases, `hordguli_line` and `hordguli_paragraph` store the size in `*info`,
  *     and `hordguli_decode` in `*count`.
- *   - `hordguli_levels` and `hordguli_marks` need `count` elements. NULL is an error.
+ *   - `hordguli_levels` and `hordguli_marks` need an array of `count` elements. NULL is an error.
  *
- * Call a function of the first kind in a loop, until the buffer is large enough. Keep the buffer, which is NULL at first,
- * and its capacity for the next call.
+ * Call a function of the first kind in a loop, until the buffer is large enough. Start with a NULL buffer, and keep the
+ * buffer and its capacity for the next call.
  *
  *     while ((status = hordguli_text(&session, pos, count, capacity, buffer, &length)) == HORDGULI_NO_ROOM) {
  *         char *larger = realloc(buffer, length);
@@ -107,13 +109,12 @@
  * THREADS, SIGNALS AND FORK
  *
  *   - Use a handle in one call at a time, even if the calls only read. A call moves the object out of its handle and
- *     back, and the proof of the library depends on this. This is why handles are not `const`.
+ *     back. The proof of the library depends on this, so handles are not `const`.
  *   - Different handles may be used in different threads at the same time. Sessions and tables share only memory that
  *     is never written, and an atomic reference count.
  *   - The same handle may be used in different threads, one after another. Hand it over with a lock, through a queue,
  *     or by creating or joining a thread. So a worker may lay out a long text and pass its session on, and another
- *     thread may close it. Nothing in the library depends on the thread: it has no global and no thread-local
- *     variables.
+ *     thread may close it. Nothing in the library depends on the thread: it has no global or thread-local variables.
  *   - Do not call the library from a signal handler that can interrupt the library or malloc.
  *   - After `fork`, the child has its own handles. It must not use a handle that another thread was using during the
  *     fork.
@@ -125,9 +126,9 @@
  * free them.
  *
  * A session keeps 0.1 KB for itself, 0.5 KB for each paragraph, 12 bytes for each further line of a paragraph, and 19
- * bytes for each character. From its first edit on, its buffers keep 5 KB more, and up to 26 bytes for each character of
- * its longest paragraph. Opening it uses buffers that the handle of the tables keeps. Tables keep 112 KB, which their
- * sessions share. These numbers were measured with `bench/memory` in the sources and glibc's malloc. */
+ * bytes for each character. From its first edit on, its buffers keep 5 KB more, and up to 26 bytes for each character
+ * of its longest paragraph. Opening a session uses buffers that the tables' handle keeps. Tables keep 112 KB, which
+ * their sessions share. These numbers were measured with `bench/memory` in the sources and glibc's malloc. */
 #ifndef HORDGULI_H
 #define HORDGULI_H
 
@@ -165,8 +166,7 @@ typedef int32_t hordguli_status;
 #define HORDGULI_CLOSED 9
 /* The handle to open is already open. */
 #define HORDGULI_ALREADY_OPEN 10
-/* The options or print flags have a bit that is unknown, or that the function does not accept, or the Unicode version is
- * unknown. */
+/* An option, a print flag or the Unicode version is unknown, or the function does not accept it. */
 #define HORDGULI_UNKNOWN_OPTION 11
 /* The capacity is too small (see BUFFERS). */
 #define HORDGULI_NO_ROOM 12
@@ -184,9 +184,9 @@ const char *hordguli_status_text(hordguli_status status);
 
 /* ---- Version ---- */
 
-/* The version of this header. A release that adds functions, options or statuses raises the minor version. `Since` in
- * a comment is the first version that has the function. 0.6 is the next release. Until then, this header declares its
- * functions, but has the version 0.5.0. From 0.6.0 on, a program can test for them:
+/* The version of this header. A release that adds functions, options or statuses raises the minor version. `Since` in a
+ * comment is the first version that has the function. 0.6 is the next release. Until then, this header declares the
+ * functions of 0.6, but has the version 0.5.0. From 0.6.0 on, a program can test for them:
  *
  *     #if HORDGULI_VERSION_MAJOR > 0 || HORDGULI_VERSION_MINOR >= 6 */
 #define HORDGULI_VERSION_MAJOR 0
@@ -208,7 +208,7 @@ const char *hordguli_width_unicode_version(void);
 /* ---- Session options ----
  *
  * Options are one base direction and any of the other options, combined by bitwise OR (`|`). Two different directions
- * are refused with UNKNOWN_OPTION. Options without a direction are HORDGULI_WEAK_LTR. `hordguli_row` and `hordguli_marks`
+ * are refused with UNKNOWN_OPTION. Without a direction, HORDGULI_WEAK_LTR applies. `hordguli_row` and `hordguli_marks`
  * accept no direction.
  *
  * Bits 0 and 1 are the direction. Bit 24 states that bit 0 is 0, and bit 25 that bit 1 is 0. Both may be left out, so
@@ -224,28 +224,28 @@ const char *hordguli_width_unicode_version(void);
 #define HORDGULI_RTL UINT32_C(0x0000003)
 /* Ends lines at mandatory breaks only. */
 #define HORDGULI_NOBREAK UINT32_C(4)
-/* Puts nonspacing marks at odd levels after their base in visual order (UAX #9, L3). Use it if the terminal draws a
- * mark onto the cell to its left. For example, RTL text `A mark B` is written as `B mark A` by default, so such a
- * terminal draws the mark on B. With this option, it is written as `B A mark`. */
+/* Puts nonspacing marks at odd levels after their base in visual order (UAX #9, L3). Use this option if the terminal
+ * draws a mark onto the cell to its left. For example, RTL text `A mark B` is written as `B mark A` by default, so such
+ * a terminal draws the mark on B. With this option, it is written as `B A mark`. */
 #define HORDGULI_REORDER_NSM UINT32_C(8)
 /* Does not break inside a number, such as `$(1,200)`. This replaces LB25 (UAX #14): there is no break inside a match of
  * `(PR|PO)? (OP|HY)? NU (NU|SY|IS)* (CL|CP)? (PR|PO)?`. It changes nothing with tables of Unicode 17.0. */
 #define HORDGULI_WHOLE_NUMBERS UINT32_C(16)
 /* Keeps adjacent characters of a grapheme cluster at the same odd level in logical order. By default they are reversed,
- * as is all RTL text. Use it if the terminal draws clusters as units, such as emoji families, skin tones, flags, and
- * letters with marks. HORDGULI_REORDER_NSM then has no effect. For example, RLO `man ZWJ woman` is written as RLO
- * `woman ZWJ man` by default, which no terminal draws as one emoji. Choose this option, unless the terminal draws only
- * marks, and not emoji sequences, in the cell of their base; then choose HORDGULI_REORDER_NSM. Since 0.6. */
+ * as is all RTL text. Use this option if the terminal draws clusters as units, such as emoji families, skin tones,
+ * flags, and letters with marks. HORDGULI_REORDER_NSM then has no effect. For example, RLO `man ZWJ woman` is written
+ * as RLO `woman ZWJ man` by default, which no terminal draws as one emoji. For a terminal that draws marks in the cell
+ * of their base, but does not join emoji sequences, choose HORDGULI_REORDER_NSM instead. Since 0.6. */
 #define HORDGULI_REORDER_CLUSTERS UINT32_C(32)
-/* Shows the spaces at the start of a line's tail, as many as fit in the width. So they have carets, hits and spans.
- * Lines end at the same places as without this option. A line that is wider than the width shows none of these spaces,
- * even with HORDGULI_NOBREAK. In RTL paragraphs, they are to the left of the text. Since 0.6. */
+/* Shows the spaces at the start of a line's tail, as many as fit in the width. These spaces then have carets, hits and
+ * spans. Lines end at the same places as without this option. A line that is wider than the width shows none of these
+ * spaces, even with HORDGULI_NOBREAK. In RTL paragraphs, they are to the left of the text. Since 0.6. */
 #define HORDGULI_SHOW_SPACES UINT32_C(64)
-/* Sets a tab stop every `n` columns, from 1 to 255. Columns are counted along each line in logical order. A tab (U+0009 of
- * bidi class S) moves to the next stop, so it has 1 to `n` columns, and is written as spaces. In an RTL paragraph, stops are
- * counted from the right edge. A tab is not in the tail, and one that does not fit is wider than its line. A greater `n` is
- * refused with UNKNOWN_OPTION. `n` is evaluated twice. In a measured session, tabs have their own stops (see MEASURED
- * TEXT). Since 0.6. */
+/* Sets a tab stop every `n` columns, from 1 to 255. Columns are counted along each line in logical order. A tab (U+0009
+ * of bidi class S) moves to the next stop, so it is 1 to `n` columns wide, and is written as spaces. In an RTL
+ * paragraph, stops are counted from the right edge. A tab is not in the tail, and one that does not fit is wider than
+ * its line. A greater `n` is refused with UNKNOWN_OPTION. `n` is evaluated twice. In a measured session, tabs have
+ * their own stops (see MEASURED TEXT). Since 0.6. */
 #define HORDGULI_TAB_WIDTH(n) ((uint32_t)(n) > 255 ? UINT32_C(1) << 16 : (uint32_t)(n) << 8)
 /* Ends paragraphs at LF, CR and CRLF only, as LSP, Git and most editors end lines: U+001C to U+001E, U+0085 and U+2029
  * have bidi class S (segment separator) where the tables give them B. U+0085 and U+2029 still end lines, not paragraphs,
@@ -301,17 +301,18 @@ typedef struct hordguli_session {
 
 /* ---- Tables ----
  *
- * Tables hold character properties from seven files of the Unicode Character Database, of Unicode 15.0 or 17.0. The
- * library contains the tables of both versions as compiled images. Line breaks follow the rules of the tables' version. */
+ * Tables hold character properties from seven files of the Unicode Character Database, version 15.0 or 17.0. The
+ * library contains the tables of both versions as compiled images. Line breaks follow the rules of the tables'
+ * version. */
 
-/* The versions: 65,536 times the major version plus 256 times the minor one, as in images. */
+/* Unicode versions, encoded as in images: 65,536 times the major version plus 256 times the minor version. */
 #define HORDGULI_UNICODE_15_0 UINT32_C(0x000F0000)
 #define HORDGULI_UNICODE_17_0 UINT32_C(0x00110000)
 
 /* The number of files. */
 #define HORDGULI_TABLE_FILES 7
 
-/* The index of each file, and of an image in a fault. */
+/* The index of each file. In a fault, HORDGULI_IMAGE stands for an image. */
 #define HORDGULI_BIDI_CLASS 0        /* DerivedBidiClass.txt */
 #define HORDGULI_BIDI_BRACKETS 1     /* BidiBrackets.txt */
 #define HORDGULI_BIDI_MIRRORING 2    /* BidiMirroring.txt */
@@ -348,7 +349,7 @@ typedef struct hordguli_bytes {
 #define HORDGULI_CAUSE_MIRROR 17       /* an invalid mirror */
 #define HORDGULI_CAUSE_FLAGS 18        /* properties that do not agree with the brackets or the mirrors */
 
-/* The first malformed line, by file and then by line, or the fault of an image. */
+/* The first malformed line, in the order of files and then of lines, or the fault in an image. */
 typedef struct hordguli_table_fault {
     size_t file;   /* 0 to 6, or HORDGULI_IMAGE */
     size_t line;   /* from 1; 0 for an image, or if the file cannot be read */
@@ -393,8 +394,8 @@ hordguli_status hordguli_tables_read_version(hordguli_tables *tables, uint32_t v
                                              hordguli_table_fault *fault);
 
 /* Opens tables of Unicode 15.0 from the files in a folder. `folder` is a NUL-terminated path. `fault` may be NULL, and
- * is set only on UNREAD_FILE or TABLE_FAULT. On UNREAD_FILE, `errno` is that of the failed `open` or `read`, such as
- * ENOENT. If memory runs out before either fault is found, NO_MEMORY is returned.
+ * is set only on UNREAD_FILE or TABLE_FAULT. On UNREAD_FILE, `errno` is the error of the failed `open` or `read`, such
+ * as ENOENT. If memory runs out before either fault is found, NO_MEMORY is returned.
  * Errors: NULL, OVERLAP, ALREADY_OPEN, UNREAD_FILE, TABLE_FAULT, NO_MEMORY.
  * Cost: as for `hordguli_tables_read`. */
 hordguli_status hordguli_tables_open_folder(hordguli_tables *tables, const char *folder, hordguli_table_fault *fault);
@@ -427,8 +428,8 @@ void hordguli_tables_close(hordguli_tables *tables);
  *
  * The handle keeps the memory that a call used. A later call that needs no more than that allocates nothing, unless
  * only one of the two calls has HORDGULI_LINE_SEPARATORS. The handle keeps at most 5 MB: memory for a text or for lines
- * of more than 65,536 bytes is freed. `hordguli_tables_close` frees it. Threads that call this at the same time need a
- * handle of tables each.
+ * of more than 65,536 bytes is freed. `hordguli_tables_close` frees what is kept. Threads that call this function at
+ * the same time each need their own tables handle.
  *
  * On NOT_UTF8, `hordguli_valid_utf8` says where. NO_MEMORY comes before NO_ROOM, because the lines are gathered before
  * their size is known.
@@ -454,14 +455,15 @@ hordguli_status hordguli_count_utf8(const char *bytes, size_t length, size_t *co
 hordguli_status hordguli_valid_utf8(const char *bytes, size_t length, size_t *valid);
 
 /* Decodes UTF-8 text of `length` bytes. Stores the number of its characters in `*count`, and this many elements in each
- * array. Each array has `capacity` elements. NULL arrays are skipped, so with both NULL no room is needed (see BUFFERS).
+ * array. Each array has `capacity` elements. NULL arrays are skipped, so with both NULL any capacity is enough (see
+ * BUFFERS).
  *   characters  characters, for the functions in `Clusters and scripts`, `Rows` and `Levels and properties`
  *   offsets     byte offset of each character
  *
  * On NO_ROOM, `*count` is set and the arrays are unchanged. Text that is not UTF-8 is refused, as in all functions, so
  * a position always means the same character. On NOT_UTF8, `hordguli_valid_utf8` says where. To replace invalid bytes
- * with U+FFFD, decode the text before the first of them, write U+FFFD, skip one byte, and repeat. So each invalid byte
- * becomes one U+FFFD.
+ * with U+FFFD, decode the text before the first of them, write U+FFFD, skip one byte, and repeat. Each invalid byte
+ * then becomes one U+FFFD.
  * Errors: NULL, OVERLAP, NOT_UTF8, NO_ROOM.
  * Cost: O(length).
  * Since: 0.6. */
@@ -471,8 +473,8 @@ hordguli_status hordguli_decode(const char *bytes, size_t length, size_t capacit
 /* ---- Sessions and edits ---- */
 
 /* What an edit replaced: `old_lines` lines from `first_line` on became `new_lines` lines, and likewise for paragraphs.
- * All other lines are unchanged, except that line `first_line + old_lines` becomes line `first_line + new_lines`, and
- * so on. If there are fewer lines than before, clear the rows below the last one. By design, damage names whole
+ * All other lines are unchanged but renumbered: line `first_line + old_lines` becomes line `first_line + new_lines`,
+ * and so on. If there are fewer lines than before, clear the rows below the last one. By design, damage names whole
  * paragraphs: all that contain or touch the edited range, even if nothing is inserted or deleted. So text that is
  * appended after a final separator also replaces the last paragraph. For the lines that changed, see
  * `hordguli_changed_lines`. A caller that redraws everything may pass NULL as `damage`. */
@@ -529,8 +531,8 @@ hordguli_status hordguli_replace(hordguli_session *session, size_t pos, size_t c
 /* Sets the width, in columns, and rewraps the paragraphs. The damage covers all lines, even if the width is the same. In
  * a measured session, the width is in the caller's unit.
  * Errors: NULL, OVERLAP, WIDTH_OUT_OF_RANGE, CLOSED, NO_MEMORY.
- * Cost: O(n), plus wrapping each paragraph, except those that are one line, fit the new width and, with
- * HORDGULI_SHOW_SPACES, hide no space that fits. */
+ * Cost: O(n), plus wrapping each paragraph. A paragraph of one line that fits the new width is skipped, unless
+ * HORDGULI_SHOW_SPACES is set and the line hides a space that fits. */
 hordguli_status hordguli_set_width(hordguli_session *session, uint32_t width, hordguli_damage *damage);
 
 /* Sets the width of a measured session, from 1 to 2,147,483,647. The rest is as in `hordguli_set_width`.
@@ -540,7 +542,7 @@ hordguli_status hordguli_set_width(hordguli_session *session, uint32_t width, ho
 hordguli_status hordguli_set_measured_width(hordguli_session *session, uint32_t width, hordguli_damage *damage);
 
 /* Which lines a call changed: `old_lines` lines from `first_line` on became `new_lines` lines. All other lines are the
- * same as before, except that the lines that follow are renumbered. */
+ * same as before, but the lines that follow are renumbered. */
 typedef struct hordguli_changed {
     size_t first_line;
     size_t old_lines;
@@ -548,11 +550,11 @@ typedef struct hordguli_changed {
 } hordguli_changed;
 
 /* Stores in `*changed` which lines changed in the last successful call that edited the text, set the width or set
- * advances. These are the lines of its damage, which names whole paragraphs, without the longest run of unchanged lines
- * at the start, and then without the longest such run at the end. An unchanged line has the same characters, levels,
- * maps, columns, advances, base level and length as before, and is still the first of its paragraph, or still is not.
- * The padding, which depends on the width, is not compared: RTL lines move when the width changes, so draw all of them
- * then. After the session is opened, all lines count as changed. A failed call has no effect on this.
+ * advances. These are the lines of its damage, which names whole paragraphs, less the longest run of unchanged lines at
+ * the start and then the longest such run at the end. An unchanged line has the same characters, levels, maps, columns,
+ * advances, base level and length as before, and is the first line of its paragraph only if it was before. The padding,
+ * which depends on the width, is not compared: RTL lines move when the width changes, so draw all of them then. After
+ * the session is opened, all lines count as changed. A failed call does not change the result.
  * Errors: NULL, OVERLAP, CLOSED.
  * Cost: O(1).
  * Since: 0.6. */
@@ -621,11 +623,9 @@ typedef struct hordguli_line_info {
 /* Stores information about a line in `*info`, and `info->shown` elements in each array. Each array has `capacity`
  * elements. NULL arrays are skipped, so with all arrays NULL any capacity is enough (see BUFFERS). Positions count from the
  * start of the line.
- *   characters  characters in visual order, mirrored
- *   levels      level of each character after L1, in logical order
- *   ltov        visual position of each logical position
- *   vtol        logical position of each visual position
- *   columns     columns at each visual position
+ *   characters characters in visual order, mirrored levels level of each character after L1, in logical order ltov
+ *   visual position of each logical position vtol logical position of each visual position columns columns of the
+ *   character at each visual position
  *
  * On NO_ROOM, `*info` is set and the arrays are unchanged.
  * Errors: NULL, OVERLAP, CLOSED, OUT_OF_RANGE, NO_ROOM.
@@ -688,26 +688,27 @@ hordguli_status hordguli_text(hordguli_session *session, size_t pos, size_t coun
 hordguli_status hordguli_text_utf32(hordguli_session *session, size_t pos, size_t count, size_t capacity,
                                     uint32_t *characters, size_t *length);
 
-/* Stores in `*length` how many bytes of UTF-8 the `count` characters that start at `pos` need.
+/* Stores in `*length` the UTF-8 length, in bytes, of the `count` characters that start at `pos`.
  * Errors: NULL, OVERLAP, CLOSED, OUT_OF_RANGE.
  * Cost: O(log n) per paragraph, plus O(count). */
 hordguli_status hordguli_utf8_length(hordguli_session *session, size_t pos, size_t count, size_t *length);
 
-/* Stores in `*byte` how many bytes of UTF-8 the text before `pos` needs. Fails with OUT_OF_RANGE if `pos` is past the
+/* Stores in `*byte` the UTF-8 length, in bytes, of the text before `pos`. Fails with OUT_OF_RANGE if `pos` is past the
  * end.
  * Errors: NULL, OVERLAP, CLOSED, OUT_OF_RANGE.
  * Cost: O(log n), plus O(length of the paragraph) unless the paragraph is ASCII.
  * Since: 0.6. */
 hordguli_status hordguli_byte_of(hordguli_session *session, size_t pos, size_t *byte);
 
-/* Stores in `*unit` how many UTF-16 code units the text before `pos` needs, which is how the Language Server Protocol
- * counts. Fails with OUT_OF_RANGE if `pos` is past the end.
+/* Stores in `*unit` the length of the text before `pos` in UTF-16 code units, the unit of the Language Server Protocol.
+ * Fails with OUT_OF_RANGE if `pos` is past the end.
  * Errors: NULL, OVERLAP, CLOSED, OUT_OF_RANGE.
  * Cost: O(log n), plus O(length of the paragraph) if the paragraph has a character above U+FFFF.
  * Since: 0.6. */
 hordguli_status hordguli_utf16_of(hordguli_session *session, size_t pos, size_t *unit);
 
-/* The character at `pos`, and how many of its bytes or code units come before an offset: 0 at its start. */
+/* The character at `pos` that contains an offset. `rest` is how many of its bytes or code units come before the
+ * offset. */
 typedef struct hordguli_position {
     size_t pos;
     size_t rest;
@@ -756,9 +757,9 @@ hordguli_status hordguli_paragraph(hordguli_session *session, size_t paragraph, 
  * the space.
  *
  * A caret moves over one caret unit: a grapheme cluster or, if its characters are in several level runs, the part in
- * one of them. A boundary is a column where a caret unit begins or ends.
+ * one such run. A boundary is a column where a caret unit begins or ends.
  *
- * New programs keep an edge, and call these:
+ * New programs store the caret as an edge, and call these functions:
  *   - `hordguli_edge_caret` to draw the caret
  *   - `hordguli_step` and `hordguli_line_edges` for Left, Right, Home and End
  *   - `hordguli_nearest_edge` for clicks
@@ -770,7 +771,7 @@ hordguli_status hordguli_paragraph(hordguli_session *session, size_t paragraph, 
  * U+000B, U+000C or U+2028, keep the edge before it. After Delete, also keep the edge before it. The guide has code for
  * all of these.
  *
- * `hordguli_caret_at` and `hordguli_hit_at` are for programs that keep a position. They know only its leading edge, and
+ * `hordguli_caret_at` and `hordguli_hit_at` are for programs that keep a position. They use only its leading edge, and
  * leave clusters to the caller. */
 
 typedef struct hordguli_place {
@@ -784,7 +785,7 @@ typedef struct hordguli_place {
  * does not exist yet. Then `paragraph` and `line` are the numbers of paragraphs and lines in the text.
  *
  * U+2028, U+000B and U+000C end a line, but not its paragraph. At the end of a text that ends with one, the place and
- * the caret stay on that line. Each line has at least one character, and here none follows.
+ * the caret stay on that line: a new line would have no character.
  * Errors: NULL, OVERLAP, CLOSED, OUT_OF_RANGE.
  * Cost: O(log n + log m) in a paragraph of m lines. */
 hordguli_status hordguli_place_of(hordguli_session *session, size_t pos, hordguli_place *place);
@@ -845,7 +846,7 @@ typedef struct hordguli_cluster {
  * the text.
  * Errors: NULL, OVERLAP, CLOSED, OUT_OF_RANGE, NO_MEMORY.
  * Cost: O(log n), plus time and memory proportional to the characters around `pos`, up to the nearest places where a
- * cluster ends whatever comes before and after. At worst, as among flags, these are the whole paragraph. */
+ * cluster ends regardless of context. At worst, as among flags, these are all characters of the paragraph. */
 hordguli_status hordguli_cluster_at(hordguli_session *session, size_t pos, hordguli_cluster *cluster);
 
 /* The characters from `start` up to but not including `end`. `kind` is 1 if any of them is alphabetic or numeric, such as
@@ -861,7 +862,7 @@ typedef struct hordguli_word {
 /* Stores in `*word` the word that contains the character at `pos`: the segment between two word boundaries (UAX #29)
  * in the paragraph. Fails with OUT_OF_RANGE if `pos` is the end of the text.
  *
- * The next word starts at `word.end`, and the previous one holds the character at `word.start - 1`.
+ * The next word starts at `word.end`, and the previous word contains the character at `word.start - 1`.
  *
  * Errors: NULL, OVERLAP, CLOSED, OUT_OF_RANGE, NO_MEMORY.
  * Cost: O(log n), plus time and memory proportional to the whole paragraph.
@@ -875,10 +876,10 @@ typedef struct hordguli_span {
 } hordguli_span;
 
 /* Stores the columns that the characters from `from` up to but not including `to` cover in a line, for drawing a
- * selection: as few spans as possible, from left to right. Where the direction changes, a selection can have several.
- * `from` and `to` are positions in the text; those outside the line are ignored. The number of spans is stored in
- * `*count`, and the spans in an array of `capacity` elements. NULL with capacity 0 returns NO_ROOM if there are spans
- * (see BUFFERS). Fails with OUT_OF_RANGE if the line does not exist.
+ * selection: as few spans as possible, from left to right. Where the direction changes, a selection can have several
+ * spans. `from` and `to` are positions in the text; those outside the line are ignored. The number of spans is stored
+ * in `*count`, and the spans in an array of `capacity` elements. NULL with capacity 0 returns NO_ROOM if there are
+ * spans (see BUFFERS). Fails with OUT_OF_RANGE if the line does not exist.
  *
  *     for (size_t line = first_line; line <= last_line; line++) {
  *         status = hordguli_spans(&session, line, from, to, 16, spans, &count);
@@ -923,10 +924,10 @@ typedef struct hordguli_edge {
 hordguli_status hordguli_edge_caret(hordguli_session *session, hordguli_edge edge, hordguli_caret *caret);
 
 /* Moves a caret to the nearest boundary to the left or right on its line. Stores the edge there in `*next`, and 1 in
- * `*moved`. The stored edge is an edge of the caret unit that was passed. At the end of the line, stores 0 in `*moved`, and
- * leaves `*next` unchanged. The caller then chooses the next line, of which column 0 is the left end and SIZE_MAX the
- * right end. In a left-to-right document, the key Right leads to the left end of the line below, and Left to the right
- * end of the line above:
+ * `*moved`. The stored edge is an edge of the caret unit that was passed. At the end of the line, stores 0 in `*moved`,
+ * and leaves `*next` unchanged. The caller then chooses the next line. Column 0 is its left end, and SIZE_MAX its right
+ * end. In a left-to-right document, the key Right leads to the left end of the line below, and Left to the right end of
+ * the line above:
  *
  *     // Right
  *     status = hordguli_step(&session, caret, HORDGULI_RIGHT, &caret, &moved);
@@ -939,8 +940,8 @@ hordguli_status hordguli_edge_caret(hordguli_session *session, hordguli_edge edg
  * line above (0). Past the last line, `hordguli_edge_at` returns OUT_OF_RANGE.
  *
  * Each step changes the column. Repeated steps reach every boundary in their direction. With HORDGULI_REORDER_NSM and
- * without HORDGULI_REORDER_CLUSTERS, this holds if the marks of the text have no columns. Of the nonspacing marks of
- * Unicode 15.0, only U+2D7F and U+1171E have columns.
+ * without HORDGULI_REORDER_CLUSTERS, this holds only if the marks in the text have no columns. Of the nonspacing marks
+ * of Unicode 15.0, only U+2D7F and U+1171E have columns.
  *
  * Errors: NULL, OVERLAP, UNKNOWN_OPTION, CLOSED, OUT_OF_RANGE, NO_MEMORY.
  * Cost: as for `hordguli_edge_caret`.
@@ -986,8 +987,8 @@ hordguli_status hordguli_nearest_edge(hordguli_session *session, size_t line, si
  * Since: 0.6. */
 hordguli_status hordguli_line_edges(hordguli_session *session, size_t line, hordguli_edge *first, hordguli_edge *last);
 
-/* Stores where the grapheme clusters of a line end, counted from the start of the line, in an array of `capacity`
- * elements, and their number in `*count`. NULL with capacity 0 returns NO_ROOM (see BUFFERS). The last one is the
+/* Stores the ends of a line's grapheme clusters, counted from the start of the line, in an array of `capacity`
+ * elements, and their number in `*count`. NULL with capacity 0 returns NO_ROOM (see BUFFERS). The last end is the
  * length of the line, even if a cluster continues on the next line. Fails with OUT_OF_RANGE if the line does not exist.
  *
  * NO_MEMORY comes before NO_ROOM.
@@ -999,9 +1000,9 @@ hordguli_status hordguli_line_clusters(hordguli_session *session, size_t line, s
 
 /* ---- Clusters and scripts ---- */
 
-/* Stores where the grapheme clusters of a text of `count` characters end, in an array of `capacity` elements, and their
- * number in `*cluster_count`. NULL with capacity 0 returns NO_ROOM, unless `count` is 0 (see BUFFERS). The first
- * cluster starts at 0, each other one where the one before it ends, and the last one ends at `count`. No cluster
+/* Stores the ends of the grapheme clusters in a text of `count` characters, in an array of `capacity` elements, and
+ * their number in `*cluster_count`. NULL with capacity 0 returns NO_ROOM, unless `count` is 0 (see BUFFERS). The first
+ * cluster starts at 0, each later one at the end of the cluster before it, and the last one ends at `count`. No cluster
  * continues after a separator, so the clusters are those of a session with this text (`hordguli_cluster_at`), even for
  * a text of several paragraphs. NO_MEMORY comes before NO_ROOM.
  * Errors: NULL, OVERLAP, NOT_A_CHARACTER, NO_MEMORY, NO_ROOM.
@@ -1135,7 +1136,7 @@ hordguli_status hordguli_marks(hordguli_tables *tables, uint32_t options, const 
 #define HORDGULI_BIDI_CLASS_FSI 21
 #define HORDGULI_BIDI_CLASS_PDI 22
 
-/* Line breaking classes (UAX #14), by their short names. Tables of Unicode 15.0 have those up to XX. */
+/* Line breaking classes (UAX #14), by their short names. Tables of Unicode 15.0 have the classes up to XX. */
 #define HORDGULI_LINE_CLASS_BK 0
 #define HORDGULI_LINE_CLASS_CM 1
 #define HORDGULI_LINE_CLASS_CR 2
@@ -1207,8 +1208,8 @@ typedef struct hordguli_character {
 } hordguli_character;
 
 /* Stores the properties of `count` characters in `records`, an array of `count` elements. All properties are from the
- * tables, except the columns (see COLUMNS). A character that no table names has line breaking class XX, and no mirror,
- * bracket or flags. Its bidi class is L, or with tables of Unicode 17.0 the default in DerivedBidiClass.txt.
+ * tables, except the columns (see COLUMNS). A character that no table file names has line breaking class XX, and no
+ * mirror, bracket or flags. Its bidi class is L, or with tables of Unicode 17.0 the default in DerivedBidiClass.txt.
  * Errors: NULL, OVERLAP, CLOSED, NOT_A_CHARACTER.
  * Cost: O(count).
  * Since: 0.6. */
