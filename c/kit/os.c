@@ -1,6 +1,7 @@
-/* Stands in for the kit's rattle_arg, rattle_env, rattle_env_at, rattle_errno and rattle_set_errno on ARM64: the kit has them for x86-64
- * only. Proved code relies on the contracts below, which are those of the kit's crate `os` (`src/c.rt` there). Nothing proves that these
- * functions meet them. tests/arm64/kit tests them, and the kit's functions for x86-64 by the same checks. Only the command links them. */
+/* Stands in for the kit's rattle_arg, rattle_env, rattle_env_at, rattle_errno and rattle_set_errno on ARM64: the kit
+ * has them for x86-64 only. Proved code relies on the contracts below, which are those of the kit's crate `os`
+ * (`src/c.rt` there). Nothing proves that these functions meet them. tests/arm64/kit runs the same checks on them and
+ * on the kit's functions for x86-64. Only the command links them. */
 #include <errno.h>
 #include <stddef.h>
 #include <stdint.h>
