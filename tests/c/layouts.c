@@ -136,7 +136,7 @@ void __wrap_free(void *block) {
     __real_free(block);
 }
 
-/* The same calls again allocate nothing. `line_separators` is an option that all of them have, or 0. */
+/* Repeated calls allocate nothing. `line_separators` is an option that all of them have, or 0. */
 static void warm_calls_allocate_nothing(uint32_t line_separators) {
     uint64_t start = seed;
     for (int round = 0; round < 2; round++) {
@@ -154,7 +154,7 @@ static void warm_calls_allocate_nothing(uint32_t line_separators) {
     }
 }
 
-/* A handle keeps little memory after each call, and none after one with much text or many lines. */
+/* A handle keeps little memory after each call, and none after a call with much text or many lines. */
 static void large_calls_keep_little(const char *folder) {
     static const char *const pieces[] = {
         "a", "a\n", "\n", "\u05d0", "\u05d0 (a) ", "(", "([{", "\u2067", "\u2068\u05d0\u2069", "\u2067\u2066", "\u202ba",

@@ -4,8 +4,8 @@
  * - Edits and measures TEXTS random texts, whose advances the test keeps itself. Compares lines, columns, carets, hits, edges
  *   and selections with a reference implementation: the definitions of docs/reference.md, computed from break marks, levels,
  *   clusters and advances. Only the lines that two calls of a user have replaced may differ.
- * - Edits SESSIONS sessions whose advances are the columns of their characters. Each must return what a session that is not
- *   measured returns. */
+ * - Edits SESSIONS sessions whose advances are the columns of their characters. Each session must return what a session
+ *   that is not measured returns. */
 #include "answers.h"
 #include "carets.h"
 #include "snapshot.h"
@@ -21,7 +21,7 @@ static char bytes[BYTES];
 
 /* ---- Rows ---- */
 
-/* Opens the session on a text, whose characters have these advances. */
+/* Opens the session on a text whose characters have these advances. */
 static void open_on(const char *content, uint32_t own_options, uint32_t own_width, const uint32_t *own_advances, size_t count) {
     hordguli_session_close(&session);
     OK(hordguli_session_open_measured(&session, &tables, own_options, own_width, content, strlen(content)));
@@ -352,7 +352,7 @@ static void random_advances(uint32_t *into, size_t count) {
 
 /* ---- The reference implementation ---- */
 
-/* What is known of each character of the text */
+/* What is known about each character of the text */
 static uint8_t marks[MOST], levels[MOST];
 static hordguli_character properties[MOST];
 static size_t order[MOST]; /* the shown characters of each line from its start on, from left to right */
@@ -368,7 +368,7 @@ static int may_trail(size_t k) {
     return c == ' ' || (c >= 0xA && c <= 0xD) || c == 0x85 || c == 0x2028 || c == 0x2029;
 }
 
-/* The columns of a character that has `columns` before it on its line */
+/* The columns of a character that has `columns` columns before it on its line */
 static size_t columns_at(size_t columns, size_t k) {
     if (text[k] != '\t' || (options & TAB_BITS) == 0) return advances[k];
     return advances[k] == 0 ? 0 : advances[k] - columns % advances[k];
@@ -511,7 +511,7 @@ static void lines_are_right(void) {
     }
 }
 
-/* Where the caret for a position is: at the leading edge of the character itself, not of its unit */
+/* The place of the caret for a position: at the leading edge of the character itself, not of its unit */
 static hordguli_caret own_caret(size_t pos) {
     const character *c = &characters[pos];
     if (pos == length) return starts_next_line() ? (hordguli_caret){line_count, 0, options & 1, 0} : line_end(line_count - 1);
@@ -620,7 +620,7 @@ static int has_wide_paragraph(void) {
     return 0;
 }
 
-/* The text and the advances, to go back to after a refused call */
+/* The text and the advances, to be restored after a refused call */
 static uint32_t kept_text[MOST], kept_advances[MOST];
 static size_t kept_length;
 
@@ -630,7 +630,7 @@ static void keep(void) {
     kept_length = length;
 }
 
-/* Whether a call was accepted. Goes back if it had to be refused. */
+/* Whether a call was accepted. Restores the text and the advances if it had to be refused. */
 static int is_accepted(hordguli_status status) {
     int is_wide = has_wide_paragraph();
     HOLDS(status == (is_wide ? HORDGULI_PARAGRAPH_TOO_LONG : HORDGULI_OK));

@@ -410,7 +410,7 @@ static void edges_have_each_value_in_their_field(void) {
     size_t ends[8] = {0}, count = 77;
     static const size_t cluster_ends[7] = {2, 4, 5, 6, 7, 8, 9};
     reopen(&session, mixed, 8);
-    /* after the space, which is at an odd level; the number before it is at an even one */
+    /* after the space, which is at an odd level; the number before it is at an even level */
     OK(hordguli_edge_caret(&session, edge, &caret));
     HOLDS(caret.line == 3), HOLDS(caret.column == 2), HOLDS(caret.level == 1), HOLDS(caret.zero == 0);
     OK(hordguli_step(&session, edge, 0, &first, &moved));

@@ -2,8 +2,8 @@
  * some brackets, and one of the five base directions. Half of the lists have no type that X9 removes. Usage: compare OURS COUNT
  * [SEED].
  *
- * The results must be equal if no predicate of docs/fribidi-compat.md holds for a list. For each predicate, they must differ on at
- * least half of the lists for which it alone holds. */
+ * The results must be equal if no predicate of docs/fribidi-compat.md holds for a list. For each predicate, they must
+ * differ on at least half of the lists for which only this predicate holds. */
 #include "both.h"
 
 #define MOST 200
