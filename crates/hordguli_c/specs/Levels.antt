@@ -66,7 +66,7 @@ bidi_number class = bidi_tag class
 unfoldable pub line_number : LineClass → ℕ
 line_number class = line_tag class
 
--- 1 for an opening bracket, 2 for a closing one, and otherwise 0
+-- 1 for an opening bracket, 2 for a closing bracket, and otherwise 0
 abbrev pub bracket_kind : Option Bracket → ℕ
 bracket_kind None = 0
 bracket_kind (Some bracket) = if bracket.opens then 1 else 2

@@ -48,7 +48,7 @@ pub record IsOpened (tables : Tables) (options : Options) (text : List ℕ) (wid
   pub opens : OpensAt engine text width state
   pub changed : state.changed ≡ all_lines state.kept
 
--- a session was not opened, for the first reason that applies, or with `NoMemory` if none applies
+-- a session was not opened: the status is the first reason that applies, or `NoMemory` if none applies
 pub record IsRefused (tables : Tables) (options : Options) (text : List ℕ) (width : OpenWidth) (status : Status) : Type 0 where
   pub fault : EditFault
   pub reason : IsAnswerFor (refusal_at (cut_by (unmeasured tables options)) text width) fault
@@ -80,7 +80,8 @@ damage_out damage = record {
 abbrev pub changed_out : ChangedLines → ChangedOut
 changed_out changed = record { first_line = changed.first_line; old_lines = changed.old_lines; new_lines = changed.new_lines }
 
--- the changed lines of a session are those of this call, or still those of the last successful call
+-- the changed lines of a session are those of this call if it succeeded, and otherwise those of the last successful
+-- call
 abbrev pub ChangesLines : SessionState → SessionState → Damage → Type 0
 ChangesLines before after damage = AreChanged (lines_in before.kept) (lines_in after.kept) damage after.changed
 

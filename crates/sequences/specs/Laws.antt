@@ -1,11 +1,11 @@
--- What holds for all texts.
+-- Theorems about all texts.
 use Rattle.std.specs.Prelude.{◌≡◌, ℕ, Bool, true, not, List, [], ◌∷◌, ◌++◌, map}
 use Rattle.std.specs.List.{list_all}
 use Rattle.sequences.specs.Characters.{ends_piece, is_dropped}
 use Rattle.sequences.specs.Output.{written}
 use Rattle.sequences.specs.Styled.{DEFAULT, Pen, pen_at_end, shown_text, styled, Style}
 
--- the characters that are not dropped
+-- characters that are not dropped
 abbrev pub remains : ℕ → Bool
 remains c = not (is_dropped c)
 
@@ -28,7 +28,7 @@ ShowsTheSame = (pen : Pen) (text : List ℕ) → characters_of (styled pen text)
 abbrev pub ShowsItself : Type 0
 ShowsItself = (text : List ℕ) → shown_text (shown_text text) ≡ shown_text text
 
--- What a text shows is what its pieces show, one after the other.
+-- A text shows what its pieces show, one after the other.
 pub record ShowsPieces : Type 0 where
   pub text : (pen : Pen) (piece rest : List ℕ) (c : ℕ) → ends_piece c ≡ true
       → styled pen (piece ++ c ∷ rest) ≡ styled pen (piece ++ c ∷ []) ++ styled (pen_at_end pen (piece ++ c ∷ [])) rest

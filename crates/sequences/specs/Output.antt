@@ -73,7 +73,7 @@ parameters_of look = weight_parameters look ++ (line_parameters look ++ (effect_
 abbrev pub sgr_of : List (List ℕ) → List ℕ
 sgr_of parameters = 0x1B ∷ 0x5B ∷ (join_with_byte 0x3B parameters ++ codes "m")
 
--- what is written to reset attributes, and to set them; nothing for the default ones
+-- what is written to reset attributes and to set them: nothing for default attributes
 abbrev pub reset_text : Look → List ℕ
 reset_text look = if same_look look PLAIN then [] else sgr_of []
 

@@ -16,7 +16,7 @@ strikes c text = if is_inline c then after_backspaces text else []
 
 -- Strikes one more character. X over X is bold. A low line (U+005F) under or over X is an underline. A low line over a
 -- low line is underlined if the character before is underlined and not bold, and otherwise bold. A third low line makes
--- it both. Any other character replaces the one before.
+-- it both underlined and bold. Any other character replaces the one before.
 abbrev pub strike : Bool → Struck → ℕ → Struck
 strike after_underline s c =
     if c == s.shown then

@@ -29,7 +29,7 @@ pub enum Blink {
     Rapid,
 }
 
-/// The attributes of a character. `None` is the default of each optional one.
+/// The attributes of a character. `None` stands for the default of an optional attribute.
 #[derive(Clone, Copy, Debug, PartialEq, Eq)]
 pub struct Look {
     pub bold: bool,

@@ -60,7 +60,7 @@ fn taken(parameter: &[char], following: &[char]) -> usize
     }
 }
 
-// Returns the number of following parameters that belong to 38, 48 or 58: all if the kind is unknown.
+// Returns the number of following parameters that belong to 38, 48 or 58: all of them if the kind is unknown.
 fn color_len(following: &[char]) -> usize
     ensures { result ≡ color_len (parameters_after following.now) }
 {
@@ -320,7 +320,7 @@ fn with_underline(k: u32, look: Look) -> Look
     }
 }
 
-// Returns the attributes after a parameter with several fields, of which n is the first.
+// Returns the attributes after a parameter with several fields, the first of which is n.
 fn with_fields(n: u32, parameter: &[char], look: Look) -> Look
     ensures { result ≡ with_fields n (drop 1 (fields_after parameter.now)) look }
 {

@@ -9,7 +9,7 @@ mod directions;
 use crate::files::{FILES, engine};
 use std::alloc::{AllocError, Global};
 
-// Returns whether a check holds for a new engine. False if its tables cannot be read.
+// Returns whether a check holds for a new engine, or `false` if its tables cannot be read.
 fn of_engine<F: FnOnce(&mut lines::Engine) -> bool>(alloc: Global, check: F) -> bool
     requires { F.IsAlwaysCallable check }
 {
@@ -56,7 +56,7 @@ fn of_laid<F: FnOnce(&lines::Laid) -> bool>(alloc: Global, check: F) -> bool
     }
 }
 
-// Returns whether a check holds for the line of that layout.
+// Returns whether a check holds for the line of the layout of `a`, a space, alef and bet.
 fn of_line<F: FnOnce(&lines::VisualLine<'_>) -> bool>(alloc: Global, check: F) -> bool
     requires { F.IsAlwaysCallable check }
 {
@@ -433,9 +433,9 @@ enum Call {
     WidthOutOfRange,
 }
 
-// Returns whether the example of a call holds in a session on "ab\ncd\nef", of 80 columns. False after an
-// allocation failure. Only the functions below that open a session name its store, since each function that
-// does is slow to prove.
+// Returns whether the example of a call holds in a session on "ab\ncd\nef", of 80 columns, or `false` after an
+// allocation failure. Only the functions below that open a session name its store, since a function that names the
+// store is slow to prove.
 fn holds(alloc: Global, call: Call) -> bool {
     match open(alloc, "ab\ncd\nef", 80) {
         Ok(session) => holds_in(session, call),

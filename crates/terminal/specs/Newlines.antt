@@ -13,8 +13,8 @@ last_of [] = None
 last_of (c ∷ []) = Some c
 last_of (c ∷ d ∷ text) = last_of (d ∷ text)
 
--- Whether a text with this last character ends a line: the character has bidi class B, or line breaking class BK, CR, LF or NL. An empty
--- text leaves no line open.
+-- Whether a text with this last character ends a line: the character has bidi class B, or line breaking class BK, CR,
+-- LF or NL. An empty text has no line to end.
 abbrev pub is_ended : Tables → Option ℕ → Bool
 is_ended tables last = option_map_or (ends_line tables) last true
 
@@ -33,7 +33,7 @@ text_output rules form is_last pen text = ended_page rules.tables is_last (last_
 abbrev pub output_page : Rules → Form → Bool → List ℕ → List ℕ
 output_page rules form is_last bytes = text_output rules form is_last START (input_text form.escapes bytes)
 
--- whether a text ends in this character
+-- whether this is the last character of a text
 pub record EndsIn (c : ℕ) (text : List ℕ) : Type 0 where
   pub front : List ℕ
   pub is : text ≡ front ++ c ∷ []

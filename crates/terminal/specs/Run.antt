@@ -31,7 +31,7 @@ is_within block = nat_le (length block) PARAGRAPH_LIMIT
 abbrev pub are_within : List (List ℕ) → Bool
 are_within parts = list_all is_within parts
 
--- If the form is strict, blocks are within the limit.
+-- If the form is strict, all blocks are within the limit.
 abbrev pub ArePermitted : Form → List (List ℕ) → Type 0
 ArePermitted form parts = form.strict ≡ true → are_within parts ≡ true
 
@@ -70,7 +70,7 @@ IsTooLong is_cut text =
 abbrev pub HasRead : Device → Device → List ℕ → Type 0
 HasRead old new bytes = Consumes old.bytes new.bytes bytes × (new.passed ≡ old.passed + length bytes)
 
--- At most one chunk was read after these bytes, and all blocks that had ended in them were written before.
+-- At most one chunk was read after these bytes, and only after all blocks that end in these bytes were written.
 pub record WritesFirst (rules : Rules) (form : Form) (bytes : List ℕ) (writer_old writer_new : Device) : Type 0 where
   pub early : List ℕ
   pub late : List ℕ

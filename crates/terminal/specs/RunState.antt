@@ -48,13 +48,13 @@ pub record Adds (rules : Rules) (form : Form) (parts : List (List ℕ)) (old new
 abbrev pub is_left_long : ℕ → ℕ → Bool
 is_left_long scanned len = nat_lt PARAGRAPH_LIMIT len && (nat_le PARAGRAPH_LIMIT scanned || nat_lt (2 * PARAGRAPH_LIMIT) len)
 
--- what is left of a text: if it is not too long, no end of a block is known before `scanned`
+-- the rest of a text: if it is not too long, no end of a block is known before `scanned`
 abbrev pub Leaves : Rules → Bool → Bool → ℕ → List ℕ → Type 0
 Leaves rules holds true scanned rest = (holds ≡ true) × IsTooLong (cut_by rules) rest
 Leaves rules holds false scanned rest = IsLeft (cut_by rules) holds scanned rest
 
--- The lines of all blocks that have ended were added to the page, or only the lines of those before one that is too
--- long.
+-- The lines of all blocks that have ended were added to the page. If a block is too long, only the lines of the blocks
+-- before it were added.
 pub record AddsEnded (rules : Rules) (form : Form) (text : List ℕ) (old new : Output) (start scanned : ℕ) (is_long : Bool) : Type 0 where
   pub parts : List (List ℕ)
   pub front : IsFront (cut_by rules) parts text (drop start text)
@@ -64,8 +64,8 @@ pub record AddsEnded (rules : Rules) (form : Form) (text : List ℕ) (old new : 
   pub leaves : Leaves rules form.strict is_long scanned (drop start text)
   pub holds : form.strict ≡ true → length (drop start text) ≡ 0 → length text ≡ 0
 
--- The lines of the blocks of a whole text were added to the page, or only the lines of those before one that is too
--- long.
+-- The lines of all blocks of a whole text were added to the page. If a block is too long, only the lines of the blocks
+-- before it were added.
 abbrev pub AddsLast : Rules → Form → Bool → List ℕ → Output → Output → Bool → Type 0
 AddsLast rules form is_last text old new false =
     (new.page.bytes.items ≡ old.page.bytes.items ++ text_output rules form is_last (pen_of old.scanner) text)
@@ -98,7 +98,7 @@ pub record Gathers (rules : Rules) (form : Form) (bytes : List ℕ) (old new : H
   pub holds : form.strict ≡ true → length new.text.items ≡ 0 → length text ≡ 0
   pub fault_is : fault ≡ fault_after is_long (form.strict && is_bad bytes) new.decoder.decoded
 
--- The bytes before the waiting ones are valid UTF-8. They have these characters, whatever follows.
+-- The bytes before the waiting ones are valid UTF-8. These bytes have these characters, whatever follows.
 pub record IsValidSoFar (escapes : Escapes) (bytes waiting text : List ℕ) (started : Bool) : Type 0 where
   pub front : List ℕ
   pub whole : bytes ≡ front ++ waiting
@@ -125,7 +125,7 @@ pub record IsAt (rules : Rules) (form : Form) (reader_old reader writer_old writ
   pub written_is : written ≡ length (blocks_page rules form sent)
   pub over_is : over ≡ have_over rules START sent
 
--- the state between two reads, when all lines are written
+-- the state between two reads, after all lines are written
 pub record Stands (rules : Rules) (form : Form) (reader_old writer_old reader writer : Device) (held : Held) : Type 0 where
   pub is_at : IsAt rules form reader_old reader writer_old writer (take held.decoder.waiting held.decoder.chunk.items) held.text.items held.decoder.started
       (pen_of held.output.scanner) held.output.written held.output.over

@@ -30,7 +30,7 @@ picture c =
     else if c == 0x7F then 0x2421
     else 0xFFFD
 
--- in the mode `Text`, pictures replace these controls, so that nothing is a sequence
+-- in the mode `Text`, pictures replace these controls, so that the text contains no sequences
 abbrev pub input_text : Escapes → List ℕ → List ℕ
 input_text Keep bytes = decoded bytes
 input_text Strip bytes = decoded bytes

@@ -1,4 +1,4 @@
--- What the blocks of a text show, one after the other, is what the text shows.
+-- The blocks of a text, one after the other, show what the whole text shows.
 use Rattle.std.specs.Prelude.{◌≡◌, ℕ, Bool, List}
 use Rattle.std.specs.List.{concat, flat_map}
 use Rattle.bidi.specs.Cuts.{paragraphs}
@@ -7,7 +7,7 @@ use Rattle.sequences.specs.Laws.{characters_of}
 use Rattle.sequences.specs.Styled.{Pen, Style, shown_text}
 use Rattle.terminal.specs.Texts.{blocks, shown_blocks, styled_paragraphs}
 
--- groups of characters, one after the other
+-- the characters of groups, one after the other
 abbrev pub joined : List (List (ℕ × Style)) → List (ℕ × Style)
 joined groups = flat_map (λ group. group) groups
 

@@ -17,12 +17,12 @@ use stream::{CHUNK, read_to, zeroed};
 
 /// Reads and decodes chunks.
 pub(crate) struct Decoder {
-    // The last chunk. Its first `waiting` bytes are the beginning of a character.
+    // The chunk read last. Its first `waiting` bytes are the beginning of a character.
     chunk: Vec<u8>,
     waiting: usize,
     // The number of bytes before the waiting ones.
     pub(crate) decoded: u64,
-    // Whether a character has been decoded. The first one is dropped if it is U+FEFF.
+    // Whether a character has been decoded. The first character is dropped if it is U+FEFF.
     started: bool,
 }
 
@@ -63,9 +63,9 @@ impl Decoder {
         read_to(reader, &mut self.chunk, self.waiting)
     }
 
-    /// Decodes the waiting bytes and `len` more bytes, and adds their characters to a text. With
-    /// `form.strict`, stops at bytes that are not UTF-8, drops the rest, and returns whether there are any.
-    /// After a failed allocation, some characters may be missing.
+    /// Decodes the waiting bytes and `len` more bytes, and adds their characters to a text. With `form.strict`, stops
+    /// at the first invalid UTF-8, drops the rest, and returns whether there was any. After a failed allocation, some
+    /// characters may be missing.
     pub(crate) fn decode(
         &mut self,
         form: &Form,
@@ -104,7 +104,7 @@ impl Decoder {
         push_end(self.waiting, text)
     }
 
-    // Moves the bytes in `start..end`, which are not a whole character yet, to the front of the chunk.
+    // Moves the bytes in `start..end`, which are an incomplete character, to the front of the chunk.
     fn keep_bytes(&mut self, start: usize, end: usize)
         requires within { (start ≤ end) × (end ≤ vec_len self.old.chunk) }
         requires counted { self.old.decoded + start ≤ 2 ^ 64 - 1 }
@@ -121,8 +121,7 @@ impl Decoder {
     }
 }
 
-// Returns the end of the bytes that are not dropped, given the number of decoded bytes and the number of all
-// bytes.
+// Returns the end of the bytes that are not dropped, given the number of decoded bytes and the total number of bytes.
 fn end_of(stops: bool, decoded: usize, filled: usize) -> usize
     ensures { result ≡ (if stops then decoded else filled) }
 {
@@ -140,8 +139,8 @@ pub(crate) fn push_end(waiting: usize, text: &mut Vec<char>) -> Result<(), Alloc
     Ok(())
 }
 
-/// Removes the character at an index of a text if it is U+FEFF, unless characters were decoded before.
-/// Returns whether any are decoded now.
+/// Removes the character at an index of a text if it is U+FEFF, unless characters were decoded before. Returns whether
+/// any characters have been decoded by now.
 pub(crate) fn start(started: bool, text: &mut Vec<char>, at: usize) -> bool
     requires { at ≤ vec_len text.old }
     ensures text { text.new.items ≡ take at text.old.items

@@ -38,7 +38,7 @@ impl<'a> Part<'a> {
         }
     }
 
-    /// Returns the characters in a range, and only their numbers.
+    /// Returns the characters in a range, with only their style numbers.
     pub(crate) fn paragraph(&self, start: usize, end: usize) -> Part<'a>
         requires within { (start ≤ end) × (end ≤ length self.now.characters.now) }
         requires len { length self.now.numbers.now ≡ length self.now.characters.now }
@@ -74,7 +74,7 @@ impl<'a> Part<'a> {
     }
 }
 
-// Replaces the empty text after a prefix that nothing follows.
+// The text that is used if nothing follows a prefix.
 const NEWLINE: &[char] = &['\n'];
 
 const DEFAULT_NUMBER: &[usize] = &[0];

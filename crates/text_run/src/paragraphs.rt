@@ -20,7 +20,7 @@ use lines::{Engine, PARAGRAPH_LIMIT, Print};
 use std::alloc::{AllocError, Global};
 use stream::{Page, push_characters};
 
-// What the characters after a text mean for its first paragraph.
+// How the characters after a text affect its first paragraph.
 #[derive(Clone, Copy, Debug, PartialEq, Eq)]
 enum Ahead {
     // The paragraph is too long.
@@ -81,8 +81,8 @@ pub fn bad_at(is_bad: bool, place: u64) -> Option<RunFault>
     }
 }
 
-// Returns what `more` means for a text that has no paragraph boundary and is not too long. `more` must not
-// have more characters than a paragraph may have.
+// Returns how `more` affects a text that has no paragraph boundary and is not too long. `more` must not have more
+// characters than a paragraph may have.
 fn look_ahead(engine: &Engine, text: &[char], more: &str) -> Ahead
     requires uncut { SplitsAt (cut_by (rules_of engine.now)) text.now None }
     requires short { length text.now ≤ PARAGRAPH_LIMIT }

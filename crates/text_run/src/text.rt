@@ -32,7 +32,7 @@ use stream::{CHUNK, Page, front, read_to, zeroed};
 
 /// What a run keeps between two reads.
 struct Held {
-    // The last chunk. Its first `waiting` bytes are the beginning of a character.
+    // The chunk read last. Its first `waiting` bytes are the beginning of a character.
     chunk: Vec<u8>,
     waiting: usize,
     // The number of bytes decoded before the waiting bytes.
@@ -182,7 +182,7 @@ impl Held {
         }
     }
 
-    // Moves the bytes in `start..end`, which are not a whole character yet, to the front of the chunk.
+    // Moves the bytes in `start..end`, which are an incomplete character, to the front of the chunk.
     fn keep_bytes(&mut self, start: usize, end: usize)
         requires within { (start ≤ end) × (end ≤ vec_len self.old.chunk) }
         requires counted { self.old.decoded + start ≤ 2 ^ 64 - 1 }

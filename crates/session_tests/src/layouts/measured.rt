@@ -41,9 +41,9 @@ struct Row {
     edges: &'static [&'static [usize]],
 }
 
-// A line ends at a break opportunity if the rest is too wide. A ligature's first character has its advance,
-// and the others have 0. If the ligature is wider than its line, the line ends after its first character. A
-// tab has its advance.
+// A line ends at a break opportunity if the rest is too wide. A ligature's first character has the ligature's advance,
+// and the others have advance 0. If the ligature is wider than its line, the line ends after its first character. A tab
+// has its advance.
 static ROWS: [Row; 8] = [
     Row {
         text: "a b",
@@ -239,7 +239,7 @@ fn lay_out_once(
     engine.lay_out_measured(alloc, text, advances, width).ok()
 }
 
-// Does the same, and tries again after an allocation failure.
+// Does the same as `lay_out`, and tries again after an allocation failure.
 fn lay_out(
     alloc: Global,
     engine: &mut Engine,
@@ -334,7 +334,7 @@ fn is_refilled(alloc: Global, engine: &mut Engine, row: &Row) -> Result<bool, Fa
     result
 }
 
-// Puts the lines at the row's width into the layout.
+// Exchanges the layout's lines for those at the row's width.
 fn exchanges(alloc: Global, engine: &mut Engine, laid: &mut Laid, row: &Row) -> Result<bool, Fail>
     requires laid { IsLaidOut (with_advances (rules_of engine.old) laid.old.advances) laid.old }
 {
@@ -357,7 +357,7 @@ fn refill(alloc: Global, engine: &mut Engine, laid: &Laid, width: u32) -> Result
     }
 }
 
-// Returns whether the paragraph has the lines of its row after they overwrote the old lines.
+// Returns whether the paragraph has the lines of its row after these overwrote the old lines.
 fn is_reflowed(alloc: Global, engine: &mut Engine, row: &Row) -> Result<bool, Fail> {
     if row.width == 0 {
         return Err(Fail::new("width 0"));
@@ -379,7 +379,7 @@ fn change_each(alloc: Global, engine: &mut Engine, rows: &[Row]) -> Result<bool,
     Ok(all_right)
 }
 
-// Returns whether the paragraphs have the lines of their rows after a change of their width.
+// Returns whether the paragraphs have the lines of their rows after a change of width.
 fn all_changed(alloc: Global, options: Options, rows: &[Row]) -> Result<bool, Fail> {
     let mut engine = engine(alloc, &FILES, options)?;
     let result = change_each(alloc, &mut engine, rows);
@@ -419,7 +419,7 @@ static COLUMNS: [ColumnRow; 7] = [
     ("abcdefghijklmnop qrstuvwxyz", &[1; 27], 20),
 ];
 
-// Returns whether a line is the same by advances as by columns.
+// Returns whether a line is the same with advances as with columns.
 fn is_same_line(measured: &VisualLine<'_>, line: &VisualLine<'_>) -> bool {
     (measured.len() == line.len())
         & (measured.chars() == line.chars())

@@ -1,4 +1,4 @@
-//! Tests that marks are after their bases with the option `reordernsm`, and before them without it.
+//! Tests that marks come after their bases with the option `reordernsm`, and before them without it.
 use super::lay_out;
 use super::printed::{ALL, PLAIN, UNMIRRORED, are_printed};
 use crate::files::{FILES, engine};
@@ -84,7 +84,7 @@ static READ_ROWS: [Row; 7] = [
     ),
 ];
 
-// The same texts without the option, if their order differs.
+// The texts whose order differs without the option.
 static REVERSED_ROWS: [Row; 5] = [
     (
         "\u{5D0}\u{300}\u{5D1}",

@@ -1,4 +1,4 @@
-//! Tests the bytes of a line, written completely and up to each failure of the writer.
+//! Tests the bytes of a line that is written completely, or up to any failure of the writer.
 use super::printed::{ALL, LEVELS, PLAIN, UNMIRRORED};
 use super::{engine, lay_out};
 use device::ToWrite;

@@ -8,7 +8,7 @@ use store::ParagraphStore;
 // A text, its width, where its lines start, and the paragraph, the line and the offset of each position.
 type Row<'a> = (&'a str, u16, &'a [usize], &'a [[usize; 3]]);
 
-// Returns whether these are the line starts, and the only ones.
+// Returns whether these are all the line starts.
 fn begin_at<S: ParagraphStore<Kept>>(session: &Session<S>, starts: &[usize]) -> bool {
     let mut all = session.line_start(starts.len()).is_none();
     for n in 0..starts.len() {

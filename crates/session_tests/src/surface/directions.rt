@@ -1,4 +1,4 @@
-//! Tests the public calls that write base directions alone.
+//! Tests the public calls that write only base directions.
 
 use super::of_engine;
 
