@@ -27,11 +27,11 @@ pub enum Subject {
     Marks,
 }
 
-/// How many times a paragraph is analysed. The least time counts.
+/// How many times a paragraph is analysed. The minimum time is used.
 pub const RUNS: usize = 5;
 
-/// Prints a line for each kind of paragraph of this length: its least time in nanoseconds, the highest level
-/// or the number of break opportunities, and its name.
+/// Prints a line for each kind of paragraph of this length: its minimum time in nanoseconds, the highest level or the
+/// number of break opportunities, and its name.
 pub fn measure_all(
     rt: &HostRuntime,
     subject: Subject,
@@ -107,7 +107,7 @@ pub fn lay_out(alloc: Global, engine: &mut Engine, text: Vec<char>, width: u16) 
     }
 }
 
-// Prints the least time in nanoseconds, the result of the analysis, and the name.
+// Prints the minimum time in nanoseconds, the result of the analysis, and the name.
 fn measure(
     rt: &HostRuntime,
     subject: Subject,

@@ -11,7 +11,7 @@ use terminal::{Form, Prefix};
 use terminal_options::{Direction, Marks, Settings, Width};
 use ucd::{Tables, Version};
 
-// The width if the terminal's is not known.
+// The width if that of the terminal is not known.
 const USUAL_WIDTH: u16 = 80;
 
 // The folder of a version's installed tables, relative to that of the program.
@@ -53,7 +53,7 @@ pub(crate) fn pattern_of(rt: &HostRuntime, text: &str) -> Result<Regex, End> {
     Regex::new(rt.alloc(), &anchored).map_err(pattern_end)
 }
 
-// Refuses a pattern that is not valid by itself, such as `a)(b`.
+// Refuses a pattern that is valid only inside parentheses, such as `a)(b`.
 fn check_pattern(rt: &HostRuntime, text: &str) -> Result<(), End> {
     let _pattern = Regex::new(rt.alloc(), text).map_err(pattern_end)?;
     Ok(())
@@ -91,7 +91,7 @@ fn width_of(rt: &HostRuntime, width: Width) -> Result<u16, End> {
     }
 }
 
-// Returns the number of columns in `COLUMNS`, or 80 if there is none.
+// Returns the number of columns that `COLUMNS` contains, or 80 if it contains none.
 fn terminal_width(rt: &HostRuntime) -> Result<u16, End> {
     match env::var(rt, "COLUMNS") {
         Ok(columns) => Ok(columns_in(&columns)),

@@ -59,8 +59,8 @@ base_of number =
 abbrev pub direction_of : ℕ → ℕ
 direction_of level = if level == 0 then 272 else 273
 
--- The bracket that a number denotes. The number is the code point of the other bracket of the pair, plus 2^31
--- for an opening bracket. 0 denotes no bracket.
+-- The bracket that a number denotes. The number is the code point of the other bracket of the pair, plus 2^31 for an
+-- opening bracket. The number 0 denotes no bracket.
 abbrev pub bracket_by : ℕ → Option Bracket
 bracket_by number =
     if number == 0 then None

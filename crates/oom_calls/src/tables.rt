@@ -1,4 +1,4 @@
-//! Reading the table files. An allocation failure must not be reported as a faulty line.
+//! Reads the table files. An allocation failure must not be reported as a faulty line.
 use crate::Wrong;
 use lines::{Engine, Options};
 use std::alloc::Global;

@@ -29,8 +29,8 @@ module _ (levels : List ℕ) where
   abbrev pub IsLeftBy : (ℕ → Bool) → ℕ → ℕ → Type 0
   IsLeftBy turns x y = IsKept turns x y ⊎ IsTurned turns x y
 
-  -- Whether L2 puts x to the left of y. Both are reversed together for each level up to the lowest one between
-  -- them, so their order changes if that level is odd.
+  -- Whether L2 puts x to the left of y. Both are reversed together for each level up to the lowest level between them,
+  -- so their order changes if that level is odd.
   abbrev pub IsLeft : ℕ → ℕ → Type 0
   IsLeft = IsLeftBy is_odd
 
@@ -48,12 +48,12 @@ module _ (levels : List ℕ) where
     pub after : IsLeft place next
     pub first : (k : ℕ) → k < length levels → IsLeft place k → k ≢ next → IsLeft next k
 
-  -- the character directly to the right of `place`, or none if all others are to its left
+  -- the character directly to the right of `place`, or none if all other characters are to its left
   abbrev pub IsNext : ℕ → Option ℕ → Type 0
   IsNext place None = (k : ℕ) → k < length levels → k ≢ place → IsLeft k place
   IsNext place (Some next) = IsRightOf place next
 
-  -- Of the characters from `start` on, up to the first one below the level, `first` is the leftmost.
+  -- `first` is the leftmost of the characters from `start` on, up to the first one below the level.
   pub record IsLeftmostOn (level start first : ℕ) : Type 0 where
     pub from : start ≤ first
     pub within : first < length levels
@@ -66,8 +66,8 @@ module _ (levels : List ℕ) where
     pub high : AreAtLeast level first (end - 1)
     pub leftmost : (k : ℕ) → k < end → AreAtLeast level k (end - 1) → k ≢ first → IsLeft first k
 
-  -- The characters from `start` up to `end`, `place` among them, are at the given level or higher, and none of
-  -- the others is to the right of `place`. They include the characters above the level that adjoin `place`.
+  -- The characters from `start` up to `end`, including `place`, are at the given level or higher, and `place` is the
+  -- rightmost of them. They include the characters above the level that adjoin `place`.
   pub record IsPassed (place level start end : ℕ) : Type 0 where
     pub from : start ≤ place
     pub to : place < end

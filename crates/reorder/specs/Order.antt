@@ -22,7 +22,7 @@ module _ (levels : List ℕ) where
   abbrev pub highest : ℕ
   highest = fold max 0 levels
 
-  -- whether a level is odd and occurs in the line, and the lowest such level
+  -- whether a level is odd and occurs in the line; the lowest such level
   abbrev pub has_odd : ℕ → Bool
   has_odd level = is_odd level && list_any (λ other. other == level) levels
 
@@ -65,14 +65,14 @@ module _ (classes : List BidiClass) (levels : List ℕ) where
   abbrev pub precedes_mark : ℕ → Bool
   precedes_mark i = is_mark_at classes (suc i) && (is_odd (slice_index levels i) && (slice_index levels (suc i) == slice_index levels i))
 
-  -- Whether a character is a mark with a base. A mark has a base if the character before it is at the same
-  -- odd level, and is not a mark or has a base too.
+  -- Whether a character is a mark with a base. A mark has a base if the character before it is at the same odd level,
+  -- and is either not a mark or a mark with a base.
   abbrev pub has_base : ℕ → Bool
   has_base zero = false
   has_base (suc i) = precedes_mark i && (not (is_mark_at classes i) || has_base i)
 
--- The logical position of each visual position. L2 puts marks with a base to the left of the base, the last one
--- first. With `reordernsm`, they are to its right, in logical order (L3).
+-- The logical position of each visual position. L2 puts marks to the left of their base, the last mark first. With
+-- `reordernsm`, they are to the right of the base, in logical order (L3).
 unfoldable pub vtol_of : Bool → List BidiClass → List ℕ → List ℕ
 vtol_of reordernsm classes levels = if reordernsm then reverse_with_next (has_base classes levels) [] (order_of levels) else order_of levels
 

@@ -39,9 +39,9 @@ impl<'a> Model for Runs<'a> {
         (start < length r.levels.now) × (begins_run r.levels.now start ≡ true)) };
 }
 
-/// Returns the level runs of a line, from left to right, given its levels after L1. L3 moves characters only
-/// inside runs. The cost of each call of `next` is at most linear in the length of the line, and that of all
-/// calls together in the length times the highest level. Allocates nothing.
+/// Returns the level runs of a line, from left to right, given its levels after L1. L3 moves characters only inside
+/// runs. The cost of each call of `next` is at most linear in the length of the line. The cost of all calls together is
+/// at most linear in the length times the highest level. Allocates nothing.
 pub fn level_runs(levels: &[u8]) -> Runs<'_>
     ensures runs { result ≡ runs_of levels.now }
     ensures are { AreRuns levels.now result }
@@ -78,7 +78,7 @@ impl<'a> Iterator for Runs<'a> {
     }
 }
 
-// Returns where the run directly to the right of another one begins.
+// Returns where the run directly to the right of another run begins.
 fn run_after(levels: &[u8], start: usize, len: usize) -> Option<usize>
     requires start { start < length levels.now }
     requires begins { begins_run levels.now start ≡ true }
@@ -94,7 +94,7 @@ fn run_after(levels: &[u8], start: usize, len: usize) -> Option<usize>
     Some(run_start(levels, place))
 }
 
-// Returns the start of the run that a character is in.
+// Returns the start of the run that contains a character.
 fn run_start(levels: &[u8], place: usize) -> usize
     requires { place < length levels.now }
     ensures { IsStartOf levels.now place result }
@@ -107,8 +107,8 @@ fn run_start(levels: &[u8], place: usize) -> usize
     start
 }
 
-// Returns the character directly to the right of another one. Skips the characters that adjoin it and are to
-// its left, level by level.
+// Returns the character directly to the right of another character. Skips the characters that adjoin the latter and are
+// to its left, level by level.
 fn right_of(levels: &[u8], place: usize) -> Option<usize>
     requires { place < length levels.now }
     ensures { IsNext levels.now place result }
@@ -159,8 +159,8 @@ fn extent_on(levels: &[u8], level: u8, start: usize) -> usize
     end
 }
 
-// Returns the leftmost of the characters from `start` on, up to the first one below an even level. The first
-// one at that level is to the left of those after it.
+// Returns the leftmost of the characters from `start` on, up to the first one below an even level. The first character
+// at that level is to the left of those after it.
 fn leftmost_on(levels: &[u8], level: u8, start: usize) -> usize
     requires start { start < length levels.now }
     requires level { is_odd level ≡ false }
@@ -181,8 +181,8 @@ fn leftmost_on(levels: &[u8], level: u8, start: usize) -> usize
     first
 }
 
-// Returns the leftmost of the characters before `end`, back to the last one below an odd level. The last one
-// at that level is to the left of those before it.
+// Returns the leftmost of the characters before `end`, back to the last one below an odd level. The last character at
+// that level is to the left of those before it.
 fn leftmost_back(levels: &[u8], level: u8, end: usize) -> usize
     requires end { (0 < end) × (end ≤ length levels.now) }
     requires level { is_odd level ≡ true }

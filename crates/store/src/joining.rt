@@ -59,8 +59,8 @@ fn balance<P: Measured>(left: Subtree<P>, node: DetachedNode<P>, right: Subtree<
     node.over(left, right)
 }
 
-// Joins two trees, of which the left one is higher by 2. Makes one rotation, or two if the inner side of the
-// left tree is higher than its outer side.
+// Joins two trees, the left of which is higher by 2. Makes one rotation, or two if the inner side of the left tree is
+// higher than its outer side.
 fn lean_left<P: Measured>(left: Subtree<P>, node: DetachedNode<P>, right: Subtree<P>) -> Subtree<P>
     requires fits { Fits P.Measured (in_order left ++ node ∷ in_order right) }
     requires two_higher { height left ≡ height right + 2 }
@@ -77,7 +77,7 @@ fn lean_left<P: Measured>(left: Subtree<P>, node: DetachedNode<P>, right: Subtre
     lift(outer, top, inner, node, right)
 }
 
-// Joins two trees, of which the right one is higher by 2.
+// Joins two trees, the right of which is higher by 2.
 fn lean_right<P: Measured>(left: Subtree<P>, node: DetachedNode<P>, right: Subtree<P>) -> Subtree<P>
     requires fits { Fits P.Measured (in_order left ++ node ∷ in_order right) }
     requires two_higher { height right ≡ height left + 2 }

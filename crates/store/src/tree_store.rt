@@ -51,8 +51,8 @@ impl<P: Measured> Model for TreeStore<P> {
 }
 
 impl<P: Measured> TreeStore<P> {
-    /// States, as a theorem, a bound on the height: the store has at least as many items as the smallest
-    /// balanced tree of its height. That tree at least doubles in size with every second level.
+    /// States, as a theorem, a bound on the height: the store has at least as many items as the smallest balanced tree
+    /// of its height. The size of that tree at least doubles with every second level.
     pub fn stays_balanced(&self)
         ensures balanced { IsBalanced self.now }
         ensures items { fewest_nodes (height self.now) ≤ length (in_order self.now) }
@@ -92,8 +92,7 @@ impl<P: Measured> TreeStore<P> {
     }
 }
 
-// Moves each item into a node of its own, starting with the last item. If an allocation fails, moves all
-// items back.
+// Moves each item into a new node, starting with the last item. If an allocation fails, moves all items back.
 fn hang<P: Measured>(alloc: Global, items: &mut Vec<P>) -> Result<Vec<DetachedNode<P>>, AllocError>
     ensures ok { IfOk result (λ nodes. nodes.items ≡ reverse items.old.items) }
     ensures left { OnOk result (items.new.items ≡ []) }
@@ -126,8 +125,8 @@ fn take_down<P: Measured>(nodes: Vec<DetachedNode<P>>, items: &mut Vec<P>)
     nodes.destroy_empty();
 }
 
-// Allocates what a replacement needs: capacity for the old items, and a node for each new item. Fails if the
-// total number of kept and new items overflows.
+// Allocates the memory for a replacement: capacity for the old items, and a node for each new item. Fails if the total
+// number of kept and new items overflows.
 fn take_memory<P: Measured>(
     alloc: Global,
     kept: usize,

@@ -5,8 +5,8 @@ use Rattle.std.specs.Prelude.{ℕ, zero, suc, ◌+◌, ◌*◌, ◌/◌, ◌%◌
 abbrev pub begins : ℕ → Bool
 begins byte = nat_lt byte 0x80 || not (nat_lt byte 0xC0)
 
--- The marked bytes among the first n, each combined into one number with the byte after it, which is in the
--- higher bits. The lowest bit of `marks` is the mark of the first byte.
+-- The marked bytes among the first n. Each is combined with the byte after it, which is in the higher bits, into one
+-- number. The lowest bit of `marks` is the mark of the first byte.
 abbrev pub pairs : ℕ → ℕ → List ℕ → List ℕ
 pairs zero marks bytes = []
 pairs (suc n) marks [] = []

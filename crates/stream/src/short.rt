@@ -149,8 +149,8 @@ fn write_marked(bytes: u8x16, marks: usize, out: &mut [char]) -> usize
     write_four(after_12, marks / 4096, out, fourth)
 }
 
-// Writes the characters that begin with the marked ones of the first four bytes to an index of a slice, and
-// returns the index after them. Always writes four characters, so that there is no branch on their number.
+// Writes the characters that begin with the marked bytes among the first four to an index of a slice, and returns the
+// index after them. Always writes four characters, so that there is no branch on their number.
 #[inline(always)]
 fn write_four(bytes: u8x16, marks: usize, out: &mut [char], at: usize) -> usize
     requires marks { marks < 16 }
@@ -170,7 +170,7 @@ fn write_four(bytes: u8x16, marks: usize, out: &mut [char], at: usize) -> usize
     at + marks.count_ones() as usize
 }
 
-// Moves each marked one of the first four bytes, with the byte after it, to a lane of its own.
+// Moves each marked byte among the first four, together with the byte after it, to a separate lane.
 #[inline(always)]
 fn pairs(bytes: u8x16, marks: usize) -> u32x4
     requires { marks < 16 }

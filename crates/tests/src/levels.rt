@@ -112,7 +112,7 @@ fn put_levels_by(
     put_levels_of(resolver, &classes, &brackets, base, levels)
 }
 
-// Returns whether the levels from an index on are the wanted ones.
+// Returns whether the levels from an index on are the expected ones.
 fn are_from(levels: &[u8], place: usize, wanted: &[u8]) -> bool {
     match levels.get(place..) {
         Some(after) => after == wanted,
@@ -167,9 +167,8 @@ fn is_found(
     Ok(by_text & by_lists)
 }
 
-// Returns the list with an unmatched PDF before it. X9 removes the PDF, so the levels after it are those of
-// the list alone. But these levels are found by the full rules, and not by the fast path for a paragraph that
-// is a single sequence.
+// Returns the list with an unmatched PDF before it. X9 removes the PDF, so the levels after it are those of the list
+// alone. But the full rules find these levels, and not the fast path for a paragraph that is a single sequence.
 fn after_pdf(alloc: Global, text: &[char]) -> Result<Vec<char>, AllocError> {
     let mut longer = Vec::new(alloc);
     longer.push('\u{202C}')?;
@@ -328,7 +327,7 @@ fn finds_by(
     Ok(is_base && are_digits(&levels, digits.as_bytes()))
 }
 
-// Returns whether a text has these levels if no resolver is reused.
+// Returns whether a new resolver finds these levels of a text.
 fn resolves_to(
     alloc: Global,
     tables: &Tables,
@@ -431,10 +430,10 @@ const INNER: &[BidiClass] = &[
     BidiClass::ON,
 ];
 
-// In the first two rows, the third character opens a pair that the last one closes. The brackets have the
-// caller's numbers or code points. The next two rows have brackets with different numbers, and a closing
-// bracket before an opening one. The others have a pair around an isolate with a closing bracket, brackets
-// that are not ON, and lists without brackets.
+// In the first two rows, the third character opens a pair that the last character closes. The brackets have the
+// caller's numbers or code points. The next two rows have brackets with different numbers, and a closing bracket before
+// an opening one. The others have a pair around an isolate with a closing bracket, brackets that are not ON, and lists
+// without brackets.
 static LIST_ROWS: [ListRow; 8] = [
     ListRow {
         classes: INNER,

@@ -1,4 +1,4 @@
-//! Tests of tables, levels, scripts, marks, stores and streams, through public calls: a module for each
+//! Tests of tables, levels, scripts, marks, stores and streams, through public calls. There is a module for each
 //! library.
 #![tactic(auto)]
 

@@ -1,4 +1,4 @@
-//! Compares both stores with each other. The tests also pass if any one allocation fails: a failed `replace`
+//! Compares both stores with each other. The tests must also pass if any one allocation fails: a failed `replace`
 //! changes nothing, and is tried again.
 ghost use Rattle.std.specs.Prelude.{◌≡◌, ◌+◌, ◌-◌, ◌^◌, ◌<◌, sum_by};
 
@@ -67,7 +67,7 @@ impl Exchange for Item {
     ghost keeps_utf16 = { λ item lines fits. refl };
 }
 
-// Adds a number to the lines that are exchanged.
+// An exchanger that adds a number to the lines of each part.
 #[derive(Drop)]
 struct Adder {
     more: usize,
@@ -78,7 +78,7 @@ impl Exchanger<Item> for Adder {
 
     ghost use Rattle.std.specs.Prelude.{refl, ℕ};
 
-    // The number that is added. No work is counted.
+    // The number to add. No work is counted.
     ghost Kind = { ℕ };
 
     ghost kind = { λ by. by.more };
@@ -357,7 +357,7 @@ fn replaced<S: ParagraphStore<Item>>(
     replace_again(rt, store, range, first, items(alloc, first, count)?)
 }
 
-// Returns whether both stores have returned equal items, and as many as the range has.
+// Returns whether both stores have returned equal items, as many as there are in the range.
 fn are_replaced(old: &[Item], other: &[Item], (start, end): (usize, usize)) -> bool {
     old == other && Some(old.len()) == end.checked_sub(start)
 }
@@ -501,8 +501,7 @@ fn two_items_take_the_place_of_three(rt: HostRuntime) -> Result<(), Fail> {
     Ok(check_stores(&rt, rt.alloc(), Check::ThreeByTwo)?)
 }
 
-// Returns whether each item has as many lines as its part had, plus seven, and its part has as many as the
-// item had.
+// Returns whether each item has seven more lines than its part had, and the part has as many lines as the item had.
 fn are_exchanged<S: ParagraphStore<Item>>(store: &S, parts: &[usize]) -> bool {
     let mut all_right = parts.len() == store.count();
     for (index, lines) in parts.iter().enumerate() {

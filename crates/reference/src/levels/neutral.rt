@@ -6,7 +6,7 @@ use ucd::BidiClass;
 /// embedding direction. The embedding direction is also sos and eos.
 pub fn resolve_neutral(types: &mut [BidiClass], side: BidiClass) {
     let mut before = side;
-    // The index after the current run of neutrals. It is found once per run.
+    // The index after the current run of neutrals, which is found once per run.
     let mut end = 0;
     for at in 0..types.len() {
         let class = types[at];
@@ -35,7 +35,7 @@ fn is_neutral(class: BidiClass) -> bool {
     )
 }
 
-// Returns the least index from `from` on whose type is not neutral, or the length.
+// Returns the first index from `from` on whose type is not neutral, or the length.
 fn after_neutrals(types: &[BidiClass], from: usize) -> usize {
     for at in from..types.len() {
         if !is_neutral(types[at]) {

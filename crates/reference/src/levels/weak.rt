@@ -110,7 +110,7 @@ pub fn type_or(types: &[BidiClass], at: usize, other: BidiClass) -> BidiClass {
 // W5: a run of European terminators next to a European number becomes European numbers.
 fn w5(types: &mut [BidiClass]) {
     let mut before = BidiClass::ON;
-    // The index after the current run of terminators. It is found once per run.
+    // The index after the current run of terminators, which is found once per run.
     let mut end = 0;
     for at in 0..types.len() {
         let class = types[at];
@@ -129,7 +129,7 @@ fn is_terminator(class: BidiClass) -> bool {
     matches!(class, BidiClass::ET)
 }
 
-// Returns the least index from `from` on that has no terminator, or the length.
+// Returns the first index from `from` on without a terminator, or the length.
 fn after_terminators(types: &[BidiClass], from: usize) -> usize {
     for at in from..types.len() {
         if !is_terminator(types[at]) {

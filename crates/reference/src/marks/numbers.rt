@@ -14,7 +14,7 @@ enum Place {
     End,
 }
 
-/// Whether some bases directly before an index and some bases from it on form a number together.
+/// Whether some bases directly before an index and some bases from the index on together form a number.
 pub fn is_in_number(classes: &[LineClass], place: usize) -> bool {
     for start in 0..place {
         if begins_number(classes, start, place) {

@@ -16,11 +16,11 @@ pub enum Left {
     IsNarrow(Classes),
     /// The last base has none of the classes.
     IsNot(Classes),
-    /// The base before the last one has one of the first classes, and the last base one of the second.
+    /// The base before the last base has one of the first classes, and the last base has one of the second classes.
     IsPair(Classes, Classes),
     /// The last base that is not a space has one of the classes.
     IsSpaced(Classes),
-    /// The character directly before is a ZWJ.
+    /// The character directly before the position is a ZWJ.
     EndsInZwj,
     /// The run of RI that ends here has an odd length.
     IsOddRun,
@@ -84,8 +84,8 @@ fn first_mark(rules: &[Rule], before: &Before, after: &Character) -> Option<Mark
     None
 }
 
-/// The form of LB25: the rule for pairs of bases, or the rule for whole numbers, with the position inside or
-/// outside a number.
+/// The form of LB25: the rule for pairs of bases, or the rule for whole numbers. The latter says whether the position
+/// is inside a number.
 #[derive(Clone, Copy)]
 pub enum Numbers {
     Pairs,
@@ -93,8 +93,8 @@ pub enum Numbers {
     Outside,
 }
 
-/// Returns the mark of the position between the bases `before` and the base that begins with `after`. It is
-/// that of the first rule that applies, or of LB31 if none does.
+/// Returns the mark of the position between the bases `before` and the base that begins with `after`. This is the mark
+/// of the first rule that applies, or of LB31 if no other rule applies.
 pub fn mark_between(before: &Before, after: &Character, numbers: Numbers) -> Mark {
     if let Some(mark) = first_mark(&RULES_BEFORE_NUMBERS, before, after) {
         return mark;

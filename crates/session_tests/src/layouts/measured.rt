@@ -239,7 +239,7 @@ fn lay_out_once(
     engine.lay_out_measured(alloc, text, advances, width).ok()
 }
 
-// Does the same as `lay_out`, and tries again after an allocation failure.
+// Does the same as `lay_out_once`, but tries again after an allocation failure.
 fn lay_out(
     alloc: Global,
     engine: &mut Engine,
