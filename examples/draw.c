@@ -6,9 +6,10 @@
  *
  *     cc -o draw examples/draw.c $(pkg-config --cflags --libs hordguli harfbuzz cairo-ft)
  *
- * HarfBuzz shapes each directional run: it joins letters, places marks and mirrors brackets. So it gets the characters
- * unmirrored and in logical order. A measured session has the advance of each character, in 1/64 pixel, and finds the
- * lines, the caret and the selection. Cairo draws the glyphs. A letter is drawn with the first FONT that has it.
+ * HarfBuzz shapes each directional run: it joins letters, places marks and mirrors brackets. So HarfBuzz receives the
+ * characters unmirrored and in logical order. A measured session has the advance of each character, in 1/64 pixel, and
+ * finds the lines, the caret and the selection. Cairo draws the glyphs. A letter is drawn with the first FONT that has
+ * it.
  *
  * The characters from position FROM up to TO are selected. The caret is after the last of them, or before FROM if there
  * are none. With --list, the program prints what it measures and draws. */
@@ -126,8 +127,8 @@ static hb_buffer_t *shaped(size_t from, size_t to, uint32_t level) {
 }
 
 /* Finds the advances of the characters from `from` up to `to`. The first character of a HarfBuzz cluster has the
- * advance of its glyphs, and the others have 0. A line must not begin inside a cluster, or where HarfBuzz marks a break
- * as unsafe. */
+ * advance of its glyphs, and the others have advance 0. A line must not begin inside a cluster, or where HarfBuzz marks
+ * a break as unsafe. */
 static void find_advances(size_t from, size_t to) {
     for (size_t first = from, end; first < to; first = end) {
         for (end = first + 1; end < to && is_one_part(end - 1, end);) end++;

@@ -2,9 +2,9 @@
  *
  *     cc -o editor examples/editor.c $(pkg-config --cflags --libs hordguli)
  *
- * It knows nothing about directions, line breaks or columns. A session as wide as the window holds the text. Keys edit
- * the session, which says which lines to redraw. It also moves the caret, and finds words, grapheme clusters and the
- * columns of a selection.
+ * The editor knows nothing about directions, line breaks or columns. A session as wide as the window holds the text.
+ * Keys edit the session, which says which lines to redraw. The session also moves the caret, and finds words, grapheme
+ * clusters and the columns of a selection.
  *
  * Keys: arrows, Home and End, Page Up and Page Down, with Ctrl for words and with Shift to select; Backspace, Delete,
  * Ctrl-S (save) and Ctrl-Q (quit). */

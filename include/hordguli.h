@@ -20,8 +20,8 @@
  * UNITS
  *
  * A character is a Unicode scalar value. Positions and lengths are in characters. Lengths of `char` arrays are in
- * bytes. Positions, lines, paragraphs and columns start at 0. Input and output text is UTF-8. It has no NUL
- * terminator, and U+0000 is an ordinary character.
+ * bytes. Positions, lines, paragraphs and columns start at 0. Input and output text is UTF-8, without a NUL terminator.
+ * U+0000 is an ordinary character.
  *
  * PARAGRAPHS AND LINES
  *
@@ -34,8 +34,8 @@
  * on the next line, even if there is only a separator: an emoji family of 6 columns and U+000A are two lines at width
  * 5.
  *
- * The tail of a line is all U+0020, U+000A to U+000D, U+0085, U+2028 and U+2029 at its end. It is not shown. The rest
- * of the line is its shown part, to which HORDGULI_SHOW_SPACES adds spaces from the tail.
+ * The tail of a line is all U+0020, U+000A to U+000D, U+0085, U+2028 and U+2029 at its end. The tail is not shown. The
+ * rest of the line is its shown part, to which HORDGULI_SHOW_SPACES adds spaces from the tail.
  *
  * COLUMNS
  *
@@ -48,7 +48,7 @@
  *
  * A measured session (`hordguli_session_open_measured`) lays out text in any font. Each character has an advance, in a
  * unit that the caller chooses, such as 1/64 pixel. The width of the session, and all columns, spans and widths of its
- * lines, are in this unit. It differs from other sessions as follows:
+ * lines, are in this unit. A measured session differs from other sessions as follows:
  *   - An inserted character has advance 0. All other characters keep their advances, even if paragraphs are joined or
  *     split. `hordguli_set_advances` sets them.
  *   - The advances of a paragraph add up to at most 4,294,967,295. An edit that would exceed this returns
@@ -116,8 +116,8 @@
  *     or by creating or joining a thread. So a worker may lay out a long text and pass its session on, and another
  *     thread may close it. Nothing in the library depends on the thread: it has no global or thread-local variables.
  *   - Do not call the library from a signal handler that can interrupt the library or malloc.
- *   - After `fork`, the child has its own handles. It must not use a handle that another thread was using during the
- *     fork.
+ *   - After `fork`, the child has its own handles. The child must not use a handle that another thread was using during
+ *     the fork.
  *
  * MEMORY
  *
@@ -200,8 +200,8 @@ const char *hordguli_version(void);
  * `hordguli_tables_read` open. */
 const char *hordguli_unicode_version(void);
 
-/* Returns the Unicode version of column widths, grapheme clusters and scripts, such as "18.0". It belongs to the
- * library, and does not depend on the tables.
+/* Returns the Unicode version of column widths, grapheme clusters and scripts, such as "18.0". This version belongs to
+ * the library, and does not depend on the tables.
  * Since: 0.6. */
 const char *hordguli_width_unicode_version(void);
 
@@ -248,9 +248,9 @@ const char *hordguli_width_unicode_version(void);
  * their own stops (see MEASURED TEXT). Since 0.6. */
 #define HORDGULI_TAB_WIDTH(n) ((uint32_t)(n) > 255 ? UINT32_C(1) << 16 : (uint32_t)(n) << 8)
 /* Ends paragraphs at LF, CR and CRLF only, as LSP, Git and most editors end lines: U+001C to U+001E, U+0085 and U+2029
- * have bidi class S (segment separator) where the tables give them B. U+0085 and U+2029 still end lines, not paragraphs,
- * as do VT, FF and U+2028. Each function with `options` or `direction` accepts it. It changes no result of
- * `hordguli_row` and `hordguli_marks`. Since 0.6. */
+ * have bidi class S (segment separator) where the tables give them B. U+0085 and U+2029 still end lines, not
+ * paragraphs, as do VT, FF and U+2028. Each function with `options` or `direction` accepts this option. It does not
+ * change the results of `hordguli_row` and `hordguli_marks`. Since 0.6. */
 #define HORDGULI_LINE_SEPARATORS UINT32_C(0x4000000)
 
 /* ---- Print flags ----
@@ -368,9 +368,10 @@ hordguli_status hordguli_tables_open_builtin(hordguli_tables *tables);
  * Since: 0.6. */
 hordguli_status hordguli_tables_open_builtin_version(hordguli_tables *tables, uint32_t version);
 
-/* Opens tables from a compiled image, such as the file `tables.image` that is installed with the table files. They have
- * the version of the image. `fault` may be NULL, and is set only on TABLE_FAULT. The causes up to HORDGULI_CAUSE_ENTRY
- * are ruled out before any memory is allocated. If memory runs out before a later cause is found, NO_MEMORY is returned.
+/* Opens tables from a compiled image, such as the file `tables.image` that is installed with the table files. The
+ * tables have the version of the image. `fault` may be NULL, and is set only on TABLE_FAULT. The causes up to
+ * HORDGULI_CAUSE_ENTRY are ruled out before any memory is allocated. If memory runs out before a later cause is found,
+ * NO_MEMORY is returned.
  * Errors: NULL, OVERLAP, ALREADY_OPEN, TABLE_FAULT, NO_MEMORY.
  * Cost: O(`length`), plus a pass over the code points of the pages that have separators, brackets or mirrors.
  * Since: 0.6. */
@@ -590,8 +591,8 @@ typedef struct hordguli_counts {
  * Cost: O(1). */
 hordguli_status hordguli_session_counts(hordguli_session *session, hordguli_counts *counts);
 
-/* Work counters, for checking that edits stay incremental. They count characters since the session was opened, and
- * saturate at UINT64_MAX. */
+/* Work counters, for checking that edits stay incremental. The counters count characters since the session was opened,
+ * and saturate at UINT64_MAX. */
 typedef struct hordguli_work {
     uint64_t analysed;  /* levels and break marks computed */
     uint64_t filled;    /* line starts computed */
@@ -644,7 +645,7 @@ typedef struct hordguli_run {
 } hordguli_run;
 
 /* Stores the directional runs of a line's shown part, from left to right, for shaping text: the longest ranges of
- * characters at one level after L1. They do not depend on HORDGULI_REORDER_NSM and HORDGULI_REORDER_CLUSTERS, which
+ * characters at one level after L1. The runs do not depend on HORDGULI_REORDER_NSM and HORDGULI_REORDER_CLUSTERS, which
  * move characters only inside runs. The number of runs is stored in `*count`, and the runs in an array of `capacity`
  * elements. NULL with capacity 0 returns NO_ROOM if there are runs (see BUFFERS). Fails with OUT_OF_RANGE if the line
  * does not exist. To read the characters of a run in logical order:
@@ -660,8 +661,8 @@ hordguli_status hordguli_runs(hordguli_session *session, size_t line, size_t cap
 
 /* Writes `count` lines, starting with line `first`, to a buffer, as UTF-8. NULL with capacity 0 returns NO_ROOM if
  * there is anything to write (see BUFFERS). `print` selects what is written for each line, in the order VISUAL,
- * BASEDIR, LTOV, VTOL, LEVELS. Each of these ends in U+000A. Numbers are decimal, separated by spaces. For example, to
- * write the lines that an edit replaced:
+ * BASEDIR, LTOV, VTOL, LEVELS. Each of these items ends in U+000A. Numbers are decimal, separated by spaces. For
+ * example, to write the lines that an edit replaced:
  *
  *     status = hordguli_lines_utf8(&session, damage.first_line, damage.new_lines,
  *                                  HORDGULI_PRINT_DEFAULT, capacity, buffer, &length);
@@ -751,10 +752,10 @@ hordguli_status hordguli_paragraph(hordguli_session *session, size_t paragraph, 
 /* ---- Carets and edges ----
  *
  * A position has two edges: the leading edge of the character at that position, and the trailing edge of the character
- * before it. Where the direction changes or a line wraps, the two are apart on the screen. An editor keeps one of them
- * as its caret; edits happen at `pos` either way. For example, in a text of `abc `, three Hebrew letters and ` def`,
- * the edge before 4 is at column 7, to the right of the first letter, and the edge after 4 at column 4, to the right of
- * the space.
+ * before it. Where the direction changes or a line wraps, the two are apart on the screen. An editor keeps one of the
+ * two edges as its caret; edits happen at `pos` either way. For example, in a text of `abc `, three Hebrew letters and
+ * ` def`, the edge before 4 is at column 7, to the right of the first letter, and the edge after 4 at column 4, to the
+ * right of the space.
  *
  * A caret moves over one caret unit: a grapheme cluster or, if its characters are in several level runs, the part in
  * one such run. A boundary is a column where a caret unit begins or ends.
@@ -771,8 +772,8 @@ hordguli_status hordguli_paragraph(hordguli_session *session, size_t paragraph, 
  * U+000B, U+000C or U+2028, keep the edge before it. After Delete, also keep the edge before it. The guide has code for
  * all of these.
  *
- * `hordguli_caret_at` and `hordguli_hit_at` are for programs that keep a position. They use only its leading edge, and
- * leave clusters to the caller. */
+ * `hordguli_caret_at` and `hordguli_hit_at` are for programs that keep a position. These functions use only the
+ * position's leading edge, and leave clusters to the caller. */
 
 typedef struct hordguli_place {
     size_t paragraph;
@@ -908,15 +909,15 @@ typedef struct hordguli_edge {
 } hordguli_edge;
 
 /* Stores in `*caret` where to draw the caret at an edge: on the line of the character that the edge belongs to. This is
- * the character at `pos` for HORDGULI_BEFORE, and the one before `pos` for HORDGULI_AFTER.
+ * the character at `pos` for HORDGULI_BEFORE, and the character before `pos` for HORDGULI_AFTER.
  *   - If a caret unit begins (or ends) with that character: at the start (or end) of the unit.
  *   - At another shown character: at its leading edge, which is the left one if its level is even, or its trailing edge.
  *   - At a character that is not shown, and before the end of the text: as in `hordguli_caret_at`.
  *
  * `level` is the level of that character. In the line where a new paragraph would start, an odd `level` means that the
- * caret is at the right edge of the screen. A block cursor covers the cell at `column`, or at an odd level the one to
- * its left; if there is no such cell, the nearest one. Fails with OUT_OF_RANGE if the position is past the end of the
- * text, and for the edge after position 0.
+ * caret is at the right edge of the screen. A block cursor covers the cell at `column`, or at an odd level the cell to
+ * its left. If there is no such cell, it covers the nearest one. Fails with OUT_OF_RANGE if the position is past the
+ * end of the text, and for the edge after position 0.
  *
  * Errors: NULL, OVERLAP, UNKNOWN_OPTION, CLOSED, OUT_OF_RANGE, NO_MEMORY.
  * Cost: as for `hordguli_cluster_at`, plus O(length of the line).
@@ -1026,9 +1027,11 @@ typedef struct hordguli_script_run {
  *   - A character has the script of its property Script, in the Unicode version that `hordguli_width_unicode_version`
  *     returns. A private-use or unassigned character has the script Unknown (`Zzzz`).
  *   - If the property is Common or Inherited, as for a space, a digit or a mark, the character has the script of the
- *     one before it. At the start of the text, it has the first script that follows, or Common (`Zyyy`) if none does.
- *   - But a closing bracket whose property is Common has the script of its opening bracket, if it has one. Brackets are
- *     those of the tables. Of brackets that are nested more than 63 deep, only the innermost 63 are matched.
+ *     character before it. At the start of the text, it has the first script that follows, or Common (`Zyyy`) if none
+ *     does.
+ *   - But a closing bracket whose property is Common has the script of its opening bracket, if it has one. The tables
+ *     determine which characters are brackets. Of brackets that are nested more than 63 deep, only the innermost 63 are
+ *     matched.
  *
  * The property Script_Extensions is not used. The number of runs is stored in `*run_count`, and the runs in an array of
  * `capacity` elements. NULL with capacity 0 returns NO_ROOM, unless `count` is 0 (see BUFFERS). NO_MEMORY comes before
@@ -1043,8 +1046,8 @@ hordguli_status hordguli_script_runs(hordguli_tables *tables, size_t count, cons
 
 /* Puts a row of `count` characters into visual order. The caller chooses where the row starts and ends. `base` is the
  * base level of its paragraph (`hordguli_base`), and `levels` are the levels of the row's characters in the whole
- * paragraph (`hordguli_levels`). `options` can have HORDGULI_REORDER_NSM and HORDGULI_REORDER_CLUSTERS. The clusters
- * are those of these characters alone. Stores `count` elements in each array. Each array has `capacity` elements. NULL
+ * paragraph (`hordguli_levels`). `options` can have HORDGULI_REORDER_NSM and HORDGULI_REORDER_CLUSTERS. Only these
+ * characters determine the clusters. Stores `count` elements in each array. Each array has `capacity` elements. NULL
  * arrays are skipped, so with all arrays NULL any capacity is enough (see BUFFERS). Positions count from the start of
  * the row.
  *   visual      characters in visual order, mirrored (UAX #9, L4)

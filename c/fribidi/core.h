@@ -2,7 +2,7 @@
  *
  * The parameters are named as in the crate, which tests/c/exports checks. An array is a pointer and a length. The
  * pointer is never NULL and is aligned for its type, even if the length is 0. An array that is written does not overlap
- * another one. */
+ * another array. */
 #ifndef HORDGULI_FRIBIDI_CORE_H
 #define HORDGULI_FRIBIDI_CORE_H
 

@@ -30,7 +30,7 @@ static tried block_or_nothing(uint8_t *p) {
 /* malloc may return NULL for 0 bytes, so a zero-sized type gets a block of as many bytes as its alignment. */
 static size_t at_least_one(size_t n, size_t a) { return n == 0 ? a : n; }
 
-/* Tries to get a block for a value of a type.
+/* Tries to allocate a block for a value of a type.
  *
  *     requires size             n is the size of the type
  *     requires align            a is its alignment

@@ -38,7 +38,7 @@ static ptrdiff_t copied(const char *text, uint8_t *buf, size_t length) {
  *
  *     returns    its length; -1 if there is no such argument; -2 if it does not fit, and then buf is full
  *
- * Leaves the bytes of buf after the argument as they are. */
+ * Leaves the bytes of buf after the argument unchanged. */
 ptrdiff_t rattle_arg(size_t i, uint8_t *buf, size_t length) {
     return copied(i < count ? words[i] : NULL, buf, length);
 }
@@ -48,7 +48,7 @@ ptrdiff_t rattle_arg(size_t i, uint8_t *buf, size_t length) {
  *     requires ended    name has 4,096 bytes, and the last one is NUL
  *     returns           the value's length; -1 if there is no such variable; -2 if it does not fit, and then buf is full
  *
- * Leaves the bytes of buf after the value as they are. */
+ * Leaves the bytes of buf after the value unchanged. */
 ptrdiff_t rattle_env(const uint8_t *name, uint8_t *buf, size_t length) {
     return copied(getenv((const char *)name), buf, length);
 }
@@ -57,7 +57,7 @@ ptrdiff_t rattle_env(const uint8_t *name, uint8_t *buf, size_t length) {
  *
  *     returns    its length; -1 if there is no such entry; -2 if it does not fit, and then buf is full
  *
- * Leaves the bytes of buf after the entry as they are. */
+ * Leaves the bytes of buf after the entry unchanged. */
 ptrdiff_t rattle_env_at(size_t i, uint8_t *buf, size_t length) {
     char **entry = environ;
     if (entry == NULL) return -1;

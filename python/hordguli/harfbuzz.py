@@ -149,8 +149,8 @@ class Measure:
     def _split(self, text: str, start: int, end: int) -> list[tuple[int, int, int, str]]:
         """Returns the start, end, font and script of each part of a level run that is shaped on its own."""
         found: list[tuple[int, int, int, str]] = []
-        # Spaces, digits and punctuation have no script. They get the script of the letters before them, or else of
-        # those after them.
+        # Spaces, digits and punctuation have no script. Such characters get the script of the letters before them, or
+        # else of those after them.
         script = next((its for its in map(self._script_of, text[start:end]) if its is not None), _COMMON)
         place, font = start, 0
         while place < end:

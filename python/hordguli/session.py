@@ -275,7 +275,7 @@ class Session:
         # The advances of each paragraph, as arrays of `uint32_t`.
         self._advances: list[bytes] = []
         # The number, the start and the text of the paragraph that the last edit has made, and the length of the whole text. `None` if the
-        # edit has made several paragraphs, or a long one. Most edits are in the same paragraph as the one before.
+        # edit has made several paragraphs, or a long one. Most edits are in the same paragraph as the edit before.
         self._recent: Optional[tuple[int, int, str, int]] = None
         self._measure = measure
         with self._handle.lock:

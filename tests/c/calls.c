@@ -145,7 +145,7 @@ static void unread_file_sets_errno(const char *folder) {
     HOLDS(rmdir(path) == 0 && remove(name) == 0 && rmdir(made) == 0);
 }
 
-/* Whether two tables give all characters the same properties. */
+/* Whether all characters have the same properties in two tables. */
 static int are_equal(hordguli_tables *one, hordguli_tables *other) {
     enum { PART = 2048 };
     static uint32_t characters[PART];
@@ -160,7 +160,7 @@ static int are_equal(hordguli_tables *one, hordguli_tables *other) {
     return 1;
 }
 
-/* The tables of the built-in image, and those of the folder's image, equal those of the files. */
+/* The tables of the built-in image and of the folder's image equal the tables of the files. */
 static void opened_by_images(const char *folder) {
     static unsigned char image[1 << 18];
     char path[200];
@@ -1144,7 +1144,7 @@ static void edges_of_lines(void) {
         IS(hordguli_line_edges(&shown, 1, &found[0], &found[1]), OUT_OF_RANGE);
         IS(hordguli_line_clusters(&shown, 0, 0, NULL, &count), OUT_OF_RANGE);
     }
-    /* RLM alone covers no column */
+    /* a lone RLM covers no column */
     show("\u200f", 0, 80);
     CARET(0, BEFORE, 0, 0, 1);
     CARET(1, AFTER, 0, 0, 1);
@@ -1660,7 +1660,7 @@ static void paragraphs(void) {
 
 /* ---- Without a session ---- */
 
-/* Each direction alone is accepted, also as a number from 0 to 3. Two different directions are refused, and so are
+/* A single direction is accepted, also as a number from 0 to 3. Two different directions are refused, and so are
  * reserved bits. */
 static void directions_are_one_or_refused(void) {
     static const uint32_t directions[] = {HORDGULI_WEAK_LTR, HORDGULI_WEAK_RTL, HORDGULI_LTR, HORDGULI_RTL};

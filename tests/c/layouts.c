@@ -23,7 +23,7 @@ static hordguli_status lay_out(const request *r, size_t capacity, char *buffer, 
     return hordguli_layout(&tables, r->options, r->width, r->print, r->text, r->length, capacity, buffer, written);
 }
 
-/* A random text of at most `most` pieces, of which most are of a few kinds. */
+/* A random text of at most `most` pieces, most of which are of a few kinds. */
 static request random_request(size_t most) {
     static const uint32_t prints[] = {HORDGULI_PRINT_DEFAULT, 1, 2, 16, 0};
     size_t pieces = below(most + 1), kinds = 1 + below(8), length = 0;

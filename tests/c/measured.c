@@ -336,7 +336,7 @@ static uint32_t random_width(void) {
     return found > INT32_MAX ? INT32_MAX : (uint32_t)found;
 }
 
-/* Advances that are equal, 0 at some or all characters, large, or those of glyphs of several characters */
+/* Advances that are equal, 0 at some or all characters, large, or like those of glyphs for several characters */
 static void random_advances(uint32_t *into, size_t count) {
     size_t kind = below(7), equal = below(3 * (size_t)scale);
     for (size_t k = 0; k < count; k++) {
@@ -783,7 +783,7 @@ static void change_both(hordguli_session *plain, hordguli_session *measured) {
     HOLDS(memcmp(&damage, &edited, sizeof damage) == 0);
 }
 
-/* Both print the same, except for tabs and padding. */
+/* Both sessions print the same output, except for tabs and padding. */
 static void prints_are_equal(hordguli_session *plain, hordguli_session *measured) {
     static char pages[2][PRINTED * 8];
     uint32_t print = (uint32_t)below(128);

@@ -11,14 +11,13 @@
  *
  * The last line is `times`, six times in nanoseconds for all texts together, and the number of texts for which shaping
  * gives Pango's advances, before and after the edit. Each time is the minimum of several runs. An edit inserts a letter
- * in the middle and deletes it. The times are those of:
+ * in the middle and deletes it. The times are for:
  *   - two changes of the width here, and in Pango until the lines are known
  *   - an edit here, with advances that are known
  *   - the same, but HarfBuzz first shapes, with Pango's fonts, the text between the spaces around the changed
  *     characters, levels, fonts and scripts
  *   - the same, but HarfBuzz shapes the whole paragraph
- *   - an edit in Pango, which shapes the whole paragraph, until the lines are known
- * The number is that of texts for which shaping gives Pango's advances, before and after the edit. */
+ *   - an edit in Pango, which shapes the whole paragraph, until the lines are known */
 #include "test.h"
 
 #include <pango/pangoft2.h>

@@ -30,8 +30,8 @@ static char cluster_class(uint32_t c) {
     return (c >= 0x202A && c <= 0x202E) || (c >= 0x2066 && c <= 0x2069) ? 'C' : 'O';
 }
 
-/* Returns whether a character continues the grapheme cluster of the one before it. `classes` has the classes of the
- * characters up to and including it. */
+/* Returns whether a character continues the grapheme cluster of the character before it. `classes` has the classes of
+ * the characters up to and including it. */
 static int continues_cluster(const char *classes, size_t k) {
     char last = k == 0 ? 'C' : classes[k - 1], next = classes[k];
     size_t at = k, indicators = 0;

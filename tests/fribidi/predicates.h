@@ -30,7 +30,7 @@ static unsigned first_direction(const input *one, int outside) {
  * direction. */
 static int first_strong_in_isolate(const input *one) { return first_direction(one, 0) != first_direction(one, 1); }
 
-/* P3 gives a level even to a paragraph without strong characters. FriBidi returns the requested weak direction. */
+/* By P3, even a paragraph without strong characters has a level. FriBidi returns the requested weak direction. */
 static int no_strong(const input *one) { return one->base != FRIBIDI_PAR_LTR && one->base != FRIBIDI_PAR_RTL && first_direction(one, 1) == 0; }
 
 /* P1: a separator ends a paragraph. If a list continues after a separator, our library still treats it as one
@@ -106,13 +106,13 @@ static int context_before_run_top(const input *one) { return changes(one, CONTEX
 static int bracket_after_mark(const input *one) { return changes(one, MERGED, 0); }
 static int bracket_after_mark_top(const input *one) { return changes(one, MERGED, 1); }
 
-/* X6a: an override changes the type of each PDI. In FriBidi, an unmatched PDI keeps its type, and so gets the direction of the runs next
- * to it. */
+/* X6a: an override changes the type of each PDI. In FriBidi, an unmatched PDI keeps its type, so its direction comes
+ * from the runs next to it. */
 static int pdi_between_runs(const input *one) { return changes(one, BARE, 0); }
 static int pdi_between_runs_top(const input *one) { return changes(one, BARE, 1); }
 
-/* L1: isolate initiators and PDIs at a line's end get the paragraph level too. FriBidi's fribidi_reorder_line does not
- * reset these, or the spaces before them. */
+/* L1: isolate initiators and PDIs at a line's end are also reset to the paragraph level. FriBidi's fribidi_reorder_line
+ * does not reset these, or the spaces before them. */
 static int isolate_at_end(const input *one) {
     int level = (int)one->resolved & 1, has_isolate = 0;
     for (int k = one->off + one->part - 1; k >= one->off; k--) {

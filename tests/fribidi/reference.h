@@ -7,8 +7,8 @@
  * - LATER: an FSI whose isolate has no strong type takes its direction from a later isolate of its depth.
  * - DEEP: an overflow isolate increases the isolate depth. An isolate whose level is at most 125 is valid even after an overflow.
  * - CONTEXT: the strong type before a pair of brackets is also looked for before the level run.
- * - MERGED: a neutral directly after a neutral's marks is merged with that neutral. It does not count as a bracket, and gets the direction
- *   of a bracket before it.
+ * - MERGED: a neutral directly after a neutral's marks is merged with that neutral. The merged neutral does not count
+ *   as a bracket, and gets the direction of a bracket before it.
  * - BARE: an unmatched PDI keeps its type under an override.
  *
  * A list has no separator except at its end. */
@@ -263,7 +263,7 @@ static FriBidiCharType end_run(sequence *s, FriBidiCharType last, int before, in
     return last;
 }
 
-/* Whether a run directly follows another one. */
+/* Whether a run directly follows another run. */
 static int follows(const input *one, const sequence *s, const sequence *next) { return beside(one, s->at[s->count - 1], 1) == next->at[0]; }
 
 static void resolve_runs(const input *one, const plain *p, int base, int ways, int *levels) {

@@ -1,6 +1,6 @@
-/* Prints a checksum of all that the C library returns for random sessions. tests/rust/src/bin/answers.rs does the same through the Rust
- * crate, with the same pseudorandom numbers, so both must print the same. Usage: answers FIRST COUNT [print], for the sessions with these
- * numbers. With `print`, prints each value too. */
+/* Prints a checksum of all that the C library returns for random sessions. tests/rust/src/bin/answers.rs does the same
+ * through the Rust crate, with the same pseudorandom numbers, so both programs must print the same output. Usage:
+ * answers FIRST COUNT [print], for the sessions with these numbers. With `print`, prints each value too. */
 #include <hordguli.h>
 #include <stdio.h>
 #include <stdlib.h>

@@ -250,7 +250,7 @@ fn write_line<W: Write>(output: &mut W, laid: &Laid) -> Result<()> {
     write_places(output, line.vtol())
 }
 
-// Fills a paragraph again at a width, exchanges its lines for the new ones, and prints where these start.
+// Fills a paragraph again at a width, exchanges its lines for the new ones, and prints where the new lines start.
 fn write_starts<W: Write>(
     alloc: Global,
     engine: &mut Engine,

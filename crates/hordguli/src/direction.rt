@@ -18,7 +18,7 @@ pub(crate) struct Start {
 }
 
 /// Reads a text until its direction is known, and sets it as the base direction of all paragraphs laid out later. After
-/// an error, the direction is that of the text read before it.
+/// an error, uses the direction of the text that was read before the error.
 pub(crate) fn read_start<R: Read>(
     rt: &HostRuntime,
     engine: &mut Engine,

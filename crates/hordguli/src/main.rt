@@ -57,7 +57,7 @@ fn print_refusal(rt: &HostRuntime, refused: &OptionFault) -> io::Result<()> {
     }
 }
 
-// Prints why `clap` refuses the arguments. Its own messages begin with `error:`.
+// Prints why `clap` refuses the arguments. The messages of `clap` begin with `error:`.
 fn print_words(rt: &HostRuntime, refused: &OptionFault) -> io::Result<()> {
     let Ok(text) = format!(in rt.alloc(); "{refused}") else {
         return eprintln!(rt; "{}", End::Memory);

@@ -11,10 +11,10 @@ use terminal::{Form, Prefix};
 use terminal_options::{Direction, Marks, Settings, Width};
 use ucd::{Tables, Version};
 
-// The width if that of the terminal is not known.
+// The width if the terminal's width is not known.
 const USUAL_WIDTH: u16 = 80;
 
-// The folder of a version's installed tables, relative to that of the program.
+// The folder of a version's installed tables, relative to the folder of the program.
 fn folder_of(version: Version) -> &'static str {
     match version {
         Version::V15_0 => "../../share/hordguli/ucd",
@@ -107,7 +107,7 @@ fn columns_in(text: &str) -> u16 {
     }
 }
 
-/// Reads the tables: those of the folder that is given, or else the installed ones.
+/// Reads the tables from the folder that is given, or else the installed tables.
 pub(crate) fn tables_of(rt: &HostRuntime, settings: &Settings<'_>) -> Result<Tables, End> {
     match settings.ucd {
         Some(folder) => in_folder_as(rt, settings.unicode, folder).map_err(table_fault),

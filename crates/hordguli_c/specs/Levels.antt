@@ -31,7 +31,7 @@ CharactersNot numbers status =
     ((¬ All IsScalar numbers) × (status ≡ is.NotACharacter))
     ⊎ (All IsScalar numbers × (status ≡ is.NoMemory) × (0 < length numbers))
 
--- A call on characters succeeds only if all numbers are characters. It may allocate if there is at least one
+-- A call on characters succeeds only if all numbers are characters. The call may allocate if there is at least one
 -- number.
 abbrev pub OfCharacters : List ℕ → Status → Type 0 → Type 0 → Type 0
 OfCharacters characters status unchanged done =

@@ -86,8 +86,8 @@ ShowsRuns line status old new = (status ≡ is.OutOfRange) × (new ≡ old)
 abbrev pub GivesRuns : ℕ → Status → SessionState → List RunOut × ℕ → List RunOut × ℕ → Type 0
 GivesRuns n status state = ShowsRuns (slice_get (lines_in state.kept) n) status
 
--- The bytes of a range of items are stored. They are collected before they are copied, so an allocation may
--- fail before their number is known.
+-- The bytes of a range of items are stored. The bytes are collected before they are copied, so an allocation may fail
+-- before their number is known.
 abbrev pub PutsRange : ℕ → ℕ → ℕ → List ℕ → Status → List ℕ × ℕ → List ℕ × ℕ → Type 0
 PutsRange size first count bytes status old new =
     Given (first + count ≤ size) is.OutOfRange status (new ≡ old)

@@ -1,4 +1,4 @@
--- Rows that a caller broke. The levels of a row are those of its paragraph, before L1. All characters of a row are
+-- Rows that a caller broke. The levels of a row are taken from its paragraph, before L1. All characters of a row are
 -- shown, including those at its end.
 use Rattle.std.specs.Prelude.{◌≡◌, ℕ, ◌<◌, ◌≤◌, ◌⊎◌, ◌&&◌, true, Bool, List, length, map, All}
 use Rattle.std.specs.Char.{IsScalar}
@@ -107,8 +107,8 @@ row_fits wanted len arrays =
     && has_room (has_bit wanted 4) len (length arrays.ltov)
     && has_room (has_bit wanted 8) len (length arrays.vtol)
 
--- A call on a row succeeds only if all numbers are characters, and the base level and all levels are in range. It may
--- allocate if there is at least one character.
+-- A call on a row succeeds only if all numbers are characters, and the base level and all levels are in range. The call
+-- may allocate if there is at least one character.
 abbrev pub OfRow : ℕ → List ℕ → List ℕ → Status → Type 0 → Type 0 → Type 0
 OfRow base text levels status unchanged done =
     Given (All IsScalar text) is.NotACharacter status unchanged

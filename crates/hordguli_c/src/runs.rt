@@ -1,4 +1,4 @@
-//! Directional runs, as they are stored.
+//! Directional runs in the form in which they are stored.
 ghost use Rattle.std.specs.Prelude.{◌≡◌, ◌≤◌, length};
 ghost use Rattle.hordguli_c.specs.Arrays.{put, PutsItems};
 ghost use Rattle.hordguli_c.specs.Runs.{runs_out};

@@ -93,7 +93,7 @@ impl TablesObject {
         &self.tables
     }
 
-    /// Returns the tables, or those in which only LF and CR end paragraphs if `separates` is set.
+    /// Returns the tables or, if `separates` is set, the tables in which only LF and CR end paragraphs.
     pub fn tables_if(&self, separates: bool) -> &Tables
         ensures { result.now ≡ contents_if separates self.now }
     {
@@ -130,8 +130,8 @@ impl TablesObject {
         }
     }
 
-    /// Returns a new engine on the tables, or on those in which only LF and CR end paragraphs if `separates`
-    /// is set. Lends the buffers to it.
+    /// Returns a new engine on the tables or, if `separates` is set, on the tables in which only LF and CR end
+    /// paragraphs. Lends the buffers to it.
     pub fn lend_engine(
         &mut self,
         alloc: Global,

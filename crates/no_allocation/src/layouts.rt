@@ -73,7 +73,7 @@ pub fn of_laid(laid: &Laid) -> u64 {
     mixed_flag(sum, laid.line(laid.line_count()).is_none())
 }
 
-/// Returns a digest of a line, and of what is printed for it.
+/// Returns a digest of a line and of its printed form.
 pub fn of_line(line: &VisualLine<'_>) -> u64 {
     let mut sum = mixed_flag(line.len() as u64, line.is_first());
     sum = mixed(sum, u64::from(line.base()));

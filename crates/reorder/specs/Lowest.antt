@@ -1,5 +1,5 @@
--- Which of two characters L2 puts to the left, determined by the lowest level between them. Only the code
--- uses these definitions.
+-- Which of two characters L2 puts to the left. The lowest level between them determines this. Only the code uses these
+-- definitions.
 use Rattle.std.specs.Prelude.{◌≡◌, ◌≢◌, ℕ, ◌-◌, ◌<◌, ◌≤◌, Bool, true, false, List, length, slice_index, Option, Some, None, ◌⊎◌}
 use Rattle.reorder.specs.Order.{is_odd}
 
@@ -67,7 +67,7 @@ module _ (levels : List ℕ) where
     pub leftmost : (k : ℕ) → k < end → AreAtLeast level k (end - 1) → k ≢ first → IsLeft first k
 
   -- The characters from `start` up to `end`, including `place`, are at the given level or higher, and `place` is the
-  -- rightmost of them. They include the characters above the level that adjoin `place`.
+  -- rightmost of them. The range includes the characters above the level that adjoin `place`.
   pub record IsPassed (place level start end : ℕ) : Type 0 where
     pub from : start ≤ place
     pub to : place < end

@@ -10,8 +10,8 @@ ghost use Rattle.reorder.specs.Runs.{begins_run, run_from, runs_left, runs_of, A
 use crate::order::level_run_len;
 use std::marker::Model;
 
-/// A level run of a line: the `len` characters from position `start` on, in logical order, all at one level.
-/// It is read from left to right if the level is even.
+/// A level run of a line: the `len` characters from position `start` on, in logical order, all at one level. The run is
+/// read from left to right if the level is even.
 #[derive(Clone, Copy, Debug, PartialEq, Eq)]
 pub struct Run {
     pub start: usize,

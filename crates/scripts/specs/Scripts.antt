@@ -41,8 +41,7 @@ open_after (Some bracket) c script openings =
 
 -- ---- scripts
 
--- the script that a character takes from others: from the opening bracket that it closes, or else from the character
--- before it
+-- the script that a character has from another one: the opening bracket that it closes, or else the character before it
 abbrev pub taken_script : Option Bracket → ℕ → Script → List Opening → Script
 taken_script bracket c before openings =
     unwrap_or (option_and_then (λ k. option_map (λ opening. opening.script) (slice_get openings k)) (closed_by bracket c openings)) before

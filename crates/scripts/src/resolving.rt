@@ -79,7 +79,7 @@ fn closed_by(
     }
 }
 
-// Returns the script that a character takes from others, given the script before it.
+// Returns the script that a character has from other characters, given the script before it.
 fn taken_script(
     bracket: Option<Bracket>,
     openings: &HeapCircularBuffer<Opening>,

@@ -16,11 +16,11 @@ characters_of shown = map (λ c. c.0) shown
 abbrev pub ShowsNoControls : Type 0
 ShowsNoControls = (pen : Pen) (text : List ℕ) → list_all remains (characters_of (styled pen text)) ≡ true
 
--- A text without such controls is shown as it is, in the style that it begins in.
+-- A text without such controls is shown unchanged, in the style in which it begins.
 abbrev pub ShowsPlainText : Type 0
 ShowsPlainText = (pen : Pen) (text : List ℕ) → list_all remains text ≡ true → styled pen text ≡ map (λ c. (c, pen.style)) text
 
--- What is shown does not depend on the style that a text begins in.
+-- The characters that a text shows do not depend on the style in which it begins.
 abbrev pub ShowsTheSame : Type 0
 ShowsTheSame = (pen : Pen) (text : List ℕ) → characters_of (styled pen text) ≡ shown_text text
 
@@ -36,6 +36,6 @@ pub record ShowsPieces : Type 0 where
       → pen_at_end pen (piece ++ c ∷ rest) ≡ pen_at_end (pen_at_end pen (piece ++ c ∷ [])) rest
   pub characters : (piece rest : List ℕ) (c : ℕ) → ends_piece c ≡ true → shown_text (piece ++ c ∷ rest) ≡ shown_text (piece ++ c ∷ []) ++ shown_text rest
 
--- Characters in the default style are written as they are.
+-- Characters in the default style are written unchanged.
 abbrev pub WritesPlainText : Type 0
 WritesPlainText = (text : List ℕ) → written (map (λ c. (c, DEFAULT)) text) ≡ text

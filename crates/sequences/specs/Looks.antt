@@ -121,8 +121,8 @@ abbrev pub single : List ℕ → ℕ
 single (n ∷ []) = n
 single fields = 256
 
--- What a parameter does, given those that follow it. In `38;5;n` and `38;2;r;g;b`, the following parameters are the
--- values of the color.
+-- What a parameter does, given the parameters that follow it. In `38;5;n` and `38;2;r;g;b`, the following parameters
+-- are the values of the color.
 abbrev pub changed : Look → List ℕ → List (List ℕ) → Look
 changed look [] following = look
 changed look (n ∷ []) following =

@@ -17,7 +17,7 @@ is_csi_final c = nat_le 0x40 c && nat_le c 0x7E
 abbrev pub is_escape_final : ℕ → Bool
 is_escape_final c = nat_le 0x30 c && nat_le c 0x7E
 
--- The definitions below apply to the text after an introducer. Their lengths do not include the introducer.
+-- The definitions below apply to the text after an introducer. The lengths do not include the introducer.
 
 -- a control sequence: any parameters, any intermediates, and a final character at this index
 abbrev pub csi_end : List ℕ → ℕ

@@ -73,7 +73,7 @@ impl Progress {
     }
 }
 
-/// Returns whether `sequence_len` returns the same for a text whatever follows it.
+/// Returns whether `sequence_len` returns the same result for a text, whatever follows it.
 pub fn is_sequence_known(text: &[char]) -> bool
     ensures { result ≡ knows_sequence text.now }
 {

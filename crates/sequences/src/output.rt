@@ -241,7 +241,7 @@ fn push_link_between(before: &[char], after: &[char], out: &mut Vec<char>) -> Re
 }
 
 #[tactic(auto, unfolding(crate::specs::Output::between))]
-/// Appends what is written between characters with two styles. Lines begin and end in the default style. After a failed
+/// Appends the sequences between characters with two styles. Lines begin and end in the default style. After a failed
 /// allocation, some characters may be missing.
 pub fn push_between(
     before: &StyleRef,

@@ -30,7 +30,7 @@ pub(crate) fn applied(look: Look, parameters: &[char]) -> Look
     look
 }
 
-// Returns the attributes after one parameter, given those that follow it.
+// Returns the attributes after one parameter, given the parameters that follow it.
 fn changed(look: Look, parameter: &[char], following: &[char]) -> Look
     ensures { result ≡ changed look (fields_after parameter.now) (parameters_after following.now) }
 {

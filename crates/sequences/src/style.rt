@@ -25,7 +25,8 @@ pub struct StyleRun {
     pub link: Link,
 }
 
-/// A style: attributes and a link, which is its parameters, a semicolon and its URI, or empty for none.
+/// A style: attributes and a link. The link consists of its parameters, a semicolon and its URI, or is empty if there
+/// is none.
 #[derive(Clone, Copy, Debug)]
 pub struct StyleRef<'a> {
     pub look: Look,

@@ -204,7 +204,7 @@ fn pages(alloc: Global, count: usize) -> Result<Vec<u8>, AllocError> {
     }
 }
 
-// Returns what is printed, if the buffer is large enough.
+// Returns the printed bytes, if the buffer is large enough.
 fn print<'a, S: ParagraphStore<Kept>>(
     session: &Session<S>,
     room: &'a mut [u8],

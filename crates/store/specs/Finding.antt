@@ -48,7 +48,7 @@ pub record IsPlace {P : Type 0} (G : Ghosts P) (unit : Counted) (items : List P)
   pub finds : Finds (measure G unit) G.chars G.lines items n (found_at place)
   pub sums : AreSums G finds.before place.before
 
--- whether a place is that of the item at an index, including all sums of the items before it
+-- whether a place is the start of the item at an index, including all sums of the items before it
 pub record IsItemPlace {P : Type 0} (G : Ghosts P) (items : List P) (index : ℕ) (place : Place) : Type 0 where
   pub index_is : place.index ≡ index
   pub rest : place.rest ≡ 0

@@ -94,8 +94,8 @@ fn lean_right<P: Measured>(left: Subtree<P>, node: DetachedNode<P>, right: Subtr
     lift(left, node, inner, top, outer)
 }
 
-// Makes two rotations. The middle tree is higher by 1 than the trees on both sides of it. Its root becomes
-// the root of the joined tree.
+// Makes two rotations. The middle tree is higher by 1 than the trees on both sides of it. The root of the middle tree
+// becomes the root of the joined tree.
 fn lift<P: Measured>(
     left: Subtree<P>,
     before: DetachedNode<P>,

@@ -89,8 +89,8 @@ module _ (has_file : ℕ → List ℕ → Type 0) (cannot_read : ℕ → Type 0)
     abbrev pub IsInstalledFault : FolderFault → Type 0
     IsInstalledFault = IsInstalledFaultAs V15_0
 
--- The contents of the file system. They are not specified: each file and the image may have any bytes, and reading may
--- fail.
+-- The contents of the file system. The contents are not specified: each file and the image may have any bytes, and
+-- reading may fail.
 abbrev pub any_bytes : ℕ → List ℕ → Type 0
 any_bytes index bytes = ⊤
 

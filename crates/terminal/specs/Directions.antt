@@ -30,8 +30,8 @@ shown_level rules text = first_level rules.tables (paragraphs (cut_by rules) (sh
 abbrev pub base_by : Option ℕ → Base
 base_by level = if unwrap_or level 0 == 1 then Rtl else Ltr
 
--- the base direction of an input: that of the first paragraph with a strong character in what the input's first
--- characters show
+-- the base direction of an input: the direction of the first paragraph with a strong character, among the paragraphs
+-- that the input's first characters show
 abbrev pub direction_of : Rules → Escapes → List ℕ → Base
 direction_of rules escapes bytes = base_by (shown_level rules (take FIRST_CHARACTERS (input_text escapes bytes)))
 

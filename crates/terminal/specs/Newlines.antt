@@ -1,4 +1,4 @@
--- The newline at the end of what is written.
+-- The newline at the end of the output.
 use Rattle.std.specs.Prelude.{◌≡◌, ℕ, ◌-◌, ◌<◌, Bool, true, ◌&&◌, not, List, [], ◌∷◌, ◌++◌, length, take, Option, None, Some, if◌then◌else◌}
 use Rattle.std.specs.Option.{option_map_or}
 use Rattle.ucd.specs.declared.tables.Tables.{Tables}
@@ -25,11 +25,11 @@ without_last bytes = take (length bytes - 1) bytes
 abbrev pub ended_page : Tables → Bool → Option ℕ → List ℕ → List ℕ
 ended_page tables is_last last page = if is_last && not (is_ended tables last) then without_last page else page
 
--- what is written for a text with its sequences
+-- the output for a text with its sequences
 abbrev pub text_output : Rules → Form → Bool → Pen → List ℕ → List ℕ
 text_output rules form is_last pen text = ended_page rules.tables is_last (last_of (shown_text text)) (text_page rules form pen text)
 
--- what is written for an input
+-- the output for an input
 abbrev pub output_page : Rules → Form → Bool → List ℕ → List ℕ
 output_page rules form is_last bytes = text_output rules form is_last START (input_text form.escapes bytes)
 

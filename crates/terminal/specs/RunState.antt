@@ -98,14 +98,14 @@ pub record Gathers (rules : Rules) (form : Form) (bytes : List ℕ) (old new : H
   pub holds : form.strict ≡ true → length new.text.items ≡ 0 → length text ≡ 0
   pub fault_is : fault ≡ fault_after is_long (form.strict && is_bad bytes) new.decoder.decoded
 
--- The bytes before the waiting ones are valid UTF-8. These bytes have these characters, whatever follows.
+-- The bytes before the waiting bytes are valid UTF-8. These bytes have these characters, whatever follows.
 pub record IsValidSoFar (escapes : Escapes) (bytes waiting text : List ℕ) (started : Bool) : Type 0 where
   pub front : List ℕ
   pub whole : bytes ≡ front ++ waiting
   pub utf8 : IsUtf8 front
   pub decoded : (more : List ℕ) → input_text escapes (front ++ more) ≡ text ++ text_after escapes started more
 
--- The bytes so far are the blocks `sent`, a text that is left, and bytes that wait for the next read.
+-- The bytes read so far are the blocks `sent`, the rest of a text, and bytes that wait for the next read.
 pub record IsFed (rules : Rules) (form : Form) (bytes : List ℕ) (sent : List (List ℕ)) (waiting text : List ℕ) (started : Bool) : Type 0 where
   pub decoded : (more : List ℕ) → input_text form.escapes (bytes ++ more) ≡ (concat sent ++ text) ++ text_after form.escapes started (waiting ++ more)
   pub beginning : IsBeginning waiting
@@ -113,7 +113,7 @@ pub record IsFed (rules : Rules) (form : Form) (bytes : List ℕ) (sent : List (
   pub permitted : ArePermitted form sent
   pub valid : form.strict ≡ true → IsValidSoFar form.escapes bytes waiting (concat sent ++ text) started
 
--- What a run did between two states of its source and sink. It wrote the lines of the blocks `sent`.
+-- What a run did between two states of its source and sink. The run wrote the lines of the blocks `sent`.
 pub record IsAt (rules : Rules) (form : Form) (reader_old reader writer_old writer : Device) (waiting text : List ℕ) (started : Bool) (pen : Pen) (written : ℕ) (over : Bool) : Type 0 where
   pub bytes : List ℕ
   pub sent : List (List ℕ)
@@ -144,7 +144,7 @@ Steps rules form is_last reader_old writer_old reader_new writer_new held (Ok tr
 Steps rules form is_last reader_old writer_old reader_new writer_new held (Ok false) = IsRun rules form is_last reader_old reader_new writer_old writer_new (Ok held.output.over)
 Steps rules form is_last reader_old writer_old reader_new writer_new held (Err fault) = IsRun rules form is_last reader_old reader_new writer_old writer_new (Err fault)
 
--- what is written at the end of an input, for each result
+-- the output at the end of an input, for each result
 abbrev pub Finishes : Rules → Form → Bool → Held → Bool → Device → Device → Result (Unit {0}) Fault → Type 0
 Finishes rules form is_last held over old new (Ok done) =
     (form.strict ≡ true → held.decoder.waiting ≡ 0)

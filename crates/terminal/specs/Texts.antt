@@ -56,7 +56,7 @@ next_after zero (c ∷ text) = if is_dropped c then next_after (more_len c text)
 abbrev pub next_character : List ℕ → ℕ
 next_character text = next_after 0 text
 
--- characters with their styles in groups as long as the given ones
+-- characters with their styles, in groups that are as long as the given groups
 abbrev pub regrouped : List (List ℕ) → List (ℕ × Style) → List (List (ℕ × Style))
 regrouped [] shown = []
 regrouped (group ∷ groups) shown = take (length group) shown ∷ regrouped groups (drop (length group) shown)
@@ -76,7 +76,7 @@ module _ (is_cut : ℕ → ℕ → Bool) where
   abbrev pub styled_paragraphs : List (ℕ × Style) → List (List (ℕ × Style))
   styled_paragraphs shown = regrouped (paragraphs is_cut (characters_of shown)) shown
 
--- what each block shows; a block begins in the style in which the one before it ends
+-- what each block shows; a block begins in the style in which the block before it ends
 abbrev pub shown_blocks : Pen → List (List ℕ) → List (List (ℕ × Style))
 shown_blocks pen [] = []
 shown_blocks pen (block ∷ blocks) = styled pen block ∷ shown_blocks (next_paragraph (pen_at_end pen block)) blocks

@@ -14,9 +14,9 @@ joined groups = flat_map (λ group. group) groups
 pub record ShowsWhole : Type 0 where
   -- The blocks of a text make up the text.
   pub whole : (is_cut : ℕ → ℕ → Bool) (text : List ℕ) → concat (blocks is_cut text) ≡ text
-  -- Its blocks show the characters that the whole text shows, whatever style it begins in.
+  -- The blocks show the characters that the whole text shows, whatever style the text begins in.
   pub characters : (is_cut : ℕ → ℕ → Bool) (pen : Pen) (text : List ℕ) → characters_of (joined (shown_blocks pen (blocks is_cut text))) ≡ shown_text text
-  -- The paragraphs of its blocks are those of the characters that the whole text shows.
+  -- The paragraphs of the blocks are those of the characters that the whole text shows.
   pub cuts : (rules : Rules) (pen : Pen) (text : List ℕ)
       → flat_map (λ shown. paragraphs (cut_by rules) (characters_of shown)) (shown_blocks pen (blocks (cut_by rules) text)) ≡ paragraphs (cut_by rules) (shown_text text)
   -- The paragraphs of a block make up what the block shows.

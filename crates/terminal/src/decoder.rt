@@ -17,10 +17,10 @@ use stream::{CHUNK, read_to, zeroed};
 
 /// Reads and decodes chunks.
 pub(crate) struct Decoder {
-    // The chunk read last. Its first `waiting` bytes are the beginning of a character.
+    // The chunk read last. The first `waiting` bytes of the chunk are the beginning of a character.
     chunk: Vec<u8>,
     waiting: usize,
-    // The number of bytes before the waiting ones.
+    // The number of bytes before the waiting bytes.
     pub(crate) decoded: u64,
     // Whether a character has been decoded. The first character is dropped if it is U+FEFF.
     started: bool,
@@ -53,7 +53,7 @@ impl Decoder {
         })
     }
 
-    /// Reads bytes into the chunk, after the waiting ones, and returns their number.
+    /// Reads bytes into the chunk, after the waiting bytes, and returns the number of bytes read.
     pub(crate) fn read<R: Source>(&mut self, reader: &mut R) -> Result<usize, ErrorKind>
         requires { self.old.waiting < vec_len self.old.chunk }
         ensures ok { IfOk result (λ n.

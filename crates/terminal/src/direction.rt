@@ -129,8 +129,9 @@ fn decode_start(escapes: Escapes, bytes: &[u8], text: &mut Vec<char>) -> Result<
     Ok(n)
 }
 
-/// Returns the base direction of a text: that of the first paragraph with a strong character in what its
-/// first 65,536 characters show, or left-to-right if there is none. Decodes its bytes as `run` does.
+/// Returns the base direction of a text: the direction of the first paragraph with a strong character, among the
+/// paragraphs that the text's first 65,536 characters show, or left-to-right if there is none. Decodes its bytes as
+/// `run` does.
 pub fn whole_direction(
     alloc: Global,
     engine: &mut Engine,

@@ -17,13 +17,13 @@ pub enum Escapes {
 }
 
 /// What counts as a prefix at the start of a paragraph. The text after the prefix is laid out as a separate paragraph,
-/// at the remaining width. Its tab stops are counted from its own start.
+/// at the remaining width. The tab stops are counted from the start of this paragraph.
 #[derive(Clone, Copy, Debug)]
 pub enum Prefix<'a> {
     /// There are no prefixes.
     None,
-    /// The quote marks of an email: the longest match of `(> ?)+`. They are repeated on each line, in the direction of
-    /// the text after them: to the right of right-to-left lines.
+    /// The quote marks of an email: the longest match of `(> ?)+`. The marks are repeated on each line, in the
+    /// direction of the text after them: to the right of right-to-left lines.
     Quotes,
     /// The match of a pattern at the start of a paragraph without its separator. The match is left-to-right and to the
     /// left of all lines. Lines after the first are indented by as many spaces as the match has columns. A match that
@@ -79,7 +79,7 @@ impl<'a> Form<'a> {
         }
     }
 
-    /// Returns what is printed.
+    /// Returns the print options.
     pub(crate) fn print(&self) -> Print
         ensures { result ≡ print_of self.now }
     {

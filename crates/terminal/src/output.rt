@@ -57,7 +57,7 @@ pub(crate) struct Left {
     pub(crate) start: usize,
     /// The number of characters of the rest after which no block ends, whatever follows the text.
     pub(crate) scanned: usize,
-    /// If a CR is next, how far the text after it was scanned.
+    /// If the next character is a CR, how far the text after it was scanned.
     pub(crate) passed: Passed,
     /// Whether the first block of the rest is too long. In that case, `scanned` does not matter.
     pub(crate) is_long: bool,

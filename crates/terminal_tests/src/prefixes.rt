@@ -1,4 +1,4 @@
-//! Tests of prefixes and of text without a width: each row is a text and what is written for it.
+//! Tests of prefixes and of text without a width: each row is a text and its output.
 use crate::texts::{engine, form, is_written_as};
 use lines::Engine;
 use regex::Regex;

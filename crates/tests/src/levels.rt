@@ -1,5 +1,4 @@
-//! Tests that the levels of short lists equal those of the reference implementation, and worked examples of
-//! levels.
+//! Tests worked examples of levels, and that the levels of short lists equal those of the reference implementation.
 ghost use Rattle.std.specs.Prelude.{◌≡◌, map, IfOk};
 ghost use Rattle.ucd.specs.Properties.{properties_of};
 
@@ -41,7 +40,7 @@ pub fn properties_of(
     text.iter().map(|c| tables.properties(*c)).collect(alloc)
 }
 
-// Replaces `levels` with the levels of a list, and returns whether the base level is that of `base_level`.
+// Replaces `levels` with the levels of a list, and returns whether `base_level` returns the same base level.
 fn put_levels(
     alloc: Global,
     resolver: &mut Resolver,
@@ -81,8 +80,8 @@ fn brackets_of(
     text.iter().map(|c| bracket_type(tables, *c)).collect(alloc)
 }
 
-// Replaces `levels` with the levels for classes and bracket types, and returns whether the base level is that
-// of `base_level_of`.
+// Replaces `levels` with the levels for classes and bracket types, and returns whether `base_level_of` returns the same
+// base level.
 fn put_levels_of(
     resolver: &mut Resolver,
     classes: &[BidiClass],
@@ -97,8 +96,8 @@ fn put_levels_of(
     Ok(level == base_level_of(classes, base))
 }
 
-// Replaces `levels` with the levels for the classes and bracket types of a text, and returns whether the base
-// level is that of `base_level_of`.
+// Replaces `levels` with the levels for the classes and bracket types of a text, and returns whether `base_level_of`
+// returns the same base level.
 fn put_levels_by(
     alloc: Global,
     resolver: &mut Resolver,
@@ -265,7 +264,7 @@ struct Row {
     levels: &'static str,
 }
 
-// Paragraphs, some of which are a single sequence. Long and short ones alternate.
+// Paragraphs, some of which are a single sequence. Long and short paragraphs alternate.
 static ROWS: [Row; 6] = [
     Row {
         text: "a\u{202B}b\u{202C}c",

@@ -24,7 +24,7 @@ fn marks_of(
     }
 }
 
-// Returns whether the marks are those that the annex's symbols denote.
+// Returns whether the marks are the ones that the annex's symbols denote.
 fn are_signs(marks: &[Mark], signs: &str) -> bool {
     let mut all_right = marks.len() == signs.chars().count();
     for (mark, sign) in marks.iter().zip(signs.chars()) {
@@ -246,8 +246,8 @@ fn read_all(
     Ok(())
 }
 
-// Returns whether the marks of the text are those of the reference implementation, both without whole numbers
-// and with them.
+// Returns whether the marks of the text equal those of the reference implementation, both without and with whole
+// numbers.
 fn agrees(tables: &Tables, kept: &mut Kept) -> Result<bool, AllocError> {
     read_all(tables, &kept.text, &mut kept.properties)?;
     Ok(agrees_where(tables, false, kept)? && agrees_where(tables, true, kept)?)

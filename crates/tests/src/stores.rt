@@ -523,7 +523,7 @@ fn numbers(alloc: Global) -> Result<Vec<usize>, AllocError> {
     Ok(numbers)
 }
 
-// Returns whether the returned parts are those of the first exchange, each plus seven.
+// Returns whether each returned part is seven more than the corresponding part of the first exchange.
 fn are_back(parts: &[usize]) -> bool {
     let mut all_right = true;
     for (index, lines) in parts.iter().enumerate() {

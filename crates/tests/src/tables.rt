@@ -127,7 +127,7 @@ fn looked_up(tables: &Tables, c: char) -> Row {
     )
 }
 
-// Returns whether a character's properties are those of its row.
+// Returns whether a character has the properties of its row.
 fn are_of(properties: Properties, row: &Row) -> bool {
     let are = [
         properties.is_wide(),
@@ -162,7 +162,7 @@ fn names_give_their_classes_and_other_names_none(rt: HostRuntime) {
     assert!(rt; Line::from_name(b"NSM") == None);
 }
 
-// Returns files of which only one has lines.
+// Returns seven files, only one of which has lines.
 fn only(file: usize, lines: &[u8]) -> UcdFiles<'_> {
     let mut files = EMPTY;
     match file {

@@ -47,7 +47,7 @@ fn push_line(text: &StyledText, out: &mut Vec<char>) -> Result<(), AllocError> {
     push_between(&before, &plain, out)
 }
 
-// Returns how the characters that a text shows are written.
+// Returns the bytes that are written for the characters that a text shows.
 fn rewritten(alloc: Global, text: &[char]) -> Result<Vec<char>, AllocError> {
     let mut scanner = Scanner::new(alloc);
     scanner.push_text(text)?;

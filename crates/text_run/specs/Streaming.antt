@@ -128,7 +128,7 @@ pub record StopsAfter (rules : Rules) (print : Print) (held : Held) (reader_old 
   pub left : IsOpen (cut_by rules) rest
   pub counts : Prints (length (concat pars)) print engine_old engine_new
 
--- what is written at the end of a text, for each result of the run
+-- the output at the end of a text, for each result of the run
 abbrev pub Finishes : Rules → ℕ → Print → Held → Device → Device → Result (Unit {0}) RunFault → Type 0
 Finishes rules width print held old new (Ok done) = (held.waiting ≡ 0) × Wrote (last_lines rules width print held) old new
 Finishes rules width print held old new (Err (f.NotUtf8 n)) = (0 < held.waiting) × (n ≡ held.decoded) × (new ≡ old)
@@ -137,8 +137,8 @@ Finishes rules width print held old new (Err (f.Write n)) =
 Finishes rules width print held old new (Err f.Memory) = (held.waiting ≡ 0) × (0 < length held.text.items) × (prints_some print ≡ true) × (new ≡ old)
 Finishes rules width print held old new (Err fault) = ⊥
 
--- What a run did between two states of its source and sink. It decoded the bytes that it read, except for the last
--- ones, `waiting`. It wrote the lines of the paragraphs `sent`. It holds the lines of `gathered`, and `text`, the
+-- What a run did between two states of its source and sink. The run decoded the bytes that it read, except for the last
+-- ones, `waiting`, and wrote the lines of the paragraphs `sent`. The run holds the lines of `gathered`, and `text`, the
 -- characters after the last paragraph boundary.
 pub record IsAt (rules : Rules) (width : ℕ) (print : Print) (reader_old reader_new writer_old writer_new : Device) (waiting text lines : List ℕ) : Type 0 where
   pub decoded : List ℕ

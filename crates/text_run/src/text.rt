@@ -32,7 +32,7 @@ use stream::{CHUNK, Page, front, read_to, zeroed};
 
 /// What a run keeps between two reads.
 struct Held {
-    // The chunk read last. Its first `waiting` bytes are the beginning of a character.
+    // The chunk read last. The first `waiting` bytes of the chunk are the beginning of a character.
     chunk: Vec<u8>,
     waiting: usize,
     // The number of bytes decoded before the waiting bytes.
@@ -84,8 +84,8 @@ impl Held {
         read_to(reader, &mut self.chunk, self.waiting)
     }
 
-    // Decodes the waiting bytes and `len` more bytes. Adds to the page the lines of the paragraphs whose end
-    // is then known. Returns what is wrong with the text, if anything.
+    // Decodes the waiting bytes and `len` more bytes. Adds to the page the lines of the paragraphs whose end is then
+    // known. Returns the fault of the text, if there is one.
     //
     // Allocates only if a character is decoded and no paragraph is too long. If some of the bytes are not
     // UTF-8, allocates only if a paragraph ends before them.

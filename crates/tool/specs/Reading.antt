@@ -192,8 +192,7 @@ pub record IsAt (rules : Rules) (options : ScriptOptions) (start : SessionState)
   pub ahead : length reading.line.items + length waiting ≤ LINE_LIMIT + CHUNK
   pub short : length reading.line.items ≤ LINE_LIMIT
 
--- An allocation failed for the line after those that were executed. This line ends in the waiting bytes or continues in
--- them.
+-- An allocation failed for the line after the executed lines. This line ends in the waiting bytes or continues in them.
 pub record WantsIn (rules : Rules) (options : ScriptOptions) (start : SessionState)
     (reader_old reader writer_old writer : Device) (state : SessionState) (reading : Reading) : Type 0 where
   pub state_before : SessionState

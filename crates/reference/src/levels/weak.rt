@@ -12,7 +12,7 @@ pub fn resolve_weak(types: &mut [BidiClass], sos: BidiClass) {
     w7(types, sos);
 }
 
-// W1: NSM gets the type of the character before it.
+// W1: an NSM becomes the type of the character before it.
 fn w1(types: &mut [BidiClass], sos: BidiClass) {
     let mut before = sos;
     for slot in types.iter_mut() {

@@ -128,7 +128,7 @@ static POINT_ROWS: [Row; 1] = [(
     &[2, 0, 1],
 )];
 
-// A paragraph, a width, what is printed, and the bytes.
+// A paragraph, a width, the print options, and the printed bytes.
 static PRINTED: [(&str, u16, Print, &str); 3] = [
     (
         "\u{5D0}\u{300}(\u{5D1}",

@@ -46,8 +46,8 @@ const DIRECTION: Print = Print {
     ..NOTHING
 };
 
-// A paragraph, a width, what is printed, and the bytes. Shorter paragraphs follow longer ones, and reuse
-// their lists.
+// A paragraph, a width, the print options, and the printed bytes. Shorter paragraphs follow longer paragraphs, and
+// reuse their lists.
 static ROWS: [(&str, u16, Print, &str); 10] = [
     ("abcdefgh ij kl", 3, PLAIN, "abc\ndef\ngh\nij\nkl\n"),
     (

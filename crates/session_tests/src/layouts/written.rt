@@ -29,7 +29,7 @@ fn writes(line: &VisualLine<'_>, width: u32, print: &Print, bytes: &[u8]) -> boo
     all_right
 }
 
-// A width, what is printed, and the bytes of the line.
+// A width, the print options, and the bytes of the line.
 static ROWS: [(u32, Print, &str); 5] = [
     (4, PLAIN, "12)\u{5D0}\n"),
     (7, PLAIN, "   12)\u{5D0}\n"),

@@ -19,7 +19,7 @@ type CaretRow<'a> = (&'a str, u16, Row, Option<(usize, usize, u8)>);
 
 const MIXED: &str = "abc \u{5d0}\u{5d1}\u{5d2} def";
 
-// A right-to-left family of two. It is after RLO, since emoji have class L in the test tables.
+// A right-to-left family of two. The text begins with RLO, since emoji have class L in the test tables.
 const FAMILY: &str = "\u{202e}\u{1f468}\u{200d}\u{1f469}";
 
 static CARETS: [CaretRow<'_>; 15] = [

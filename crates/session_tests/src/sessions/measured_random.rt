@@ -132,7 +132,7 @@ impl Reference {
         by_break.or(by_cluster).or(least).unwrap_or((end, shown))
     }
 
-    // Returns whether the lines of a session are those of the text.
+    // Returns whether a session has the lines of the text.
     fn has_lines(&self, session: &Session<TreeStore<Kept>>) -> bool {
         let (mut n, mut first) = (0usize, 0usize);
         let mut all = true;

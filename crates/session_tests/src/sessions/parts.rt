@@ -20,7 +20,7 @@ const SHOWN: Print = Print {
     nomirror: false,
 };
 
-// The first line and the number of lines; what is printed for them, if they exist.
+// The first line and the number of lines; the output for these lines, if they exist.
 type Lines<'a> = (usize, usize, Option<&'a str>);
 
 pub(super) static LINES: [Lines<'_>; 8] = [

@@ -210,7 +210,7 @@ fn each_edit_returns_its_damage_and_changes_the_text(rt: HostRuntime) -> Result<
     check_in_tree(&rt, rt.alloc(), Check::Rows)
 }
 
-// An edit, the lines of its damage, and what is printed after it.
+// An edit, the lines of its damage, and the output after the edit.
 type Step<'a> = (Edit<'a>, Result<[usize; 3], EditFault>, &'a str);
 
 // The options that print visual lines, with their levels (`LEVELS`) or without (`SHOWN`).
