@@ -50,7 +50,7 @@ static size_t times(size_t count, size_t size) { return count > SIZE_MAX / size 
 #define OR(pointer, other) ((pointer) == NULL ? &(other) : (pointer))
 #define LENGTH(pointer, count) ((pointer) == NULL ? 0 : (count))
 
-/* Used instead of NULL if there are no characters or advances. */
+/* An array to pass instead of NULL if there are no characters or advances. */
 static const uint32_t no_numbers[1] = {0};
 #define NUMBERS(pointer) ((pointer) == NULL ? no_numbers : (pointer))
 

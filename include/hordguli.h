@@ -114,7 +114,8 @@
  *     is never written, and an atomic reference count.
  *   - The same handle may be used in different threads, one after another. Hand it over with a lock, through a queue,
  *     or by creating or joining a thread. So a worker may lay out a long text and pass its session on, and another
- *     thread may close it. Nothing in the library depends on the thread: it has no global or thread-local variables.
+ *     thread may close the session. Nothing in the library depends on the thread: it has no global or thread-local
+ *     variables.
  *   - Do not call the library from a signal handler that can interrupt the library or malloc.
  *   - After `fork`, the child has its own handles. The child must not use a handle that another thread was using during
  *     the fork.
@@ -211,8 +212,8 @@ const char *hordguli_width_unicode_version(void);
  * are refused with UNKNOWN_OPTION. Without a direction, HORDGULI_WEAK_LTR applies. `hordguli_row` and `hordguli_marks`
  * accept no direction.
  *
- * Bits 0 and 1 are the direction. Bit 24 states that bit 0 is 0, and bit 25 that bit 1 is 0. Both may be left out, so
- * the numbers 0 to 3 are directions too. Bits 16 to 23 are reserved. */
+ * Bits 0 and 1 are the direction. Bit 24 states that bit 0 is 0, and bit 25 that bit 1 is 0. Bits 24 and 25 may be left
+ * out, so the numbers 0 to 3 are directions too. Bits 16 to 23 are reserved. */
 
 /* The direction of a paragraph's first strong character, or LTR if there is none. */
 #define HORDGULI_WEAK_LTR UINT32_C(0x3000000)
@@ -551,11 +552,11 @@ typedef struct hordguli_changed {
 } hordguli_changed;
 
 /* Stores in `*changed` which lines changed in the last successful call that edited the text, set the width or set
- * advances. These are the lines of its damage, which names whole paragraphs, less the longest run of unchanged lines at
- * the start and then the longest such run at the end. An unchanged line has the same characters, levels, maps, columns,
- * advances, base level and length as before, and is the first line of its paragraph only if it was before. The padding,
- * which depends on the width, is not compared: RTL lines move when the width changes, so draw all of them then. After
- * the session is opened, all lines count as changed. A failed call does not change the result.
+ * advances. These are the lines of the call's damage, which names whole paragraphs, less the longest run of unchanged
+ * lines at the start and then the longest such run at the end. An unchanged line has the same characters, levels, maps,
+ * columns, advances, base level and length as before, and is the first line of its paragraph only if it was before. The
+ * padding, which depends on the width, is not compared: RTL lines move when the width changes, so draw all of them
+ * then. After the session is opened, all lines count as changed. A failed call does not change the result.
  * Errors: NULL, OVERLAP, CLOSED.
  * Cost: O(1).
  * Since: 0.6. */
@@ -802,8 +803,8 @@ typedef struct hordguli_caret {
  *   - Before a shown character: at its left edge if its level is even, else at its right edge. At an odd level, with
  *     HORDGULI_REORDER_CLUSTERS or HORDGULI_REORDER_NSM, that can be inside its cluster; `hordguli_edge_caret` stores the
  *     end of the cluster.
- *   - Before a character that is not shown, and at the end of the text: at the end of the line. That is right of all
- *     columns in an LTR paragraph, and column 0 in an RTL one.
+ *   - Before a character that is not shown, and at the end of the text: at the end of the line. The end is right of all
+ *     columns in an LTR paragraph, and column 0 in an RTL paragraph.
  *   - At the start of a paragraph that does not exist yet (see `hordguli_place_of`): at column 0. `level` is then the
  *     base level of an empty paragraph. If it is odd, draw the caret at the right edge of the screen.
  *
@@ -850,9 +851,9 @@ typedef struct hordguli_cluster {
  * cluster ends regardless of context. At worst, as among flags, these are all characters of the paragraph. */
 hordguli_status hordguli_cluster_at(hordguli_session *session, size_t pos, hordguli_cluster *cluster);
 
-/* The characters from `start` up to but not including `end`. `kind` is 1 if any of them is alphabetic or numeric, such as
- * a letter, a digit, a vowel sign (U+05B8) or a fraction (U+00BD). Else it is 0, as for spaces and punctuation. `zero`
- * is 0. */
+/* The characters from `start` up to but not including `end`. `kind` is 1 if any of them is alphabetic or numeric, such
+ * as a letter, a digit, a vowel sign (U+05B8) or a fraction (U+00BD). Else `kind` is 0, as for spaces and punctuation.
+ * `zero` is 0. */
 typedef struct hordguli_word {
     size_t start;
     size_t end;
@@ -981,8 +982,8 @@ hordguli_status hordguli_nearest_edge(hordguli_session *session, size_t line, si
  *   - else before the first space that is not shown;
  *   - else after the last character of the line.
  *
- * In the line where a new paragraph would start, both are before the end of the text. Fails with OUT_OF_RANGE for later
- * lines.
+ * In the line where a new paragraph would start, both edges are before the end of the text. Fails with OUT_OF_RANGE for
+ * later lines.
  * Errors: NULL, OVERLAP, CLOSED, OUT_OF_RANGE.
  * Cost: O(log n).
  * Since: 0.6. */
@@ -1013,7 +1014,7 @@ hordguli_status hordguli_clusters(size_t count, const uint32_t *characters, size
                                   size_t *cluster_count);
 
 /* The `length` characters of a text from position `start` on, all of one script. `script` has the four letters of its
- * code (ISO 15924), the first one in the highest byte, such as 0x4C61746E for `Latn`. This is the value of an
+ * code (ISO 15924), with the first letter in the highest byte, such as 0x4C61746E for `Latn`. This is the value of an
  * `hb_script_t` of HarfBuzz. */
 typedef struct hordguli_script_run {
     size_t start;
@@ -1027,8 +1028,8 @@ typedef struct hordguli_script_run {
  *   - A character has the script of its property Script, in the Unicode version that `hordguli_width_unicode_version`
  *     returns. A private-use or unassigned character has the script Unknown (`Zzzz`).
  *   - If the property is Common or Inherited, as for a space, a digit or a mark, the character has the script of the
- *     character before it. At the start of the text, it has the first script that follows, or Common (`Zyyy`) if none
- *     does.
+ *     character before it. At the start of the text, such a character has the first script that follows, or Common
+ *     (`Zyyy`) if none does.
  *   - But a closing bracket whose property is Common has the script of its opening bracket, if it has one. The tables
  *     determine which characters are brackets. Of brackets that are nested more than 63 deep, only the innermost 63 are
  *     matched.

@@ -267,7 +267,7 @@ class Session:
 
     def _start_measuring(self, text: str, measure: Measure, options: Options, tables: Optional[Tables]) -> None:
         # This session finds the levels and the paragraph boundaries of a text, even if the tables are closed in the
-        # meantime. Between edits, it has the last text, if that is short.
+        # meantime. Between edits, the session has the last text, if that text is short.
         self._sample = Session("", _MOST_COLUMNS, flags(Options, options, "options") | Options.NOBREAK, tables=tables)
         self._sample_length: Optional[int] = 0  # (`None` if it is not known)
         # While these tables are open, finding the levels of a short paragraph with them takes half as long as with `_sample`.

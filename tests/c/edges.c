@@ -128,7 +128,7 @@ static void units_tile_lines(void) {
 
 /* ---- Shown spaces ---- */
 
-/* Compares the lines with those of a session without HORDGULI_SHOW_SPACES. Both sessions' lines start at the same
+/* Compares the lines with those of a session without HORDGULI_SHOW_SPACES. The lines of both sessions start at the same
  * positions. Each shown part has, in addition, as many of the spaces that follow it as fit. All spaces of Unicode's
  * tables are U+0020. */
 static void shown_spaces_are_right(uint32_t width) {

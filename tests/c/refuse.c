@@ -228,8 +228,8 @@ int main(int count, char **words) {
             HOLDS(status == HORDGULI_OK || status == HORDGULI_NO_MEMORY);
             if (status == HORDGULI_OK) continue;
             refusals++;
-            /* the tables and the sessions keep the buffers that they lay text out in, and sessions the lists of the last
-             * replaced paragraph until the next edit */
+            /* the tables and the sessions keep their layout buffers, and a session keeps the lists of the last replaced
+             * paragraph until the next edit */
             HOLDS(asked >= refused_at
                   && (live == held || (keeps_buffers(k) && live > held) || (frees_buffers(k) && live < held)));
             HOLDS(memcmp(&damage, &no_damage, sizeof damage) == 0 && found_base == 77);

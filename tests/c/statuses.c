@@ -1420,8 +1420,8 @@ static hordguli_status status_of(const char *item) {
 
 static const char session_text[] = "abc \u05d0\u05d1\u05d2\n(\u05d0) 12\nx y";
 
-/* The contents of the session: its text, lines, counts and work counters. Also the counts and work counters of the
- * long session. */
+/* The contents of the session: its text, lines, counts and work counters. The contents include the counts and work
+ * counters of the long session. */
 typedef struct content {
     char bytes[200];
     hordguli_counts counts, long_counts;

@@ -78,8 +78,9 @@ static unsigned met(int call, const input *one) {
 
 /* ---- Random lists ---- */
 
-/* Returns the index of the first separator inside an open isolate, or -1. FriBidi writes to freed memory for lists with such a
- * separator, so they are not passed to it. Neither are lists that nest too deeply, for which it may end the program. */
+/* Returns the index of the first separator inside an open isolate, or -1. FriBidi writes to freed memory for lists with
+ * such a separator, so these lists are not passed to FriBidi. Lists that nest too deeply are not passed either, because
+ * FriBidi may end the program. */
 static int open_at_separator(const input *one) {
     for (int k = 0, open = 0; k < one->length; k++) {
         if (one->types[k] == FRIBIDI_TYPE_BS && open > 0) return k;

@@ -204,7 +204,7 @@ static void offset_answers(size_t offset) {
     }
 }
 
-/* Adds a part of the text, and the bytes that some lines print, to the checksum. */
+/* Adds to the checksum a part of the text, and the bytes that some lines print. */
 static void text_answers(void) {
     static char bytes[BYTES];
     static uint32_t characters[MOST];
@@ -218,7 +218,7 @@ static void text_answers(void) {
     if (succeeds("lines_utf8", hordguli_lines_utf8(&session, first, lines, print, BYTES, bytes, &length))) tell_bytes("byte", bytes, length);
 }
 
-/* Adds what the calls without a session return for a text to the checksum. */
+/* Adds to the checksum what the calls without a session return for a text. */
 static void row_answers(hordguli_tables *chosen, uint32_t options, uint32_t direction, const uint32_t *characters, size_t count) {
     static uint32_t visual[MOST], ltov[MOST], vtol[MOST];
     static uint8_t levels[MOST], row_levels[MOST], marks[MOST];

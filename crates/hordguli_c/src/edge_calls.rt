@@ -245,7 +245,7 @@ pub struct SpanOut {
 fn span_count(line: &VisualLine<'_>, from: usize, to: usize) -> usize
     ensures { result ≡ length (spans_out line.now from to) }
 {
-    // There are no more spans than columns, and the contract of `columns_left` bounds the number of columns.
+    // The number of spans is at most the number of columns, which the contract of `columns_left` bounds.
     let _columns = line.columns_left(line.vtol().len());
     let mut count = 0;
     for _span in line.spans(from, to) {

@@ -20,7 +20,7 @@ pub struct RunOut {
 fn run_count(levels: &[u8]) -> usize
     ensures { result ≡ length (runs_out levels.now) }
 {
-    // There are no more runs than characters, and a slice's length is bounded.
+    // The number of runs is at most the number of characters, which is bounded as a slice's length.
     let _len = levels.len();
     let mut count = 0;
     for _run in level_runs(levels) {

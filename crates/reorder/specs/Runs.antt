@@ -48,8 +48,9 @@ module _ (levels : List ℕ) where
     pub before : 0 < run.start → slice_index levels (run.start - 1) ≢ run.level
     pub after : run.start + run.len < length levels → slice_index levels (run.start + run.len) ≢ run.level
 
-  -- Whether runs are those of the line from left to right: each is maximal, each character is in exactly one, and their
-  -- characters, one run after the other, are in visual order. So sums over all characters equal sums over the runs.
+  -- Whether runs are the runs of the line from left to right: each run is maximal, each character is in exactly one
+  -- run, and the runs' characters, one run after the other, are in visual order. So sums over all characters equal sums
+  -- over the runs.
   pub record AreRuns (runs : List Run) : Type 0 where
     pub maximal : All IsMaximal runs
     pub once : (place : ℕ) → place < length levels → count_by (has_place place) runs ≡ 1

@@ -61,8 +61,8 @@ after_sequence pen (c ∷ text) =
 abbrev pub struck_style : Pen → ℕ → List ℕ → Style
 struck_style pen c text = record { look = struck_look pen.style.look (struck pen.after_underline c text); link = pen.style.link }
 
--- The first part of a text is a complete sequence, a character with all that is struck over it, or a dropped control. This is
--- the length of the first part after its first character.
+-- The first part of a text is a complete sequence, a character with all that is struck over it, or a dropped control.
+-- This definition computes the length of the first part after its first character.
 abbrev pub more_len : ℕ → List ℕ → ℕ
 more_len c text = unwrap_or (sequence_len (c ∷ text)) (1 + 2 * length (strikes c text)) - 1
 

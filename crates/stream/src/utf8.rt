@@ -62,8 +62,8 @@ fn push_lanes<'a>(text: &'a str, characters: &mut Vec<char>) -> &'a str
     let bytes = u8x16::from_slice(text.as_bytes());
     if is_ascii(bytes) {
         let (_, rest) = text.split_at(LANES);
-        // Passes a copy. Otherwise, the text would be read again after each character, since the list might
-        // overlap it.
+        // This passes a copy, since otherwise the text would be read again after each character: the list might overlap
+        // it.
         push_ascii(&bytes.to_array(), characters);
         return rest;
     }

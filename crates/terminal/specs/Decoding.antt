@@ -54,7 +54,7 @@ text_after escapes started bytes = pictures escapes (if started then lossy bytes
 abbrev pub good_part : Bool → List ℕ → List ℕ
 good_part strict bytes = if strict && is_bad bytes then take (utf8_valid_len bytes) bytes else bytes
 
--- The first n bytes were decoded. If `strict`, they are valid UTF-8, and the rest is dropped if it is not.
+-- The first n bytes were decoded. If `strict`, these bytes are valid UTF-8, and the rest is dropped if it is not.
 pub record Decodes (strict : Bool) (bytes : List ℕ) (n : ℕ) (stops : Bool) (before after : List ℕ) : Type 0 where
   pub all : IsAllDecoded (good_part strict bytes) n before after
   pub stops_is : stops ≡ (strict && is_bad bytes)

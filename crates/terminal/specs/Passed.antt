@@ -6,7 +6,7 @@ use Rattle.terminal.specs.Ends.{knows_next}
 use Rattle.terminal.specs.Texts.{next_character}
 use Rattle.terminal.specs.declared.passed.Passed.{Passed}
 
--- Whatever follows, a text has the same next character without its first n characters.
+-- Whatever follows, removing the first n characters of a text does not change its next character.
 pub record Skips (n : ℕ) (text : List ℕ) : Type 0 where
   pub next : (more : List ℕ) → next_character (text ++ more) ≡ next_character (drop n text ++ more)
   pub known : (more : List ℕ) → knows_next (text ++ more) ≡ knows_next (drop n text ++ more)

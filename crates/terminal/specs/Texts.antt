@@ -71,7 +71,7 @@ module _ (is_cut : ℕ → ℕ → Bool) where
   blocks [] = []
   blocks (c ∷ text) = if ends_block c text then (c ∷ []) ∷ blocks text else onto_first c (blocks text)
 
-  -- The paragraphs of what a block shows. With the Unicode tables there is exactly one, since `is_apart` holds for all
+  -- The paragraphs that a block shows. With the Unicode tables there is exactly one, since `is_apart` holds for all
   -- separators.
   abbrev pub styled_paragraphs : List (ℕ × Style) → List (List (ℕ × Style))
   styled_paragraphs shown = regrouped (paragraphs is_cut (characters_of shown)) shown

@@ -167,7 +167,7 @@ fn is_found(
 }
 
 // Returns the list with an unmatched PDF before it. X9 removes the PDF, so the levels after it are those of the list
-// alone. But the full rules find these levels, and not the fast path for a paragraph that is a single sequence.
+// alone. But these levels are found by the full rules, not by the fast path for a paragraph that is a single sequence.
 fn after_pdf(alloc: Global, text: &[char]) -> Result<Vec<char>, AllocError> {
     let mut longer = Vec::new(alloc);
     longer.push('\u{202C}')?;

@@ -201,7 +201,7 @@ fn check_pictograph(
     Ok(result?)
 }
 
-// There is no break between an unassigned pictograph and a modifier.
+// No break is allowed between an unassigned pictograph and a modifier.
 #[test]
 fn modifier_stays_with_an_unassigned_pictograph_only(rt: HostRuntime) -> Result<(), Fail> {
     for (categories, want) in &PICTOGRAPHS {

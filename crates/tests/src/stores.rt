@@ -362,7 +362,7 @@ fn are_replaced(old: &[Item], other: &[Item], (start, end): (usize, usize)) -> b
     old == other && Some(old.len()) == end.checked_sub(start)
 }
 
-// Both stores, with the same items.
+// Both stores, which have the same items.
 #[derive(Drop)]
 struct Both<S: ParagraphStore<Item>, T: ParagraphStore<Item>> {
     tree: S,

@@ -40,7 +40,7 @@ pub fn write_spans<W: Sink>(
 fn span_count(line: &VisualLine<'_>, start: usize, end: usize) -> usize
     ensures { result ≡ length (spans_of line.now start end) }
 {
-    // There are no more spans than columns, and the contract of `columns_left` bounds the number of columns.
+    // The number of spans is at most the number of columns, which the contract of `columns_left` bounds.
     let _columns = line.columns_left(line.vtol().len());
     let mut count = 0;
     for _span in line.spans(start, end) {
@@ -107,7 +107,7 @@ fn shown_len(line: &VisualLine<'_>) -> usize
 fn run_count(line: &VisualLine<'_>) -> usize
     ensures { result ≡ length (runs_of line.now.levels) }
 {
-    // There are no more runs than characters.
+    // The number of runs is at most the number of characters.
     let _chars = shown_len(line);
     let mut count = 0;
     for _run in line.runs() {

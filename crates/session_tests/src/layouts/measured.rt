@@ -31,7 +31,7 @@ const SPACES: Options = Options {
     ..NO_TAB_STOPS
 };
 
-// A paragraph, its advances, a width, and where its lines start. Also, for each line, the left edge of each
+// A paragraph, its advances, a width, and where its lines start. For each line, the row also has the left edge of each
 // visual position and, last, the right edge of the line.
 struct Row {
     text: &'static str,
