@@ -154,8 +154,8 @@ static void scroll_to(size_t line) {
     }
 }
 
-/* Draws a line, with its selection in reverse video. Leaves out control characters, which a terminal would execute. A tab
- * has become as many spaces as it has columns. */
+/* Draws a line, with its selection in reverse video. Leaves out control characters, which a terminal would execute.
+ * Tabs are already spaces, one for each of their columns. */
 static void draw_line(size_t row, size_t line) {
     static size_t columns[MOST];
     static hordguli_span spans[MOST];
@@ -276,8 +276,8 @@ static int next_byte(void) {
     }
 }
 
-/* Executes an escape sequence: `[` or `O`, an optional number, `;` and a digit if Shift (1) or Ctrl (4) is pressed, and the
- * key's letter. A number and `~` count as a letter. */
+/* Executes an escape sequence: `[` or `O`, an optional number, `;` and a digit if Shift (1) or Ctrl (4) is pressed, and
+ * the key's letter. For some keys, a number and `~` take the place of the letter. */
 static void escape(void) {
     size_t line = caret_place().line, column = caret_place().column, all = counts().lines;
     hordguli_edge first, last;

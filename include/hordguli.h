@@ -562,8 +562,8 @@ typedef struct hordguli_changed {
  * Since: 0.6. */
 hordguli_status hordguli_changed_lines(hordguli_session *session, hordguli_changed *changed);
 
-/* Sets the advances of the `count` characters that start at `pos`, in a measured session, and rewraps the paragraphs that
- * have one of these characters. Stores in `*damage` which lines were replaced: none if `count` is 0.
+/* Sets the advances of the `count` characters that start at `pos`, in a measured session, and rewraps the paragraphs
+ * that contain them. Stores in `*damage` which lines were replaced: none if `count` is 0.
  *
  * After an edit, set the advances of all new paragraphs, since a shaper may choose other glyphs next to the edit.
  * `hordguli_paragraph` stores where they start and how long they are.
@@ -1091,7 +1091,7 @@ hordguli_status hordguli_row_runs(hordguli_tables *tables, uint32_t base, size_t
  * at separators. `direction` is a base direction or 0, and can have HORDGULI_LINE_SEPARATORS. NO_ROOM means that
  * `capacity` is less than `count`.
  *
- * To lay out text with these functions, a caller has to:
+ * To lay out text with these functions, a caller must:
  *   - split the text into paragraphs (UAX #9, P1);
  *   - choose where rows end, by break marks and the widths of characters (`hordguli_properties`);
  *   - put each row into visual order (`hordguli_row`). */

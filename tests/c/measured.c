@@ -64,7 +64,7 @@ static int is_nearest(size_t line, size_t column, hordguli_edge wanted) {
     return hordguli_nearest_edge(&session, line, column, &edge) == HORDGULI_OK && is_edge(edge, wanted);
 }
 
-/* The next edge to the right is `wanted`. */
+/* Checks that the next edge to the right is `wanted`. */
 static int steps_right_to(hordguli_edge from, hordguli_edge wanted) {
     hordguli_edge next;
     uint32_t moved;

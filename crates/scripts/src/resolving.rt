@@ -37,7 +37,7 @@ fn takes_script(script: Script) -> bool
     is_same(script, Script::Common) || is_same(script, Script::Inherited)
 }
 
-// Returns the script of the first character that has one of its own, or Common if there is none.
+// Returns the first script that is neither Common nor Inherited, or Common if there is none.
 fn first_script(text: &[char]) -> Script
     ensures { result ≡ first_script text.now }
 {

@@ -251,8 +251,8 @@ pub struct hordguli_counts {
     pub width: usize,
 }
 
-/// Work counters, for checking that edits stay incremental. They count characters since the session was opened, and
-/// saturate at UINT64_MAX.
+/// Work counters, for checking that edits stay incremental. The counters count characters since the session was opened,
+/// and saturate at UINT64_MAX.
 #[derive(Clone, Copy, Debug, Default, PartialEq, Eq)]
 #[repr(C)]
 pub struct hordguli_work {
@@ -359,9 +359,9 @@ pub struct hordguli_cluster {
     pub end: usize,
 }
 
-/// The characters from `start` up to but not including `end`. `kind` is 1 if any of them is alphabetic or numeric, such as
-/// a letter, a digit, a vowel sign (U+05B8) or a fraction (U+00BD). Else it is 0, as for spaces and punctuation. `zero`
-/// is 0.
+/// The characters from `start` up to but not including `end`. `kind` is 1 if any of them is alphabetic or numeric, such
+/// as a letter, a digit, a vowel sign (U+05B8) or a fraction (U+00BD). Else `kind` is 0, as for spaces and punctuation.
+/// `zero` is 0.
 #[derive(Clone, Copy, Debug, Default, PartialEq, Eq)]
 #[repr(C)]
 pub struct hordguli_word {
@@ -390,7 +390,7 @@ pub struct hordguli_edge {
 }
 
 /// The `length` characters of a text from position `start` on, all of one script. `script` has the four letters of its
-/// code (ISO 15924), the first one in the highest byte, such as 0x4C61746E for `Latn`. This is the value of an
+/// code (ISO 15924), with the first letter in the highest byte, such as 0x4C61746E for `Latn`. This is the value of an
 /// `hb_script_t` of HarfBuzz.
 #[derive(Clone, Copy, Debug, Default, PartialEq, Eq)]
 #[repr(C)]
@@ -430,8 +430,8 @@ extern "C" {
     /// Returns "15.0", the Unicode version of tables that `hordguli_tables_open_builtin`, `hordguli_tables_open_folder` and
     /// `hordguli_tables_read` open.
     pub fn hordguli_unicode_version() -> *const c_char;
-    /// Returns the Unicode version of column widths, grapheme clusters and scripts, such as "18.0". It belongs to the
-    /// library, and does not depend on the tables.
+    /// Returns the Unicode version of column widths, grapheme clusters and scripts, such as "18.0". This version belongs to
+    /// the library, and does not depend on the tables.
     ///
     /// Since: 0.6.
     pub fn hordguli_width_unicode_version() -> *const c_char;
@@ -454,9 +454,10 @@ extern "C" {
         tables: *mut hordguli_tables,
         version: u32,
     ) -> hordguli_status;
-    /// Opens tables from a compiled image, such as the file `tables.image` that is installed with the table files. They have
-    /// the version of the image. `fault` may be NULL, and is set only on TABLE_FAULT. The causes up to HORDGULI_CAUSE_ENTRY
-    /// are ruled out before any memory is allocated. If memory runs out before a later cause is found, NO_MEMORY is returned.
+    /// Opens tables from a compiled image, such as the file `tables.image` that is installed with the table files. The
+    /// tables have the version of the image. `fault` may be NULL, and is set only on TABLE_FAULT. The causes up to
+    /// HORDGULI_CAUSE_ENTRY are ruled out before any memory is allocated. If memory runs out before a later cause is found,
+    /// NO_MEMORY is returned.
     ///
     /// Errors: NULL, OVERLAP, ALREADY_OPEN, TABLE_FAULT, NO_MEMORY.
     ///
@@ -715,11 +716,11 @@ extern "C" {
         damage: *mut hordguli_damage,
     ) -> hordguli_status;
     /// Stores in `*changed` which lines changed in the last successful call that edited the text, set the width or set
-    /// advances. These are the lines of its damage, which names whole paragraphs, less the longest run of unchanged lines at
-    /// the start and then the longest such run at the end. An unchanged line has the same characters, levels, maps, columns,
-    /// advances, base level and length as before, and is the first line of its paragraph only if it was before. The padding,
-    /// which depends on the width, is not compared: RTL lines move when the width changes, so draw all of them then. After
-    /// the session is opened, all lines count as changed. A failed call does not change the result.
+    /// advances. These are the lines of the call's damage, which names whole paragraphs, less the longest run of unchanged
+    /// lines at the start and then the longest such run at the end. An unchanged line has the same characters, levels, maps,
+    /// columns, advances, base level and length as before, and is the first line of its paragraph only if it was before. The
+    /// padding, which depends on the width, is not compared: RTL lines move when the width changes, so draw all of them
+    /// then. After the session is opened, all lines count as changed. A failed call does not change the result.
     ///
     /// Errors: NULL, OVERLAP, CLOSED.
     ///
@@ -730,8 +731,8 @@ extern "C" {
         session: *mut hordguli_session,
         changed: *mut hordguli_changed,
     ) -> hordguli_status;
-    /// Sets the advances of the `count` characters that start at `pos`, in a measured session, and rewraps the paragraphs that
-    /// have one of these characters. Stores in `*damage` which lines were replaced: none if `count` is 0.
+    /// Sets the advances of the `count` characters that start at `pos`, in a measured session, and rewraps the paragraphs
+    /// that contain them. Stores in `*damage` which lines were replaced: none if `count` is 0.
     ///
     /// After an edit, set the advances of all new paragraphs, since a shaper may choose other glyphs next to the edit.
     /// `hordguli_paragraph` stores where they start and how long they are.
@@ -808,7 +809,7 @@ extern "C" {
         columns: *mut usize,
     ) -> hordguli_status;
     /// Stores the directional runs of a line's shown part, from left to right, for shaping text: the longest ranges of
-    /// characters at one level after L1. They do not depend on HORDGULI_REORDER_NSM and HORDGULI_REORDER_CLUSTERS, which
+    /// characters at one level after L1. The runs do not depend on HORDGULI_REORDER_NSM and HORDGULI_REORDER_CLUSTERS, which
     /// move characters only inside runs. The number of runs is stored in `*count`, and the runs in an array of `capacity`
     /// elements. NULL with capacity 0 returns NO_ROOM if there are runs (see BUFFERS). Fails with OUT_OF_RANGE if the line
     /// does not exist. To read the characters of a run in logical order:
@@ -832,8 +833,8 @@ extern "C" {
     ) -> hordguli_status;
     /// Writes `count` lines, starting with line `first`, to a buffer, as UTF-8. NULL with capacity 0 returns NO_ROOM if
     /// there is anything to write (see BUFFERS). `print` selects what is written for each line, in the order VISUAL,
-    /// BASEDIR, LTOV, VTOL, LEVELS. Each of these ends in U+000A. Numbers are decimal, separated by spaces. For example, to
-    /// write the lines that an edit replaced:
+    /// BASEDIR, LTOV, VTOL, LEVELS. Each of these items ends in U+000A. Numbers are decimal, separated by spaces. For
+    /// example, to write the lines that an edit replaced:
     ///
     /// ```c
     /// status = hordguli_lines_utf8(&session, damage.first_line, damage.new_lines,
@@ -985,8 +986,8 @@ extern "C" {
     ///   - Before a shown character: at its left edge if its level is even, else at its right edge. At an odd level, with
     ///     HORDGULI_REORDER_CLUSTERS or HORDGULI_REORDER_NSM, that can be inside its cluster; `hordguli_edge_caret` stores the
     ///     end of the cluster.
-    ///   - Before a character that is not shown, and at the end of the text: at the end of the line. That is right of all
-    ///     columns in an LTR paragraph, and column 0 in an RTL one.
+    ///   - Before a character that is not shown, and at the end of the text: at the end of the line. The end is right of all
+    ///     columns in an LTR paragraph, and column 0 in an RTL paragraph.
     ///   - At the start of a paragraph that does not exist yet (see `hordguli_place_of`): at column 0. `level` is then the
     ///     base level of an empty paragraph. If it is odd, draw the caret at the right edge of the screen.
     ///
@@ -1080,15 +1081,15 @@ extern "C" {
         count: *mut usize,
     ) -> hordguli_status;
     /// Stores in `*caret` where to draw the caret at an edge: on the line of the character that the edge belongs to. This is
-    /// the character at `pos` for HORDGULI_BEFORE, and the one before `pos` for HORDGULI_AFTER.
+    /// the character at `pos` for HORDGULI_BEFORE, and the character before `pos` for HORDGULI_AFTER.
     ///   - If a caret unit begins (or ends) with that character: at the start (or end) of the unit.
     ///   - At another shown character: at its leading edge, which is the left one if its level is even, or its trailing edge.
     ///   - At a character that is not shown, and before the end of the text: as in `hordguli_caret_at`.
     ///
     /// `level` is the level of that character. In the line where a new paragraph would start, an odd `level` means that the
-    /// caret is at the right edge of the screen. A block cursor covers the cell at `column`, or at an odd level the one to
-    /// its left; if there is no such cell, the nearest one. Fails with OUT_OF_RANGE if the position is past the end of the
-    /// text, and for the edge after position 0.
+    /// caret is at the right edge of the screen. A block cursor covers the cell at `column`, or at an odd level the cell to
+    /// its left. If there is no such cell, it covers the nearest one. Fails with OUT_OF_RANGE if the position is past the
+    /// end of the text, and for the edge after position 0.
     ///
     /// Errors: NULL, OVERLAP, UNKNOWN_OPTION, CLOSED, OUT_OF_RANGE, NO_MEMORY.
     ///
@@ -1179,8 +1180,8 @@ extern "C" {
     ///   - else before the first space that is not shown;
     ///   - else after the last character of the line.
     ///
-    /// In the line where a new paragraph would start, both are before the end of the text. Fails with OUT_OF_RANGE for later
-    /// lines.
+    /// In the line where a new paragraph would start, both edges are before the end of the text. Fails with OUT_OF_RANGE for
+    /// later lines.
     ///
     /// Errors: NULL, OVERLAP, CLOSED, OUT_OF_RANGE.
     ///
@@ -1234,9 +1235,11 @@ extern "C" {
     ///   - A character has the script of its property Script, in the Unicode version that `hordguli_width_unicode_version`
     ///     returns. A private-use or unassigned character has the script Unknown (`Zzzz`).
     ///   - If the property is Common or Inherited, as for a space, a digit or a mark, the character has the script of the
-    ///     one before it. At the start of the text, it has the first script that follows, or Common (`Zyyy`) if none does.
-    ///   - But a closing bracket whose property is Common has the script of its opening bracket, if it has one. Brackets are
-    ///     those of the tables. Of brackets that are nested more than 63 deep, only the innermost 63 are matched.
+    ///     character before it. At the start of the text, such a character has the first script that follows, or Common
+    ///     (`Zyyy`) if none does.
+    ///   - But a closing bracket whose property is Common has the script of its opening bracket, if it has one. The tables
+    ///     determine which characters are brackets. Of brackets that are nested more than 63 deep, only the innermost 63 are
+    ///     matched.
     ///
     /// The property Script_Extensions is not used. The number of runs is stored in `*run_count`, and the runs in an array of
     /// `capacity` elements. NULL with capacity 0 returns NO_ROOM, unless `count` is 0 (see BUFFERS). NO_MEMORY comes before
@@ -1257,8 +1260,8 @@ extern "C" {
     ) -> hordguli_status;
     /// Puts a row of `count` characters into visual order. The caller chooses where the row starts and ends. `base` is the
     /// base level of its paragraph (`hordguli_base`), and `levels` are the levels of the row's characters in the whole
-    /// paragraph (`hordguli_levels`). `options` can have HORDGULI_REORDER_NSM and HORDGULI_REORDER_CLUSTERS. The clusters
-    /// are those of these characters alone. Stores `count` elements in each array. Each array has `capacity` elements. NULL
+    /// paragraph (`hordguli_levels`). `options` can have HORDGULI_REORDER_NSM and HORDGULI_REORDER_CLUSTERS. Only these
+    /// characters determine the clusters. Stores `count` elements in each array. Each array has `capacity` elements. NULL
     /// arrays are skipped, so with all arrays NULL any capacity is enough (see BUFFERS). Positions count from the start of
     /// the row.
     /// - `visual`: characters in visual order, mirrored (UAX #9, L4)
