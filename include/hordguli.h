@@ -240,7 +240,7 @@ const char *hordguli_width_unicode_version(void);
 #define HORDGULI_REORDER_CLUSTERS UINT32_C(32)
 /* Shows the spaces at the start of a line's tail, as many as fit in the width. These spaces then have carets, hits and
  * spans. Lines end at the same places as without this option. A line that is wider than the width shows none of these
- * spaces, even with HORDGULI_NOBREAK. In RTL paragraphs, they are to the left of the text. Since 0.6. */
+ * spaces, even with HORDGULI_NOBREAK. In RTL paragraphs, the spaces are to the left of the text. Since 0.6. */
 #define HORDGULI_SHOW_SPACES UINT32_C(64)
 /* Sets a tab stop every `n` columns, from 1 to 255. Columns are counted along each line in logical order. A tab (U+0009
  * of bidi class S) moves to the next stop, so it is 1 to `n` columns wide, and is written as spaces. In an RTL

@@ -4,8 +4,8 @@
  *
  * Prints a line for each text: `same` and the number of lines, or `differ` and four numbers about the first line that starts
  * elsewhere:
- *   - where it starts here, in characters
- *   - where it starts in Pango
+ *   - where the line starts here, in characters
+ *   - where the line starts in Pango
  *   - 1 if there is a break opportunity here where Pango's line starts, else 0
  *   - 1 if there is a break opportunity in Pango where our line starts, else 0
  *

@@ -95,7 +95,7 @@ pub fn open<S: ParagraphStore<Kept> + Drop>(
     }
 }
 
-/// Drops a session. No other function does, just as only `let_go` drops an engine.
+/// Drops a session. No other function drops a session, just as only `let_go` drops an engine.
 pub fn close<S: ParagraphStore<Kept> + Drop>(_session: Session<S>) {}
 
 /// Inserts and deletes two characters at a time. Paragraphs are split about as often as joined, so their number and

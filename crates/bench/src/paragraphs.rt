@@ -72,7 +72,7 @@ pub fn engine(rt: &HostRuntime, folder: &str) -> Result<Engine> {
     Ok(Engine::new(in_folder(rt, folder)?, Options::default()))
 }
 
-/// Drops an engine. No other function does, since every proof that drops all lists of an engine is slow.
+/// Drops an engine. No other function drops an engine, since every proof that drops all lists of an engine is slow.
 pub fn let_go(_engine: Engine) {}
 
 /// Returns a text of `characters` characters that consists of `words` in pseudorandom order.

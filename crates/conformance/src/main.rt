@@ -297,5 +297,5 @@ fn lay_out(alloc: Global, engine: &mut Engine, text: Vec<char>) -> Result<Laid>
     }
 }
 
-// Drops an engine. No other function does, since every proof that drops all lists of an engine is slow.
+// Drops an engine. No other function drops an engine, since every proof that drops all lists of an engine is slow.
 fn let_go(_engine: Engine) {}

@@ -89,7 +89,7 @@ pub fn try_calls<S: ParagraphStore<Kept> + Drop>(alloc: Global) -> Result<(), Wr
     answer
 }
 
-// Drops a session. No other function does, just as only `let_go` drops an engine.
+// Drops a session. No other function drops a session, just as only `let_go` drops an engine.
 fn close<S: ParagraphStore<Kept> + Drop>(_session: Session<S>) {}
 
 // Each function here owns at most one session, since each value that is dropped when a call fails makes the proof

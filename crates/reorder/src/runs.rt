@@ -107,8 +107,8 @@ fn run_start(levels: &[u8], place: usize) -> usize
     start
 }
 
-// Returns the character directly to the right of another character. Skips the characters that adjoin the latter and are
-// to its left, level by level.
+// Returns the character directly to the right of another character. Skips the characters that adjoin the given
+// character and are to its left, level by level.
 fn right_of(levels: &[u8], place: usize) -> Option<usize>
     requires { place < length levels.now }
     ensures { IsNext levels.now place result }

@@ -81,7 +81,8 @@ fn ends_segment(class: BidiClass) -> bool
     matches!(class, BidiClass::S | BidiClass::B)
 }
 
-// Returns whether a character is reset: a separator always is, and a blank is if `after` is true.
+// Returns whether the level of a character is reset. For a separator, it always is. For a blank, it is if `after` is
+// true.
 fn is_reset(class: BidiClass, after: bool) -> bool
     ensures { result ≡ (ends_segment class || (is_blank class && after)) }
 {

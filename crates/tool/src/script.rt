@@ -223,7 +223,7 @@ fn execute<W: Sink, S: ParagraphStore<Kept>>(
     write_answer(writer, written, &edit)
 }
 
-// Parses the bytes of a line. Returns `None` if they are not a valid line of a script.
+// Parses the bytes of a line. Returns `None` if the bytes are not a valid line of a script.
 //
 // Stores the line's characters in `text`, and the text of an insert in `inserted`. Checks that the bytes are
 // UTF-8 before allocating.
