@@ -87,7 +87,7 @@ static void go(size_t line, size_t column) {
     succeeds(hordguli_edge_at(&session, line, column > left ? column - left : 0, &caret));
 }
 
-/* Moves the caret to the left or right, at the end of a line to the previous or next one. */
+/* Moves the caret to the left or right. At the end of a line, moves it to the previous or next line. */
 static void sideways(uint32_t direction) {
     size_t line = caret_place().line;
     uint32_t moved = 1;

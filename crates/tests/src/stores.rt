@@ -560,8 +560,8 @@ fn parts_are_exchanged_in_the_order_of_the_items(rt: HostRuntime) -> Result<(), 
     Ok(check_stores(&rt, rt.alloc(), Check::Exchanges)?)
 }
 
-// Returns the greatest number of items that a search visits, over searches for every `step`-th character and
-// for the last one.
+// Returns the maximum number of items that a search visits, over searches for every `step`-th character and for the
+// last character.
 fn most_visits<S: ParagraphStore<Item>>(store: &S, step: usize) -> usize {
     let mut most = 0;
     let total = store.total_chars();

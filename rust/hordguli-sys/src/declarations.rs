@@ -543,10 +543,10 @@ extern "C" {
     ///                          sizeof buffer, buffer, &written);
     /// ```
     ///
-    /// The handle keeps the memory that a call used. A later call that needs no more than that allocates nothing, unless
-    /// only one of the two calls has HORDGULI_LINE_SEPARATORS. The handle keeps at most 5 MB: memory for a text or for lines
-    /// of more than 65,536 bytes is freed. `hordguli_tables_close` frees what is kept. Threads that call this function at
-    /// the same time each need their own tables handle.
+    /// The handle keeps the memory that a call used. A later call that needs no more memory allocates nothing, unless only
+    /// one of the two calls has HORDGULI_LINE_SEPARATORS. The handle keeps at most 5 MB: memory for a text or for lines of
+    /// more than 65,536 bytes is freed. `hordguli_tables_close` frees what is kept. Threads that call this function at the
+    /// same time each need their own tables handle.
     ///
     /// On NOT_UTF8, `hordguli_valid_utf8` says where. NO_MEMORY comes before NO_ROOM, because the lines are gathered before
     /// their size is known.
@@ -989,7 +989,7 @@ extern "C" {
     ///   - Before a character that is not shown, and at the end of the text: at the end of the line. The end is right of all
     ///     columns in an LTR paragraph, and column 0 in an RTL paragraph.
     ///   - At the start of a paragraph that does not exist yet (see `hordguli_place_of`): at column 0. `level` is then the
-    ///     base level of an empty paragraph. If it is odd, draw the caret at the right edge of the screen.
+    ///     base level of an empty paragraph. If this level is odd, draw the caret at the right edge of the screen.
     ///
     /// Errors: NULL, OVERLAP, CLOSED, OUT_OF_RANGE.
     ///
