@@ -81,8 +81,7 @@ fn ends_segment(class: BidiClass) -> bool
     matches!(class, BidiClass::S | BidiClass::B)
 }
 
-// Returns whether the level of a character is reset. For a separator, it always is. For a blank, it is if `after` is
-// true.
+// Returns whether the level of a character is reset: always for a separator, and for a blank only if `after` is true.
 fn is_reset(class: BidiClass, after: bool) -> bool
     ensures { result ≡ (ends_segment class || (is_blank class && after)) }
 {

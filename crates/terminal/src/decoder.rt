@@ -167,7 +167,7 @@ fn drop_mark(text: &mut Vec<char>, at: usize)
     }
 }
 
-/// Replaces the characters from an index on with what a mode shows for them.
+/// Replaces the characters from an index on with the characters that a mode shows for them.
 pub(crate) fn show_pictures(escapes: Escapes, text: &mut [char], from: usize)
     requires { from ≤ length text.old }
     ensures { text.new ≡ take from text.old ++ pictures escapes (drop from text.old) }
