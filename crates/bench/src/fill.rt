@@ -85,8 +85,8 @@ const CASES: [Case; 12] = [
     },
 ];
 
-/// Prints a line for each case, for a paragraph of `characters` characters: the minimum times for laying out the
-/// paragraph and for filling it again, in nanoseconds, the number of lines, the width and the name.
+/// Prints a line for each case, for a paragraph of `characters` characters: the minimum times for laying out
+/// the paragraph and for filling it again, in nanoseconds, the number of lines, the width and the name.
 pub fn run(rt: &HostRuntime, folder: &str, characters: usize) -> Result<()> {
     let mut engine = engine(rt, folder)?;
     let answer = show_cases(rt, &mut engine, &CASES, characters);
@@ -125,8 +125,8 @@ fn show_filled(
     show(rt, &numbers, case.name)
 }
 
-/// Lays out a paragraph that consists of `words` in pseudorandom order and has `characters` characters. Returns the
-/// minimum time of several runs in nanoseconds, and the layout.
+/// Lays out a paragraph that consists of `words` in pseudorandom order and has `characters` characters.
+/// Returns the minimum time of several runs in nanoseconds, and the layout.
 pub fn lay_out(
     rt: &HostRuntime,
     engine: &mut Engine,

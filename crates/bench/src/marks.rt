@@ -51,8 +51,8 @@ const KINDS: [Kind; 8] = [
     },
 ];
 
-/// Prints a line for each kind of paragraph of this length: its minimum time in nanoseconds, the number of break
-/// opportunities and its name.
+/// Prints a line for each kind of paragraph of this length: its minimum time in nanoseconds, the number of
+/// break opportunities and its name.
 pub fn run(rt: &HostRuntime, folder: &str, characters: usize) -> Result<()> {
     measure_all(rt, Subject::Marks, &KINDS, folder, characters)
 }

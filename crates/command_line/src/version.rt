@@ -1,6 +1,7 @@
-//! What `--version` and `--help` print: the product's version and the versions of Unicode. The rules and table files
-//! have the versions of `ucd`; columns and grapheme clusters have the version of the kit's tables.
-//! `tools/sync_versions` generates this file from `VERSION`, `ucd` and the kit's tables. CI checks it.
+//! What `--version` and `--help` print: the product's version and the versions of Unicode. The rules and
+//! table files have the versions of `ucd`; columns and grapheme clusters have the version of the kit's
+//! tables. `tools/sync_versions` generates this file from `VERSION`, `ucd` and the kit's tables. CI checks
+//! it.
 
 /// The product's version, followed by the versions of Unicode.
 pub const VERSION: &str = "0.5.0

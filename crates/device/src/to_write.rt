@@ -5,8 +5,8 @@ use crate::{Sink, countable};
 use std::io;
 use std::io::ErrorKind;
 
-/// A sink that wraps a writer of std. The sink reports the bytes that the writer reports, and fails after 2^64 - 1
-/// bytes.
+/// A sink that wraps a writer of std. The sink reports the bytes that the writer reports, and fails after
+/// 2^64 - 1 bytes.
 #[derive(Drop)]
 pub struct ToWrite<W> {
     inner: W,

@@ -49,8 +49,8 @@ fn run(rt: &HostRuntime) -> Result<(), ProgramFault> {
     run_words(rt, &words)
 }
 
-// Executes the arguments. This function and those that it calls own one allocated value each, since each value that is
-// dropped when a call fails makes the proof longer.
+// Executes the arguments. This function and those that it calls own one allocated value each, since each
+// value that is dropped when a call fails makes the proof longer.
 fn run_words(rt: &HostRuntime, words: &[&str]) -> Result<(), ProgramFault> {
     match settings(rt.alloc(), words) {
         Ok(settings) => run_settings(rt, &settings),

@@ -17,8 +17,8 @@ pub(crate) struct Start {
     pub is_whole: bool,
 }
 
-/// Reads a text until its direction is known, and sets it as the base direction of all paragraphs laid out later. After
-/// an error, uses the direction of the text that was read before the error.
+/// Reads a text until its direction is known, and sets it as the base direction of all paragraphs laid out
+/// later. After an error, uses the direction of the text that was read before the error.
 pub(crate) fn read_start<R: Read>(
     rt: &HostRuntime,
     engine: &mut Engine,

@@ -18,8 +18,8 @@ pub(crate) struct Showing<'a> {
     pub by_file: bool,
 }
 
-/// Writes the lines of each file, in order, and reports each file that cannot be read. `-` is standard input, which is
-/// also read if there are no files. Returns whether all files could be read and laid out.
+/// Writes the lines of each file, in order, and reports each file that cannot be read. `-` is standard input,
+/// which is also read if there are no files. Returns whether all files could be read and laid out.
 pub(crate) fn show_files(
     rt: &HostRuntime,
     engine: &mut Engine,

@@ -19,8 +19,9 @@ ghost use Rattle.hordguli_c.specs.Options.{
 use bidi::Base;
 use lines::{Options, Print};
 
-// The options and print flags of include/hordguli.h. The two lowest bits of the options are the base direction. Bit 24
-// states that the lowest bit is 0, and bit 25 that the next bit is 0. All calls accept bit 26.
+// The options and print flags of include/hordguli.h. The two lowest bits of the options are the base
+// direction. Bit 24 states that the lowest bit is 0, and bit 25 that the next bit is 0. All calls accept bit
+// 26.
 const LOW_BIT: u32 = 1;
 
 const HIGH_BIT: u32 = 2;

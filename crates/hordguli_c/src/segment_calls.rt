@@ -16,8 +16,8 @@ use scripts::{ScriptRun, iso_code, resolve, script_runs};
 use std::alloc::{AllocError, Global};
 use ucd::Tables;
 
-// Returns where segments end, given for each character whether a segment ends after it. The last segment ends at the
-// end of the text.
+// Returns where segments end, given for each character whether a segment ends after it. The last segment ends
+// at the end of the text.
 fn collect_ends(alloc: Global, ends: &[bool]) -> Result<Vec<usize>, AllocError>
     ensures ends { IfOk result (λ found. found.items ≡ ends_in ends.now 0 (length ends.now)) }
     ensures memory { OnErr result (0 < length ends.now) }

@@ -130,8 +130,8 @@ impl TablesObject {
         }
     }
 
-    /// Returns a new engine on the tables or, if `separates` is set, on the tables in which only LF and CR end
-    /// paragraphs. Lends the buffers to it.
+    /// Returns a new engine on the tables or, if `separates` is set, on the tables in which only LF and CR
+    /// end paragraphs. Lends the buffers to it.
     pub fn lend_engine(
         &mut self,
         alloc: Global,

@@ -54,5 +54,6 @@ pub fn engine(alloc: Global) -> Result<Engine, Wrong> {
     Ok(Engine::new(read(alloc)?, Options::default()))
 }
 
-/// Drops an engine. No other function drops an engine, since every proof that drops all lists of an engine is slow.
+/// Drops an engine. No other function drops an engine, since every proof that drops all lists of an engine is
+/// slow.
 pub fn let_go(_engine: Engine) {}

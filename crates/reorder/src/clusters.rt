@@ -7,10 +7,10 @@ ghost use Rattle.reorder.specs.Order.{vtol_of};
 
 use ucd::{BidiClass, Classes};
 
-/// Classes for [`visual_order`](crate::visual_order) and [`visual_places`](crate::visual_places) with `reordernsm`.
-/// With these classes, L3 keeps grapheme clusters in logical order, instead of bases and marks. A character counts as a
-/// mark if it continues a cluster and has the same level as the character before it. All other characters count as
-/// bases.
+/// Classes for [`visual_order`](crate::visual_order) and [`visual_places`](crate::visual_places) with
+/// `reordernsm`. With these classes, L3 keeps grapheme clusters in logical order, instead of bases and marks.
+/// A character counts as a mark if it continues a cluster and has the same level as the character before it.
+/// All other characters count as bases.
 #[derive(Clone, Copy)]
 pub struct ClusterClasses<'a> {
     /// Whether a cluster ends after each character of the line.
@@ -50,15 +50,16 @@ fn ends_after(ends: &[bool], place: usize) -> bool
     place < ends.len() && ends[place]
 }
 
-/// States, as a theorem, that adjacent characters of a cluster at the same odd level are also adjacent in visual order.
-/// They are in logical order with `ClusterClasses`, and in reverse order with L2 alone. Costs nothing at run time.
+/// States, as a theorem, that adjacent characters of a cluster at the same odd level are also adjacent in
+/// visual order. They are in logical order with `ClusterClasses`, and in reverse order with L2 alone. Costs
+/// nothing at run time.
 pub fn clusters_stand_together()
     ensures { (ends : List Bool) (levels : List ℕ) (first n : ℕ) → IsSequence ends levels first n
         → StandsTogether (cluster_classes ends levels) levels first n }
 {}
 
-/// States, as a theorem, that `ClusterClasses` move only characters at odd levels that are next to another character of
-/// their cluster at the same level. Costs nothing at run time.
+/// States, as a theorem, that `ClusterClasses` move only characters at odd levels that are next to another
+/// character of their cluster at the same level. Costs nothing at run time.
 pub fn single_characters_stay()
     ensures { (ends : List Bool) (levels : List ℕ) (k : ℕ) → k < length levels
         → IsSingle ends levels (slice_index (vtol_of false (cluster_classes ends levels) levels) k)

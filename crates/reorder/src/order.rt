@@ -48,8 +48,8 @@ pub fn maps_are_inverse()
         (vtol_of reordernsm classes levels) (ltov_of reordernsm classes levels) }
 {}
 
-/// States, as a theorem, that a base at an odd level and its marks are adjacent in visual order. They are in logical
-/// order with L3, and in reverse order without it. Costs nothing at run time.
+/// States, as a theorem, that a base at an odd level and its marks are adjacent in visual order. They are in
+/// logical order with L3, and in reverse order without it. Costs nothing at run time.
 pub fn groups_stand_together()
     ensures { (classes : List BidiClass) (levels : List ℕ) (base n : ℕ)
         → IsGroup classes levels base n → StandsTogether classes levels base n }
@@ -105,9 +105,9 @@ fn order_places(levels: &[u8], vtol: &mut [u32])
     }
 }
 
-/// Writes the start of each level run of a line, in visual order, to the front of a list, and returns the number of
-/// runs. L2 then moves runs instead of single characters. If there are more than half as many runs as characters,
-/// writes the logical positions of all characters in visual order instead, and returns `None`.
+/// Writes the start of each level run of a line, in visual order, to the front of a list, and returns the
+/// number of runs. L2 then moves runs instead of single characters. If there are more than half as many runs
+/// as characters, writes the logical positions of all characters in visual order instead, and returns `None`.
 pub fn order_runs(levels: &[u8], items: &mut [u32]) -> Option<usize>
     requires len { length items.old ≡ length levels.now }
     requires limit { length levels.now ≤ u32.MAX }
@@ -129,8 +129,8 @@ pub fn order_runs(levels: &[u8], items: &mut [u32]) -> Option<usize>
     Some(count)
 }
 
-// Writes the start of each level run of a line to the front of a list. Returns the number of runs, the highest level,
-// or 0 for an empty line, and the lowest odd level, if there is one.
+// Writes the start of each level run of a line to the front of a list. Returns the number of runs, the
+// highest level, or 0 for an empty line, and the lowest odd level, if there is one.
 fn find_runs(levels: &[u8], items: &mut [u32]) -> (usize, u8, Option<u8>)
     requires len { length items.old ≡ length levels.now }
     requires limit { length levels.now ≤ u32.MAX }
@@ -195,8 +195,8 @@ fn same_len(levels: &[u8], start: usize, level: u8) -> usize
     first_set(others(levels, start, level), LANES)
 }
 
-// Returns how many levels from `start` on equal `level`, up to the first level that differs. Compares the last `LANES`
-// levels of the list, so that no levels are left to be compared one by one.
+// Returns how many levels from `start` on equal `level`, up to the first level that differs. Compares the
+// last `LANES` levels of the list, so that no levels are left to be compared one by one.
 #[inline(always)]
 fn last_same_len(levels: &[u8], start: usize, level: u8) -> usize
     requires last { length levels.now ≤ start + LANES }
@@ -234,8 +234,9 @@ fn first_set(bits: u64, len: usize) -> usize
     }
 }
 
-// Replaces the starts of runs at the front of a list with the logical positions of all their characters. Processes the
-// runs from the last to the first. Each run has at least one character, so no start is overwritten before it is read.
+// Replaces the starts of runs at the front of a list with the logical positions of all their characters.
+// Processes the runs from the last to the first. Each run has at least one character, so no start is
+// overwritten before it is read.
 fn lay_runs(levels: &[u8], count: usize, items: &mut [u32])
     requires count { count ≤ length items.old }
     requires within { AreWithin (length levels.now) (take count items.old) }
@@ -341,8 +342,8 @@ fn is_mark_at<C: Classes>(line: &C, place: u32) -> bool
     }
 }
 
-// For each level from the highest down to the lowest odd level, reverses the runs of positions at that level or higher.
-// Does nothing if there is no odd level.
+// For each level from the highest down to the lowest odd level, reverses the runs of positions at that level
+// or higher. Does nothing if there is no odd level.
 fn reverse_levels(levels: &[u8], top: u8, low: Option<u8>, items: &mut [u32])
     requires within { AreWithin (length levels.now) items.old }
     requires highest { top ≡ highest levels.now }

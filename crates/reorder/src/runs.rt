@@ -10,8 +10,8 @@ ghost use Rattle.reorder.specs.Runs.{begins_run, run_from, runs_left, runs_of, A
 use crate::order::level_run_len;
 use std::marker::Model;
 
-/// A level run of a line: the `len` characters from position `start` on, in logical order, all at one level. The run is
-/// read from left to right if the level is even.
+/// A level run of a line: the `len` characters from position `start` on, in logical order, all at one level.
+/// The run is read from left to right if the level is even.
 #[derive(Clone, Copy, Debug, PartialEq, Eq)]
 pub struct Run {
     pub start: usize,
@@ -39,9 +39,9 @@ impl<'a> Model for Runs<'a> {
         (start < length r.levels.now) × (begins_run r.levels.now start ≡ true)) };
 }
 
-/// Returns the level runs of a line, from left to right, given its levels after L1. L3 moves characters only inside
-/// runs. The cost of each call of `next` is at most linear in the length of the line. The cost of all calls together is
-/// at most linear in the length times the highest level. Allocates nothing.
+/// Returns the level runs of a line, from left to right, given its levels after L1. L3 moves characters only
+/// inside runs. The cost of each call of `next` is at most linear in the length of the line. The cost of all
+/// calls together is at most linear in the length times the highest level. Allocates nothing.
 pub fn level_runs(levels: &[u8]) -> Runs<'_>
     ensures runs { result ≡ runs_of levels.now }
     ensures are { AreRuns levels.now result }
@@ -107,8 +107,8 @@ fn run_start(levels: &[u8], place: usize) -> usize
     start
 }
 
-// Returns the character directly to the right of another character. Skips the characters that adjoin the given
-// character and are to its left, level by level.
+// Returns the character directly to the right of another character. Skips the characters that adjoin the
+// given character and are to its left, level by level.
 fn right_of(levels: &[u8], place: usize) -> Option<usize>
     requires { place < length levels.now }
     ensures { IsNext levels.now place result }
@@ -159,8 +159,8 @@ fn extent_on(levels: &[u8], level: u8, start: usize) -> usize
     end
 }
 
-// Returns the leftmost of the characters from `start` on, up to the first one below an even level. The first character
-// at that level is to the left of those after it.
+// Returns the leftmost of the characters from `start` on, up to the first one below an even level. The first
+// character at that level is to the left of those after it.
 fn leftmost_on(levels: &[u8], level: u8, start: usize) -> usize
     requires start { start < length levels.now }
     requires level { is_odd level ≡ false }
@@ -181,8 +181,8 @@ fn leftmost_on(levels: &[u8], level: u8, start: usize) -> usize
     first
 }
 
-// Returns the leftmost of the characters before `end`, back to the last one below an odd level. The last character at
-// that level is to the left of those before it.
+// Returns the leftmost of the characters before `end`, back to the last one below an odd level. The last
+// character at that level is to the left of those before it.
 fn leftmost_back(levels: &[u8], level: u8, end: usize) -> usize
     requires end { (0 < end) × (end ≤ length levels.now) }
     requires level { is_odd level ≡ true }

@@ -6,14 +6,14 @@ ghost use Rattle.reorder.specs.NoEnds.{AreNoEnds};
 
 use ucd::{BidiClass, Classes};
 
-/// Applies L1 to a line: resets some of its levels to the paragraph level, `base`. The classes must be the original
-/// classes, unchanged by earlier rules.
+/// Applies L1 to a line: resets some of its levels to the paragraph level, `base`. The classes must be the
+/// original classes, unchanged by earlier rules.
 pub fn reset_levels<C: Classes>(line: &C, base: u8, levels: &mut [u8])
     requires { length (C.all line.now) ≡ length levels.old }
     ensures { levels.new ≡ line_levels base (C.all line.now) levels.old }
 {
-    // Whether a blank directly before this index would be reset. If not, no character back to the last separator is
-    // reset.
+    // Whether a blank directly before this index would be reset. If not, no character back to the last
+    // separator is reset.
     let mut resets = true;
     let mut at = line.len();
     while at > 0 {
@@ -81,7 +81,8 @@ fn ends_segment(class: BidiClass) -> bool
     matches!(class, BidiClass::S | BidiClass::B)
 }
 
-// Returns whether the level of a character is reset: always for a separator, and for a blank only if `after` is true.
+// Returns whether the level of a character is reset: always for a separator, and for a blank only if `after`
+// is true.
 fn is_reset(class: BidiClass, after: bool) -> bool
     ensures { result ≡ (ends_segment class || (is_blank class && after)) }
 {

@@ -12,8 +12,8 @@ use std::alloc::{AllocError, Global};
 use ucd::{Bracket, Tables};
 use ucd_script::Script;
 
-/// The maximum number of opening brackets that are kept, which bounds the time for each closing bracket. UAX #9 has the
-/// same limit for bracket pairs (BD16).
+/// The maximum number of opening brackets that are kept, which bounds the time for each closing bracket. UAX
+/// #9 has the same limit for bracket pairs (BD16).
 const MOST_OPEN: usize = 63;
 
 /// An opening bracket that is not closed yet: the closing bracket of its pair, and its script.

@@ -19,8 +19,8 @@ pub enum Progress {
     Parameters,
     /// The last character is an intermediate.
     Intermediates,
-    /// The last characters are the introducer of a string and this number of its characters. The first field is true
-    /// for OSC.
+    /// The last characters are the introducer of a string and this number of its characters. The first field
+    /// is true for OSC.
     InString(bool, usize),
     /// The last character is an ESC after a string.
     AfterString,

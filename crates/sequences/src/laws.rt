@@ -9,8 +9,8 @@ pub fn shows_no_controls()
     ensures { ShowsNoControls }
 {}
 
-/// States, as a theorem, that a text without controls of a kind that is dropped is shown unchanged, in the style in
-/// which it begins.
+/// States, as a theorem, that a text without controls of a kind that is dropped is shown unchanged, in the
+/// style in which it begins.
 pub fn shows_plain_text()
     ensures { ShowsPlainText }
 {}
@@ -25,8 +25,8 @@ pub fn shows_itself()
     ensures { ShowsItself }
 {}
 
-/// States, as a theorem, that a text shows what its pieces show. Each piece ends with a control that remains, with
-/// U+2028 or with U+2029. No sequence and no overstrike spans such a character.
+/// States, as a theorem, that a text shows what its pieces show. Each piece ends with a control that remains,
+/// with U+2028 or with U+2029. No sequence and no overstrike spans such a character.
 pub fn shows_pieces()
     ensures { ShowsPieces }
 {}

@@ -7,8 +7,8 @@ use crate::parts::part_end;
 /// The maximum total length of a paragraph's links, in characters. URIs are ASCII, so this is 1 MB.
 pub const MAX_LINKS_LEN: usize = 1_048_576;
 
-/// Returns the link that a string after OSC sets. The link is empty if the string ends a link. Returns `None` for any
-/// other string.
+/// Returns the link that a string after OSC sets. The link is empty if the string ends a link. Returns `None`
+/// for any other string.
 pub(crate) fn osc_link(text: &[char]) -> Option<&[char]>
     ensures { MatchOption result (osc_link text.now ≡ None) (λ link. osc_link text.now ≡ Some link.now) }
 {

@@ -1,7 +1,7 @@
 //! The parameters of SGR and their fields.
 //!
-//! Lists of parameters, and single parameters, are passed with the character before them. So an empty text has no
-//! parameters, and an empty parameter has one field.
+//! Lists of parameters, and single parameters, are passed with the character before them. So an empty text
+//! has no parameters, and an empty parameter has one field.
 ghost use Rattle.std.specs.Prelude.{◌≡◌, ◌==◌, ◌≤◌, ◌<◌, ◌+◌, length, drop, map, take, count_by};
 ghost use Rattle.std.specs.List.{position_or_len};
 ghost use Rattle.sequences.specs.Looks.{single, value};

@@ -17,8 +17,8 @@ use crate::sgr::applied;
 use crate::style::{Link, NO_LINK, StyledText};
 use std::alloc::{AllocError, Global};
 
-/// Collects the characters that texts show, with their styles. Each text begins in the style in which the text before
-/// it ended.
+/// Collects the characters that texts show, with their styles. Each text begins in the style in which the
+/// text before it ended.
 #[derive(Debug, Drop)]
 pub struct Scanner {
     /// The characters of the paragraph so far.

@@ -6,8 +6,8 @@ use crate::look::{Look, PLAIN};
 use crate::same_look::same_look;
 use std::alloc::{AllocError, Global};
 
-/// A part of a list of characters: the parameters of a link, a semicolon and its URI. The part is empty if there is no
-/// link.
+/// A part of a list of characters: the parameters of a link, a semicolon and its URI. The part is empty if
+/// there is no link.
 #[derive(Clone, Copy, Debug, PartialEq, Eq)]
 pub struct Link {
     pub start: usize,
@@ -25,8 +25,8 @@ pub struct StyleRun {
     pub link: Link,
 }
 
-/// A style: attributes and a link. The link consists of its parameters, a semicolon and its URI, or is empty if there
-/// is none.
+/// A style: attributes and a link. The link consists of its parameters, a semicolon and its URI, or is empty
+/// if there is none.
 #[derive(Clone, Copy, Debug)]
 pub struct StyleRef<'a> {
     pub look: Look,

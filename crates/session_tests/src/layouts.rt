@@ -162,8 +162,8 @@ fn longest_paragraph_at_width_one_has_a_line_per_letter(rt: HostRuntime) -> Resu
     Ok(())
 }
 
-// Finds the lines of a paragraph at another width. Does not try again after an allocation failure, so that the tests
-// detect a mutant that reports failures without a cause.
+// Finds the lines of a paragraph at another width. Does not try again after an allocation failure, so that
+// the tests detect a mutant that reports failures without a cause.
 fn refill(alloc: Global, engine: &mut Engine, laid: &Laid, width: u16) -> Result<Fill, Fail>
     requires laid { IsLaidOut (rules_of engine.old) laid.now }
     requires width { 0 < width }
@@ -172,8 +172,8 @@ fn refill(alloc: Global, engine: &mut Engine, laid: &Laid, width: u16) -> Result
     Ok(engine.refill(alloc, laid, u32::from(width))?)
 }
 
-// Returns whether the engine has counted this many analysed and this many filled characters, and as many written as
-// filled.
+// Returns whether the engine has counted this many analysed and this many filled characters, and as many
+// written as filled.
 fn counts(engine: &Engine, analysed: u64, filled: u64) -> bool {
     engine.analysed() == analysed && engine.filled() == filled && engine.written() == filled
 }

@@ -82,8 +82,8 @@ fn make_each<S: ParagraphStore<Kept>>(
     Ok(())
 }
 
-// Executes an edit, and tries again after an allocation failure. The edit may raise the counters by at most these
-// numbers.
+// Executes an edit, and tries again after an allocation failure. The edit may raise the counters by at most
+// these numbers.
 fn make_within<S: ParagraphStore<Kept>>(
     rt: &impl Abort,
     edited: &mut Session<S>,
@@ -270,8 +270,8 @@ fn renew<S: ParagraphStore<Kept>>(
     )
 }
 
-// A session over some store; another session, whose whole text is replaced at once; and a buffer for the output of
-// both.
+// A session over some store; another session, whose whole text is replaced at once; and a buffer for the
+// output of both.
 #[derive(Drop)]
 struct Pair<S: ParagraphStore<Kept>, T: ParagraphStore<Kept>> {
     edited: Session<S>,

@@ -433,9 +433,9 @@ enum Call {
     WidthOutOfRange,
 }
 
-// Returns whether the example of a call holds in a session on "ab\ncd\nef", of 80 columns, or `false` after an
-// allocation failure. Only the functions below that open a session name its store, since a function that names the
-// store is slow to prove.
+// Returns whether the example of a call holds in a session on "ab\ncd\nef", of 80 columns, or `false` after
+// an allocation failure. Only the functions below that open a session name its store, since a function that
+// names the store is slow to prove.
 fn holds(alloc: Global, call: Call) -> bool {
     match open(alloc, "ab\ncd\nef", 80) {
         Ok(session) => holds_in(session, call),

@@ -59,8 +59,8 @@ fn balance<P: Measured>(left: Subtree<P>, node: DetachedNode<P>, right: Subtree<
     node.over(left, right)
 }
 
-// Joins two trees, the left of which is higher by 2. Makes one rotation, or two if the inner side of the left tree is
-// higher than its outer side.
+// Joins two trees, the left of which is higher by 2. Makes one rotation, or two if the inner side of the left
+// tree is higher than its outer side.
 fn lean_left<P: Measured>(left: Subtree<P>, node: DetachedNode<P>, right: Subtree<P>) -> Subtree<P>
     requires fits { Fits P.Measured (in_order left ++ node ∷ in_order right) }
     requires two_higher { height left ≡ height right + 2 }
@@ -94,8 +94,8 @@ fn lean_right<P: Measured>(left: Subtree<P>, node: DetachedNode<P>, right: Subtr
     lift(left, node, inner, top, outer)
 }
 
-// Makes two rotations. The middle tree is higher by 1 than the trees on both sides of it. The root of the middle tree
-// becomes the root of the joined tree.
+// Makes two rotations. The middle tree is higher by 1 than the trees on both sides of it. The root of the
+// middle tree becomes the root of the joined tree.
 fn lift<P: Measured>(
     left: Subtree<P>,
     before: DetachedNode<P>,

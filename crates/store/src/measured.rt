@@ -62,8 +62,8 @@ pub trait Exchanger<P: Measured> {
     /// The type of the parts that are exchanged.
     type Part;
 
-    // The facts that determine which parts fit, and the result of an exchange. These facts do not change while the
-    // exchanger counts its work.
+    // The facts that determine which parts fit, and the result of an exchange. These facts do not change
+    // while the exchanger counts its work.
     ghost Kind: { Type 0 };
 
     ghost kind: { Self → Kind };

@@ -51,8 +51,8 @@ impl<P: Measured> Model for TreeStore<P> {
 }
 
 impl<P: Measured> TreeStore<P> {
-    /// States, as a theorem, a bound on the height: the store has at least as many items as the smallest balanced tree
-    /// of its height. The size of that tree at least doubles with every second level.
+    /// States, as a theorem, a bound on the height: the store has at least as many items as the smallest
+    /// balanced tree of its height. The size of that tree at least doubles with every second level.
     pub fn stays_balanced(&self)
         ensures balanced { IsBalanced self.now }
         ensures items { fewest_nodes (height self.now) ≤ length (in_order self.now) }
@@ -125,8 +125,8 @@ fn take_down<P: Measured>(nodes: Vec<DetachedNode<P>>, items: &mut Vec<P>)
     nodes.destroy_empty();
 }
 
-// Allocates the memory for a replacement: capacity for the old items, and a node for each new item. Fails if the total
-// number of kept and new items overflows.
+// Allocates the memory for a replacement: capacity for the old items, and a node for each new item. Fails if
+// the total number of kept and new items overflows.
 fn take_memory<P: Measured>(
     alloc: Global,
     kept: usize,

@@ -149,8 +149,8 @@ fn write_marked(bytes: u8x16, marks: usize, out: &mut [char]) -> usize
     write_four(after_12, marks / 4096, out, fourth)
 }
 
-// Writes the characters that begin with the marked bytes among the first four to an index of a slice, and returns the
-// index after them. Always writes four characters, so that there is no branch on their number.
+// Writes the characters that begin with the marked bytes among the first four to an index of a slice, and
+// returns the index after them. Always writes four characters, so that there is no branch on their number.
 #[inline(always)]
 fn write_four(bytes: u8x16, marks: usize, out: &mut [char], at: usize) -> usize
     requires marks { marks < 16 }

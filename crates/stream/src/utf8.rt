@@ -47,9 +47,9 @@ fn with_all(text: &str, characters: Vec<char>) -> Vec<char>
     list
 }
 
-// Adds some characters at the start of a text to a list, and returns the rest of the text. If the first 16 bytes are in
-// characters of one or two bytes, these are decoded together. A branch for each change of the length would often be
-// mispredicted, as in Hebrew with spaces and digits.
+// Adds some characters at the start of a text to a list, and returns the rest of the text. If the first 16
+// bytes are in characters of one or two bytes, these are decoded together. A branch for each change of the
+// length would often be mispredicted, as in Hebrew with spaces and digits.
 #[inline(always)]
 fn push_lanes<'a>(text: &'a str, characters: &mut Vec<char>) -> &'a str
     requires long { LANES ≤ length text.now }
@@ -62,8 +62,8 @@ fn push_lanes<'a>(text: &'a str, characters: &mut Vec<char>) -> &'a str
     let bytes = u8x16::from_slice(text.as_bytes());
     if is_ascii(bytes) {
         let (_, rest) = text.split_at(LANES);
-        // This passes a copy, since otherwise the text would be read again after each character: the list might overlap
-        // it.
+        // This passes a copy, since otherwise the text would be read again after each character: the list
+        // might overlap it.
         push_ascii(&bytes.to_array(), characters);
         return rest;
     }
@@ -76,8 +76,8 @@ fn push_lanes<'a>(text: &'a str, characters: &mut Vec<char>) -> &'a str
     rest
 }
 
-// Returns how many of the first `LANES` bytes form whole characters, if all of these have one or two bytes. These are
-// all bytes, or all except the first byte of a character at the end.
+// Returns how many of the first `LANES` bytes form whole characters, if all of these have one or two bytes.
+// These are all bytes, or all except the first byte of a character at the end.
 #[inline(always)]
 fn short_len(text: &str) -> usize
     requires long { LANES ≤ length text.now }
@@ -149,8 +149,8 @@ fn begins_between(text: &str, low: u8, high: u8) -> bool
     }
 }
 
-/// Returns the longest prefix of `bytes` that is valid UTF-8, and whether the bytes after it are invalid. The bytes
-/// after it are invalid if no character begins with them.
+/// Returns the longest prefix of `bytes` that is valid UTF-8, and whether the bytes after it are invalid. The
+/// bytes after it are invalid if no character begins with them.
 pub fn front(bytes: &[u8]) -> (&str, bool)
     ensures text { result.0.now ≡ take (utf8_valid_len bytes.now) bytes.now }
     ensures bad { result.1 ≡ is_bad bytes.now }

@@ -13,7 +13,8 @@ use ucd::file_name;
 /// The name of the compiled image in a folder of installed tables.
 pub const IMAGE_NAME: &str = "tables.image";
 
-/// A folder of tables. The contracts of the functions that read a folder say from which files the tables come.
+/// A folder of tables. The contracts of the functions that read a folder say from which files the tables
+/// come.
 pub trait TableFolder {
     // The file with this index in `FILE_NAMES` has these bytes.
     ghost has_file: { Self → ℕ → List ℕ → Type 0 };
@@ -64,7 +65,8 @@ impl<'a> DiskFolder<'a> {
     }
 }
 
-// No contract covers the contents of the file system, so these methods are trusted to read the files that they name.
+// No contract covers the contents of the file system, so these methods are trusted to read the files that
+// they name.
 impl TableFolder for DiskFolder<'_> {
     ghost has_file = { λ _ index bytes. any_bytes index bytes };
 

@@ -63,9 +63,9 @@ impl Decoder {
         read_to(reader, &mut self.chunk, self.waiting)
     }
 
-    /// Decodes the waiting bytes and `len` more bytes, and adds their characters to a text. With `form.strict`, stops
-    /// at the first invalid UTF-8, drops the rest, and returns whether there was any. After a failed allocation, some
-    /// characters may be missing.
+    /// Decodes the waiting bytes and `len` more bytes, and adds their characters to a text. With
+    /// `form.strict`, stops at the first invalid UTF-8, drops the rest, and returns whether there was any.
+    /// After a failed allocation, some characters may be missing.
     pub(crate) fn decode(
         &mut self,
         form: &Form,
@@ -121,7 +121,8 @@ impl Decoder {
     }
 }
 
-// Returns the end of the bytes that are not dropped, given the number of decoded bytes and the total number of bytes.
+// Returns the end of the bytes that are not dropped, given the number of decoded bytes and the total number
+// of bytes.
 fn end_of(stops: bool, decoded: usize, filled: usize) -> usize
     ensures { result ≡ (if stops then decoded else filled) }
 {
@@ -139,8 +140,8 @@ pub(crate) fn push_end(waiting: usize, text: &mut Vec<char>) -> Result<(), Alloc
     Ok(())
 }
 
-/// Removes the character at an index of a text if it is U+FEFF, unless characters were decoded before. Returns whether
-/// any characters have been decoded by now.
+/// Removes the character at an index of a text if it is U+FEFF, unless characters were decoded before.
+/// Returns whether any characters have been decoded by now.
 pub(crate) fn start(started: bool, text: &mut Vec<char>, at: usize) -> bool
     requires { at ≤ vec_len text.old }
     ensures text { text.new.items ≡ take at text.old.items

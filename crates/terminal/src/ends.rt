@@ -31,7 +31,8 @@ pub(crate) fn is_apart(c: char) -> bool
         || c == '\u{2029}'
 }
 
-/// Returns the length of the sequence or dropped control at the start of a text, or `None` if there is neither.
+/// Returns the length of the sequence or dropped control at the start of a text, or `None` if there is
+/// neither.
 pub(crate) fn skipped_len(text: &[char]) -> Option<usize>
     requires { 0 < length text.now }
     ensures within { IfSome result (λ n. (0 < n) × (n ≤ length text.now)) }

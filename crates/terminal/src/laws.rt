@@ -2,8 +2,8 @@
 ghost use Rattle.terminal.specs.Newlines.{PagesEndInNewlines};
 ghost use Rattle.terminal.specs.Plain.{PrintsPlainLines, PrintsWithoutPrefix};
 
-/// States, as a theorem, that a paragraph whose characters all have the default style is printed as the crate `lines`
-/// prints it, under any rules and at any width.
+/// States, as a theorem, that a paragraph whose characters all have the default style is printed as the crate
+/// `lines` prints it, under any rules and at any width.
 pub fn prints_plain_lines()
     ensures { PrintsPlainLines }
 {}

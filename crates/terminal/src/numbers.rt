@@ -106,8 +106,9 @@ fn put_number(numbers: &mut [usize], start: usize, end: usize, number: usize)
     }
 }
 
-// Replaces the numbers of a text's characters, all of which are 0, with their style numbers. A character has the style
-// of the last run that starts at or before it, so the runs are processed from the last to the first.
+// Replaces the numbers of a text's characters, all of which are 0, with their style numbers. A character has
+// the style of the last run that starts at or before it, so the runs are processed from the last to the
+// first.
 fn put_numbers(text: &StyledText, numbers: &mut [usize])
     requires len { length numbers.old ≡ length text.now.characters.items }
     requires zero { (k : ℕ) → slice_index numbers.old k ≡ 0 }

@@ -109,9 +109,10 @@ impl Output {
         Ok(shown.last)
     }
 
-    /// Adds the lines of the blocks of a text that have ended, whatever follows it, up to a block that is too long. If
-    /// the form is strict, holds back a block that nothing follows yet. No block ends before the index `scanned`,
-    /// whatever follows the text. If the character there is a CR, the text after it was scanned as far as `passed`.
+    /// Adds the lines of the blocks of a text that have ended, whatever follows it, up to a block that is too
+    /// long. If the form is strict, holds back a block that nothing follows yet. No block ends before the
+    /// index `scanned`, whatever follows the text. If the character there is a CR, the text after it was
+    /// scanned as far as `passed`.
     pub(crate) fn push_ended(
         &mut self,
         alloc: Global,
@@ -168,9 +169,9 @@ impl Output {
         }
     }
 
-    /// Adds the lines of the blocks of a text that nothing follows, up to a block that is too long. Returns whether
-    /// there is such a block. If not, and the text is the last one, the page ends in a newline only if the text ends a
-    /// line.
+    /// Adds the lines of the blocks of a text that nothing follows, up to a block that is too long. Returns
+    /// whether there is such a block. If not, and the text is the last one, the page ends in a newline only
+    /// if the text ends a line.
     pub(crate) fn push_last(
         &mut self,
         alloc: Global,
@@ -262,8 +263,9 @@ fn is_too_long(form: &Form, len: usize) -> bool
     form.strict && len > PARAGRAPH_LIMIT
 }
 
-// Returns the rest of a text. The rest begins at `start`, has `len` characters, and has no known end. If the form is
-// strict, the rest is too long if its first block is, or if the sequence after its CR is longer than a block may be.
+// Returns the rest of a text. The rest begins at `start`, has `len` characters, and has no known end. If the
+// form is strict, the rest is too long if its first block is, or if the sequence after its CR is longer than
+// a block may be.
 fn left_open(form: &Form, start: usize, scanned: usize, passed: Passed, len: usize) -> Left
     ensures start { result.start ≡ start }
     ensures scanned { result.scanned ≡ scanned }

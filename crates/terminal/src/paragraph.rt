@@ -226,8 +226,8 @@ fn push_after(
     push_styled(alloc, page, engine, &lines, rest, out)
 }
 
-// Adds the lines of one paragraph. The first `len` characters of the paragraph are its prefix, if they are not too
-// wide.
+// Adds the lines of one paragraph. The first `len` characters of the paragraph are its prefix, if they are
+// not too wide.
 fn push_split(
     alloc: Global,
     page: &mut Page,

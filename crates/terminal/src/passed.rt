@@ -41,8 +41,8 @@ impl Passed {
     }
 }
 
-/// Returns the first character of a text that is neither in a sequence nor dropped. If it depends on what follows the
-/// text, returns how far the text has been scanned by now. Scans no character twice.
+/// Returns the first character of a text that is neither in a sequence nor dropped. If it depends on what
+/// follows the text, returns how far the text has been scanned by now. Scans no character twice.
 pub(crate) fn known_next(text: &[char], passed: Passed) -> Result<char, Passed>
     requires { HasPassed passed text.now }
     ensures next { IfOk result (λ c. c ≡ next_character text.now) }

@@ -94,7 +94,8 @@ fn push_directed(
     result
 }
 
-/// Adds the lines of a paragraph, given the styles of its characters. A paragraph over the limit is laid out in pieces.
+/// Adds the lines of a paragraph, given the styles of its characters. A paragraph over the limit is laid out
+/// in pieces.
 pub(crate) fn push_pieces(
     alloc: Global,
     page: &mut Page,

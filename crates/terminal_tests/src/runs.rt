@@ -384,7 +384,8 @@ fn input_that_is_all_invalid_is_read_to_its_end(rt: HostRuntime) -> Result<(), F
     Ok(())
 }
 
-// Returns whether a strict run ends with a fault after writing the expected lines, wherever the first chunk ends.
+// Returns whether a strict run ends with a fault after writing the expected lines, wherever the first chunk
+// ends.
 fn ends_with(
     alloc: Global,
     engine: &mut Engine,

@@ -1,5 +1,5 @@
-//! Test tables: the lines of the seven table files that the tests' characters need. The lines are constants, because
-//! tests cannot open files. A character that no line lists has the file's default.
+//! Test tables: the lines of the seven table files that the tests' characters need. The lines are constants,
+//! because tests cannot open files. A character that no line lists has the file's default.
 #![tactic(auto)]
 
 /// Lines of DerivedBidiClass.txt: bidirectional classes.

@@ -1,5 +1,5 @@
-//! Tests how the algorithm arrives at the levels of worked examples. The tests must also pass if any one allocation
-//! fails.
+//! Tests how the algorithm arrives at the levels of worked examples. The tests must also pass if any one
+//! allocation fails.
 use crate::files::{FILES, read};
 use bidi::{Base, NeutralRule, ParagraphReasons, SequenceStep, reasons};
 use std::alloc::{AllocError, Global};

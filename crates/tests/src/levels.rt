@@ -1,4 +1,5 @@
-//! Tests worked examples of levels, and that the levels of short lists equal those of the reference implementation.
+//! Tests worked examples of levels, and that the levels of short lists equal those of the reference
+//! implementation.
 ghost use Rattle.std.specs.Prelude.{◌≡◌, map, IfOk};
 ghost use Rattle.ucd.specs.Properties.{properties_of};
 
@@ -80,8 +81,8 @@ fn brackets_of(
     text.iter().map(|c| bracket_type(tables, *c)).collect(alloc)
 }
 
-// Replaces `levels` with the levels for classes and bracket types, and returns whether `base_level_of` returns the same
-// base level.
+// Replaces `levels` with the levels for classes and bracket types, and returns whether `base_level_of`
+// returns the same base level.
 fn put_levels_of(
     resolver: &mut Resolver,
     classes: &[BidiClass],
@@ -96,8 +97,8 @@ fn put_levels_of(
     Ok(level == base_level_of(classes, base))
 }
 
-// Replaces `levels` with the levels for the classes and bracket types of a text, and returns whether `base_level_of`
-// returns the same base level.
+// Replaces `levels` with the levels for the classes and bracket types of a text, and returns whether
+// `base_level_of` returns the same base level.
 fn put_levels_by(
     alloc: Global,
     resolver: &mut Resolver,
@@ -166,8 +167,9 @@ fn is_found(
     Ok(by_text & by_lists)
 }
 
-// Returns the list with an unmatched PDF before it. X9 removes the PDF, so the levels after it are those of the list
-// alone. But these levels are found by the full rules, not by the fast path for a paragraph that is a single sequence.
+// Returns the list with an unmatched PDF before it. X9 removes the PDF, so the levels after it are those of
+// the list alone. But these levels are found by the full rules, not by the fast path for a paragraph that is
+// a single sequence.
 fn after_pdf(alloc: Global, text: &[char]) -> Result<Vec<char>, AllocError> {
     let mut longer = Vec::new(alloc);
     longer.push('\u{202C}')?;
@@ -429,10 +431,10 @@ const INNER: &[BidiClass] = &[
     BidiClass::ON,
 ];
 
-// In the first two rows, the third character opens a pair that the last character closes. The brackets have the
-// caller's numbers or code points. The next two rows have brackets with different numbers, and a closing bracket before
-// an opening one. The others have a pair around an isolate with a closing bracket, brackets that are not ON, and lists
-// without brackets.
+// In the first two rows, the third character opens a pair that the last character closes. The brackets have
+// the caller's numbers or code points. The next two rows have brackets with different numbers, and a closing
+// bracket before an opening one. The others have a pair around an isolate with a closing bracket, brackets
+// that are not ON, and lists without brackets.
 static LIST_ROWS: [ListRow; 8] = [
     ListRow {
         classes: INNER,

@@ -1,5 +1,5 @@
-//! Tests the break marks of worked examples, and compares the break marks of lists of characters with the reference
-//! implementation. The tests must also pass if any one allocation fails.
+//! Tests the break marks of worked examples, and compares the break marks of lists of characters with the
+//! reference implementation. The tests must also pass if any one allocation fails.
 ghost use Rattle.std.specs.Prelude.{◌≡◌, map, OnOk};
 ghost use Rattle.ucd.specs.Properties.{properties_of};
 
@@ -98,8 +98,8 @@ static NUMBERS: [(&str, &str, &str); 23] = [
     ("%(1.)$1", "××××××!", "××××××!"),
 ];
 
-// Texts with a degree sign or a euro sign, and their marks without and with whole numbers. A line may end after a space
-// inside what would otherwise be a number, but not after a no-break space.
+// Texts with a degree sign or a euro sign, and their marks without and with whole numbers. A line may end
+// after a space inside what would otherwise be a number, but not after a no-break space.
 static SIGNS: [(&str, &str, &str); 3] = [
     ("-5\u{B0}", "××!", "××!"),
     ("\u{20AC}\u{A0}30", "×××!", "×××!"),
@@ -246,8 +246,8 @@ fn read_all(
     Ok(())
 }
 
-// Returns whether the marks of the text equal those of the reference implementation, both without and with whole
-// numbers.
+// Returns whether the marks of the text equal those of the reference implementation, both without and with
+// whole numbers.
 fn agrees(tables: &Tables, kept: &mut Kept) -> Result<bool, AllocError> {
     read_all(tables, &kept.text, &mut kept.properties)?;
     Ok(agrees_where(tables, false, kept)? && agrees_where(tables, true, kept)?)

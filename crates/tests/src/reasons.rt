@@ -1,4 +1,5 @@
-//! Tests which rules decide the break marks of worked examples. The tests must also pass if any one allocation fails.
+//! Tests which rules decide the break marks of worked examples. The tests must also pass if any one
+//! allocation fails.
 use crate::files::{FILES, read};
 use breaks::{LineRule, Reason, reasons};
 use std::alloc::{AllocError, Global};

@@ -47,8 +47,8 @@ fn are_scripts(scripts: &[Script], letters: &str) -> bool {
     all_right
 }
 
-// Returns whether the runs follow one another, up to the end of a text, and each run has another script than the run
-// before it.
+// Returns whether the runs follow one another, up to the end of a text, and each run has another script than
+// the run before it.
 fn are_runs(runs: &[ScriptRun], len: usize) -> bool {
     let mut all_right = true;
     let mut start = 0_usize;

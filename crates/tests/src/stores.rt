@@ -1,5 +1,5 @@
-//! Compares both stores with each other. The tests must also pass if any one allocation fails: a failed `replace`
-//! changes nothing, and is tried again.
+//! Compares both stores with each other. The tests must also pass if any one allocation fails: a failed
+//! `replace` changes nothing, and is tried again.
 ghost use Rattle.std.specs.Prelude.{◌≡◌, ◌+◌, ◌-◌, ◌^◌, ◌<◌, sum_by};
 
 use std::alloc::{AllocError, Global};
@@ -501,7 +501,8 @@ fn two_items_take_the_place_of_three(rt: HostRuntime) -> Result<(), Fail> {
     Ok(check_stores(&rt, rt.alloc(), Check::ThreeByTwo)?)
 }
 
-// Returns whether each item has seven more lines than its part had, and the part has as many lines as the item had.
+// Returns whether each item has seven more lines than its part had, and the part has as many lines as the
+// item had.
 fn are_exchanged<S: ParagraphStore<Item>>(store: &S, parts: &[usize]) -> bool {
     let mut all_right = parts.len() == store.count();
     for (index, lines) in parts.iter().enumerate() {
@@ -560,8 +561,8 @@ fn parts_are_exchanged_in_the_order_of_the_items(rt: HostRuntime) -> Result<(), 
     Ok(check_stores(&rt, rt.alloc(), Check::Exchanges)?)
 }
 
-// Returns the maximum number of items that a search visits, over searches for every `step`-th character and for the
-// last character.
+// Returns the maximum number of items that a search visits, over searches for every `step`-th character and
+// for the last character.
 fn most_visits<S: ParagraphStore<Item>>(store: &S, step: usize) -> usize {
     let mut most = 0;
     let total = store.total_chars();

@@ -508,8 +508,8 @@ enum Call {
     ExchangeAll,
 }
 
-// Returns whether the example of a call holds in both stores, or `false` after an allocation failure. Only this
-// function names both stores, since a function that names them is slow to prove.
+// Returns whether the example of a call holds in both stores, or `false` after an allocation failure. Only
+// this function names both stores, since a function that names them is slow to prove.
 fn holds(alloc: Global, call: Call) -> bool {
     holds_in::<store::VecStore<Item>>(alloc, call) & holds_in::<store::TreeStore<Item>>(alloc, call)
 }

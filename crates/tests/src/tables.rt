@@ -1,5 +1,5 @@
-//! Tests lookups in the seven files and in copies of tables, and the faults of malformed files. The tests must also
-//! pass if any one allocation fails.
+//! Tests lookups in the seven files and in copies of tables, and the faults of malformed files. The tests
+//! must also pass if any one allocation fails.
 use crate::files::{FILES, read};
 use std::alloc::{AllocError, Global};
 use std::process::Abort;
@@ -16,8 +16,9 @@ const EMPTY: UcdFiles<'_> = UcdFiles {
     emoji_data: b"",
 };
 
-// A character and its two classes; if it is a bracket, the other bracket of its pair and whether it is the opening
-// bracket; its mirror; whether it is wide, a mark and a future pictograph; and its number for line breaking.
+// A character and its two classes; if it is a bracket, the other bracket of its pair and whether it is the
+// opening bracket; its mirror; whether it is wide, a mark and a future pictograph; and its number for line
+// breaking.
 type Row = (
     char,
     Bidi,
@@ -414,8 +415,8 @@ static FAULTS: [(usize, &[u8], usize, Cause); 14] = [
     (6, b"0041;N;x", 1, Cause::FieldCount),
     (7, b"0042..0041;Emoji", 1, Cause::Reversed),
     (7, b"41;Emoji", 1, Cause::CodePoint),
-    // Ranges across a page boundary that overlap in the last character of one range and the first character of the
-    // other.
+    // Ranges across a page boundary that overlap in the last character of one range and the first character
+    // of the other.
     (1, b"00F0..0110;R\n\n0110..0120;L", 3, Cause::NamedBefore),
     (1, b"0101..0120;R\n00F0..0101;L", 2, Cause::NamedBefore),
     (4, b"10FFFF;AL\n0000..10FFFF;AL", 2, Cause::NamedBefore),
@@ -466,7 +467,8 @@ fn names_pictograph(alloc: Global, lines: &[u8]) -> Result<bool, TableFault> {
     Ok(tables.is_future_pictograph('\u{A9}'))
 }
 
-// Lines of another property name no characters, so they may be repeated. Lines of Extended_Pictographic may not.
+// Lines of another property name no characters, so they may be repeated. Lines of Extended_Pictographic may
+// not.
 #[test]
 fn only_extended_pictographic_is_refused_when_repeated(rt: HostRuntime) -> Result<(), Fail> {
     let lines = b"00A9;Emoji\n00A9;Emoji\n00A9;Extended_Pictographic";

@@ -1,4 +1,5 @@
-//! Tests what a terminal shows for texts, and how this is written. Each row is a text and its expected output.
+//! Tests what a terminal shows for texts, and how this is written. Each row is a text and its expected
+//! output.
 use sequences::{
     Link, MAX_LINKS_LEN, NO_LINK, PLAIN, Progress, Scanner, StyleRef, StyledText,
     is_sequence_known, push_between, sequence_len, shows_itself, shows_no_controls, shows_pieces,
@@ -15,7 +16,8 @@ fn push_characters(text: &str, out: &mut Vec<char>) -> Result<(), AllocError> {
     Ok(())
 }
 
-// Returns the style in which a character is shown, given the style of the character before it, and the next run.
+// Returns the style in which a character is shown, given the style of the character before it, and the next
+// run.
 fn style_at<'a>(
     text: &'a StyledText,
     k: usize,

@@ -84,8 +84,8 @@ impl Held {
         read_to(reader, &mut self.chunk, self.waiting)
     }
 
-    // Decodes the waiting bytes and `len` more bytes. Adds to the page the lines of the paragraphs whose end is then
-    // known. Returns the fault of the text, if there is one.
+    // Decodes the waiting bytes and `len` more bytes. Adds to the page the lines of the paragraphs whose end
+    // is then known. Returns the fault of the text, if there is one.
     //
     // Allocates only if a character is decoded and no paragraph is too long. If some of the bytes are not
     // UTF-8, allocates only if a paragraph ends before them.

@@ -152,8 +152,8 @@ pub fn offset_answer(offset: Option<usize>) -> Answer
     }
 }
 
-/// Returns the reply to a conversion of an offset: the position, and how far the offset is past the start of the
-/// character there.
+/// Returns the reply to a conversion of an offset: the position, and how far the offset is past the start of
+/// the character there.
 pub fn position_answer(found: Option<(usize, usize)>) -> Answer
     ensures { result.items ≡ told_of (option_map (λ place. place.0 ∷ place.1 ∷ []) found) }
 {

@@ -512,8 +512,8 @@ pub fn run_script<R: Source, W: Sink, S: ParagraphStore<Kept> + Drop>(
 /// whose reply could not be written. The session's work is at most what these lines and the line at which the
 /// run ended require.
 ///
-/// Fails with `Memory` only before anything is read, or while a line is read or executed. The line then changes
-/// nothing, and no byte of its reply is written.
+/// Fails with `Memory` only before anything is read, or while a line is read or executed. The line then
+/// changes nothing, and no byte of its reply is written.
 pub fn run_script_in<R: Source, W: Sink, S: ParagraphStore<Kept>>(
     alloc: Global,
     reader: &mut R,

@@ -68,8 +68,8 @@ fn bracket_at(tables: &Tables, c: char, class: BidiClass) -> Option<Bracket> {
     }
 }
 
-// Pairs a closing bracket with the newest opening bracket that it matches, if there is one. Removes this opening
-// bracket and all newer brackets from the stack.
+// Pairs a closing bracket with the newest opening bracket that it matches, if there is one. Removes this
+// opening bracket and all newer brackets from the stack.
 fn close(
     openers: &mut Vec<Opener>,
     pairs: &mut Vec<Pair>,
@@ -86,8 +86,8 @@ fn close(
     Ok(())
 }
 
-// Returns the newest opening bracket that a closing bracket matches: how many brackets are below it on the stack, and
-// its index in the text.
+// Returns the newest opening bracket that a closing bracket matches: how many brackets are below it on the
+// stack, and its index in the text.
 fn newest(openers: &[Opener], c: char) -> Option<(usize, usize)> {
     let mut newest = None;
     for (held, opener) in openers.iter().enumerate() {
@@ -130,9 +130,9 @@ fn set_pair(
     }
 }
 
-// Returns the direction of a pair. If the pair contains a strong type of the embedding direction, this is the pair's
-// direction. Otherwise, if the pair contains a strong type of the other direction, its direction is that of the nearest
-// strong type before the pair.
+// Returns the direction of a pair. If the pair contains a strong type of the embedding direction, this is the
+// pair's direction. Otherwise, if the pair contains a strong type of the other direction, its direction is
+// that of the nearest strong type before the pair.
 fn pair_direction(
     types: &[BidiClass],
     opener: usize,

@@ -16,7 +16,8 @@ pub enum Left {
     IsNarrow(Classes),
     /// The last base has none of the classes.
     IsNot(Classes),
-    /// The base before the last base has one of the first classes, and the last base has one of the second classes.
+    /// The base before the last base has one of the first classes, and the last base has one of the second
+    /// classes.
     IsPair(Classes, Classes),
     /// The last base that is not a space has one of the classes.
     IsSpaced(Classes),
@@ -84,8 +85,8 @@ fn first_mark(rules: &[Rule], before: &Before, after: &Character) -> Option<Mark
     None
 }
 
-/// The form of LB25: the rule for pairs of bases, or the rule for whole numbers. The latter says whether the position
-/// is inside a number.
+/// The form of LB25: the rule for pairs of bases, or the rule for whole numbers. The latter says whether the
+/// position is inside a number.
 #[derive(Clone, Copy)]
 pub enum Numbers {
     Pairs,
@@ -93,8 +94,8 @@ pub enum Numbers {
     Outside,
 }
 
-/// Returns the mark of the position between the bases `before` and the base that begins with `after`. This is the mark
-/// of the first rule that applies, or of LB31 if no other rule applies.
+/// Returns the mark of the position between the bases `before` and the base that begins with `after`. This is
+/// the mark of the first rule that applies, or of LB31 if no other rule applies.
 pub fn mark_between(before: &Before, after: &Character, numbers: Numbers) -> Mark {
     if let Some(mark) = first_mark(&RULES_BEFORE_NUMBERS, before, after) {
         return mark;

@@ -31,8 +31,8 @@ const SPACES: Options = Options {
     ..NO_TAB_STOPS
 };
 
-// A paragraph, its advances, a width, and where its lines start. For each line, the row also has the left edge of each
-// visual position and, last, the right edge of the line.
+// A paragraph, its advances, a width, and where its lines start. For each line, the row also has the left
+// edge of each visual position and, last, the right edge of the line.
 struct Row {
     text: &'static str,
     advances: &'static [u32],
@@ -41,9 +41,9 @@ struct Row {
     edges: &'static [&'static [usize]],
 }
 
-// A line ends at a break opportunity if the rest is too wide. A ligature's first character has the ligature's advance,
-// and the others have advance 0. If the ligature is wider than its line, the line ends after its first character. A tab
-// has its advance.
+// A line ends at a break opportunity if the rest is too wide. A ligature's first character has the ligature's
+// advance, and the others have advance 0. If the ligature is wider than its line, the line ends after its
+// first character. A tab has its advance.
 static ROWS: [Row; 8] = [
     Row {
         text: "a b",

@@ -1,6 +1,6 @@
-//! Makes random edits of a measured session, and sets random advances and widths. Each result is compared with a simple
-//! reference implementation, which keeps the text and its advances in two lists and finds the lines one after the
-//! other. Some results are also compared with a session that is opened on the text.
+//! Makes random edits of a measured session, and sets random advances and widths. Each result is compared
+//! with a simple reference implementation, which keeps the text and its advances in two lists and finds the
+//! lines one after the other. Some results are also compared with a session that is opened on the text.
 use super::random::{Numbers, random_piece};
 use super::{PAGE, pages, same, without_engine};
 use crate::files::{FILES, engine};
@@ -91,8 +91,8 @@ fn have_room(text: &[char], advances: &[u32]) -> bool {
     all
 }
 
-// Returns whether a line may end after the character at an index, if no break opportunity fits. In these texts, no
-// other characters join a cluster.
+// Returns whether a line may end after the character at an index, if no break opportunity fits. In these
+// texts, no other characters join a cluster.
 fn ends_cluster(text: &[char], k: usize) -> bool {
     match (text.get(k), text.get(k.wrapping_add(1))) {
         (Some(c), Some('\u{300}')) => ('\u{2066}'..='\u{2069}').contains(c),
@@ -101,8 +101,8 @@ fn ends_cluster(text: &[char], k: usize) -> bool {
 }
 
 impl Reference {
-    // Returns where the line from `start` on ends, and the sum of the advances that it shows. The marks are those of
-    // the line's paragraph, which goes from `first` to `end`.
+    // Returns where the line from `start` on ends, and the sum of the advances that it shows. The marks are
+    // those of the line's paragraph, which goes from `first` to `end`.
     fn line(&self, marks: &[Mark], first: usize, start: usize, end: usize) -> (usize, u64) {
         let (mut all, mut shown) = (0u64, 0u64);
         let (mut by_break, mut by_cluster, mut least) = (None, None, None);

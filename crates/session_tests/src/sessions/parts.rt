@@ -87,8 +87,8 @@ fn is_part<S: ParagraphStore<Kept>>(session: &Session<S>, row: &Part<'_>) -> boo
     session.text(pos, count) == wanted
 }
 
-// A replacement in the lines `ab`, `cd` and `ef`: a position, a count and the new text; the first line, the old lines
-// and the new lines of the damage, or why the edit is refused; and the text after the edit.
+// A replacement in the lines `ab`, `cd` and `ef`: a position, a count and the new text; the first line, the
+// old lines and the new lines of the damage, or why the edit is refused; and the text after the edit.
 type Replaced<'a> = (
     usize,
     usize,

@@ -165,8 +165,8 @@ pub(super) static ROWS: [Row<'_>; 20] = [
         [0, 11],
         "abc def ghi",
     ),
-    // The first of these rows keeps a line that just fits. The others make the width one column smaller, and then
-    // restore it.
+    // The first of these rows keeps a line that just fits. The others make the width one column smaller, and
+    // then restore it.
     (
         "ab cd \nef",
         80,
@@ -335,8 +335,8 @@ pub(super) static EDITS: [Edit<'_>; 6] = [
     Edit::Insert(3, "\ne"),
 ];
 
-// Calls `run`. Does not try again after an allocation failure, so that the tests detect a mutant that reports failures
-// without a cause.
+// Calls `run`. Does not try again after an allocation failure, so that the tests detect a mutant that reports
+// failures without a cause.
 fn run<S: ParagraphStore<Kept>>(
     edited: &mut Session<S>,
     edits: &[Edit<'_>],
