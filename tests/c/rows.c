@@ -6,7 +6,7 @@ enum { MOST = 60, LETTERS = 56 };
 
 #define OK(call) HOLDS((call) == HORDGULI_OK)
 
-/* Letters, digits, marks, spaces, separators, brackets, controls of embeddings and isolates, and parts of grapheme
+/* Letters, digits, marks, spaces, separators, brackets, embedding and isolate controls, and parts of grapheme
  * clusters. */
 static const uint32_t letters[LETTERS] = {
     'a', 'b', ' ', ' ', '1', '2', ',', '$', '(', ')', '[', ']', '<', '\t', 0x5D0, 0x5D1, 0x5B0, 0x5B8, 0x627, 0x628,

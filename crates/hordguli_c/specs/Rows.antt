@@ -1,5 +1,5 @@
--- Rows that a caller broke. The levels of a row are taken from its paragraph, before L1. All characters of a row are
--- shown, including those at its end.
+-- Rows that a caller has chosen. The levels of a row are taken from its paragraph, before L1. All characters of a row
+-- are shown, including those at its end.
 use Rattle.std.specs.Prelude.{◌≡◌, ℕ, ◌<◌, ◌≤◌, ◌⊎◌, ◌&&◌, true, Bool, List, length, map, All}
 use Rattle.std.specs.Char.{IsScalar}
 use Rattle.ucd.specs.Tables.{class_of}

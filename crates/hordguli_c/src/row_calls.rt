@@ -1,4 +1,4 @@
-//! Functions on a row that the caller broke: L1 to L4, from the levels of its paragraph.
+//! Functions on a row that the caller has chosen: L1 to L4, from the levels of its paragraph.
 ghost use Rattle.std.specs.Prelude.{◌≡◌, ◌<◌, ◌≤◌, ℕ, List, Option, length, true, All};
 ghost use Rattle.std.specs.Prelude.{IfErr, IfOk, IsFalse, IsTrue, OnErr, OnOk};
 ghost use Rattle.std.specs.Char.{IsScalar};

@@ -156,7 +156,7 @@ pub fn front(bytes: &[u8]) -> (&str, bool)
     ensures bad { result.1 ≡ is_bad bytes.now }
     ensures few { result.1 ≡ false → length bytes.now < utf8_valid_len bytes.now + 4 }
 {
-    // A chunk usually ends inside a character. Splitting it here means that it is validated only once.
+    // A chunk usually ends inside a character. Splitting the chunk here means that it is validated only once.
     let (whole, cut) = bytes.split_at(whole_len(bytes));
     match from_utf8(whole) {
         Ok(text) if is_beginning(cut) => (text, false),

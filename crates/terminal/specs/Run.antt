@@ -39,8 +39,8 @@ ArePermitted form parts = form.strict ≡ true → are_within parts ≡ true
 abbrev pub have_over : Rules → Pen → List (List ℕ) → Bool
 have_over rules pen parts = list_any (λ shown. has_over rules (characters_of shown)) (shown_blocks pen parts)
 
--- The characters of some bytes, as far as they do not depend on the bytes that follow. If they end inside a character,
--- one U+FFFD is missing.
+-- The characters of some bytes, as far as they do not depend on the bytes that follow. If the bytes end inside a
+-- character, the U+FFFD for this character is missing.
 pub record IsText (escapes : Escapes) (bytes text : List ℕ) : Type 0 where
   pub after : List ℕ → List ℕ
   pub begins : (more : List ℕ) → input_text escapes (bytes ++ more) ≡ text ++ after more

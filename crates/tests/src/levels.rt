@@ -433,8 +433,8 @@ const INNER: &[BidiClass] = &[
 
 // In the first two rows, the third character opens a pair that the last character closes. The brackets have
 // the caller's numbers or code points. The next two rows have brackets with different numbers, and a closing
-// bracket before an opening one. The others have a pair around an isolate with a closing bracket, brackets
-// that are not ON, and lists without brackets.
+// bracket before an opening one. The other rows have a pair around an isolate with a closing bracket,
+// brackets that are not ON, and lists without brackets.
 static LIST_ROWS: [ListRow; 8] = [
     ListRow {
         classes: INNER,

@@ -152,7 +152,8 @@ fn fills(
     result == wanted && holds(&taken, &bytes[..room.min(bytes.len())])
 }
 
-// Returns whether `fills` holds for a buffer that is larger than the output, as large, and half as large.
+// Returns whether `fills` holds for buffers that are larger than the output, as large as it, and half as
+// large.
 fn fills_each(
     alloc: Global,
     engine: &mut Engine,
