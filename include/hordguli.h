@@ -554,9 +554,9 @@ typedef struct hordguli_changed {
 /* Stores in `*changed` which lines changed in the last successful call that edited the text, set the width or set
  * advances. These are the lines of the call's damage, which names whole paragraphs, less the longest run of unchanged
  * lines at the start and then the longest such run at the end. An unchanged line has the same characters, levels, maps,
- * columns, advances, base level and length as before, and is the first line of its paragraph only if it was before. The
- * padding, which depends on the width, is not compared: RTL lines move when the width changes, so draw all of them
- * then. After the session is opened, all lines count as changed. A failed call does not change the result.
+ * columns, advances, base level and length as before, and is the first line of its paragraph if and only if it was
+ * before. The padding, which depends on the width, is not compared: RTL lines move when the width changes, so draw all
+ * of them then. After the session is opened, all lines count as changed. A failed call does not change the result.
  * Errors: NULL, OVERLAP, CLOSED.
  * Cost: O(1).
  * Since: 0.6. */

@@ -60,7 +60,7 @@ ReadsTablesBy (Some version) files status before after old new = ReadsTables ver
 abbrev pub TellsVersion : Status → Tables → ℕ → ℕ → Type 0
 TellsVersion status tables old new = (status ≡ is.Ok) × (new ≡ version_number tables.version)
 
--- the numbers of the causes why bytes are not an image
+-- the number of the cause for each fault of an image
 abbrev pub image_cause_number : ImageFault → ℕ
 image_cause_number image.Truncated = 8
 image_cause_number image.Magic = 9
