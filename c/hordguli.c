@@ -44,13 +44,13 @@ static size_t times(size_t count, size_t size) { return count > SIZE_MAX / size 
 #define ARRAY(pointer, count) {(pointer), (pointer) == NULL ? 0 : times((count), sizeof *(pointer))}
 #define LACKS(pointer, count) ((pointer) == NULL && (count) != 0)
 
-/* The crate needs a non-NULL pointer even for an empty array. It does not read or write there. */
+/* The crate needs a non-NULL pointer even for an empty array, but does not read or write there. */
 #define BYTES(pointer) ((const uint8_t *)((pointer) == NULL ? (const void *)"" : (const void *)(pointer)))
 #define ROOM(type, pointer, none) ((pointer) == NULL ? (none) : (type *)(pointer))
 #define OR(pointer, other) ((pointer) == NULL ? &(other) : (pointer))
 #define LENGTH(pointer, count) ((pointer) == NULL ? 0 : (count))
 
-/* Used instead of NULL if there are no characters or advances. */
+/* An array to pass instead of NULL if there are no characters or advances. */
 static const uint32_t no_numbers[1] = {0};
 #define NUMBERS(pointer) ((pointer) == NULL ? no_numbers : (pointer))
 

@@ -6,12 +6,13 @@
  *
  *     cc -o draw examples/draw.c $(pkg-config --cflags --libs hordguli harfbuzz cairo-ft)
  *
- * HarfBuzz shapes each directional run: it joins letters, places marks and mirrors brackets. So it gets the characters
- * unmirrored and in logical order. A measured session has the advance of each character, in 1/64 pixel, and finds the
- * lines, the caret and the selection. Cairo draws the glyphs. A letter is drawn with the first FONT that has it.
+ * HarfBuzz shapes each directional run: it joins letters, places marks and mirrors brackets. So HarfBuzz receives the
+ * characters unmirrored and in logical order. A measured session has the advance of each character, in 1/64 pixel, and
+ * finds the lines, the caret and the selection. Cairo draws the glyphs. A letter is drawn with the first FONT that has
+ * it.
  *
  * The characters from position FROM up to TO are selected. The caret is after the last of them, or before FROM if there
- * are none. With --list, what is measured and drawn is printed. */
+ * are none. With --list, the program prints what it measures and draws. */
 #include <cairo-ft.h>
 #include <hb.h>
 #include <hordguli.h>
@@ -125,8 +126,9 @@ static hb_buffer_t *shaped(size_t from, size_t to, uint32_t level) {
     return buffer;
 }
 
-/* Finds the advances of the characters from `from` up to `to`. The first character of a HarfBuzz cluster has the advance
- * of its glyphs, and the others have 0. A line must not begin inside a cluster, nor where HarfBuzz says so. */
+/* Finds the advances of the characters from `from` up to `to`. The first character of a HarfBuzz cluster has the
+ * advance of its glyphs, and the others have advance 0. A line must not begin inside a cluster, or where HarfBuzz marks
+ * a break as unsafe. */
 static void find_advances(size_t from, size_t to) {
     for (size_t first = from, end; first < to; first = end) {
         for (end = first + 1; end < to && is_one_part(end - 1, end);) end++;
@@ -144,7 +146,7 @@ static void find_advances(size_t from, size_t to) {
     is_unsafe[from] = is_unsafe[count] = 0;
 }
 
-/* If a line begins or ends where that is unsafe, shapes the line and the rest of the paragraph separately. The line may
+/* If a line begins or ends at an unsafe break, shapes the line and the rest of the paragraph separately. The line may
  * then end elsewhere, so this is repeated, at most three times. */
 static void measure_line(size_t line) {
     for (int times = 0; times < 3; times++) {
@@ -162,7 +164,7 @@ static void list_advances(void) {
     for (size_t k = 0; is_listed && k < count; k++) printf("advance %zu %u\n", start + k, advances[k]);
 }
 
-/* Measures paragraphs. After an edit, they are the new ones of its damage. */
+/* Measures paragraphs: after an edit, the new paragraphs in its damage. */
 static void measure(size_t first, size_t paragraphs) {
     for (size_t k = first; k < first + paragraphs; k++) {
         hordguli_paragraph_info info;

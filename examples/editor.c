@@ -2,9 +2,9 @@
  *
  *     cc -o editor examples/editor.c $(pkg-config --cflags --libs hordguli)
  *
- * It knows nothing about directions, line breaks or columns. A session as wide as the window holds the text. Keys edit
- * the session, which says which lines to redraw. It also moves the caret, and finds words, grapheme clusters and the
- * columns of a selection.
+ * The editor knows nothing about directions, line breaks or columns. A session as wide as the window holds the text.
+ * Keys edit the session, which says which lines to redraw. The session also moves the caret, and finds words, grapheme
+ * clusters and the columns of a selection.
  *
  * Keys: arrows, Home and End, Page Up and Page Down, with Ctrl for words and with Shift to select; Backspace, Delete,
  * Ctrl-S (save) and Ctrl-Q (quit). */
@@ -87,7 +87,7 @@ static void go(size_t line, size_t column) {
     succeeds(hordguli_edge_at(&session, line, column > left ? column - left : 0, &caret));
 }
 
-/* Moves the caret to the left or right, at the end of a line to the previous or next one. */
+/* Moves the caret to the left or right. At the end of a line, moves it to the previous or next line. */
 static void sideways(uint32_t direction) {
     size_t line = caret_place().line;
     uint32_t moved = 1;
@@ -154,8 +154,8 @@ static void scroll_to(size_t line) {
     }
 }
 
-/* Draws a line, with its selection in reverse video. Leaves out control characters, which a terminal would execute. A tab
- * has become as many spaces as it has columns. */
+/* Draws a line, with its selection in reverse video. Leaves out control characters, which a terminal would execute.
+ * Tabs are already spaces, one for each of their columns. */
 static void draw_line(size_t row, size_t line) {
     static size_t columns[MOST];
     static hordguli_span spans[MOST];
@@ -276,8 +276,8 @@ static int next_byte(void) {
     }
 }
 
-/* Executes an escape sequence: `[` or `O`, an optional number, `;` and a digit if Shift (1) or Ctrl (4) is pressed, and the
- * key's letter. A number and `~` count as a letter. */
+/* Executes an escape sequence: `[` or `O`, an optional number, `;` and a digit if Shift (1) or Ctrl (4) is pressed, and
+ * the key's letter. For some keys, a number and `~` take the place of the letter. */
 static void escape(void) {
     size_t line = caret_place().line, column = caret_place().column, all = counts().lines;
     hordguli_edge first, last;

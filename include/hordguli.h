@@ -2,16 +2,16 @@
  *
  * Lays out bidirectional text in lines of a given width (UAX #9, UAX #14). A session holds a text and its layout, and
  * keeps the layout up to date when the text is edited or the width changes. Each edit reports which lines it replaced.
- * The exact rules and limits are in share/doc/hordguli/reference.md, below the installation prefix. guide.md beside it
- * explains the terms, and has programs.
+ * The exact rules and limits are in share/doc/hordguli/reference.md, below the installation prefix. guide.md in the
+ * same folder explains the terms and has example programs.
  *
  * ROUTES
  *
- * Each route starts with tables (`hordguli_tables_open_builtin`). Its first calls are, for
+ * Each route starts by opening tables (`hordguli_tables_open_builtin`). The first calls after that are, for
  *   - one string: `hordguli_layout`
  *   - a text that is edited or resized: `hordguli_session_open`, `hordguli_insert`, `hordguli_set_width`,
  *     `hordguli_lines_utf8`
- *   - an editor: the same, and those that `Carets and edges` lists
+ *   - an editor: the same calls, and those listed in `Carets and edges`
  *   - text in any font: `hordguli_session_open_measured`, `hordguli_set_advances`
  *   - rows that the caller breaks, as in a terminal: `hordguli_decode`, `hordguli_base`, `hordguli_levels`,
  *     `hordguli_row`
@@ -20,8 +20,8 @@
  * UNITS
  *
  * A character is a Unicode scalar value. Positions and lengths are in characters. Lengths of `char` arrays are in
- * bytes. Positions, lines, paragraphs and columns start at 0. Input and output text is UTF-8. It has no NUL
- * terminator, and U+0000 is an ordinary character.
+ * bytes. Positions, lines, paragraphs and columns start at 0. Input and output text is UTF-8, without a NUL terminator.
+ * U+0000 is an ordinary character.
  *
  * PARAGRAPHS AND LINES
  *
@@ -30,11 +30,12 @@
  *
  * A line ends at the end of its paragraph, after U+000B, U+000C or U+2028, or at a break opportunity (UAX #14). If none
  * of these fits the width, the line ends inside a word, at the last grapheme cluster boundary that fits. If no such
- * boundary fits either, the line ends at the first boundary, and is wider than the width. What follows is on the next
- * line, even if it is only a separator: an emoji family of 6 columns and U+000A are two lines at width 5.
+ * boundary fits either, the line ends at the first boundary, and is wider than the width. The characters after it are
+ * on the next line, even if there is only a separator: an emoji family of 6 columns and U+000A are two lines at width
+ * 5.
  *
- * The tail of a line is all U+0020, U+000A to U+000D, U+0085, U+2028 and U+2029 at its end. It is not shown. The rest
- * of the line is its shown part, to which HORDGULI_SHOW_SPACES adds spaces of the tail.
+ * The tail of a line is all U+0020, U+000A to U+000D, U+0085, U+2028 and U+2029 at its end. The tail is not shown. The
+ * rest of the line is its shown part, to which HORDGULI_SHOW_SPACES adds spaces from the tail.
  *
  * COLUMNS
  *
@@ -47,17 +48,18 @@
  *
  * A measured session (`hordguli_session_open_measured`) lays out text in any font. Each character has an advance, in a
  * unit that the caller chooses, such as 1/64 pixel. The width of the session, and all columns, spans and widths of its
- * lines, are in this unit. It differs from other sessions as follows:
- *   - A character that is inserted has advance 0. All others keep theirs, even if paragraphs are joined or split.
- *     `hordguli_set_advances` sets them.
+ * lines, are in this unit. A measured session differs from other sessions as follows:
+ *   - An inserted character has advance 0. All other characters keep their advances, even if paragraphs are joined or
+ *     split. `hordguli_set_advances` sets them.
  *   - The advances of a paragraph add up to at most 4,294,967,295. An edit that would exceed this returns
  *     PARAGRAPH_TOO_LONG.
- *   - With HORDGULI_TAB_WIDTH, a tab moves to the next multiple of its own advance, or stays where it is if that is 0. It
- *     is written as itself.
+ *   - With HORDGULI_TAB_WIDTH, a tab moves to the next multiple of its own advance, or stays where it is if its advance
+ *     is 0. The tab is written unchanged.
  *   - Lines are written without padding. `hordguli_line` stores the padding that aligns a line right.
  *
- * For a ligature, or another glyph of several characters, set its advance at the first of them, and 0 at the others.
- * Alternatively, divide the advance among them, so that a caret can be inside a ligature of several grapheme clusters.
+ * For a ligature, or another glyph for several characters, set its advance at the first character, and 0 at the others.
+ * Alternatively, divide the advance among the characters, so that a caret can be inside a ligature of several grapheme
+ * clusters.
  *
  * ERRORS
  *
@@ -80,20 +82,20 @@
  *
  * BUFFERS
  *
- * A function with a parameter `capacity` writes to arrays of the caller. What it does with NULL depends on the
+ * A function with a parameter `capacity` writes to the caller's arrays. What a NULL array means depends on the
  * function:
  *   - `hordguli_layout`, `hordguli_lines_utf8`, `hordguli_text`, `hordguli_text_utf32`, `hordguli_runs`,
  *     `hordguli_row_runs`, `hordguli_spans`, `hordguli_line_clusters`, `hordguli_clusters` and `hordguli_script_runs`
- *     have one array, and store its size in their last parameter. If the array is too small, they return NO_ROOM, leave
- *     it unchanged, and store the required size. So NULL with capacity 0 is not skipped: it requests the size.
- *   - `hordguli_line`, `hordguli_paragraph`, `hordguli_row` and `hordguli_decode` have several arrays. They skip those
- *     that are NULL. If another one is too small, they return NO_ROOM. If all are NULL, no room is needed, and the call
+ *     write one array, and store its size in their last parameter. If the array is too small, they return NO_ROOM,
+ *     leave it unchanged, and store the required size. So a call with NULL and capacity 0 requests the size.
+ *   - `hordguli_line`, `hordguli_paragraph`, `hordguli_row` and `hordguli_decode` write several arrays. They skip
+ *     arrays that are NULL. If another array is too small, they return NO_ROOM. If all arrays are NULL, the call
  *     succeeds with any capacity. In both cases, `hordguli_line` and `hordguli_paragraph` store the size in `*info`,
  *     and `hordguli_decode` in `*count`.
- *   - `hordguli_levels` and `hordguli_marks` need `count` elements. NULL is an error.
+ *   - `hordguli_levels` and `hordguli_marks` need an array of `count` elements. NULL is an error.
  *
- * Call a function of the first kind in a loop, until the buffer is large enough. Keep the buffer, which is NULL at first,
- * and its capacity for the next call.
+ * Call a function of the first kind in a loop, until the buffer is large enough. Start with a NULL buffer, and keep the
+ * buffer and its capacity for the next call.
  *
  *     while ((status = hordguli_text(&session, pos, count, capacity, buffer, &length)) == HORDGULI_NO_ROOM) {
  *         char *larger = realloc(buffer, length);
@@ -107,16 +109,16 @@
  * THREADS, SIGNALS AND FORK
  *
  *   - Use a handle in one call at a time, even if the calls only read. A call moves the object out of its handle and
- *     back, and the proof of the library depends on this. This is why handles are not `const`.
+ *     back. The proof of the library depends on this, so handles are not `const`.
  *   - Different handles may be used in different threads at the same time. Sessions and tables share only memory that
  *     is never written, and an atomic reference count.
  *   - The same handle may be used in different threads, one after another. Hand it over with a lock, through a queue,
  *     or by creating or joining a thread. So a worker may lay out a long text and pass its session on, and another
- *     thread may close it. Nothing in the library depends on the thread: it has no global and no thread-local
+ *     thread may close the session. Nothing in the library depends on the thread: it has no global or thread-local
  *     variables.
  *   - Do not call the library from a signal handler that can interrupt the library or malloc.
- *   - After `fork`, the child has its own handles. It must not use a handle that another thread was using during the
- *     fork.
+ *   - After `fork`, the child has its own handles. The child must not use a handle that another thread was using during
+ *     the fork.
  *
  * MEMORY
  *
@@ -125,9 +127,9 @@
  * free them.
  *
  * A session keeps 0.1 KB for itself, 0.5 KB for each paragraph, 12 bytes for each further line of a paragraph, and 19
- * bytes for each character. From its first edit on, its buffers keep 5 KB more, and up to 26 bytes for each character of
- * its longest paragraph. Opening it uses buffers that the handle of the tables keeps. Tables keep 112 KB, which their
- * sessions share. These numbers were measured with `bench/memory` in the sources and glibc's malloc. */
+ * bytes for each character. From its first edit on, its buffers keep 5 KB more, and up to 26 bytes for each character
+ * of its longest paragraph. Opening a session uses buffers that the tables' handle keeps. Tables keep 112 KB, which
+ * their sessions share. These numbers were measured with `bench/memory` in the sources and glibc's malloc. */
 #ifndef HORDGULI_H
 #define HORDGULI_H
 
@@ -165,8 +167,7 @@ typedef int32_t hordguli_status;
 #define HORDGULI_CLOSED 9
 /* The handle to open is already open. */
 #define HORDGULI_ALREADY_OPEN 10
-/* The options or print flags have a bit that is unknown, or that the function does not accept, or the Unicode version is
- * unknown. */
+/* An option, a print flag or the Unicode version is unknown, or the function does not accept it. */
 #define HORDGULI_UNKNOWN_OPTION 11
 /* The capacity is too small (see BUFFERS). */
 #define HORDGULI_NO_ROOM 12
@@ -184,9 +185,9 @@ const char *hordguli_status_text(hordguli_status status);
 
 /* ---- Version ---- */
 
-/* The version of this header. A release that adds functions, options or statuses raises the minor version. `Since` in
- * a comment is the first version that has the function. 0.6 is the next release. Until then, this header declares its
- * functions, but has the version 0.5.0. From 0.6.0 on, a program can test for them:
+/* The version of this header. A release that adds functions, options or statuses raises the minor version. `Since` in a
+ * comment is the first version that has the function. 0.6 is the next release. Until then, this header declares the
+ * functions of 0.6, but has the version 0.5.0. From 0.6.0 on, a program can test for them:
  *
  *     #if HORDGULI_VERSION_MAJOR > 0 || HORDGULI_VERSION_MINOR >= 6 */
 #define HORDGULI_VERSION_MAJOR 0
@@ -200,19 +201,19 @@ const char *hordguli_version(void);
  * `hordguli_tables_read` open. */
 const char *hordguli_unicode_version(void);
 
-/* Returns the Unicode version of column widths, grapheme clusters and scripts, such as "18.0". It belongs to the
- * library, and does not depend on the tables.
+/* Returns the Unicode version of column widths, grapheme clusters and scripts, such as "18.0". This version belongs to
+ * the library, and does not depend on the tables.
  * Since: 0.6. */
 const char *hordguli_width_unicode_version(void);
 
 /* ---- Session options ----
  *
  * Options are one base direction and any of the other options, combined by bitwise OR (`|`). Two different directions
- * are refused with UNKNOWN_OPTION. Options without a direction are HORDGULI_WEAK_LTR. `hordguli_row` and `hordguli_marks`
+ * are refused with UNKNOWN_OPTION. Without a direction, HORDGULI_WEAK_LTR applies. `hordguli_row` and `hordguli_marks`
  * accept no direction.
  *
- * Bits 0 and 1 are the direction. Bit 24 states that bit 0 is 0, and bit 25 that bit 1 is 0. Both may be left out, so
- * the numbers 0 to 3 are directions too. Bits 16 to 23 are reserved. */
+ * Bits 0 and 1 are the direction. Bit 24 states that bit 0 is 0, and bit 25 that bit 1 is 0. Bits 24 and 25 may be left
+ * out, so the numbers 0 to 3 are directions too. Bits 16 to 23 are reserved. */
 
 /* The direction of a paragraph's first strong character, or LTR if there is none. */
 #define HORDGULI_WEAK_LTR UINT32_C(0x3000000)
@@ -224,33 +225,33 @@ const char *hordguli_width_unicode_version(void);
 #define HORDGULI_RTL UINT32_C(0x0000003)
 /* Ends lines at mandatory breaks only. */
 #define HORDGULI_NOBREAK UINT32_C(4)
-/* Puts nonspacing marks at odd levels after their base in visual order (UAX #9, L3). Use it if the terminal draws a
- * mark onto the cell to its left. For example, RTL text `A mark B` is written as `B mark A` by default, so such a
- * terminal draws the mark on B. With this option, it is written as `B A mark`. */
+/* Puts nonspacing marks at odd levels after their base in visual order (UAX #9, L3). Use this option if the terminal
+ * draws a mark onto the cell to its left. For example, RTL text `A mark B` is written as `B mark A` by default, so such
+ * a terminal draws the mark on B. With this option, it is written as `B A mark`. */
 #define HORDGULI_REORDER_NSM UINT32_C(8)
 /* Does not break inside a number, such as `$(1,200)`. This replaces LB25 (UAX #14): there is no break inside a match of
  * `(PR|PO)? (OP|HY)? NU (NU|SY|IS)* (CL|CP)? (PR|PO)?`. It changes nothing with tables of Unicode 17.0. */
 #define HORDGULI_WHOLE_NUMBERS UINT32_C(16)
 /* Keeps adjacent characters of a grapheme cluster at the same odd level in logical order. By default they are reversed,
- * as is all RTL text. Use it if the terminal draws clusters as units, such as emoji families, skin tones, flags, and
- * letters with marks. HORDGULI_REORDER_NSM then has no effect. For example, RLO `man ZWJ woman` is written as RLO
- * `woman ZWJ man` by default, which no terminal draws as one emoji. Choose this option, unless the terminal draws only
- * marks, and not emoji sequences, in the cell of their base; then choose HORDGULI_REORDER_NSM. Since 0.6. */
+ * as is all RTL text. Use this option if the terminal draws clusters as units, such as emoji families, skin tones,
+ * flags, and letters with marks. HORDGULI_REORDER_NSM then has no effect. For example, RLO `man ZWJ woman` is written
+ * as RLO `woman ZWJ man` by default, which no terminal draws as one emoji. For a terminal that draws marks in the cell
+ * of their base, but does not join emoji sequences, choose HORDGULI_REORDER_NSM instead. Since 0.6. */
 #define HORDGULI_REORDER_CLUSTERS UINT32_C(32)
-/* Shows the spaces at the start of a line's tail, as many as fit in the width. So they have carets, hits and spans.
- * Lines end at the same places as without this option. A line that is wider than the width shows none of these spaces,
- * even with HORDGULI_NOBREAK. In RTL paragraphs, they are to the left of the text. Since 0.6. */
+/* Shows the spaces at the start of a line's tail, as many as fit in the width. These spaces then have carets, hits and
+ * spans. Lines end at the same places as without this option. A line that is wider than the width shows none of these
+ * spaces, even with HORDGULI_NOBREAK. In RTL paragraphs, the spaces are to the left of the text. Since 0.6. */
 #define HORDGULI_SHOW_SPACES UINT32_C(64)
-/* Sets a tab stop every `n` columns, from 1 to 255. Columns are counted along each line in logical order. A tab (U+0009 of
- * bidi class S) moves to the next stop, so it has 1 to `n` columns, and is written as spaces. In an RTL paragraph, stops are
- * counted from the right edge. A tab is not in the tail, and one that does not fit is wider than its line. A greater `n` is
- * refused with UNKNOWN_OPTION. `n` is evaluated twice. In a measured session, tabs have their own stops (see MEASURED
- * TEXT). Since 0.6. */
+/* Sets a tab stop every `n` columns, from 1 to 255. Columns are counted along each line in logical order. A tab (U+0009
+ * of bidi class S) moves to the next stop, so it is 1 to `n` columns wide, and is written as spaces. In an RTL
+ * paragraph, stops are counted from the right edge. A tab is not in the tail, and one that does not fit is wider than
+ * its line. A greater `n` is refused with UNKNOWN_OPTION. `n` is evaluated twice. In a measured session, tabs have
+ * their own stops (see MEASURED TEXT). Since 0.6. */
 #define HORDGULI_TAB_WIDTH(n) ((uint32_t)(n) > 255 ? UINT32_C(1) << 16 : (uint32_t)(n) << 8)
 /* Ends paragraphs at LF, CR and CRLF only, as LSP, Git and most editors end lines: U+001C to U+001E, U+0085 and U+2029
- * have bidi class S (segment separator) where the tables give them B. U+0085 and U+2029 still end lines, not paragraphs,
- * as do VT, FF and U+2028. Each function with `options` or `direction` accepts it. It changes no result of
- * `hordguli_row` and `hordguli_marks`. Since 0.6. */
+ * have bidi class S (segment separator) where the tables give them B. U+0085 and U+2029 still end lines, not
+ * paragraphs, as do VT, FF and U+2028. Each function with `options` or `direction` accepts this option. It does not
+ * change the results of `hordguli_row` and `hordguli_marks`. Since 0.6. */
 #define HORDGULI_LINE_SEPARATORS UINT32_C(0x4000000)
 
 /* ---- Print flags ----
@@ -301,17 +302,18 @@ typedef struct hordguli_session {
 
 /* ---- Tables ----
  *
- * Tables hold character properties from seven files of the Unicode Character Database, of Unicode 15.0 or 17.0. The
- * library contains the tables of both versions as compiled images. Line breaks follow the rules of the tables' version. */
+ * Tables hold character properties from seven files of the Unicode Character Database, version 15.0 or 17.0. The
+ * library contains the tables of both versions as compiled images. Line breaks follow the rules of the tables'
+ * version. */
 
-/* The versions: 65,536 times the major version plus 256 times the minor one, as in images. */
+/* Unicode versions, encoded as in images: 65,536 times the major version plus 256 times the minor version. */
 #define HORDGULI_UNICODE_15_0 UINT32_C(0x000F0000)
 #define HORDGULI_UNICODE_17_0 UINT32_C(0x00110000)
 
 /* The number of files. */
 #define HORDGULI_TABLE_FILES 7
 
-/* The index of each file, and of an image in a fault. */
+/* The index of each file. In a fault, HORDGULI_IMAGE stands for an image. */
 #define HORDGULI_BIDI_CLASS 0        /* DerivedBidiClass.txt */
 #define HORDGULI_BIDI_BRACKETS 1     /* BidiBrackets.txt */
 #define HORDGULI_BIDI_MIRRORING 2    /* BidiMirroring.txt */
@@ -348,7 +350,7 @@ typedef struct hordguli_bytes {
 #define HORDGULI_CAUSE_MIRROR 17       /* an invalid mirror */
 #define HORDGULI_CAUSE_FLAGS 18        /* properties that do not agree with the brackets or the mirrors */
 
-/* The first malformed line, by file and then by line, or the fault of an image. */
+/* The first malformed line, in the order of files and then of lines, or the fault in an image. */
 typedef struct hordguli_table_fault {
     size_t file;   /* 0 to 6, or HORDGULI_IMAGE */
     size_t line;   /* from 1; 0 for an image, or if the file cannot be read */
@@ -367,9 +369,10 @@ hordguli_status hordguli_tables_open_builtin(hordguli_tables *tables);
  * Since: 0.6. */
 hordguli_status hordguli_tables_open_builtin_version(hordguli_tables *tables, uint32_t version);
 
-/* Opens tables from a compiled image, such as the file `tables.image` that is installed with the table files. They have
- * the version of the image. `fault` may be NULL, and is set only on TABLE_FAULT. The causes up to HORDGULI_CAUSE_ENTRY
- * are ruled out before any memory is allocated. If memory runs out before a later cause is found, NO_MEMORY is returned.
+/* Opens tables from a compiled image, such as the file `tables.image` that is installed with the table files. The
+ * tables have the version of the image. `fault` may be NULL, and is set only on TABLE_FAULT. The causes up to
+ * HORDGULI_CAUSE_ENTRY are ruled out before any memory is allocated. If memory runs out before a later cause is found,
+ * NO_MEMORY is returned.
  * Errors: NULL, OVERLAP, ALREADY_OPEN, TABLE_FAULT, NO_MEMORY.
  * Cost: O(`length`), plus a pass over the code points of the pages that have separators, brackets or mirrors.
  * Since: 0.6. */
@@ -393,8 +396,8 @@ hordguli_status hordguli_tables_read_version(hordguli_tables *tables, uint32_t v
                                              hordguli_table_fault *fault);
 
 /* Opens tables of Unicode 15.0 from the files in a folder. `folder` is a NUL-terminated path. `fault` may be NULL, and
- * is set only on UNREAD_FILE or TABLE_FAULT. On UNREAD_FILE, `errno` is that of the failed `open` or `read`, such as
- * ENOENT. If memory runs out before either fault is found, NO_MEMORY is returned.
+ * is set only on UNREAD_FILE or TABLE_FAULT. On UNREAD_FILE, `errno` is the error of the failed `open` or `read`, such
+ * as ENOENT. If memory runs out before either fault is found, NO_MEMORY is returned.
  * Errors: NULL, OVERLAP, ALREADY_OPEN, UNREAD_FILE, TABLE_FAULT, NO_MEMORY.
  * Cost: as for `hordguli_tables_read`. */
 hordguli_status hordguli_tables_open_folder(hordguli_tables *tables, const char *folder, hordguli_table_fault *fault);
@@ -425,10 +428,10 @@ void hordguli_tables_close(hordguli_tables *tables);
  *     status = hordguli_layout(&tables, HORDGULI_WEAK_LTR, 80, HORDGULI_PRINT_DEFAULT, line, strlen(line),
  *                              sizeof buffer, buffer, &written);
  *
- * The handle keeps the memory that a call used. A later call that needs no more than that allocates nothing, unless
- * only one of the two calls has HORDGULI_LINE_SEPARATORS. The handle keeps at most 5 MB: memory for a text or for lines
- * of more than 65,536 bytes is freed. `hordguli_tables_close` frees it. Threads that call this at the same time need a
- * handle of tables each.
+ * The handle keeps the memory that a call used. A later call that needs no more memory allocates nothing, unless only
+ * one of the two calls has HORDGULI_LINE_SEPARATORS. The handle keeps at most 5 MB: memory for a text or for lines of
+ * more than 65,536 bytes is freed. `hordguli_tables_close` frees what is kept. Threads that call this function at the
+ * same time each need their own tables handle.
  *
  * On NOT_UTF8, `hordguli_valid_utf8` says where. NO_MEMORY comes before NO_ROOM, because the lines are gathered before
  * their size is known.
@@ -454,14 +457,15 @@ hordguli_status hordguli_count_utf8(const char *bytes, size_t length, size_t *co
 hordguli_status hordguli_valid_utf8(const char *bytes, size_t length, size_t *valid);
 
 /* Decodes UTF-8 text of `length` bytes. Stores the number of its characters in `*count`, and this many elements in each
- * array. Each array has `capacity` elements. NULL arrays are skipped, so with both NULL no room is needed (see BUFFERS).
+ * array. Each array has `capacity` elements. NULL arrays are skipped, so with both NULL any capacity is enough (see
+ * BUFFERS).
  *   characters  characters, for the functions in `Clusters and scripts`, `Rows` and `Levels and properties`
  *   offsets     byte offset of each character
  *
  * On NO_ROOM, `*count` is set and the arrays are unchanged. Text that is not UTF-8 is refused, as in all functions, so
  * a position always means the same character. On NOT_UTF8, `hordguli_valid_utf8` says where. To replace invalid bytes
- * with U+FFFD, decode the text before the first of them, write U+FFFD, skip one byte, and repeat. So each invalid byte
- * becomes one U+FFFD.
+ * with U+FFFD, decode the text before the first of them, write U+FFFD, skip one byte, and repeat. Each invalid byte
+ * then becomes one U+FFFD.
  * Errors: NULL, OVERLAP, NOT_UTF8, NO_ROOM.
  * Cost: O(length).
  * Since: 0.6. */
@@ -471,8 +475,8 @@ hordguli_status hordguli_decode(const char *bytes, size_t length, size_t capacit
 /* ---- Sessions and edits ---- */
 
 /* What an edit replaced: `old_lines` lines from `first_line` on became `new_lines` lines, and likewise for paragraphs.
- * All other lines are unchanged, except that line `first_line + old_lines` becomes line `first_line + new_lines`, and
- * so on. If there are fewer lines than before, clear the rows below the last one. By design, damage names whole
+ * All other lines are unchanged but renumbered: line `first_line + old_lines` becomes line `first_line + new_lines`,
+ * and so on. If there are fewer lines than before, clear the rows below the last one. By design, damage names whole
  * paragraphs: all that contain or touch the edited range, even if nothing is inserted or deleted. So text that is
  * appended after a final separator also replaces the last paragraph. For the lines that changed, see
  * `hordguli_changed_lines`. A caller that redraws everything may pass NULL as `damage`. */
@@ -529,8 +533,8 @@ hordguli_status hordguli_replace(hordguli_session *session, size_t pos, size_t c
 /* Sets the width, in columns, and rewraps the paragraphs. The damage covers all lines, even if the width is the same. In
  * a measured session, the width is in the caller's unit.
  * Errors: NULL, OVERLAP, WIDTH_OUT_OF_RANGE, CLOSED, NO_MEMORY.
- * Cost: O(n), plus wrapping each paragraph, except those that are one line, fit the new width and, with
- * HORDGULI_SHOW_SPACES, hide no space that fits. */
+ * Cost: O(n), plus wrapping each paragraph. A paragraph of one line that fits the new width is skipped, unless
+ * HORDGULI_SHOW_SPACES is set and the line hides a space that fits. */
 hordguli_status hordguli_set_width(hordguli_session *session, uint32_t width, hordguli_damage *damage);
 
 /* Sets the width of a measured session, from 1 to 2,147,483,647. The rest is as in `hordguli_set_width`.
@@ -540,7 +544,7 @@ hordguli_status hordguli_set_width(hordguli_session *session, uint32_t width, ho
 hordguli_status hordguli_set_measured_width(hordguli_session *session, uint32_t width, hordguli_damage *damage);
 
 /* Which lines a call changed: `old_lines` lines from `first_line` on became `new_lines` lines. All other lines are the
- * same as before, except that the lines that follow are renumbered. */
+ * same as before, but the lines that follow are renumbered. */
 typedef struct hordguli_changed {
     size_t first_line;
     size_t old_lines;
@@ -548,18 +552,18 @@ typedef struct hordguli_changed {
 } hordguli_changed;
 
 /* Stores in `*changed` which lines changed in the last successful call that edited the text, set the width or set
- * advances. These are the lines of its damage, which names whole paragraphs, without the longest run of unchanged lines
- * at the start, and then without the longest such run at the end. An unchanged line has the same characters, levels,
- * maps, columns, advances, base level and length as before, and is still the first of its paragraph, or still is not.
- * The padding, which depends on the width, is not compared: RTL lines move when the width changes, so draw all of them
- * then. After the session is opened, all lines count as changed. A failed call has no effect on this.
+ * advances. These are the lines of the call's damage, which names whole paragraphs, less the longest run of unchanged
+ * lines at the start and then the longest such run at the end. An unchanged line has the same characters, levels, maps,
+ * columns, advances, base level and length as before, and is the first line of its paragraph if and only if it was
+ * before. The padding, which depends on the width, is not compared: RTL lines move when the width changes, so draw all
+ * of them then. After the session is opened, all lines count as changed. A failed call does not change the result.
  * Errors: NULL, OVERLAP, CLOSED.
  * Cost: O(1).
  * Since: 0.6. */
 hordguli_status hordguli_changed_lines(hordguli_session *session, hordguli_changed *changed);
 
-/* Sets the advances of the `count` characters that start at `pos`, in a measured session, and rewraps the paragraphs that
- * have one of these characters. Stores in `*damage` which lines were replaced: none if `count` is 0.
+/* Sets the advances of the `count` characters that start at `pos`, in a measured session, and rewraps the paragraphs
+ * that contain them. Stores in `*damage` which lines were replaced: none if `count` is 0.
  *
  * After an edit, set the advances of all new paragraphs, since a shaper may choose other glyphs next to the edit.
  * `hordguli_paragraph` stores where they start and how long they are.
@@ -588,8 +592,8 @@ typedef struct hordguli_counts {
  * Cost: O(1). */
 hordguli_status hordguli_session_counts(hordguli_session *session, hordguli_counts *counts);
 
-/* Work counters, for checking that edits stay incremental. They count characters since the session was opened, and
- * saturate at UINT64_MAX. */
+/* Work counters, for checking that edits stay incremental. The counters count characters since the session was opened,
+ * and saturate at UINT64_MAX. */
 typedef struct hordguli_work {
     uint64_t analysed;  /* levels and break marks computed */
     uint64_t filled;    /* line starts computed */
@@ -621,11 +625,9 @@ typedef struct hordguli_line_info {
 /* Stores information about a line in `*info`, and `info->shown` elements in each array. Each array has `capacity`
  * elements. NULL arrays are skipped, so with all arrays NULL any capacity is enough (see BUFFERS). Positions count from the
  * start of the line.
- *   characters  characters in visual order, mirrored
- *   levels      level of each character after L1, in logical order
- *   ltov        visual position of each logical position
- *   vtol        logical position of each visual position
- *   columns     columns at each visual position
+ *   characters characters in visual order, mirrored levels level of each character after L1, in logical order ltov
+ *   visual position of each logical position vtol logical position of each visual position columns columns of the
+ *   character at each visual position
  *
  * On NO_ROOM, `*info` is set and the arrays are unchanged.
  * Errors: NULL, OVERLAP, CLOSED, OUT_OF_RANGE, NO_ROOM.
@@ -644,7 +646,7 @@ typedef struct hordguli_run {
 } hordguli_run;
 
 /* Stores the directional runs of a line's shown part, from left to right, for shaping text: the longest ranges of
- * characters at one level after L1. They do not depend on HORDGULI_REORDER_NSM and HORDGULI_REORDER_CLUSTERS, which
+ * characters at one level after L1. The runs do not depend on HORDGULI_REORDER_NSM and HORDGULI_REORDER_CLUSTERS, which
  * move characters only inside runs. The number of runs is stored in `*count`, and the runs in an array of `capacity`
  * elements. NULL with capacity 0 returns NO_ROOM if there are runs (see BUFFERS). Fails with OUT_OF_RANGE if the line
  * does not exist. To read the characters of a run in logical order:
@@ -660,8 +662,8 @@ hordguli_status hordguli_runs(hordguli_session *session, size_t line, size_t cap
 
 /* Writes `count` lines, starting with line `first`, to a buffer, as UTF-8. NULL with capacity 0 returns NO_ROOM if
  * there is anything to write (see BUFFERS). `print` selects what is written for each line, in the order VISUAL,
- * BASEDIR, LTOV, VTOL, LEVELS. Each of these ends in U+000A. Numbers are decimal, separated by spaces. For example, to
- * write the lines that an edit replaced:
+ * BASEDIR, LTOV, VTOL, LEVELS. Each of these items ends in U+000A. Numbers are decimal, separated by spaces. For
+ * example, to write the lines that an edit replaced:
  *
  *     status = hordguli_lines_utf8(&session, damage.first_line, damage.new_lines,
  *                                  HORDGULI_PRINT_DEFAULT, capacity, buffer, &length);
@@ -688,26 +690,27 @@ hordguli_status hordguli_text(hordguli_session *session, size_t pos, size_t coun
 hordguli_status hordguli_text_utf32(hordguli_session *session, size_t pos, size_t count, size_t capacity,
                                     uint32_t *characters, size_t *length);
 
-/* Stores in `*length` how many bytes of UTF-8 the `count` characters that start at `pos` need.
+/* Stores in `*length` the UTF-8 length, in bytes, of the `count` characters that start at `pos`.
  * Errors: NULL, OVERLAP, CLOSED, OUT_OF_RANGE.
  * Cost: O(log n) per paragraph, plus O(count). */
 hordguli_status hordguli_utf8_length(hordguli_session *session, size_t pos, size_t count, size_t *length);
 
-/* Stores in `*byte` how many bytes of UTF-8 the text before `pos` needs. Fails with OUT_OF_RANGE if `pos` is past the
+/* Stores in `*byte` the UTF-8 length, in bytes, of the text before `pos`. Fails with OUT_OF_RANGE if `pos` is past the
  * end.
  * Errors: NULL, OVERLAP, CLOSED, OUT_OF_RANGE.
  * Cost: O(log n), plus O(length of the paragraph) unless the paragraph is ASCII.
  * Since: 0.6. */
 hordguli_status hordguli_byte_of(hordguli_session *session, size_t pos, size_t *byte);
 
-/* Stores in `*unit` how many UTF-16 code units the text before `pos` needs, which is how the Language Server Protocol
- * counts. Fails with OUT_OF_RANGE if `pos` is past the end.
+/* Stores in `*unit` the length of the text before `pos` in UTF-16 code units, the unit of the Language Server Protocol.
+ * Fails with OUT_OF_RANGE if `pos` is past the end.
  * Errors: NULL, OVERLAP, CLOSED, OUT_OF_RANGE.
  * Cost: O(log n), plus O(length of the paragraph) if the paragraph has a character above U+FFFF.
  * Since: 0.6. */
 hordguli_status hordguli_utf16_of(hordguli_session *session, size_t pos, size_t *unit);
 
-/* The character at `pos`, and how many of its bytes or code units come before an offset: 0 at its start. */
+/* The character at `pos` that contains an offset. `rest` is how many of its bytes or code units come before the
+ * offset. */
 typedef struct hordguli_position {
     size_t pos;
     size_t rest;
@@ -750,15 +753,15 @@ hordguli_status hordguli_paragraph(hordguli_session *session, size_t paragraph, 
 /* ---- Carets and edges ----
  *
  * A position has two edges: the leading edge of the character at that position, and the trailing edge of the character
- * before it. Where the direction changes or a line wraps, the two are apart on the screen. An editor keeps one of them
- * as its caret; edits happen at `pos` either way. For example, in a text of `abc `, three Hebrew letters and ` def`,
- * the edge before 4 is at column 7, to the right of the first letter, and the edge after 4 at column 4, to the right of
- * the space.
+ * before it. Where the direction changes or a line wraps, the two are apart on the screen. An editor keeps one of the
+ * two edges as its caret; edits happen at `pos` either way. For example, in a text of `abc `, three Hebrew letters and
+ * ` def`, the edge before 4 is at column 7, to the right of the first letter, and the edge after 4 at column 4, to the
+ * right of the space.
  *
  * A caret moves over one caret unit: a grapheme cluster or, if its characters are in several level runs, the part in
- * one of them. A boundary is a column where a caret unit begins or ends.
+ * one such run. A boundary is a column where a caret unit begins or ends.
  *
- * New programs keep an edge, and call these:
+ * New programs store the caret as an edge, and call these functions:
  *   - `hordguli_edge_caret` to draw the caret
  *   - `hordguli_step` and `hordguli_line_edges` for Left, Right, Home and End
  *   - `hordguli_nearest_edge` for clicks
@@ -770,8 +773,8 @@ hordguli_status hordguli_paragraph(hordguli_session *session, size_t paragraph, 
  * U+000B, U+000C or U+2028, keep the edge before it. After Delete, also keep the edge before it. The guide has code for
  * all of these.
  *
- * `hordguli_caret_at` and `hordguli_hit_at` are for programs that keep a position. They know only its leading edge, and
- * leave clusters to the caller. */
+ * `hordguli_caret_at` and `hordguli_hit_at` are for programs that keep a position. These functions use only the
+ * position's leading edge, and leave clusters to the caller. */
 
 typedef struct hordguli_place {
     size_t paragraph;
@@ -784,7 +787,7 @@ typedef struct hordguli_place {
  * does not exist yet. Then `paragraph` and `line` are the numbers of paragraphs and lines in the text.
  *
  * U+2028, U+000B and U+000C end a line, but not its paragraph. At the end of a text that ends with one, the place and
- * the caret stay on that line. Each line has at least one character, and here none follows.
+ * the caret stay on that line: a new line would have no character.
  * Errors: NULL, OVERLAP, CLOSED, OUT_OF_RANGE.
  * Cost: O(log n + log m) in a paragraph of m lines. */
 hordguli_status hordguli_place_of(hordguli_session *session, size_t pos, hordguli_place *place);
@@ -800,10 +803,10 @@ typedef struct hordguli_caret {
  *   - Before a shown character: at its left edge if its level is even, else at its right edge. At an odd level, with
  *     HORDGULI_REORDER_CLUSTERS or HORDGULI_REORDER_NSM, that can be inside its cluster; `hordguli_edge_caret` stores the
  *     end of the cluster.
- *   - Before a character that is not shown, and at the end of the text: at the end of the line. That is right of all
- *     columns in an LTR paragraph, and column 0 in an RTL one.
+ *   - Before a character that is not shown, and at the end of the text: at the end of the line. The end is right of all
+ *     columns in an LTR paragraph, and column 0 in an RTL paragraph.
  *   - At the start of a paragraph that does not exist yet (see `hordguli_place_of`): at column 0. `level` is then the
- *     base level of an empty paragraph. If it is odd, draw the caret at the right edge of the screen.
+ *     base level of an empty paragraph. If this level is odd, draw the caret at the right edge of the screen.
  *
  * Errors: NULL, OVERLAP, CLOSED, OUT_OF_RANGE.
  * Cost: as for `hordguli_place_of`, plus O(length of the line). */
@@ -845,12 +848,12 @@ typedef struct hordguli_cluster {
  * the text.
  * Errors: NULL, OVERLAP, CLOSED, OUT_OF_RANGE, NO_MEMORY.
  * Cost: O(log n), plus time and memory proportional to the characters around `pos`, up to the nearest places where a
- * cluster ends whatever comes before and after. At worst, as among flags, these are the whole paragraph. */
+ * cluster ends regardless of context. At worst, as among flags, these are all characters of the paragraph. */
 hordguli_status hordguli_cluster_at(hordguli_session *session, size_t pos, hordguli_cluster *cluster);
 
-/* The characters from `start` up to but not including `end`. `kind` is 1 if any of them is alphabetic or numeric, such as
- * a letter, a digit, a vowel sign (U+05B8) or a fraction (U+00BD). Else it is 0, as for spaces and punctuation. `zero`
- * is 0. */
+/* The characters from `start` up to but not including `end`. `kind` is 1 if any of them is alphabetic or numeric, such
+ * as a letter, a digit, a vowel sign (U+05B8) or a fraction (U+00BD). Else `kind` is 0, as for spaces and punctuation.
+ * `zero` is 0. */
 typedef struct hordguli_word {
     size_t start;
     size_t end;
@@ -861,7 +864,7 @@ typedef struct hordguli_word {
 /* Stores in `*word` the word that contains the character at `pos`: the segment between two word boundaries (UAX #29)
  * in the paragraph. Fails with OUT_OF_RANGE if `pos` is the end of the text.
  *
- * The next word starts at `word.end`, and the previous one holds the character at `word.start - 1`.
+ * The next word starts at `word.end`, and the previous word contains the character at `word.start - 1`.
  *
  * Errors: NULL, OVERLAP, CLOSED, OUT_OF_RANGE, NO_MEMORY.
  * Cost: O(log n), plus time and memory proportional to the whole paragraph.
@@ -875,10 +878,10 @@ typedef struct hordguli_span {
 } hordguli_span;
 
 /* Stores the columns that the characters from `from` up to but not including `to` cover in a line, for drawing a
- * selection: as few spans as possible, from left to right. Where the direction changes, a selection can have several.
- * `from` and `to` are positions in the text; those outside the line are ignored. The number of spans is stored in
- * `*count`, and the spans in an array of `capacity` elements. NULL with capacity 0 returns NO_ROOM if there are spans
- * (see BUFFERS). Fails with OUT_OF_RANGE if the line does not exist.
+ * selection: as few spans as possible, from left to right. Where the direction changes, a selection can have several
+ * spans. `from` and `to` are positions in the text; those outside the line are ignored. The number of spans is stored
+ * in `*count`, and the spans in an array of `capacity` elements. NULL with capacity 0 returns NO_ROOM if there are
+ * spans (see BUFFERS). Fails with OUT_OF_RANGE if the line does not exist.
  *
  *     for (size_t line = first_line; line <= last_line; line++) {
  *         status = hordguli_spans(&session, line, from, to, 16, spans, &count);
@@ -907,15 +910,15 @@ typedef struct hordguli_edge {
 } hordguli_edge;
 
 /* Stores in `*caret` where to draw the caret at an edge: on the line of the character that the edge belongs to. This is
- * the character at `pos` for HORDGULI_BEFORE, and the one before `pos` for HORDGULI_AFTER.
+ * the character at `pos` for HORDGULI_BEFORE, and the character before `pos` for HORDGULI_AFTER.
  *   - If a caret unit begins (or ends) with that character: at the start (or end) of the unit.
  *   - At another shown character: at its leading edge, which is the left one if its level is even, or its trailing edge.
  *   - At a character that is not shown, and before the end of the text: as in `hordguli_caret_at`.
  *
  * `level` is the level of that character. In the line where a new paragraph would start, an odd `level` means that the
- * caret is at the right edge of the screen. A block cursor covers the cell at `column`, or at an odd level the one to
- * its left; if there is no such cell, the nearest one. Fails with OUT_OF_RANGE if the position is past the end of the
- * text, and for the edge after position 0.
+ * caret is at the right edge of the screen. A block cursor covers the cell at `column`, or at an odd level the cell to
+ * its left. If there is no such cell, it covers the nearest one. Fails with OUT_OF_RANGE if the position is past the
+ * end of the text, and for the edge after position 0.
  *
  * Errors: NULL, OVERLAP, UNKNOWN_OPTION, CLOSED, OUT_OF_RANGE, NO_MEMORY.
  * Cost: as for `hordguli_cluster_at`, plus O(length of the line).
@@ -923,10 +926,10 @@ typedef struct hordguli_edge {
 hordguli_status hordguli_edge_caret(hordguli_session *session, hordguli_edge edge, hordguli_caret *caret);
 
 /* Moves a caret to the nearest boundary to the left or right on its line. Stores the edge there in `*next`, and 1 in
- * `*moved`. The stored edge is an edge of the caret unit that was passed. At the end of the line, stores 0 in `*moved`, and
- * leaves `*next` unchanged. The caller then chooses the next line, of which column 0 is the left end and SIZE_MAX the
- * right end. In a left-to-right document, the key Right leads to the left end of the line below, and Left to the right
- * end of the line above:
+ * `*moved`. The stored edge is an edge of the caret unit that was passed. At the end of the line, stores 0 in `*moved`,
+ * and leaves `*next` unchanged. The caller then chooses the next line. Column 0 is its left end, and SIZE_MAX its right
+ * end. In a left-to-right document, the key Right leads to the left end of the line below, and Left to the right end of
+ * the line above:
  *
  *     // Right
  *     status = hordguli_step(&session, caret, HORDGULI_RIGHT, &caret, &moved);
@@ -939,8 +942,8 @@ hordguli_status hordguli_edge_caret(hordguli_session *session, hordguli_edge edg
  * line above (0). Past the last line, `hordguli_edge_at` returns OUT_OF_RANGE.
  *
  * Each step changes the column. Repeated steps reach every boundary in their direction. With HORDGULI_REORDER_NSM and
- * without HORDGULI_REORDER_CLUSTERS, this holds if the marks of the text have no columns. Of the nonspacing marks of
- * Unicode 15.0, only U+2D7F and U+1171E have columns.
+ * without HORDGULI_REORDER_CLUSTERS, this holds only if the marks in the text have no columns. Of the nonspacing marks
+ * of Unicode 15.0, only U+2D7F and U+1171E have columns.
  *
  * Errors: NULL, OVERLAP, UNKNOWN_OPTION, CLOSED, OUT_OF_RANGE, NO_MEMORY.
  * Cost: as for `hordguli_edge_caret`.
@@ -979,15 +982,15 @@ hordguli_status hordguli_nearest_edge(hordguli_session *session, size_t line, si
  *   - else before the first space that is not shown;
  *   - else after the last character of the line.
  *
- * In the line where a new paragraph would start, both are before the end of the text. Fails with OUT_OF_RANGE for later
- * lines.
+ * In the line where a new paragraph would start, both edges are before the end of the text. Fails with OUT_OF_RANGE for
+ * later lines.
  * Errors: NULL, OVERLAP, CLOSED, OUT_OF_RANGE.
  * Cost: O(log n).
  * Since: 0.6. */
 hordguli_status hordguli_line_edges(hordguli_session *session, size_t line, hordguli_edge *first, hordguli_edge *last);
 
-/* Stores where the grapheme clusters of a line end, counted from the start of the line, in an array of `capacity`
- * elements, and their number in `*count`. NULL with capacity 0 returns NO_ROOM (see BUFFERS). The last one is the
+/* Stores the ends of a line's grapheme clusters, counted from the start of the line, in an array of `capacity`
+ * elements, and their number in `*count`. NULL with capacity 0 returns NO_ROOM (see BUFFERS). The last end is the
  * length of the line, even if a cluster continues on the next line. Fails with OUT_OF_RANGE if the line does not exist.
  *
  * NO_MEMORY comes before NO_ROOM.
@@ -999,9 +1002,9 @@ hordguli_status hordguli_line_clusters(hordguli_session *session, size_t line, s
 
 /* ---- Clusters and scripts ---- */
 
-/* Stores where the grapheme clusters of a text of `count` characters end, in an array of `capacity` elements, and their
- * number in `*cluster_count`. NULL with capacity 0 returns NO_ROOM, unless `count` is 0 (see BUFFERS). The first
- * cluster starts at 0, each other one where the one before it ends, and the last one ends at `count`. No cluster
+/* Stores the ends of the grapheme clusters in a text of `count` characters, in an array of `capacity` elements, and
+ * their number in `*cluster_count`. NULL with capacity 0 returns NO_ROOM, unless `count` is 0 (see BUFFERS). The first
+ * cluster starts at 0, each later one at the end of the cluster before it, and the last one ends at `count`. No cluster
  * continues after a separator, so the clusters are those of a session with this text (`hordguli_cluster_at`), even for
  * a text of several paragraphs. NO_MEMORY comes before NO_ROOM.
  * Errors: NULL, OVERLAP, NOT_A_CHARACTER, NO_MEMORY, NO_ROOM.
@@ -1011,7 +1014,7 @@ hordguli_status hordguli_clusters(size_t count, const uint32_t *characters, size
                                   size_t *cluster_count);
 
 /* The `length` characters of a text from position `start` on, all of one script. `script` has the four letters of its
- * code (ISO 15924), the first one in the highest byte, such as 0x4C61746E for `Latn`. This is the value of an
+ * code (ISO 15924), with the first letter in the highest byte, such as 0x4C61746E for `Latn`. This is the value of an
  * `hb_script_t` of HarfBuzz. */
 typedef struct hordguli_script_run {
     size_t start;
@@ -1025,9 +1028,11 @@ typedef struct hordguli_script_run {
  *   - A character has the script of its property Script, in the Unicode version that `hordguli_width_unicode_version`
  *     returns. A private-use or unassigned character has the script Unknown (`Zzzz`).
  *   - If the property is Common or Inherited, as for a space, a digit or a mark, the character has the script of the
- *     one before it. At the start of the text, it has the first script that follows, or Common (`Zyyy`) if none does.
- *   - But a closing bracket whose property is Common has the script of its opening bracket, if it has one. Brackets are
- *     those of the tables. Of brackets that are nested more than 63 deep, only the innermost 63 are matched.
+ *     character before it. At the start of the text, such a character has the first script that follows, or Common
+ *     (`Zyyy`) if none does.
+ *   - But a closing bracket whose property is Common has the script of its opening bracket, if it has one. The tables
+ *     determine which characters are brackets. Of brackets that are nested more than 63 deep, only the innermost 63 are
+ *     matched.
  *
  * The property Script_Extensions is not used. The number of runs is stored in `*run_count`, and the runs in an array of
  * `capacity` elements. NULL with capacity 0 returns NO_ROOM, unless `count` is 0 (see BUFFERS). NO_MEMORY comes before
@@ -1042,8 +1047,8 @@ hordguli_status hordguli_script_runs(hordguli_tables *tables, size_t count, cons
 
 /* Puts a row of `count` characters into visual order. The caller chooses where the row starts and ends. `base` is the
  * base level of its paragraph (`hordguli_base`), and `levels` are the levels of the row's characters in the whole
- * paragraph (`hordguli_levels`). `options` can have HORDGULI_REORDER_NSM and HORDGULI_REORDER_CLUSTERS. The clusters
- * are those of these characters alone. Stores `count` elements in each array. Each array has `capacity` elements. NULL
+ * paragraph (`hordguli_levels`). `options` can have HORDGULI_REORDER_NSM and HORDGULI_REORDER_CLUSTERS. Only these
+ * characters determine the clusters. Stores `count` elements in each array. Each array has `capacity` elements. NULL
  * arrays are skipped, so with all arrays NULL any capacity is enough (see BUFFERS). Positions count from the start of
  * the row.
  *   visual      characters in visual order, mirrored (UAX #9, L4)
@@ -1086,7 +1091,7 @@ hordguli_status hordguli_row_runs(hordguli_tables *tables, uint32_t base, size_t
  * at separators. `direction` is a base direction or 0, and can have HORDGULI_LINE_SEPARATORS. NO_ROOM means that
  * `capacity` is less than `count`.
  *
- * To lay out text with these functions, a caller has to:
+ * To lay out text with these functions, a caller must:
  *   - split the text into paragraphs (UAX #9, P1);
  *   - choose where rows end, by break marks and the widths of characters (`hordguli_properties`);
  *   - put each row into visual order (`hordguli_row`). */
@@ -1135,7 +1140,7 @@ hordguli_status hordguli_marks(hordguli_tables *tables, uint32_t options, const 
 #define HORDGULI_BIDI_CLASS_FSI 21
 #define HORDGULI_BIDI_CLASS_PDI 22
 
-/* Line breaking classes (UAX #14), by their short names. Tables of Unicode 15.0 have those up to XX. */
+/* Line breaking classes (UAX #14), by their short names. Tables of Unicode 15.0 have the classes up to XX. */
 #define HORDGULI_LINE_CLASS_BK 0
 #define HORDGULI_LINE_CLASS_CM 1
 #define HORDGULI_LINE_CLASS_CR 2
@@ -1207,8 +1212,8 @@ typedef struct hordguli_character {
 } hordguli_character;
 
 /* Stores the properties of `count` characters in `records`, an array of `count` elements. All properties are from the
- * tables, except the columns (see COLUMNS). A character that no table names has line breaking class XX, and no mirror,
- * bracket or flags. Its bidi class is L, or with tables of Unicode 17.0 the default in DerivedBidiClass.txt.
+ * tables, except the columns (see COLUMNS). A character that no table file names has line breaking class XX, and no
+ * mirror, bracket or flags. Its bidi class is L, or with tables of Unicode 17.0 the default in DerivedBidiClass.txt.
  * Errors: NULL, OVERLAP, CLOSED, NOT_A_CHARACTER.
  * Cost: O(count).
  * Since: 0.6. */

@@ -9,7 +9,7 @@ import re, sys
 
 WIDTH = 100
 SCALARS = {"char": "c_char", "void": "c_void", "size_t": "usize", "int32_t": "i32", "uint8_t": "u8", "uint32_t": "u32", "uint64_t": "u64"}
-# The types of constants, by the first pattern that matches. They are those of the fields and parameters that have these values.
+# The types of constants, by the first pattern that matches. A constant has the type of the fields and parameters that have its value.
 TYPES = [
     (r"VERSION_\w+|UNICODE_\w+", "u32"),
     (r"BREAK_\w+|BRACKET_(NONE|OPEN|CLOSE)|BIDI_CLASS_\w+|LINE_CLASS_\w+", "u8"),

@@ -1,6 +1,7 @@
-/* Does what no program that prints a text can leave out. Reads standard input in chunks of 64 KB, checks that it is UTF-8, and writes
- * BYTES bytes to standard output. It copies the text line by line to a buffer of 64 KB, and writes the buffer when it is full. After
- * BYTES bytes it copies no more. If the text has fewer, it copies the last chunk again and again. Usage: bound BYTES. */
+/* Does only what every program that prints a text has to do. Reads standard input in chunks of 64 KB, checks that it is
+ * UTF-8, and writes BYTES bytes to standard output. The program copies the text line by line to a buffer of 64 KB, and
+ * writes the buffer when it is full. After BYTES bytes, the program copies no more. If the text has fewer bytes, the
+ * program copies the last chunk again and again. Usage: bound BYTES. */
 #include <stdint.h>
 #include <stdio.h>
 #include <stdlib.h>

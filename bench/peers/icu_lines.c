@@ -1,5 +1,5 @@
-/* Does the work of `bin/fribidi --width 80` with ICU4C. Standard input is UTF-8. The lines (icu_fill.h) are printed in visual order
- * and mirrored. Those of right-to-left paragraphs are padded on the left. */
+/* Does the work of `bin/fribidi --width 80` with ICU4C. Standard input is UTF-8. The lines (icu_fill.h) are printed in
+ * visual order and mirrored. Lines of right-to-left paragraphs are padded on the left. */
 #include "icu_print.h"
 
 int main(void) {

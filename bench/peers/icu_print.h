@@ -1,5 +1,5 @@
-/* Prints the lines of a paragraph with ICU4C, in visual order and mirrored, to the output buffer. Those of right-to-left
- * paragraphs are padded on the left. */
+/* Prints the lines of a paragraph with ICU4C, in visual order and mirrored, to the output buffer. Lines of
+ * right-to-left paragraphs are padded on the left. */
 #ifndef ICU_PRINT_H
 #define ICU_PRINT_H
 #include "icu_fill.h"

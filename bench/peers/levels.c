@@ -1,7 +1,7 @@
-/* Measures finding the levels of each paragraph of standard input, with hordguli_levels, FriBidi's library and ICU. Prints
- * nanoseconds per character, the minimum of five alternating runs. Also prints how many paragraphs have the same levels in all
- * three, except for spaces, which L1 changes in the results of the other two. Usage: levels FOLDER, where FOLDER has the table
- * files. */
+/* Measures how long hordguli_levels, FriBidi's library and ICU need to find the levels of each paragraph of standard
+ * input. Prints nanoseconds per character, the minimum of five alternating runs. Also prints how many paragraphs have
+ * the same levels in all three, except for spaces, which L1 changes in the results of FriBidi and ICU. Usage: levels
+ * FOLDER, where FOLDER has the table files. */
 #define _POSIX_C_SOURCE 200809L
 #include <fribidi/fribidi.h>
 #include <hordguli.h>

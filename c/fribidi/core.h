@@ -2,7 +2,7 @@
  *
  * The parameters are named as in the crate, which tests/c/exports checks. An array is a pointer and a length. The
  * pointer is never NULL and is aligned for its type, even if the length is 0. An array that is written does not overlap
- * another one. */
+ * another array. */
 #ifndef HORDGULI_FRIBIDI_CORE_H
 #define HORDGULI_FRIBIDI_CORE_H
 
@@ -26,7 +26,8 @@ void hordguli_fribidi_core_brackets(const uint8_t index[static 4352], const uint
 /* Returns the index of a type among those that have names, or 26 if it has no name. */
 uint32_t hordguli_fribidi_core_name(uint32_t number);
 
-/* Paragraphs and lines. If an allocation fails or lengths differ, they return 0 and change nothing. Lines allocate nothing. */
+/* Functions on paragraphs and lines. If an allocation fails or lengths differ, they return 0 and change nothing.
+ * Functions on lines allocate nothing. */
 uint32_t hordguli_fribidi_core_direction(const uint32_t *types, size_t types_length);
 uint32_t hordguli_fribidi_core_levels(const uint32_t *types, size_t types_length, const uint32_t *brackets,
                                       size_t brackets_length, uint32_t *direction, uint8_t *levels,

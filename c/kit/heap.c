@@ -1,12 +1,13 @@
-/* Stands in for the kit's rattle_alloc, rattle_realloc and rattle_dealloc on ARM64: the kit has them for x86-64 only. Proved code
- * relies on the contracts below, which are those of the kit's crate `libc` (`src/heap.rt` and `specs/Heap.antt` there). Nothing
- * proves that these functions meet them. tests/arm64/kit tests them, and the kit's functions for x86-64 by the same checks. */
+/* Stands in for the kit's rattle_alloc, rattle_realloc and rattle_dealloc on ARM64: the kit has them for x86-64 only.
+ * Proved code relies on the contracts below, which are those of the kit's crate `libc` (`src/heap.rt` and
+ * `specs/Heap.antt` there). Nothing proves that these functions meet them. tests/arm64/kit runs the same checks on them
+ * and on the kit's functions for x86-64. */
 #include <stdbool.h>
 #include <stddef.h>
 #include <stdint.h>
 #include <stdlib.h>
 
-/* Says whether there is a block, and where. If not, `p` is not NULL, and nothing is owned there. */
+/* Says whether there is a block, and where. If there is none, `p` is not NULL, and nothing is owned there. */
 typedef struct tried {
     bool ok;
     uint8_t *p;
@@ -26,10 +27,10 @@ static tried block_or_nothing(uint8_t *p) {
     return result;
 }
 
-/* malloc may return NULL for 0 bytes. A type without bytes gets a block of as many bytes as its alignment. */
+/* malloc may return NULL for 0 bytes, so a zero-sized type gets a block of as many bytes as its alignment. */
 static size_t at_least_one(size_t n, size_t a) { return n == 0 ? a : n; }
 
-/* Tries to get a block for a value of a type.
+/* Tries to allocate a block for a value of a type.
  *
  *     requires size             n is the size of the type
  *     requires align            a is its alignment
@@ -38,7 +39,7 @@ static size_t at_least_one(size_t n, size_t a) { return n == 0 ? a : n; }
  *     ensures got               if ok, p is a new block for such a value, aligned to a, which rattle_dealloc may free; otherwise p
  *                               is not NULL, and nothing is owned there
  *
- * Does not say when it fails. */
+ * The contract does not say when it fails. */
 tried rattle_alloc(size_t n, size_t a) { return block_or_nothing(malloc(at_least_one(n, a))); }
 
 /* Tries to resize a block of rattle_alloc or rattle_realloc to n bytes.

@@ -1,6 +1,7 @@
-/* Stands in for the kit's rattle_arg, rattle_env, rattle_env_at, rattle_errno and rattle_set_errno on ARM64: the kit has them for x86-64
- * only. Proved code relies on the contracts below, which are those of the kit's crate `os` (`src/c.rt` there). Nothing proves that these
- * functions meet them. tests/arm64/kit tests them, and the kit's functions for x86-64 by the same checks. Only the command links them. */
+/* Stands in for the kit's rattle_arg, rattle_env, rattle_env_at, rattle_errno and rattle_set_errno on ARM64: the kit
+ * has them for x86-64 only. Proved code relies on the contracts below, which are those of the kit's crate `os`
+ * (`src/c.rt` there). Nothing proves that these functions meet them. tests/arm64/kit runs the same checks on them and
+ * on the kit's functions for x86-64. Only the command links them. */
 #include <errno.h>
 #include <stddef.h>
 #include <stdint.h>
@@ -37,7 +38,7 @@ static ptrdiff_t copied(const char *text, uint8_t *buf, size_t length) {
  *
  *     returns    its length; -1 if there is no such argument; -2 if it does not fit, and then buf is full
  *
- * Leaves the bytes of buf after the argument as they are. */
+ * Leaves the bytes of buf after the argument unchanged. */
 ptrdiff_t rattle_arg(size_t i, uint8_t *buf, size_t length) {
     return copied(i < count ? words[i] : NULL, buf, length);
 }
@@ -47,7 +48,7 @@ ptrdiff_t rattle_arg(size_t i, uint8_t *buf, size_t length) {
  *     requires ended    name has 4,096 bytes, and the last one is NUL
  *     returns           the value's length; -1 if there is no such variable; -2 if it does not fit, and then buf is full
  *
- * Leaves the bytes of buf after the value as they are. */
+ * Leaves the bytes of buf after the value unchanged. */
 ptrdiff_t rattle_env(const uint8_t *name, uint8_t *buf, size_t length) {
     return copied(getenv((const char *)name), buf, length);
 }
@@ -56,7 +57,7 @@ ptrdiff_t rattle_env(const uint8_t *name, uint8_t *buf, size_t length) {
  *
  *     returns    its length; -1 if there is no such entry; -2 if it does not fit, and then buf is full
  *
- * Leaves the bytes of buf after the entry as they are. */
+ * Leaves the bytes of buf after the entry unchanged. */
 ptrdiff_t rattle_env_at(size_t i, uint8_t *buf, size_t length) {
     char **entry = environ;
     if (entry == NULL) return -1;

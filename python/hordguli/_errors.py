@@ -75,7 +75,7 @@ _EXCEPTIONS: dict[int, type[Exception]] = {
     CLOSED: ClosedError,
     NOT_MEASURED: NotMeasuredError,
 }
-# What a message calls the first parameter after the handle, by its name in C.
+# The name that a message uses for the first parameter after the handle, by its name in C.
 _NOUNS = {"pos": "position", "line": "line", "paragraph": "paragraph", "byte": "byte", "unit": "UTF-16 code unit"}
 
 

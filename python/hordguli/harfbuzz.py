@@ -86,7 +86,7 @@ class Measure:
         # What is known about characters, and the characters that stay in a part of a font and script.
         self._known: dict[str, tuple[list[int], Optional[str], str]] = {}
         self._staying: dict[tuple[int, str], str] = {}
-        # The advances of the last level runs and parts. An edit leaves most of those of a paragraph as they were.
+        # The advances of the last level runs and parts. An edit leaves most of a paragraph's advances unchanged.
         self._runs: dict[Any, list[int]] = {}
         self._parts: dict[Any, list[int]] = {}
         self._tab = _SPACES_OF_A_TAB * sum(self._part(" ", 0, 1, 0, _COMMON, 0))
@@ -149,7 +149,8 @@ class Measure:
     def _split(self, text: str, start: int, end: int) -> list[tuple[int, int, int, str]]:
         """Returns the start, end, font and script of each part of a level run that is shaped on its own."""
         found: list[tuple[int, int, int, str]] = []
-        # Spaces, digits and punctuation have no script. They get that of the letters before them, or else after them.
+        # Spaces, digits and punctuation have no script. Such characters get the script of the letters before them, or
+        # else of those after them.
         script = next((its for its in map(self._script_of, text[start:end]) if its is not None), _COMMON)
         place, font = start, 0
         while place < end:

@@ -93,7 +93,7 @@ def display(
         chosen = flags(Options, direction, "direction")
     if text.isprintable():  # (separators are not)
         return _visual(tables, chosen, text)
-    # (of the pieces, every second one is a separator)
+    # (every second piece is a separator)
     pieces = _SEPARATORS.split(text)
     return "".join(piece if at % 2 else _visual(tables, chosen, piece) for at, piece in enumerate(pieces))
 

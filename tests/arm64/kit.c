@@ -1,5 +1,6 @@
-/* Tests the C functions that proved code calls: those of c/kit, or the kit's, which must pass the same checks. It is linked with --wrap
- * for malloc, realloc and free. Usage: SET=value EMPTY= kit ARGUMENT .., with any arguments. */
+/* Tests the C functions that proved code calls: the functions of c/kit, or the kit's own, which must pass the same
+ * checks. Link it with --wrap for malloc, realloc and free. Usage: SET=value EMPTY= kit ARGUMENT .., with any
+ * arguments. */
 #include <errno.h>
 #include <stdbool.h>
 #include <stddef.h>

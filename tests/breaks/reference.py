@@ -51,7 +51,7 @@ RULES = [
     Rule("8.0", "ZW SP*", "÷", ""),
     # LB8a
     Rule("8.1", "ZWJ", "×", ""),
-    # LB9 and LB10 are here (`bases`).
+    # LB9 and LB10 belong here; `bases` applies them.
     # LB11
     Rule("11.01", "", "×", "WJ"),
     Rule("11.02", "WJ", "×", ""),
@@ -171,7 +171,7 @@ RULES = [
 # LB25 of 15.0 with whole numbers: no line ends inside a sequence that matches.
 NUMBER = "(PR | PO)? (OP | HY)? NU (NU | SY | IS)* (CL | CP)? (PR | PO)?"
 
-# The sets of LineBreakTest.html. Another name is a line breaking class.
+# The sets of LineBreakTest.html. Any other name is a line breaking class.
 SETS = {
     "EastAsian": lambda c: c.is_wide,
     "OPmEastAsian": lambda c: c.line_class == "OP" and not c.is_wide,

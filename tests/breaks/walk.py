@@ -98,7 +98,7 @@ STATES_17 = {
 
 MARKS = ("×", "÷", "!")
 
-# For each question: the bases before its position, and the bases after the position that have been read when the question is asked.
+# For each question: the bases before its position, and the bases after the position that were read before the question is asked.
 QUESTIONS_17 = {
     "LB15b": ("SP", "QU_Pf"),  # × before ( SP | GL | .. | eot ), otherwise ÷ (LB18)
     "LB15c": ("SP", "IS"),  # ÷ before NU, otherwise × (LB15d)

@@ -4,7 +4,7 @@
 
 #include "test.h"
 
-/* What the calls have returned: for each, its name, its arguments, its status and its results. */
+/* What the calls have returned: for each call, its name, its arguments, its status and its results. */
 typedef struct answer {
     const char *call;
     size_t arguments[3], results[4];
@@ -133,7 +133,8 @@ static inline void ask_offset(hordguli_session *session, size_t offset, answer *
     a->results[1] = position.pos, a->results[2] = position.rest;
 }
 
-/* Makes all calls with all positions, lines, paragraphs and offsets of the text, and one past each. */
+/* Makes all calls with all positions, lines, paragraphs and offsets of the text, and with the first one past the
+ * end. */
 static inline void ask(hordguli_session *session, size_t from, size_t to_pos, answer *to) {
     hordguli_counts counts = {0, 0, 0, 0};
     size_t byte_count = 0;

@@ -145,7 +145,7 @@ static void unread_file_sets_errno(const char *folder) {
     HOLDS(rmdir(path) == 0 && remove(name) == 0 && rmdir(made) == 0);
 }
 
-/* Whether two tables give all characters the same properties. */
+/* Whether all characters have the same properties in two tables. */
 static int are_equal(hordguli_tables *one, hordguli_tables *other) {
     enum { PART = 2048 };
     static uint32_t characters[PART];
@@ -160,7 +160,7 @@ static int are_equal(hordguli_tables *one, hordguli_tables *other) {
     return 1;
 }
 
-/* The tables of the built-in image, and those of the folder's image, equal those of the files. */
+/* The tables of the built-in image and of the folder's image equal the tables of the files. */
 static void opened_by_images(const char *folder) {
     static unsigned char image[1 << 18];
     char path[200];
@@ -193,7 +193,7 @@ static void opened_by_images(const char *folder) {
     HOLDS(fault.cause == HORDGULI_CAUSE_TRUNCATED);
 }
 
-/* What a character's base direction and the lines of `ls -v` are, by the rules of the tables' version. */
+/* The base direction of a character and the lines of `ls -v`, by the rules of the tables' version. */
 static void has_rules(hordguli_tables *of, uint32_t wanted_version, uint32_t wanted_base, const char *wanted_lines) {
     static const uint32_t garay[] = {0x10D5A}; /* a letter of Unicode 16.0, of class R */
     char lines[20];
@@ -908,7 +908,7 @@ static void edges_where_the_direction_changes(void) {
     ENDS(0, 0, 8, BEFORE);
 }
 
-/* The nearer end of a unit; from its middle, the right one */
+/* The nearer end of a unit; from its middle, the right end */
 static void nearest_edges(void) {
     hordguli_edge found;
     show("a\u6f22\u5b57\u05d0", 0, 80);
@@ -932,7 +932,7 @@ static void nearest_edges(void) {
     NEAREST(0, 2, 2, AFTER);
     NEAREST(0, 3, 1, BEFORE);
     NEAREST(0, 4, 1, AFTER);
-    /* one of four columns, whose middle is a column */
+    /* a tab of four columns, whose middle is a column */
     show("\tb", HORDGULI_TAB_WIDTH(4), 80);
     NEAREST(0, 1, 0, BEFORE);
     NEAREST(0, 2, 1, AFTER);
@@ -954,7 +954,7 @@ static void edges_of_clusters(void) {
     STEPS(LEFT, {0, 'B', 2}, {2, 'A', 1}, {3, 'A', 0});
     STEPS(RIGHT, {3, 'A', 0}, {2, 'B', 1}, {0, 'B', 2});
     CLUSTERS(0, 2, 3);
-    /* or before it */
+    /* a letter and its mark, which is written before it on the screen */
     show("\u05d0\u05b8\u05d1", 0, 80);
     CARET(1, BEFORE, 0, 1, 1);
     CARET(1, AFTER, 0, 1, 1);
@@ -1144,7 +1144,7 @@ static void edges_of_lines(void) {
         IS(hordguli_line_edges(&shown, 1, &found[0], &found[1]), OUT_OF_RANGE);
         IS(hordguli_line_clusters(&shown, 0, 0, NULL, &count), OUT_OF_RANGE);
     }
-    /* RLM alone covers no column */
+    /* a lone RLM covers no column */
     show("\u200f", 0, 80);
     CARET(0, BEFORE, 0, 0, 1);
     CARET(1, AFTER, 0, 0, 1);
@@ -1177,7 +1177,7 @@ static void spaces_at_line_ends(void) {
     STEPS(RIGHT, {2, 'B', 2}, {3, 'A', 3}, {4, 'A', 4}, {5, 'A', 5});
     EDGE_AT(0, 4, 4, BEFORE);
     ENDS(0, 0, 5, BEFORE);
-    /* each width shows what fits it */
+    /* each width shows the spaces that fit */
     OK(hordguli_set_width(&shown, 4, NULL));
     LINE(0, 5, 4, 4, 0);
     CARET(4, BEFORE, 0, 4, 0);
@@ -1195,7 +1195,7 @@ static void spaces_at_line_ends(void) {
     LINE(0, 3, 2, 2, 0);
     STEPS(RIGHT, {0, 'B', 0}, {1, 'A', 1}, {2, 'A', 2});
     ENDS(0, 0, 3, BEFORE);
-    /* a wrapped line: what fits is judged without the spaces, of which one fits, and then all */
+    /* a wrapped line: the spaces do not affect what fits; first one of them fits, and then all */
     show("ab   cd", HORDGULI_SHOW_SPACES, 3);
     LINE(0, 5, 3, 3, 0);
     LINE(1, 2, 2, 2, 0);
@@ -1433,7 +1433,7 @@ static void laid_out_without_session(void) {
     written = 77;
     IS(hordguli_layout(&tables, 0, 80, SHOWN, "ab\nc", 4, 0, NULL, &written), NO_ROOM);
     HOLDS(written == 5);
-    /* nothing of the longer text before is left */
+    /* nothing of the earlier, longer text is left */
     OK(hordguli_layout(&tables, 0, 80, SHOWN, "x", 1, 200, bytes, &written));
     same(bytes, written, "x\n");
     OK(hordguli_layout(&tables, 0, 80, SHOWN, NULL, 0, 0, NULL, &written));
@@ -1660,7 +1660,8 @@ static void paragraphs(void) {
 
 /* ---- Without a session ---- */
 
-/* Each direction alone is accepted, also as a number from 0 to 3. Two different ones are refused, and so are reserved bits. */
+/* A single direction is accepted, also as a number from 0 to 3. Two different directions are refused, and so are
+ * reserved bits. */
 static void directions_are_one_or_refused(void) {
     static const uint32_t directions[] = {HORDGULI_WEAK_LTR, HORDGULI_WEAK_RTL, HORDGULI_LTR, HORDGULI_RTL};
     static const uint32_t letters[] = {'a', 0x5D0}, number = '1', wanted[][3] = {{0, 1, 0}, {0, 1, 1}, {0, 0, 0}, {1, 1, 1}};
@@ -2079,7 +2080,7 @@ static void null_array_is_too_small(void) {
     OK(hordguli_marks(&tables, 0, NULL, 0, 0, NULL));
 }
 
-/* A function with several arrays skips those that are NULL. If all are, any capacity is enough. */
+/* A function with several arrays skips those that are NULL. If all are NULL, any capacity is enough. */
 static void null_arrays_are_skipped(void) {
     static const uint32_t characters[] = {'a', 0x5D0};
     static const uint8_t levels[] = {0, 1};

@@ -5,7 +5,7 @@
 
 #include "test.h"
 
-/* The most characters of a text, and of a line with their bytes */
+/* The maximum number of characters in a text, and of characters and bytes in a line */
 enum { MOST = 120, BYTES = MOST * 4, NONE = MOST + 1 };
 
 /* A character, by its position in the text */
@@ -53,8 +53,8 @@ static inline int are_together(size_t a, size_t b) {
     return characters[a].cluster == characters[b].cluster && characters[a].line == characters[b].line;
 }
 
-/* Whether a unit begins at a character. It does if the character takes columns, unless an earlier such character of its
- * cluster is in the same level run. */
+/* Whether a unit begins at a character: whether the character has columns, and no earlier character of its cluster with
+ * columns is in the same level run. */
 static inline int begins_unit(size_t pos) {
     if (!takes_columns(pos)) return 0;
     for (size_t k = 0; k < pos; k++)
@@ -140,8 +140,8 @@ static inline int reference_caret(hordguli_edge edge, hordguli_caret *caret) {
     return 1;
 }
 
-/* The nearest end of a unit to the left or right of a column, as the edge there of the unit that is passed. Returns 0 if
- * there is none. */
+/* The nearest end of a unit to the left or right of a column, as an edge of the unit that is passed. Returns 0 if there
+ * is none. */
 static inline int reference_step(size_t line, size_t column, uint32_t direction, hordguli_edge *next) {
     const unit *nearest = NULL;
     for (const unit *u = units; u < units + unit_count; u++) {
@@ -163,7 +163,7 @@ static inline int reference_edge_at(size_t line, size_t column, hordguli_edge *e
     return *edge = before(lines[line].start), 1;
 }
 
-/* The nearer end of the unit that covers the column; elsewhere as `reference_edge_at` */
+/* The nearer end of the unit that covers the column; if there is none, the edge of `reference_edge_at` */
 static inline int reference_nearest_edge(size_t line, size_t column, hordguli_edge *edge) {
     const unit *u = line < line_count ? covering(line, column) : NULL;
     if (u == NULL) return reference_edge_at(line, column, edge);
@@ -187,8 +187,8 @@ static inline int reference_line_edges(size_t line, hordguli_edge *first, hordgu
 
 /* ---- Hits and selections ---- */
 
-/* The character that covers a column of a line; right of the shown part, the rightmost one that takes columns; in a line
- * of width 0, the first one */
+/* The character that covers a column of a line; right of the shown part, the rightmost character that has columns; in a
+ * line of width 0, the first character */
 static inline hordguli_hit reference_hit(size_t line, size_t column) {
     size_t start = lines[line].start, end = start + lines[line].length;
     for (size_t pos = start; pos < end; pos++) {

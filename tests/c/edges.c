@@ -30,7 +30,7 @@ enum { PIECES = sizeof pieces / sizeof *pieces };
 static char bytes[BYTES];
 
 /* Fills an array with a random text of at most `most` characters, and returns its length. Most texts use few pieces, so
- * that these meet in many ways. */
+ * that these combine in many ways. */
 static size_t random_text(uint32_t *into, size_t most) {
     size_t kinds = 1 + below(below(3) == 0 ? 30 : 6), wanted = below(most), count = 0;
     const char *some[30];
@@ -50,7 +50,7 @@ static uint32_t random_options(void) { return (uint32_t)below(128) | HORDGULI_TA
 
 static uint32_t random_width(void) { return 1 + (uint32_t)below(below(3) == 0 ? 80 : 12); }
 
-/* ---- The layout, as the reference implementation has it ---- */
+/* ---- The layout in the reference implementation ---- */
 
 static void read_layout(hordguli_session *session) {
     hordguli_counts counts;
@@ -128,8 +128,9 @@ static void units_tile_lines(void) {
 
 /* ---- Shown spaces ---- */
 
-/* Compares the lines with those of a session without HORDGULI_SHOW_SPACES. They start at the same positions. Each shown
- * part has, in addition, as many of the spaces that follow it as fit. All spaces of Unicode's tables are U+0020. */
+/* Compares the lines with those of a session without HORDGULI_SHOW_SPACES. The lines of both sessions start at the same
+ * positions. Each shown part has, in addition, as many of the spaces that follow it as fit. All spaces of Unicode's
+ * tables are U+0020. */
 static void shown_spaces_are_right(uint32_t width) {
     hordguli_session session = HORDGULI_SESSION_INIT;
     hordguli_counts counts;
@@ -156,7 +157,7 @@ static void shown_spaces_are_right(uint32_t width) {
     hordguli_session_close(&session);
 }
 
-/* ---- Each call beside its definition ---- */
+/* ---- Each call, compared with its definition ---- */
 
 static size_t reference_clusters(size_t line, size_t ends[MOST]) {
     size_t count = 0, start = lines[line].start, line_length = lines[line].length;
@@ -295,8 +296,9 @@ static void lines_are_right(hordguli_session *session) {
 
 /* ---- Words ---- */
 
-/* Returns what UAX #29 has for a character: a Letter, a Digit, Katakana, a Space, an Ideograph or other character that
- * joins nothing, an Extending or format character, a Newline, a carriage Return or a line Feed; or '?' for others. */
+/* Returns the class of a character for UAX #29: a Letter, a Digit, Katakana, a Space, an Ideograph or other character
+ * that joins nothing, an Extending or format character, a Newline, a carriage Return or a line Feed; or '?' for
+ * others. */
 static char word_class(uint32_t c) {
     if (c == '\r') return 'R';
     if (c == '\n') return 'F';
@@ -407,7 +409,7 @@ static void texts_are_right(long count) {
     }
 }
 
-/* ---- Sessions beside new ones ---- */
+/* ---- Sessions, compared with new ones ---- */
 
 /* Makes a random edit, in the session and in `text`. Half of the edits have no damage. */
 static void edit(hordguli_session *session, uint32_t *width) {

@@ -23,7 +23,7 @@ static hordguli_status lay_out(const request *r, size_t capacity, char *buffer, 
     return hordguli_layout(&tables, r->options, r->width, r->print, r->text, r->length, capacity, buffer, written);
 }
 
-/* A random text of at most `most` pieces, of which most are of a few kinds. */
+/* A random text of at most `most` pieces, most of which are of a few kinds. */
 static request random_request(size_t most) {
     static const uint32_t prints[] = {HORDGULI_PRINT_DEFAULT, 1, 2, 16, 0};
     size_t pieces = below(most + 1), kinds = 1 + below(8), length = 0;
@@ -136,7 +136,7 @@ void __wrap_free(void *block) {
     __real_free(block);
 }
 
-/* The same calls again allocate nothing. `line_separators` is an option that all of them have, or 0. */
+/* Repeated calls allocate nothing. `line_separators` is an option that all of them have, or 0. */
 static void warm_calls_allocate_nothing(uint32_t line_separators) {
     uint64_t start = seed;
     for (int round = 0; round < 2; round++) {
@@ -154,7 +154,7 @@ static void warm_calls_allocate_nothing(uint32_t line_separators) {
     }
 }
 
-/* A handle keeps little memory after each call, and none after one with much text or many lines. */
+/* A handle keeps little memory after each call, and none after a call with much text or many lines. */
 static void large_calls_keep_little(const char *folder) {
     static const char *const pieces[] = {
         "a", "a\n", "\n", "\u05d0", "\u05d0 (a) ", "(", "([{", "\u2067", "\u2068\u05d0\u2069", "\u2067\u2066", "\u202ba",

@@ -4,8 +4,8 @@
  * - Edits and measures TEXTS random texts, whose advances the test keeps itself. Compares lines, columns, carets, hits, edges
  *   and selections with a reference implementation: the definitions of docs/reference.md, computed from break marks, levels,
  *   clusters and advances. Only the lines that two calls of a user have replaced may differ.
- * - Edits SESSIONS sessions whose advances are the columns of their characters. Each must return what a session that is not
- *   measured returns. */
+ * - Edits SESSIONS sessions whose advances are the columns of their characters. Each session must return what a session
+ *   that is not measured returns. */
 #include "answers.h"
 #include "carets.h"
 #include "snapshot.h"
@@ -21,7 +21,7 @@ static char bytes[BYTES];
 
 /* ---- Rows ---- */
 
-/* Opens the session on a text, whose characters have these advances. */
+/* Opens the session on a text whose characters have these advances. */
 static void open_on(const char *content, uint32_t own_options, uint32_t own_width, const uint32_t *own_advances, size_t count) {
     hordguli_session_close(&session);
     OK(hordguli_session_open_measured(&session, &tables, own_options, own_width, content, strlen(content)));
@@ -64,7 +64,7 @@ static int is_nearest(size_t line, size_t column, hordguli_edge wanted) {
     return hordguli_nearest_edge(&session, line, column, &edge) == HORDGULI_OK && is_edge(edge, wanted);
 }
 
-/* The next edge to the right is `wanted`. */
+/* Checks that the next edge to the right is `wanted`. */
 static int steps_right_to(hordguli_edge from, hordguli_edge wanted) {
     hordguli_edge next;
     uint32_t moved;
@@ -336,7 +336,7 @@ static uint32_t random_width(void) {
     return found > INT32_MAX ? INT32_MAX : (uint32_t)found;
 }
 
-/* Advances that are equal, 0 at some or all characters, large, or those of glyphs of several characters */
+/* Advances that are equal, 0 at some or all characters, large, or like those of glyphs for several characters */
 static void random_advances(uint32_t *into, size_t count) {
     size_t kind = below(7), equal = below(3 * (size_t)scale);
     for (size_t k = 0; k < count; k++) {
@@ -352,7 +352,7 @@ static void random_advances(uint32_t *into, size_t count) {
 
 /* ---- The reference implementation ---- */
 
-/* What is known of each character of the text */
+/* What is known about each character of the text */
 static uint8_t marks[MOST], levels[MOST];
 static hordguli_character properties[MOST];
 static size_t order[MOST]; /* the shown characters of each line from its start on, from left to right */
@@ -368,7 +368,7 @@ static int may_trail(size_t k) {
     return c == ' ' || (c >= 0xA && c <= 0xD) || c == 0x85 || c == 0x2028 || c == 0x2029;
 }
 
-/* The columns of a character that has `columns` before it on its line */
+/* The columns of a character that has `columns` columns before it on its line */
 static size_t columns_at(size_t columns, size_t k) {
     if (text[k] != '\t' || (options & TAB_BITS) == 0) return advances[k];
     return advances[k] == 0 ? 0 : advances[k] - columns % advances[k];
@@ -511,7 +511,7 @@ static void lines_are_right(void) {
     }
 }
 
-/* Where the caret for a position is: at the leading edge of the character itself, not of its unit */
+/* The place of the caret for a position: at the leading edge of the character itself, not of its unit */
 static hordguli_caret own_caret(size_t pos) {
     const character *c = &characters[pos];
     if (pos == length) return starts_next_line() ? (hordguli_caret){line_count, 0, options & 1, 0} : line_end(line_count - 1);
@@ -578,7 +578,7 @@ static void columns_are_right(int has_units) {
     }
 }
 
-/* Nothing is padded, and tabs are written as themselves. */
+/* Nothing is padded, and tabs are written unchanged. */
 static void print_is_right(void) {
     static char expected[PRINTED], found[PRINTED];
     size_t size = 0, written = 0;
@@ -620,7 +620,7 @@ static int has_wide_paragraph(void) {
     return 0;
 }
 
-/* The text and the advances, to go back to after a refused call */
+/* The text and the advances, to be restored after a refused call */
 static uint32_t kept_text[MOST], kept_advances[MOST];
 static size_t kept_length;
 
@@ -630,7 +630,7 @@ static void keep(void) {
     kept_length = length;
 }
 
-/* Whether a call was accepted. Goes back if it had to be refused. */
+/* Whether a call was accepted. Restores the text and the advances if it had to be refused. */
 static int is_accepted(hordguli_status status) {
     int is_wide = has_wide_paragraph();
     HOLDS(status == (is_wide ? HORDGULI_PARAGRAPH_TOO_LONG : HORDGULI_OK));
@@ -783,7 +783,7 @@ static void change_both(hordguli_session *plain, hordguli_session *measured) {
     HOLDS(memcmp(&damage, &edited, sizeof damage) == 0);
 }
 
-/* Both print the same, except for tabs and padding. */
+/* Both sessions print the same output, except for tabs and padding. */
 static void prints_are_equal(hordguli_session *plain, hordguli_session *measured) {
     static char pages[2][PRINTED * 8];
     uint32_t print = (uint32_t)below(128);

@@ -4,20 +4,20 @@
  *
  * Prints a line for each text: `same` and the number of lines, or `differ` and four numbers about the first line that starts
  * elsewhere:
- *   - where it starts here, in characters
- *   - where it starts in Pango
+ *   - where the line starts here, in characters
+ *   - where the line starts in Pango
  *   - 1 if there is a break opportunity here where Pango's line starts, else 0
- *   - 1 if there is one in Pango where ours starts, else 0
+ *   - 1 if there is a break opportunity in Pango where our line starts, else 0
  *
- * The last line is `times`, six times in nanoseconds for all texts together, and a number of texts. Each time is the minimum of several runs.
- * An edit inserts a letter in the middle and deletes it. What is timed:
+ * The last line is `times`, six times in nanoseconds for all texts together, and the number of texts for which shaping
+ * gives Pango's advances, before and after the edit. Each time is the minimum of several runs. An edit inserts a letter
+ * in the middle and deletes it. The times are for:
  *   - two changes of the width here, and in Pango until the lines are known
  *   - an edit here, with advances that are known
  *   - the same, but HarfBuzz first shapes, with Pango's fonts, the text between the spaces around the changed
  *     characters, levels, fonts and scripts
- *   - the same, but it shapes all of the paragraph
- *   - an edit in Pango, which shapes all of the paragraph, until the lines are known
- * The number is that of texts for which shaping gives Pango's advances, before and after the edit. */
+ *   - the same, but HarfBuzz shapes the whole paragraph
+ *   - an edit in Pango, which shapes the whole paragraph, until the lines are known */
 #include "test.h"
 
 #include <pango/pangoft2.h>
@@ -64,7 +64,8 @@ static void add_font(PangoFont *font) {
     fonts[font_count++] = hb_font_reference(added);
 }
 
-/* Stores the advances in a layout of one line, and its fonts. The first character of a cluster has that of its glyphs. */
+/* Stores the advances in a layout of one line, and its fonts. The first character of a cluster has the advance of its
+ * glyphs. */
 static void find_advances(PangoLayout *layout, const char *text, uint32_t *found) {
     pango_layout_set_text(layout, text, -1);
     memset(found, 0, sizeof advances);
@@ -126,7 +127,8 @@ static void edit(hordguli_session *session, size_t pos, size_t count) {
     check(is_so && hordguli_set_advances(session, 0, count, advances, NULL) == HORDGULI_OK, "no edit");
 }
 
-/* Returns the script of a character, or that of the one before it if the character occurs in texts of all scripts. */
+/* Returns the script of a character, or that of the character before it if the script is Common, Inherited or
+ * Unknown. */
 static hb_script_t script_of(hb_codepoint_t c, hb_script_t before) {
     hb_script_t script = hb_unicode_script(hb_unicode_funcs_get_default(), c);
     return script == HB_SCRIPT_COMMON || script == HB_SCRIPT_INHERITED || script == HB_SCRIPT_UNKNOWN ? before : script;
@@ -141,7 +143,8 @@ static uint32_t font_of(hb_codepoint_t c) {
     return MOST_FONTS;
 }
 
-/* Finds the style of each character. As in Pango, spaces have the earlier of the fonts around them, in one level and script. */
+/* Finds the style of each character. As in Pango, a space has the first font in the list of those of its neighbours,
+ * within one level and script. */
 static void find_styles(hordguli_session *session, size_t count) {
     static uint8_t levels[MOST];
     hordguli_paragraph_info info;
@@ -189,7 +192,7 @@ static void shape_all(hordguli_session *session, size_t from, size_t to, size_t 
 }
 
 /* After an edit at `pos`, shapes the characters between two spaces around what has changed, or all characters. The
- * paragraph has `count` characters, of which `added` are new. Their number is -1 if one was deleted. */
+ * paragraph has `count` characters, of which `added` are new. `added` is -1 if a character was deleted. */
 static void shape_edited(hordguli_session *session, size_t pos, int added, size_t count, int is_whole) {
     static Style old[MOST];
     size_t from = 0, to = count, old_count = count - (size_t)added, kept = added > 0 ? pos + 1 : pos;
@@ -265,7 +268,7 @@ static void run(hordguli_session *session, PangoLayout *layout, int width, const
     for (int k = 0; k < TIMES; k++) least[k] = least[k] < at[k + 1] - at[k] ? least[k] : at[k + 1] - at[k];
 }
 
-/* Adds the times of a text, which is as wide as `layout`. */
+/* Adds the times for a text at the width of `layout`. */
 static void time_text(PangoLayout *layout, const char *text, const char *edited) {
     size_t count = (size_t)g_utf8_strlen(text, -1);
     double least[TIMES];

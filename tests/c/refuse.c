@@ -1,7 +1,7 @@
 /* Makes each allocation fail in turn. A call whose allocation fails must return NO_MEMORY and change nothing. The same
- * call must then succeed when its allocations do. At the end, all memory must be freed. An unread file sets errno, though
- * `free` and `close` change it. Usage: refuse FOLDER, where FOLDER has small table files. Link it with --wrap=malloc,
- * --wrap=realloc, --wrap=free and --wrap=close. */
+ * call must then succeed when its allocations do. At the end, all memory must be freed. A file that cannot be read sets
+ * errno, even if `free` and `close` change it. Usage: refuse FOLDER, where FOLDER has small table files. Link it with
+ * --wrap=malloc, --wrap=realloc, --wrap=free and --wrap=close. */
 #include "test.h"
 
 #include <errno.h>
@@ -172,16 +172,16 @@ static hordguli_status step(int k) {
 static int opens_session(int k) { return k == OPEN || k == OPEN_MEASURED; }
 static int edits(int k) { return k == INSERT || k == REPLACE || k == DELETE || k == JOIN; }
 
-/* Whether a call may keep buffers though it fails. The first edit of a session makes its buffers. */
+/* Whether a call may keep buffers even if it fails. The first edit of a session makes its buffers. */
 static int keeps_buffers(int k) {
     return k == LAYOUT || k == WIDTH || k == ADVANCES || k == MEASURED_WIDTH || opens_session(k) || edits(k);
 }
 
-/* Whether a call may free memory though it fails: the lists of a paragraph that an earlier edit has replaced, or the
+/* Whether a call may free memory even if it fails: the lists of a paragraph that an earlier edit has replaced, or the
  * buffers that the tables lent to a session that was not opened */
 static int frees_buffers(int k) { return opens_session(k) || edits(k); }
 
-/* A folder in place of a file can be opened, but not read, so it is closed. */
+/* A folder in place of a file can be opened, but not read, so the call must close it. */
 static void unread_file_sets_errno(void) {
     char made[] = "/tmp/refuse-XXXXXX", file[] = "/tmp/refuse-XXXXXX/DerivedBidiClass.txt";
     HOLDS(mkdtemp(made) != NULL);
@@ -228,8 +228,8 @@ int main(int count, char **words) {
             HOLDS(status == HORDGULI_OK || status == HORDGULI_NO_MEMORY);
             if (status == HORDGULI_OK) continue;
             refusals++;
-            /* the tables and the sessions keep the buffers that they lay text out in, and sessions the lists of the last
-             * replaced paragraph until the next edit */
+            /* the tables and the sessions keep their layout buffers, and a session keeps the lists of the last replaced
+             * paragraph until the next edit */
             HOLDS(asked >= refused_at
                   && (live == held || (keeps_buffers(k) && live > held) || (frees_buffers(k) && live < held)));
             HOLDS(memcmp(&damage, &no_damage, sizeof damage) == 0 && found_base == 77);

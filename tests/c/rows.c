@@ -6,7 +6,7 @@ enum { MOST = 60, LETTERS = 56 };
 
 #define OK(call) HOLDS((call) == HORDGULI_OK)
 
-/* Letters, digits, marks, spaces, separators, brackets, controls of embeddings and isolates, and parts of grapheme
+/* Letters, digits, marks, spaces, separators, brackets, embedding and isolate controls, and parts of grapheme
  * clusters. */
 static const uint32_t letters[LETTERS] = {
     'a', 'b', ' ', ' ', '1', '2', ',', '$', '(', ')', '[', ']', '<', '\t', 0x5D0, 0x5D1, 0x5B0, 0x5B8, 0x627, 0x628,
@@ -30,8 +30,8 @@ static char cluster_class(uint32_t c) {
     return (c >= 0x202A && c <= 0x202E) || (c >= 0x2066 && c <= 0x2069) ? 'C' : 'O';
 }
 
-/* Returns whether a character continues the grapheme cluster of the one before it. `classes` has those of the characters
- * up to and including it. */
+/* Returns whether a character continues the grapheme cluster of the character before it. `classes` has the classes of
+ * the characters up to and including it. */
 static int continues_cluster(const char *classes, size_t k) {
     char last = k == 0 ? 'C' : classes[k - 1], next = classes[k];
     size_t at = k, indicators = 0;
@@ -56,7 +56,7 @@ static int continues_cluster(const char *classes, size_t k) {
 
 static hordguli_tables tables = HORDGULI_TABLES_INIT;
 
-/* What a row should be. */
+/* The expected results for a row. */
 typedef struct row {
     uint8_t levels[MOST];
     uint32_t visual[MOST], ltov[MOST], vtol[MOST];

@@ -50,8 +50,8 @@ static void lines_were_replaced(const snapshot *then, const snapshot *now, size_
     HOLDS(memcmp(then->lines + first + old, now->lines + first + new, (now->count - first - new) * sizeof *then->lines) == 0);
 }
 
-/* The changed lines are those of the damage, without the longest run of unchanged lines at its start, and then without
- * the longest such run at its end. */
+/* The changed lines are those of the damage, less the longest run of unchanged lines at its start and then the longest
+ * such run at its end. */
 static void changed_lines_are_right(hordguli_session *of, const snapshot *then, const snapshot *now, const hordguli_damage *damage) {
     hordguli_changed changed = {7, 7, 7};
     size_t before = 0, after = 0, first = damage->first_line, old = damage->old_lines, new = damage->new_lines;

@@ -4,7 +4,7 @@
  * - Each status, option, flag and other constant has the expected value, and each status its text.
  * - Each field of each struct is at its expected offset, and receives the right value. Parameters of the same type are
  *   not swapped.
- * - If two errors of a call apply, the call returns the one that the header lists first, and changes nothing. It
+ * - If two errors of a call apply, the call returns the one that the header lists first, and changes nothing. The call
  *   returns the same error if every allocation fails, unless the header lists NO_MEMORY first. (tests/c/refuse.c makes
  *   each allocation of a call without other errors fail.) */
 #include "test.h"
@@ -188,7 +188,7 @@ SIZE(paragraph_info, WORDS(4) + 8);
 static const char mixed[] =
     "one two three\n\u05d0\u05d1\u05d2\u05d3\u05d4\u05d5 \u05d3\u05b0\u05d4\u05b0\u05d5 12\nlast";
 
-/* Paragraphs of 3, 2, 3, 2, 2 and 1 lines of at most 4 columns. They start at 0, 12, 20, 32, 40 and 48. */
+/* Paragraphs of 3, 2, 3, 2, 2 and 1 lines of at most 4 columns. The paragraphs start at 0, 12, 20, 32, 40 and 48. */
 static const char words[] = "aaa bbb ccc\naaa bbb\naaa bbb ccc\naaa bbb\naaa bbb\naaa";
 
 /* Opens a session on a text, after closing the old one if it is open. */
@@ -410,7 +410,7 @@ static void edges_have_each_value_in_their_field(void) {
     size_t ends[8] = {0}, count = 77;
     static const size_t cluster_ends[7] = {2, 4, 5, 6, 7, 8, 9};
     reopen(&session, mixed, 8);
-    /* after the space, which is at an odd level; the number before it is at an even one */
+    /* after the space, which is at an odd level; the number before it is at an even level */
     OK(hordguli_edge_caret(&session, edge, &caret));
     HOLDS(caret.line == 3), HOLDS(caret.column == 2), HOLDS(caret.level == 1), HOLDS(caret.zero == 0);
     OK(hordguli_step(&session, edge, 0, &first, &moved));
@@ -561,7 +561,7 @@ typedef struct memory {
 
 static memory own, before;
 
-/* The arguments of all calls. Each call uses the ones it has a parameter for. */
+/* The arguments of all calls. Each call uses the arguments for which it has a parameter. */
 typedef struct arguments {
     hordguli_tables *tables;
     hordguli_session *session;
@@ -1420,8 +1420,8 @@ static hordguli_status status_of(const char *item) {
 
 static const char session_text[] = "abc \u05d0\u05d1\u05d2\n(\u05d0) 12\nx y";
 
-/* The contents of the session: its text, lines, counts and work counters. Also the counts and work counters of the
- * long session. */
+/* The contents of the session: its text, lines, counts and work counters. The contents include the counts and work
+ * counters of the long session. */
 typedef struct content {
     char bytes[200];
     hordguli_counts counts, long_counts;
@@ -1573,7 +1573,7 @@ static void cover(uint32_t covered[MOST], size_t count, uint32_t bits) {
             if (bits == (UINT32_C(1) << at | UINT32_C(1) << to)) covered[at] |= UINT32_C(1) << to;
 }
 
-/* Makes a call with each of its errors, and with each pair of them that can apply at the same time. */
+/* Makes a call with each of its errors, and with each pair of errors that can apply at the same time. */
 static void first_listed_error_is_returned(const call *c) {
     items order = items_of(c->order != NULL ? c->order : c->errors), never = items_of(c->never);
     uint32_t covered[MOST] = {0};
@@ -1627,7 +1627,7 @@ static void input_arrays_may_overlap(void) {
     }
 }
 
-/* The lists of errors above are those of the header. */
+/* The lists of errors above equal those of the header. */
 static void errors_are_those_of_the_header(const char *path) {
     static char header[1 << 17];
     FILE *from = sure(fopen(path, "rb"));

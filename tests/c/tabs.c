@@ -14,7 +14,7 @@ static uint32_t text[MOST];
 static size_t length;
 static char bytes[BYTES];
 
-/* What is known of each character of the text */
+/* What is known about each character of the text */
 static uint8_t marks[MOST];
 static int ends_cluster[MOST];
 static hordguli_character properties[MOST];

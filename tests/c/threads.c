@@ -1,8 +1,9 @@
-/* Makes the same edits on several threads at the same time, each in a session of its own. All sessions must end with
- * the same lines. So must layouts of their text without a session, with tables of each thread. Half of them are opened
- * on tables that the threads share, under a lock. Then the threads hand sessions over to each other: each edit of a
- * session is made by whichever thread is free, and the last one closes the session. Usage: threads FOLDER THREADS
- * CHANGES. */
+/* Makes the same edits on several threads at the same time, each in its own session. All sessions must end with the
+ * same lines. Layouts of the same text without a session, with tables of each thread, must have these lines too. Half
+ * of the sessions are opened on tables that the threads share, under a lock. Then the threads hand sessions over to
+ * each other: each edit of a session is made by any free thread, and the thread that makes the last edit closes the
+ * session.
+ * Usage: threads FOLDER THREADS CHANGES. */
 #include "test.h"
 
 #include <pthread.h>
@@ -92,7 +93,7 @@ static void *run(void *given) {
     return NULL;
 }
 
-/* A session that goes from thread to thread. */
+/* A session that the threads hand over to each other. */
 typedef struct handed {
     hordguli_session session;
     uint64_t mixed;

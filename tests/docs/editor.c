@@ -38,7 +38,7 @@ static void open_text(hordguli_tables *tables, uint32_t options, uint32_t width,
 }
 
 static void test_backspace(hordguli_tables *tables) {
-    /* stays left of the Hebrew letters, and not behind them */
+    /* stays left of the Hebrew letters, and not after them */
     open_text(tables, 0, 20, "abc ");
     OK(type("\u05d0\u05d1\u05d2", 6));
     HOLDS(is_at(0, 4));

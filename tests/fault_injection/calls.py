@@ -9,8 +9,8 @@ FOLDER = tempfile.TemporaryDirectory()
 EMULATOR = os.environ.get("EMULATOR", "").split()
 CC = os.environ["CC"] if EMULATOR else "cc"
 PART, NOTHING = -1, 0
-# With these settings, malloc gets its memory from the system in one step, which makes thousands of short runs a third faster. Symbols
-# are bound at the start, since the stack that lazy binding uses depends on the processor.
+# With these settings, malloc gets its memory from the system in one step, which makes thousands of short runs a third faster. Symbols are
+# bound at the start, since the amount of stack that lazy binding uses depends on the processor.
 SAME = {"MALLOC_MMAP_THRESHOLD_": "100000000", "MALLOC_TOP_PAD_": "8000000", "LD_BIND_NOW": "1"}
 TABLES = "DerivedBidiClass BidiBrackets BidiMirroring LineBreak DerivedGeneralCategory EastAsianWidth emoji-data".split()
 

@@ -1,9 +1,9 @@
-/* Compares FriBidi's functions with those of the library OURS, on COUNT random lists of types. A list has 1 to 200 of the 23 types,
- * some brackets, and one of the five base directions. Half of the lists have no type that X9 removes. Usage: compare OURS COUNT
- * [SEED].
+/* Compares FriBidi's functions with the functions of the library OURS, on COUNT random lists of types. A list has 1 to
+ * 200 of the 23 types, some brackets, and one of the five base directions. Half of the lists have no type that X9
+ * removes. Usage: compare OURS COUNT [SEED].
  *
- * The results must be equal if no predicate of docs/fribidi-compat.md holds for a list. For each predicate, they must differ on at
- * least half of the lists for which it alone holds. */
+ * The results must be equal if no predicate of docs/fribidi-compat.md holds for a list. For each predicate, they must
+ * differ on at least half of the lists for which only this predicate holds. */
 #include "both.h"
 
 #define MOST 200
@@ -78,8 +78,9 @@ static unsigned met(int call, const input *one) {
 
 /* ---- Random lists ---- */
 
-/* Returns the index of the first separator inside an open isolate, or -1. FriBidi writes to freed memory for lists with such a
- * separator, so they are not passed to it. Neither are lists that nest too deeply, for which it may end the program. */
+/* Returns the index of the first separator inside an open isolate, or -1. FriBidi writes to freed memory for lists with
+ * such a separator, so these lists are not passed to FriBidi. Lists that nest too deeply are not passed either, because
+ * FriBidi may end the program. */
 static int open_at_separator(const input *one) {
     for (int k = 0, open = 0; k < one->length; k++) {
         if (one->types[k] == FRIBIDI_TYPE_BS && open > 0) return k;
@@ -89,7 +90,8 @@ static int open_at_separator(const input *one) {
     return -1;
 }
 
-/* Sets the levels that both libraries get for a line. They are those of our library, so both reorder the same line. */
+/* Sets the levels that are passed to both libraries for a line. These are the levels of our library, so both libraries
+ * reorder the same line. */
 static void prepare(input *one) {
     one->resolved = one->base;
     memset(one->levels, 0, sizeof one->levels);

@@ -1,6 +1,6 @@
-/* Runs Unicode's BidiTest.txt and BidiCharacterTest.txt. The levels are those of fribidi_get_par_embedding_levels_ex, as
- * fribidi_reorder_line leaves them. The order is what fribidi_reorder_line makes of the map 0, 1, .. Characters that X9 removes
- * have the level `x` in the files, and are skipped. Usage: conformance LIBRARY FOLDER. */
+/* Runs Unicode's BidiTest.txt and BidiCharacterTest.txt. The levels come from fribidi_get_par_embedding_levels_ex and
+ * then fribidi_reorder_line. The order is what fribidi_reorder_line makes of the map 0, 1, .. Characters that X9
+ * removes have the level `x` in the files, and are skipped. Usage: conformance LIBRARY FOLDER. */
 #include "both.h"
 
 #define MOST 256
@@ -30,7 +30,7 @@ static int numbers(const char *text, int *into, int base) {
     return count;
 }
 
-/* Checks one paragraph in one direction. `level` is the expected paragraph level, or -1 if the file gives none. */
+/* Checks one paragraph in one direction. `level` is the expected paragraph level, or -1 if the file has none. */
 static void check(const char *name, long line, const FriBidiCharType *types, const FriBidiBracketType *brackets, int count, FriBidiParType base,
                   int level, const wanted *want) {
     FriBidiLevel levels[MOST];

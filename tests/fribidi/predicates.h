@@ -26,10 +26,11 @@ static unsigned first_direction(const input *one, int outside) {
     return 0;
 }
 
-/* P2 skips isolates. FriBidi's fribidi_get_par_direction does not. Holds if an isolate changes the direction. */
+/* P2 skips isolates. FriBidi's fribidi_get_par_direction does not. This predicate holds if an isolate changes the
+ * direction. */
 static int first_strong_in_isolate(const input *one) { return first_direction(one, 0) != first_direction(one, 1); }
 
-/* P3 gives a level even to a paragraph without strong characters. FriBidi returns the requested weak direction. */
+/* By P3, even a paragraph without strong characters has a level. FriBidi returns the requested weak direction. */
 static int no_strong(const input *one) { return one->base != FRIBIDI_PAR_LTR && one->base != FRIBIDI_PAR_RTL && first_direction(one, 1) == 0; }
 
 /* P1: a separator ends a paragraph. If a list continues after a separator, our library still treats it as one
@@ -74,8 +75,8 @@ static int pair_over_isolates(const input *one, int least) {
     return 0;
 }
 
-/* BD13: each isolate is a sequence of its own, and an FSI takes its direction from its own isolate (X5c). FriBidi treats all isolates of a
- * depth as one sequence. */
+/* BD13: each isolate is a separate sequence, and an FSI takes its direction from its own isolate (X5c). FriBidi treats
+ * all isolates of a depth as one sequence. */
 static int joined(const input *one, int greatest) {
     return changes(one, AS_ONE, greatest) || changes(one, LATER, greatest) || changes(one, AS_ONE | LATER, greatest);
 }
@@ -96,8 +97,8 @@ static int too_deep(const input *one) {
     return 0;
 }
 
-/* N0: the strong type before a pair is looked up in the pair's sequence. If there is none, sos counts. FriBidi also looks before the
- * sequence. */
+/* N0: the strong type before a pair is looked up in the pair's sequence. If there is none, sos is used. FriBidi also
+ * looks before the sequence. */
 static int context_before_run(const input *one) { return changes(one, CONTEXT, 0); }
 static int context_before_run_top(const input *one) { return changes(one, CONTEXT, 1); }
 
@@ -105,13 +106,13 @@ static int context_before_run_top(const input *one) { return changes(one, CONTEX
 static int bracket_after_mark(const input *one) { return changes(one, MERGED, 0); }
 static int bracket_after_mark_top(const input *one) { return changes(one, MERGED, 1); }
 
-/* X6a: an override changes the type of each PDI. In FriBidi, an unmatched PDI keeps its type, and so gets the direction of the runs next
- * to it. */
+/* X6a: an override changes the type of each PDI. In FriBidi, an unmatched PDI keeps its type, so its direction comes
+ * from the runs next to it. */
 static int pdi_between_runs(const input *one) { return changes(one, BARE, 0); }
 static int pdi_between_runs_top(const input *one) { return changes(one, BARE, 1); }
 
-/* L1: isolate initiators and PDIs at a line's end get the paragraph level too. FriBidi's fribidi_reorder_line resets neither these nor the
- * spaces before them. */
+/* L1: isolate initiators and PDIs at a line's end are also reset to the paragraph level. FriBidi's fribidi_reorder_line
+ * does not reset these, or the spaces before them. */
 static int isolate_at_end(const input *one) {
     int level = (int)one->resolved & 1, has_isolate = 0;
     for (int k = one->off + one->part - 1; k >= one->off; k--) {
@@ -123,7 +124,7 @@ static int isolate_at_end(const input *one) {
     return 0;
 }
 
-/* L3 concerns marks that follow a base. FriBidi also puts marks without a base into reading order. */
+/* L3 applies to marks that follow a base. FriBidi also puts marks without a base into reading order. */
 static int has_base(const input *one, const FriBidiLevel *levels, int k) {
     for (; k > one->off && levels[k] == levels[k - 1] && (levels[k] & 1); k--)
         if (one->types[k - 1] != FRIBIDI_TYPE_NSM) return 1;

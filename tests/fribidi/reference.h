@@ -7,8 +7,8 @@
  * - LATER: an FSI whose isolate has no strong type takes its direction from a later isolate of its depth.
  * - DEEP: an overflow isolate increases the isolate depth. An isolate whose level is at most 125 is valid even after an overflow.
  * - CONTEXT: the strong type before a pair of brackets is also looked for before the level run.
- * - MERGED: a neutral directly after a neutral's marks is merged with that neutral. It does not count as a bracket, and gets the direction
- *   of a bracket before it.
+ * - MERGED: a neutral directly after a neutral's marks is merged with that neutral. The merged neutral does not count
+ *   as a bracket, and gets the direction of a bracket before it.
  * - BARE: an unmatched PDI keeps its type under an override.
  *
  * A list has no separator except at its end. */
@@ -106,8 +106,9 @@ static int is_neutral(FriBidiCharType type) {
 }
 static int is_any(FriBidiCharType type, FriBidiCharType a, FriBidiCharType b, FriBidiCharType c) { return type == a || type == b || type == c; }
 
-/* Applies W1 to a mark that begins an isolate, if that is joined with the isolate before it. The marks after it get the mark's new type.
- * Unless that is AN, the characters after these marks get it too, as long as they have the type that ended the isolate before. */
+/* Applies W1 to a mark that begins an isolate, if this isolate is joined with the isolate before it. The marks after it
+ * get the mark's new type. Unless this type is AN, the characters after these marks get it too, as long as they have
+ * the type that ended the isolate before. */
 static void join_mark(sequence *s, int k, int after_arabic) {
     FriBidiCharType *t = s->type, before = t[k - 1];
     FriBidiCharType own = before == FRIBIDI_TYPE_EN && after_arabic ? FRIBIDI_TYPE_AN : s->opener[k] != FRIBIDI_TYPE_ON ? FRIBIDI_TYPE_NSM : FRIBIDI_TYPE_ON;
@@ -204,7 +205,8 @@ static void pair_brackets(const input *one, sequence *runs, int many, int ways) 
     }
 }
 
-/* Returns what N1 compares of a type next to neutral types. An NSM that remains after W1 has no direction. */
+/* Returns the direction of a type that N1 compares on each side of neutral types. An NSM that remains after W1 has no
+ * direction. */
 static FriBidiCharType side_of(FriBidiCharType type) { return type == FRIBIDI_TYPE_NSM ? type : seen(type); }
 
 static void resolve(sequence *s, int *levels) {
@@ -261,7 +263,7 @@ static FriBidiCharType end_run(sequence *s, FriBidiCharType last, int before, in
     return last;
 }
 
-/* Whether a run directly follows another one. */
+/* Whether a run directly follows another run. */
 static int follows(const input *one, const sequence *s, const sequence *next) { return beside(one, s->at[s->count - 1], 1) == next->at[0]; }
 
 static void resolve_runs(const input *one, const plain *p, int base, int ways, int *levels) {

@@ -1,5 +1,5 @@
-/* Calls the library from several threads at the same time. Each thread uses the same random lists and adds up the results. All
- * sums must equal that of a single thread. Usage: threads THREADS CALLS. */
+/* Calls the library from several threads at the same time. Each thread processes the same random lists and adds up the
+ * results. All sums must equal that of a single thread. Usage: threads THREADS CALLS. */
 #include <fribidi.h>
 #include <pthread.h>
 #include <stdint.h>

@@ -6,7 +6,7 @@
  *     byte LINE CHARACTER                          prints the byte at a position
  *     text                                         prints the number of bytes, and the text
  *
- * The protocol's lines end at LF, CR and CR LF alone. Paragraphs end at other separators too, so a line can have several
+ * The protocol's lines end only at LF, CR and CR LF. Paragraphs end at other separators too, so a line can have several
  * of them. A character past the end of its line stands for the end of the line, and a line past the end of the text for
  * the end of the text. */
 #include <hordguli.h>

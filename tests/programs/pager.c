@@ -39,7 +39,7 @@ static void *sure(void *block) {
     return block;
 }
 
-/* Adds a sequence to those in effect. Returns the new look. */
+/* Adds a sequence to the sequences in effect. Returns the new look. */
 static uint32_t add_sequence(uint32_t look, const char *sequence, size_t length) {
     const char *old = looks[look];
     if (length <= 3 || memcmp(sequence, "\33[0m", 4) == 0) return 0;

@@ -6,7 +6,7 @@
 
 static long left;
 
-/* The next allocation but `number` - 1 fails, once. With 0, none does. */
+/* Makes one of the next allocations fail, once: the one with this number, counted from 1. With 0, none fails. */
 void refuse(long number);
 void refuse(long number) { left = number; }
 

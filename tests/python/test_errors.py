@@ -418,13 +418,13 @@ def test_closed_default_tables_are_opened_again():
 
 # ---- What hordguli.harfbuzz needs ----
 
-# How each package of PyGObject is missing, with what Python then raises.
+# The ways in which a package of PyGObject can be missing, with what Python then raises.
 MISSING = {
     "python3-gi": "sys.modules['gi'] = None",
     "gir1.2-harfbuzz-0.0": "gi.require_version = lambda *_: int('none')",
     "libharfbuzz-gobject0": "gi.require_version, harfbuzz.buffer_create = print, fail",
 }
-# How the library is missing: there is no file, or it is not a HarfBuzz library.
+# The ways in which the library can be missing: there is no file, or it is not a HarfBuzz library.
 LIBRARIES = "libnone.so.0", "libc.so.6"
 
 

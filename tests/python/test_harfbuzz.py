@@ -57,7 +57,7 @@ def test_letters_join_within_a_paragraph():
     measure = Measure(NOTO, 26)
     joined, alone = measure(run_of(BEH * 3, 1)), measure(run_of(BEH, 1))[0]
     assert len({*joined, alone}) > 2
-    # they join across the runs of a paragraph too
+    # letters join across the runs of a paragraph too
     apart = measure(ParagraphText(BEH * 3, 1, (Run(0, 1, 1), Run(1, 1, 3), Run(2, 1, 1))))
     assert apart == joined
 

@@ -1,6 +1,6 @@
-/* Prints a checksum of all that the C library returns for random sessions. tests/rust/src/bin/answers.rs does the same through the Rust
- * crate, with the same pseudorandom numbers, so both must print the same. Usage: answers FIRST COUNT [print], for the sessions with these
- * numbers. With `print`, prints each value too. */
+/* Prints a checksum of all that the C library returns for random sessions. tests/rust/src/bin/answers.rs does the same
+ * through the Rust crate, with the same pseudorandom numbers, so both programs must print the same output. Usage:
+ * answers FIRST COUNT [print], for the sessions with these numbers. With `print`, prints each value too. */
 #include <hordguli.h>
 #include <stdio.h>
 #include <stdlib.h>
@@ -204,7 +204,7 @@ static void offset_answers(size_t offset) {
     }
 }
 
-/* Tells a part of the text, and the bytes that some lines print. */
+/* Adds to the checksum a part of the text, and the bytes that some lines print. */
 static void text_answers(void) {
     static char bytes[BYTES];
     static uint32_t characters[MOST];
@@ -218,7 +218,7 @@ static void text_answers(void) {
     if (succeeds("lines_utf8", hordguli_lines_utf8(&session, first, lines, print, BYTES, bytes, &length))) tell_bytes("byte", bytes, length);
 }
 
-/* Tells what the calls without a session return for a text. */
+/* Adds to the checksum what the calls without a session return for a text. */
 static void row_answers(hordguli_tables *chosen, uint32_t options, uint32_t direction, const uint32_t *characters, size_t count) {
     static uint32_t visual[MOST], ltov[MOST], vtol[MOST];
     static uint8_t levels[MOST], row_levels[MOST], marks[MOST];

@@ -22,7 +22,7 @@ def in_parts(text):
     return "".join(lines(text[start : start + LIMIT]) for start in range(0, len(text), LIMIT))
 
 
-# Each has a name, its input, the output, and whether the status is 1 because a paragraph is over the limit.
+# Each case has a name, its input, the output, and whether the status is 1 because a paragraph is over the limit.
 CASES = [
     ("an unfinished string of 10 MB", lambda: f"{E}]0;" + "u" * 10 * MILLION, lambda: "", False),
     ("a string of 10 MB", lambda: f"a{E}P" + "u" * 10 * MILLION + f"{E}\\b\n", lambda: "ab\n", False),
@@ -56,7 +56,8 @@ CASES = [
     ("a million tabs", lambda: "\t" * MILLION + "\n", lambda: (" " * 80 + "\n") * (MILLION // 10), False),
 ]
 
-# Each has a name, and a text with n characters between a CR and its LF, which is read in many chunks before the LF.
+# Each case has a name, and a text with n characters between a CR and its LF, so that many chunks are read before the
+# LF.
 AFTER_CR = [
     ("a string", lambda n: f"\r{E}]0;" + "u" * n + f"{E}\\\n"),
     ("a string with many ESC", lambda n: f"\r{E}P" + "u" * 5000 + f"{E}u" * (n // 2) + f"{E}\\\n"),
@@ -66,7 +67,7 @@ AFTER_CR = [
     ("short strings", lambda n: "\r" + f"{E}]0;u\a" * (n // 6) + "\n"),
     ("dropped controls", lambda n: "\r" + "\0" * n + "\n"),
 ]
-# Arguments, and whether they allow a paragraph of so many characters.
+# Arguments, and whether they allow a paragraph with this number of characters.
 WORDS = [([], True), (["-d", "file"], True), (["--strict"], False)]
 
 

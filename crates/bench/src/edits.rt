@@ -95,11 +95,11 @@ pub fn open<S: ParagraphStore<Kept> + Drop>(
     }
 }
 
-/// Drops a session. No other function does, just as only `let_go` drops an engine.
+/// Drops a session. No other function drops a session, just as only `let_go` drops an engine.
 pub fn close<S: ParagraphStore<Kept> + Drop>(_session: Session<S>) {}
 
 /// Inserts and deletes two characters at a time. Paragraphs are split about as often as joined, so their
-/// number and their lengths stay about the same.
+/// number and lengths change little.
 pub fn make_edits<S: ParagraphStore<Kept>>(session: &mut Session<S>, edits: usize) {
     let mut numbers = Numbers::new();
     for _ in 0..edits {

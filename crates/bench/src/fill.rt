@@ -85,7 +85,7 @@ const CASES: [Case; 12] = [
     },
 ];
 
-/// Prints a line for each case, for a paragraph of `characters` characters: the least times for laying out
+/// Prints a line for each case, for a paragraph of `characters` characters: the minimum times for laying out
 /// the paragraph and for filling it again, in nanoseconds, the number of lines, the width and the name.
 pub fn run(rt: &HostRuntime, folder: &str, characters: usize) -> Result<()> {
     let mut engine = engine(rt, folder)?;
@@ -126,7 +126,7 @@ fn show_filled(
 }
 
 /// Lays out a paragraph that consists of `words` in pseudorandom order and has `characters` characters.
-/// Returns the least time of several runs in nanoseconds, and the layout.
+/// Returns the minimum time of several runs in nanoseconds, and the layout.
 pub fn lay_out(
     rt: &HostRuntime,
     engine: &mut Engine,
@@ -177,7 +177,7 @@ fn lay_out_text(
     Ok((since(rt, start)?, laid))
 }
 
-// Fills a paragraph again. Returns the least time of several runs in nanoseconds.
+// Fills a paragraph again. Returns the minimum time of several runs in nanoseconds.
 fn refill(rt: &HostRuntime, engine: &mut Engine, laid: &Laid, width: u16) -> Result<u64>
     requires { IsLaidOut (rules_of engine.old) laid.now }
 {

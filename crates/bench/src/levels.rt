@@ -110,13 +110,13 @@ const KINDS: [Kind; 18] = [
     },
 ];
 
-/// Prints a line for each kind of paragraph of this length: its least time in nanoseconds, its highest level
-/// and its name.
+/// Prints a line for each kind of paragraph of this length: its minimum time in nanoseconds, its highest
+/// level and its name.
 pub fn run(rt: &HostRuntime, folder: &str, characters: usize) -> Result<()> {
     measure_all(rt, Subject::Levels, &KINDS, folder, characters)
 }
 
-/// Prints a line for each kind of paragraph of this length, laid out at 80 columns: its least time in
+/// Prints a line for each kind of paragraph of this length, laid out at 80 columns: its minimum time in
 /// nanoseconds, the number of lines and its name.
 pub fn lay_out_each(rt: &HostRuntime, folder: &str, characters: usize) -> Result<()> {
     let mut engine = engine(rt, folder)?;

@@ -1,4 +1,4 @@
-//! Measures what the command itself cannot show, for the scripts of `bench/`. Times are in nanoseconds. UCD
+//! Measures what the command alone cannot measure, for the scripts in `bench/`. Times are in nanoseconds. UCD
 //! is the folder of the table files. KIND is `list` or `tree`, which says how the paragraphs are stored.
 //!
 //! - `bench edits KIND PARAGRAPHS EDITS` makes edits in a session, and prints the session's counts.
@@ -59,9 +59,9 @@ const SUBJECTS: [(&str, Subject); 9] = [
     ("store", Subject::Store),
 ];
 
-// Runs the named measurement. Where one of many calls may fail, a function here owns few values, since each
-// value that is dropped there makes the proof longer. Names are looked up in a table, since a `match` on a
-// name has a path for each of its bytes.
+// Runs the named measurement. A function with many calls that may fail owns few values, since each value that
+// is dropped after a failure makes the proof longer. Names are looked up in a table, since a `match` on a
+// name has a path for each byte of the name.
 fn run(rt: &HostRuntime, words: &[String]) -> Result<()> {
     let name = word(words, 1);
     for (known, subject) in &SUBJECTS {

@@ -51,7 +51,7 @@ const KINDS: [Kind; 8] = [
     },
 ];
 
-/// Prints a line for each kind of paragraph of this length: its least time in nanoseconds, the number of
+/// Prints a line for each kind of paragraph of this length: its minimum time in nanoseconds, the number of
 /// break opportunities and its name.
 pub fn run(rt: &HostRuntime, folder: &str, characters: usize) -> Result<()> {
     measure_all(rt, Subject::Marks, &KINDS, folder, characters)

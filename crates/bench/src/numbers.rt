@@ -1,4 +1,4 @@
-//! Pseudorandom numbers, the same in each run.
+//! Pseudorandom numbers, which are the same in each run.
 
 /// A generator with a fixed seed.
 #[derive(Clone, Copy)]

@@ -27,11 +27,11 @@ pub enum Subject {
     Marks,
 }
 
-/// How many times a paragraph is analysed. The least time counts.
+/// How many times a paragraph is analysed. The minimum time is used.
 pub const RUNS: usize = 5;
 
-/// Prints a line for each kind of paragraph of this length: its least time in nanoseconds, the highest level
-/// or the number of break opportunities, and its name.
+/// Prints a line for each kind of paragraph of this length: its minimum time in nanoseconds, the highest
+/// level or the number of break opportunities, and its name.
 pub fn measure_all(
     rt: &HostRuntime,
     subject: Subject,
@@ -72,7 +72,8 @@ pub fn engine(rt: &HostRuntime, folder: &str) -> Result<Engine> {
     Ok(Engine::new(in_folder(rt, folder)?, Options::default()))
 }
 
-/// Drops an engine. No other function does, since every proof that drops all lists of an engine is slow.
+/// Drops an engine. No other function drops an engine, since every proof that drops all lists of an engine is
+/// slow.
 pub fn let_go(_engine: Engine) {}
 
 /// Returns a text of `characters` characters that consists of `words` in pseudorandom order.
@@ -107,7 +108,7 @@ pub fn lay_out(alloc: Global, engine: &mut Engine, text: Vec<char>, width: u16) 
     }
 }
 
-// Prints the least time in nanoseconds, the result of the analysis, and the name.
+// Prints the minimum time in nanoseconds, the result of the analysis, and the name.
 fn measure(
     rt: &HostRuntime,
     subject: Subject,

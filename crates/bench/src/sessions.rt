@@ -15,7 +15,7 @@ use std::time::Instant;
 use store::{ParagraphStore, TreeStore, VecStore};
 
 /// Opens a session on a text of `paragraphs` paragraphs of 80 characters, kept in a list or a tree, and makes
-/// edits at pseudorandom positions. Prints the time of opening it and the average time of an edit, in
+/// edits at pseudorandom positions. Prints the time to open the session and the average time of an edit, in
 /// nanoseconds.
 pub fn run(
     rt: &HostRuntime,
@@ -80,9 +80,10 @@ const NARROW: u16 = 60;
 
 const WIDE: u16 = 80;
 
-/// Prints times in nanoseconds for the text of a file. The first times are for laying out each paragraph, and
-/// for filling each again at the narrow width and at the wide one. The others are for setting a session's
-/// width to the narrow one, and back. All times but the first are the least of several runs.
+/// Prints times in nanoseconds for the text of a file. The first three times are for laying out each
+/// paragraph, and for filling it again at the narrow width and at the wide width. The other times are for
+/// setting a session's width to the narrow one, and back. All times but the first are the minimum of several
+/// runs.
 pub fn set_width(rt: &HostRuntime, folder: &str, kind: StoreKind, file: &str) -> Result<()> {
     let text = fs::read_to_string(rt, file)?;
     set_width_of(rt, folder, kind, text.as_str())
@@ -107,7 +108,7 @@ fn set_width_of(rt: &HostRuntime, folder: &str, kind: StoreKind, text: &str) -> 
     )
 }
 
-// The least times at both widths.
+// The minimum times at both widths.
 #[derive(Clone, Copy)]
 struct Times {
     narrow: u64,

@@ -1,4 +1,5 @@
-//! Times making a store of paragraphs, replacing one at a pseudorandom index, and searching for a character.
+//! Times making a store of paragraphs, replacing a paragraph at a pseudorandom index, and searching for a
+//! character.
 ghost use Rattle.std.specs.Prelude.{◌^◌, ◌<◌, if◌then◌else◌};
 
 use crate::edits::StoreKind;
@@ -46,9 +47,9 @@ impl Measured for Small {
 // The limit of a store's paragraphs.
 const LIMIT: usize = 1 << 40;
 
-/// Makes a store of `count` paragraphs, as a list or as a tree, by one replacement in an empty one. Then
-/// replaces one paragraph and searches for a character, `times` times each. Prints the time of making the
-/// store, the average times of a replacement and of a search, all in nanoseconds, and the average number of
+/// Makes a store of `count` paragraphs, as a list or as a tree, by one replacement in an empty store. Then
+/// replaces one paragraph and searches for a character, `times` times each. Prints the time to make the store
+/// and the average times of a replacement and of a search, all in nanoseconds, and the average number of
 /// nodes that a search visits.
 pub fn run(rt: &HostRuntime, kind: StoreKind, count: usize, times: usize) -> Result<()> {
     match kind {

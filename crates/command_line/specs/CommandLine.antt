@@ -80,8 +80,7 @@ start = on_top (λ s. record s { no_binary_name = true; has_version = true }) (n
 unfoldable pub program : App
 program = fold with_rule start (layout_rules ++ (print_rules ++ script_rule ∷ queries_rule ∷ files_rule ∷ []))
 
--- how base levels are found: as the only given option says or, if none is given, by the first strong
--- character
+-- how base levels are found: by the only option that is given or, if there is none, by the first strong character
 abbrev pub base_by : Bool → Bool → Bool → Bool → Option Base
 base_by true false false false = Some base.Rtl
 base_by false true false false = Some base.Ltr
@@ -94,7 +93,7 @@ abbrev pub base_of : List Row → Option Base
 base_of rows =
     base_by (is_given (codes "rtl") rows) (is_given (codes "ltr") rows) (is_given (codes "wrtl") rows) (is_given (codes "wltr") rows)
 
--- the Unicode version: the one with the given name, or 15.0 without the option
+-- the Unicode version with the given name, or 15.0 if the option is not given
 abbrev pub version_named : Text → Option Version
 version_named name = if bytes_eq name (codes "15.0") then Some V15_0 else if bytes_eq name (codes "17.0") then Some V17_0 else None
 
@@ -126,7 +125,7 @@ queries_fit rows = fits_queries (is_given (codes "queries") rows) (is_some (firs
 abbrev pub number_of : Text → ℕ
 number_of text = digits_value 10 (without_leading_plus text)
 
--- the tab width, or 0 without the option
+-- the tab width, or 0 if the option is not given
 abbrev pub tab_width_of : List Row → ℕ
 tab_width_of rows = unwrap_or (option_map number_of (first_of (codes "tabs") rows)) 0
 
@@ -179,9 +178,9 @@ pub record AreMatches (words : List Text) (matches : ArgMatches) : Type 0 where
   pub width : HasNumber (codes "width") 65535 (rows_of (found_of matches))
   pub tabs : HasTabs (rows_of (found_of matches))
 
--- Either `clap` refuses the arguments with this kind of error, or it accepts them and one of these faults
--- applies, which are tested in this order: more than one base direction is set, there is no such Unicode
--- version, a script does not have exactly one text, or there are queries without a script.
+-- Either `clap` refuses the arguments with this kind of error, or it accepts them and this is the first of these faults
+-- that applies: more than one base direction is set, there is no such Unicode version, a script does not have exactly
+-- one text, there are queries without a script.
 abbrev pub IsLineFault : List Text → LineFault → Type 0
 IsLineFault words (Words error) = IsAmong (kind_of error) (fault_of program words)
 IsLineFault words Directions = (fault_of program words ≡ []) × (base_of (matches_of program words) ≡ None)

@@ -32,8 +32,8 @@ pub struct Settings<'a> {
 /// Why the arguments are refused.
 #[derive(Debug, Drop, Error)]
 pub enum LineFault {
-    /// `clap` refuses the arguments, or they request help or the version. Displayed as the message of the
-    /// `clap` error.
+    /// `clap` refuses the arguments, or the arguments request help or the version. The fault is displayed as
+    /// the message of the `clap` error.
     #[error("{0}")]
     Words(clap::Error),
     #[error("fribidi: more than one base direction")]

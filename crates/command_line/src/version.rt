@@ -1,8 +1,9 @@
-//! What `--version` and `--help` print: the product's version and those of Unicode. The rules and table files
-//! have the versions of `ucd`; columns and grapheme clusters have the version of the kit's tables.
-//! `tools/sync_versions` generates this file from `VERSION`, `ucd` and the kit's tables. CI checks it.
+//! What `--version` and `--help` print: the product's version and the versions of Unicode. The rules and
+//! table files have the versions of `ucd`; columns and grapheme clusters have the version of the kit's
+//! tables. `tools/sync_versions` generates this file from `VERSION`, `ucd` and the kit's tables. CI checks
+//! it.
 
-/// The product's version, followed by those of Unicode.
+/// The product's version, followed by the versions of Unicode.
 pub const VERSION: &str = "0.5.0
 Unicode 15.0 or 17.0: the rules and the table files
 Unicode 18.0: columns and grapheme clusters";

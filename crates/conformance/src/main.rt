@@ -3,15 +3,16 @@
 //! (the default) or 17.0.
 //!
 //! - `conformance marks-of UCD [VERSION]` prints the break marks of each paragraph.
-//! - `conformance lines-of UCD DIRECTION [VERSION]` lays out each as a single line, and prints its base
-//!   level, its levels and its order.
-//! - `conformance levels-of UCD DIRECTION [VERSION]` prints the levels of each, as they are before L1.
-//! - `conformance starts-of UCD WIDTH [VERSION]` fills each again at a width, and prints where its lines
-//!   start.
+//! - `conformance lines-of UCD DIRECTION [VERSION]` lays out each paragraph as a single line, and prints its
+//!   base level, its levels and its order.
+//! - `conformance levels-of UCD DIRECTION [VERSION]` prints the levels of each paragraph before L1.
+//! - `conformance starts-of UCD WIDTH [VERSION]` fills each paragraph again at a width, and prints where its
+//!   lines start.
 //!
-//! Without arguments it prints its usage. The first two are for Unicode's conformance tests
-//! (`tests/conformance/run`). The others make calls that the command never makes, so that
-//! `tests/resources/run` can measure them. Marks and levels use a copy of the tables, for the same reason.
+//! Without arguments, it prints its usage. The first two commands are for Unicode's conformance tests
+//! (`tests/conformance/run`). The others make calls that the command `fribidi` never makes, so that
+//! `tests/resources/run` can measure them. For the same reason, `marks-of` and `levels-of` use a copy of the
+//! tables.
 #![tactic(auto)]
 
 ghost use Rattle.std.specs.Prelude.{◌<◌, IfOk};
@@ -159,8 +160,8 @@ fn write_subject<W: Write>(
     }
 }
 
-// Prints the mark after each character of a paragraph: `x` if no line may end there, `/` if one may and `!`
-// if one must.
+// Prints the mark after each character of a paragraph: `x` if no line may end there, `/` if a line may end
+// there, and `!` if a line must.
 fn write_marks<W: Write>(
     alloc: Global,
     tables: &Tables,
@@ -235,8 +236,8 @@ fn character(word: &str) -> Result<char> {
     }
 }
 
-// Prints a paragraph of one line, for example as `1; 1 2; 1 0`. This is its base level and, for its shown
-// part, the levels after L1 and the logical positions in visual order.
+// Prints a paragraph of one line, for example as `1; 1 2; 1 0`: its base level and, for its shown part, the
+// levels after L1 and the logical positions in visual order.
 fn write_line<W: Write>(output: &mut W, laid: &Laid) -> Result<()> {
     let Some(line) = laid.line(0) else {
         bail!("there is no line");
@@ -250,7 +251,8 @@ fn write_line<W: Write>(output: &mut W, laid: &Laid) -> Result<()> {
     write_places(output, line.vtol())
 }
 
-// Fills a paragraph again at a width, exchanges its lines for the new ones, and prints where these start.
+// Fills a paragraph again at a width, exchanges its lines for the new ones, and prints where the new lines
+// start.
 fn write_starts<W: Write>(
     alloc: Global,
     engine: &mut Engine,
@@ -297,5 +299,6 @@ fn lay_out(alloc: Global, engine: &mut Engine, text: Vec<char>) -> Result<Laid>
     }
 }
 
-// Drops an engine. No other function does, since every proof that drops all lists of an engine is slow.
+// Drops an engine. No other function drops an engine, since every proof that drops all lists of an engine is
+// slow.
 fn let_go(_engine: Engine) {}

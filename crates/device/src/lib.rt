@@ -2,7 +2,7 @@
 //! a contract can say that an error is returned only if a call failed.
 //!
 //! A `Source` is read from and a `Sink` is written to. `FromRead` and `ToWrite` wrap std's readers and
-//! writers. `write_all` writes all bytes, or returns how many were written:
+//! writers. `write_all` writes all bytes, or returns how many were written before a failure:
 //!
 //! ```rust
 //! let mut sink = ToWrite::new(room); // four bytes
@@ -45,8 +45,8 @@ pub trait Sink {
     ghost state: { Self → Device };
 
     /// Writes bytes from the front of `bytes`, which must not be empty, and returns their number. If the
-    /// write fails, no byte is written, and the failure is counted. A call that returns 0 counts as a failure
-    /// too.
+    /// write fails, no byte is written, and the failure is counted. A call that returns 0 also counts as a
+    /// failure.
     fn write(&mut self, bytes: &[u8]) -> Result<usize, ErrorKind>
         requires { 0 < length bytes.now }
         ensures bound { IfOk result (λ n. n ≤ length bytes.now) }

@@ -50,7 +50,7 @@ fn run(rt: &HostRuntime) -> Result<(), ProgramFault> {
 }
 
 // Executes the arguments. This function and those that it calls own one allocated value each, since each
-// value that is dropped when one of many calls fails makes the proof longer.
+// value that is dropped when a call fails makes the proof longer.
 fn run_words(rt: &HostRuntime, words: &[&str]) -> Result<(), ProgramFault> {
     match settings(rt.alloc(), words) {
         Ok(settings) => run_settings(rt, &settings),
@@ -96,7 +96,7 @@ fn installed_17(rt: &HostRuntime, fault: LineFault) -> Result<Tables, ProgramFau
     }
 }
 
-// Executes arguments with `--ucd`, which names the folder of the files.
+// Executes arguments with `--ucd`, which names the folder of the table files.
 fn run_settings(rt: &HostRuntime, settings: &Settings<'_>) -> Result<(), ProgramFault>
     requires { 0 < settings.now.width }
 {

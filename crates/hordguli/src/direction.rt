@@ -18,7 +18,7 @@ pub(crate) struct Start {
 }
 
 /// Reads a text until its direction is known, and sets it as the base direction of all paragraphs laid out
-/// later. After an error, the direction is that of what was read.
+/// later. After an error, uses the direction of the text that was read before the error.
 pub(crate) fn read_start<R: Read>(
     rt: &HostRuntime,
     engine: &mut Engine,
@@ -71,7 +71,7 @@ fn is_known(
     }
 }
 
-// Sets the direction of a text of which all bytes, or enough of them, were read.
+// Sets the direction of a text after all its bytes, or enough of them, were read.
 fn end_start(
     rt: &HostRuntime,
     engine: &mut Engine,

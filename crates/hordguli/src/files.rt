@@ -18,8 +18,8 @@ pub(crate) struct Showing<'a> {
     pub by_file: bool,
 }
 
-/// Writes the lines of each file, in order, `-` being standard input, and reports each file that cannot be
-/// read. Without files, reads standard input. Returns whether all could be read and laid out.
+/// Writes the lines of each file, in order, and reports each file that cannot be read. `-` is standard input,
+/// which is also read if there are no files. Returns whether all files could be read and laid out.
 pub(crate) fn show_files(
     rt: &HostRuntime,
     engine: &mut Engine,
@@ -120,7 +120,7 @@ fn run_input<R: Read + Drop>(
     run(rt.alloc(), &mut reader, &mut writer, engine, form, last)
 }
 
-// Does the same as `show`, in the direction of the whole text, whose start is read first.
+// Does the same as `show`, but reads the start of the text first, and uses the direction of the whole text.
 fn run_by_file<R: Read + Drop>(
     rt: &HostRuntime,
     engine: &mut Engine,

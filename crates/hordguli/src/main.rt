@@ -57,7 +57,7 @@ fn print_refusal(rt: &HostRuntime, refused: &OptionFault) -> io::Result<()> {
     }
 }
 
-// Prints why `clap` refuses the arguments. Its own messages begin with `error:`.
+// Prints why `clap` refuses the arguments. The messages of `clap` begin with `error:`.
 fn print_words(rt: &HostRuntime, refused: &OptionFault) -> io::Result<()> {
     let Ok(text) = format!(in rt.alloc(); "{refused}") else {
         return eprintln!(rt; "{}", End::Memory);
@@ -69,8 +69,7 @@ fn print_words(rt: &HostRuntime, refused: &OptionFault) -> io::Result<()> {
 }
 
 // Shows the texts. Returns whether this succeeded for all of them. This function and those that it calls own
-// one allocated value each, since each value that is dropped when one of many calls fails makes the proof
-// longer.
+// one allocated value each, since each value that is dropped when a call fails makes the proof longer.
 fn run(rt: &HostRuntime) -> Result<bool, End> {
     let line = arguments(rt).map_err(argument_fault)?;
     run_arguments(rt, &line)

@@ -11,10 +11,10 @@ use terminal::{Form, Prefix};
 use terminal_options::{Direction, Marks, Settings, Width};
 use ucd::{Tables, Version};
 
-// The width if the terminal's is not known.
+// The width if the terminal's width is not known.
 const USUAL_WIDTH: u16 = 80;
 
-// The folder of a version's installed tables, relative to that of the program.
+// The folder of a version's installed tables, relative to the folder of the program.
 fn folder_of(version: Version) -> &'static str {
     match version {
         Version::V15_0 => "../../share/hordguli/ucd",
@@ -53,7 +53,7 @@ pub(crate) fn pattern_of(rt: &HostRuntime, text: &str) -> Result<Regex, End> {
     Regex::new(rt.alloc(), &anchored).map_err(pattern_end)
 }
 
-// Refuses a pattern that is not valid by itself, such as `a)(b`.
+// Refuses a pattern that is valid only inside parentheses, such as `a)(b`.
 fn check_pattern(rt: &HostRuntime, text: &str) -> Result<(), End> {
     let _pattern = Regex::new(rt.alloc(), text).map_err(pattern_end)?;
     Ok(())
@@ -91,7 +91,7 @@ fn width_of(rt: &HostRuntime, width: Width) -> Result<u16, End> {
     }
 }
 
-// Returns the number of columns in `COLUMNS`, or 80 if there is none.
+// Returns the number of columns that `COLUMNS` contains, or 80 if it contains none.
 fn terminal_width(rt: &HostRuntime) -> Result<u16, End> {
     match env::var(rt, "COLUMNS") {
         Ok(columns) => Ok(columns_in(&columns)),
@@ -107,7 +107,7 @@ fn columns_in(text: &str) -> u16 {
     }
 }
 
-/// Reads the tables: those of the folder that is given, or else the installed ones.
+/// Reads the tables from the folder that is given, or else the installed tables.
 pub(crate) fn tables_of(rt: &HostRuntime, settings: &Settings<'_>) -> Result<Tables, End> {
     match settings.ucd {
         Some(folder) => in_folder_as(rt, settings.unicode, folder).map_err(table_fault),

@@ -1,4 +1,4 @@
-//! A reader or writer that keeps its last error, so that a message can give the system's reason.
+//! Wraps readers and writers to keep their last error, so that a message can give the system's reason.
 ghost use Rattle.std.specs.Prelude.{◌≡◌};
 
 use std::io;

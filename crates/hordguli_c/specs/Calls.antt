@@ -13,7 +13,7 @@ Given holds refused status unchanged rest = ((¬ holds) × (status ≡ refused) 
 abbrev pub OrNoMemory : Type 0 → Status → Type 0 → Type 0 → Type 0
 OrNoMemory allocates status unchanged done = done ⊎ ((status ≡ is.NoMemory) × allocates × unchanged)
 
--- a query about the object of a handle, with one output parameter; for a closed handle nothing is written
+-- a query about the object of a handle, with one output parameter; nothing is written if the handle is closed
 abbrev pub Asks : {A O : Type 0} → (Status → A → O → O → Type 0) → Status → Option A → O → O → Type 0
 Asks says status None old new = (status ≡ is.Closed) × (new ≡ old)
 Asks says status (Some held) old new = says status held old new
@@ -34,6 +34,6 @@ abbrev pub Gives : {O : Type 0} → Option O → Status → O → O → Type 0
 Gives None status old new = (status ≡ is.OutOfRange) × (new ≡ old)
 Gives (Some x) status old new = (status ≡ is.Ok) × (new ≡ x)
 
--- a text that is passed as bytes; if the bytes are not UTF-8, nothing changes
+-- a call on a text that is passed as bytes; if the bytes are not UTF-8, nothing changes
 abbrev pub OfText : List ℕ → Status → Type 0 → (List ℕ → Type 0) → Type 0
 OfText bytes status unchanged does = Given (IsUtf8 bytes) is.NotUtf8 status unchanged (does (chars bytes))

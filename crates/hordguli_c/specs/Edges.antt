@@ -94,7 +94,7 @@ side_number After = 1
 abbrev pub edge_out : Edge → EdgeOut
 edge_out edge = record { pos = edge.pos; side = side_number edge.side; zero = 0 }
 
--- whether an edge belongs to a character: only then may finding its caret allocate
+-- whether an edge belongs to a character; otherwise, finding its caret does not allocate
 unfoldable pub IsOfCharacter : SessionState → Edge → Type 0
 IsOfCharacter state edge = HasCharacter (length (text_at state)) edge
 
@@ -104,13 +104,12 @@ GivesEdgeCaret edge status state old new =
     OrNoMemory (IsOfCharacter state edge) status (new ≡ old)
     (Gives (option_map caret_out (edge_caret_at (rules_of state.engine) state.kept edge)) status old new)
 
--- The edge after a step is stored, and the number of steps, which is 1. At the end of a line, only the number 0 is
--- stored.
+-- The edge after a step is stored, and 1 as the number of steps. At the end of a line, only the number 0 is stored.
 abbrev pub Steps : Option Edge → Status → EdgeOut × ℕ → EdgeOut × ℕ → Type 0
 Steps None status old new = (status ≡ is.Ok) × (new ≡ (old.0, 0))
 Steps (Some next) status old new = (status ≡ is.Ok) × (new ≡ (edge_out next, 1))
 
--- a step from an edge, given whether the edge exists; it may allocate if the text is not empty
+-- a step from an edge, given whether the edge exists; the step may allocate if the text is not empty
 abbrev pub StepsIf : Bool → ℕ → Option Edge → Status → EdgeOut × ℕ → EdgeOut × ℕ → Type 0
 StepsIf true chars next status old new = OrNoMemory (0 < chars) status (new ≡ old) (Steps next status old new)
 StepsIf false chars next status old new = (status ≡ is.OutOfRange) × (new ≡ old)

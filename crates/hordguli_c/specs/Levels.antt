@@ -31,7 +31,7 @@ CharactersNot numbers status =
     ((¬ All IsScalar numbers) × (status ≡ is.NotACharacter))
     ⊎ (All IsScalar numbers × (status ≡ is.NoMemory) × (0 < length numbers))
 
--- A call on characters succeeds only if all numbers are characters. It may allocate if there is at least one
+-- A call on characters succeeds only if all numbers are characters. The call may allocate if there is at least one
 -- number.
 abbrev pub OfCharacters : List ℕ → Status → Type 0 → Type 0 → Type 0
 OfCharacters characters status unchanged done =
@@ -66,7 +66,7 @@ bidi_number class = bidi_tag class
 unfoldable pub line_number : LineClass → ℕ
 line_number class = line_tag class
 
--- 1 for an opening bracket, 2 for a closing one, and otherwise 0
+-- 1 for an opening bracket, 2 for a closing bracket, and otherwise 0
 abbrev pub bracket_kind : Option Bracket → ℕ
 bracket_kind None = 0
 bracket_kind (Some bracket) = if bracket.opens then 1 else 2

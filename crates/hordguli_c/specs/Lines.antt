@@ -1,5 +1,5 @@
 -- What is stored for lines, paragraphs and text of a session: numbers, bytes, characters, and lists in optional arrays.
--- Also, positions as offsets in UTF-8 bytes or UTF-16 code units.
+-- Also defines positions as offsets in UTF-8 bytes or UTF-16 code units.
 use Rattle.std.specs.Prelude.{◌≡◌, ℕ, ◌+◌, ◌<◌, ◌≤◌, ◌&&◌, Bool, List, length, map, option_map, slice_get, Option, Some, MatchBool}
 use Rattle.std.specs.List.{slice_range}
 use Rattle.lines.specs.Columns.{padding_of, width_at}
@@ -50,7 +50,7 @@ pub record LineArrays : Type 0 where
   pub vtol : List ℕ
   pub columns : List ℕ
 
--- the arrays after the requested lists of a line were copied to them, and whether these lists fit
+-- the arrays after the requested lists of a line were copied to them, and whether all of these lists fit
 abbrev pub line_put : ℕ → Visual → LineArrays → LineArrays
 line_put wanted line arrays = record {
   characters = put_if (has_bit wanted 1) line.chars arrays.characters;
@@ -73,7 +73,7 @@ abbrev pub PutsLine : ℕ → Visual → Status → LineArrays → LineArrays �
 PutsLine wanted line status old new =
     MatchBool (line_fits wanted line old) ((status ≡ is.Ok) × (new ≡ line_put wanted line old)) ((status ≡ is.NoRoom) × (new ≡ old))
 
--- the information about a line and the line's lists are stored, or there is no such line
+-- the information about a line and the line's lists are stored, if the line exists
 abbrev pub ShowsLine : ℕ → ℕ → Option ℕ → Option Visual → Status → LineOut × LineArrays → LineOut × LineArrays → Type 0
 ShowsLine wanted width (Some start) (Some line) status old new = (new.0 ≡ line_out width start line) × PutsLine wanted line status old.1 new.1
 ShowsLine wanted width start line status old new = (status ≡ is.OutOfRange) × (new ≡ old)
@@ -86,8 +86,8 @@ ShowsRuns line status old new = (status ≡ is.OutOfRange) × (new ≡ old)
 abbrev pub GivesRuns : ℕ → Status → SessionState → List RunOut × ℕ → List RunOut × ℕ → Type 0
 GivesRuns n status state = ShowsRuns (slice_get (lines_in state.kept) n) status
 
--- The bytes of a range of items are stored. They are collected before they are copied, so an allocation may
--- fail before their number is known.
+-- The bytes of a range of items are stored. The bytes are collected before they are copied, so an allocation may fail
+-- before their number is known.
 abbrev pub PutsRange : ℕ → ℕ → ℕ → List ℕ → Status → List ℕ × ℕ → List ℕ × ℕ → Type 0
 PutsRange size first count bytes status old new =
     Given (first + count ≤ size) is.OutOfRange status (new ≡ old)
@@ -119,7 +119,8 @@ position_out place = record { pos = place.0; rest = place.1 }
 abbrev pub GivesOffset : Encoding → ℕ → Status → SessionState → ℕ → ℕ → Type 0
 GivesOffset encoding pos status state = Gives (offset_of encoding (text_at state) pos) status
 
--- the position of an offset is stored, and how many bytes or code units of the character there precede the offset
+-- the position of the character that contains an offset is stored, and how many of its bytes or code units precede the
+-- offset
 abbrev pub GivesPosition : Encoding → ℕ → Status → SessionState → PositionOut → PositionOut → Type 0
 GivesPosition encoding offset status state = Gives (option_map position_out (position_of encoding (text_at state) offset)) status
 
@@ -153,7 +154,7 @@ abbrev pub PutsParagraph : ℕ → Layout → Status → ParagraphArrays → Par
 PutsParagraph wanted laid status old new =
     MatchBool (paragraph_fits wanted laid old) ((status ≡ is.Ok) × (new ≡ paragraph_put wanted laid old)) ((status ≡ is.NoRoom) × (new ≡ old))
 
--- the information about a paragraph and the paragraph's lists are stored, or there is no such paragraph
+-- the information about a paragraph and the paragraph's lists are stored, if the paragraph exists
 abbrev pub ShowsParagraph : ℕ → Option ℕ → Option ℕ → Option Layout → Status → ParagraphOut × ParagraphArrays → ParagraphOut × ParagraphArrays → Type 0
 ShowsParagraph wanted (Some start) (Some first_line) (Some laid) status old new =
     (new.0 ≡ paragraph_out start first_line laid) × PutsParagraph wanted laid status old.1 new.1

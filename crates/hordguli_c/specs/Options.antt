@@ -17,7 +17,7 @@ base_of bits =
     if bits % 4 == 0 then WeakLtr else if bits % 4 == 1 then WeakRtl else if bits % 4 == 2 then Ltr else Rtl
 
 -- Whether neither of the two direction bits is given both as 1 and as 0, and no bit above 26 is set. Bit 24 states that
--- the lowest bit is 0, and bit 25 that the next one is 0. So the bits of two directions, combined, are refused.
+-- the lowest bit is 0, and bit 25 that the next bit is 0. So the combined bits of two directions are refused.
 abbrev pub names_direction : ℕ → Bool
 names_direction bits =
     not (has_bit bits 1 && has_bit bits 16777216)
@@ -35,7 +35,7 @@ tables_by bits held = option_map (contents_if (separates_lines bits)) held
 abbrev pub direction_of : ℕ → Option Base
 direction_of bits = if nat_lt (bits % 16777216) 4 && names_direction bits then Some (base_of bits) else None
 
--- the bits below bit 26, or `None` if a higher bit is set
+-- the bits below bit 26, or `None` if a bit above 26 is set
 abbrev pub low_bits_of : ℕ → Option ℕ
 low_bits_of bits = if nat_lt bits 134217728 then Some (bits % 67108864) else None
 

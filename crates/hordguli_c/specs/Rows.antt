@@ -1,5 +1,5 @@
--- Rows that a caller broke. The levels of a row are those of its paragraph, before L1. All characters of a row are
--- shown, including those at its end.
+-- Rows that a caller has chosen. The levels of a row are taken from its paragraph, before L1. All characters of a row
+-- are shown, including those at its end.
 use Rattle.std.specs.Prelude.{◌≡◌, ℕ, ◌<◌, ◌≤◌, ◌⊎◌, ◌&&◌, true, Bool, List, length, map, All}
 use Rattle.std.specs.Char.{IsScalar}
 use Rattle.ucd.specs.Tables.{class_of}
@@ -19,8 +19,8 @@ use Rattle.hordguli_c.specs.declared.runs.RunOut.{RunOut}
 use Rattle.hordguli_c.specs.declared.status.Status.{Status}
 use Rattle.hordguli_c.specs.declared.status.Status.TheVariants as is
 
--- the base level of a paragraph, and levels of characters before L1: explicit levels are at most 125 (UAX #9, BD2), and
--- I1 and I2 add at most 1 to each. Positions in a row have 32 bits.
+-- whether numbers are the base level of a paragraph and levels of characters before L1: explicit levels are at most 125
+-- (UAX #9, BD2), and I1 and I2 add at most 1 to each. Positions in a row have 32 bits.
 pub record IsRow (base : ℕ) (text levels : List ℕ) : Type 0 where
   pub base_is : base ≤ 1
   pub levels_are : All (λ level. level ≤ 126) levels
@@ -39,11 +39,11 @@ pub record Row : Type 0 where
 abbrev pub row_in_line : Line → Row
 row_in_line line = record { levels = line.levels; ltov = line.ltov; vtol = line.vtol; chars = line.chars }
 
--- L1, as if the row were a line: the white space at its end is reset too
+-- L1, as if the row were a line: the levels of white space at its end are reset too
 unfoldable pub row_levels : Tables → ℕ → List ℕ → List ℕ → List ℕ
 row_levels tables base text levels = line_levels base (map (class_of tables) text) levels
 
--- the position maps by L2 and by L3, if requested, for the clusters of the row's own characters or for marks
+-- the position maps by L2 and, if requested, by L3 for the clusters of the row's own characters or for marks
 abbrev pub row_vtol : Tables → Options → List ℕ → List ℕ → List ℕ
 row_vtol tables options text levels = vtol_by options (map (class_of tables) text) (ends_by options text) levels
 
@@ -64,7 +64,7 @@ row_by tables options text levels =
 abbrev pub row_of : Tables → Options → ℕ → List ℕ → List ℕ → Row
 row_of tables options base text levels = row_by tables options text (row_levels tables base text levels)
 
--- what `LaidRow` holds: the levels after L1 and the maps, all of the text's length
+-- what `LaidRow` holds: the levels after L1 and the maps, all as long as the text
 pub record IsSized (row : LaidRow) : Type 0 where
   pub levels_len : length row.levels.items ≡ length row.text.items
   pub ltov_len : length row.ltov.items ≡ length row.text.items
@@ -107,8 +107,8 @@ row_fits wanted len arrays =
     && has_room (has_bit wanted 4) len (length arrays.ltov)
     && has_room (has_bit wanted 8) len (length arrays.vtol)
 
--- A call on a row succeeds only if all numbers are characters, and the base level and all levels are in range. It may
--- allocate if there is at least one character.
+-- A call on a row succeeds only if all numbers are characters, and the base level and all levels are in range. The call
+-- may allocate if there is at least one character.
 abbrev pub OfRow : ℕ → List ℕ → List ℕ → Status → Type 0 → Type 0 → Type 0
 OfRow base text levels status unchanged done =
     Given (All IsScalar text) is.NotACharacter status unchanged

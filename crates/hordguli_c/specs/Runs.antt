@@ -1,4 +1,4 @@
--- Directional runs, as they are stored.
+-- Directional runs in the form in which they are stored.
 use Rattle.std.specs.Prelude.{ℕ, List, map}
 use Rattle.reorder.specs.Runs.{runs_of}
 use Rattle.reorder.specs.declared.runs.Run.{Run}

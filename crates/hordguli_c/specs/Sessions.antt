@@ -48,7 +48,7 @@ pub record IsOpened (tables : Tables) (options : Options) (text : List ℕ) (wid
   pub opens : OpensAt engine text width state
   pub changed : state.changed ≡ all_lines state.kept
 
--- a session was not opened, for the first reason that applies, or with `NoMemory` if none applies
+-- a session was not opened: the status is the first reason that applies, or `NoMemory` if none applies
 pub record IsRefused (tables : Tables) (options : Options) (text : List ℕ) (width : OpenWidth) (status : Status) : Type 0 where
   pub fault : EditFault
   pub reason : IsAnswerFor (refusal_at (cut_by (unmeasured tables options)) text width) fault
@@ -80,15 +80,16 @@ damage_out damage = record {
 abbrev pub changed_out : ChangedLines → ChangedOut
 changed_out changed = record { first_line = changed.first_line; old_lines = changed.old_lines; new_lines = changed.new_lines }
 
--- the changed lines of a session are those of this call, or still those of the last successful call
+-- the changed lines of a session are the lines that this call changed if it succeeded, and otherwise those of the last
+-- successful call
 abbrev pub ChangesLines : SessionState → SessionState → Damage → Type 0
 ChangesLines before after damage = AreChanged (lines_in before.kept) (lines_in after.kept) damage after.changed
 
 abbrev pub KeepsLines : SessionState → SessionState → Type 0
 KeepsLines before after = after.changed ≡ before.changed
 
--- Either an edit is executed and its damage is stored, or it fails and nothing is stored. It fails with
--- `NoMemory` only if `may_want` holds.
+-- Either an edit is executed and its damage is stored, or the edit fails and nothing is stored. The error is `NoMemory`
+-- only if `may_want` holds.
 abbrev pub Tries : (SessionState → SessionState → Damage → Type 0) → (SessionState → SessionState → EditFault → Type 0) → Type 0
     → Status → SessionState → SessionState → DamageOut → DamageOut → Type 0
 Tries makes refuses may_want status before after old new =

@@ -16,7 +16,7 @@ statuses =
 unfoldable pub status_of : ℕ → Status
 status_of number = slice_index_or statuses number is.NoRoom
 
--- a function called from C returns the number of a status
+-- a function returns to C the number of a status for which `says` holds
 pub record Returns (says : Status → Type 0) (number : ℕ) : Type 0 where
   pub status : says (status_of number)
   pub within : number ≤ 16

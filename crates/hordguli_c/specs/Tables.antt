@@ -33,7 +33,7 @@ cause_number cause.Memory = 7
 abbrev pub fault_out : TableFault → TableFaultOut
 fault_out fault = record { file = fault.file - 1; line = fault.line; cause = cause_number fault.cause }
 
--- a failed allocation returns `NoMemory` and stores nothing; any other fault is stored
+-- after a failed allocation, the status is `NoMemory` and nothing is stored; any other fault is stored
 abbrev pub TellsFault : Cause → TableFault → Status → TableFaultOut → TableFaultOut → Type 0
 TellsFault cause.Memory fault status old new = (status ≡ is.NoMemory) × (new ≡ old)
 TellsFault why fault status old new = (status ≡ is.TableFault) × (new ≡ fault_out fault)
@@ -60,7 +60,7 @@ ReadsTablesBy (Some version) files status before after old new = ReadsTables ver
 abbrev pub TellsVersion : Status → Tables → ℕ → ℕ → Type 0
 TellsVersion status tables old new = (status ≡ is.Ok) × (new ≡ version_number tables.version)
 
--- the causes of an image
+-- the number of the cause for each fault of an image
 abbrev pub image_cause_number : ImageFault → ℕ
 image_cause_number image.Truncated = 8
 image_cause_number image.Magic = 9
@@ -75,7 +75,8 @@ image_cause_number image.Mirror = 17
 image_cause_number image.Flags = 18
 image_cause_number image.Memory = 7
 
--- a failed allocation returns `NoMemory` and stores nothing; any other fault is stored, with 7 as its file
+-- after a failed allocation, the status is `NoMemory` and nothing is stored; any other fault is stored, with 7 as its
+-- file
 abbrev pub TellsImageFault : ImageFault → Status → TableFaultOut → TableFaultOut → Type 0
 TellsImageFault image.Memory status old new = (status ≡ is.NoMemory) × (new ≡ old)
 TellsImageFault why status old new =

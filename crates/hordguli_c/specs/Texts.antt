@@ -21,12 +21,13 @@ use Rattle.hordguli_c.specs.declared.status.Status.TheVariants as is
 abbrev pub text_page : Rules → ℕ → Print → List ℕ → List ℕ
 text_page rules width print text = page rules width print (paragraphs (cut_by rules) text)
 
--- A text that a session refuses is refused with the same status, and nothing changes. For any other text, `rest` holds.
+-- If a session would refuse a text, the call returns the same status, and nothing changes. For any other text, `rest`
+-- holds.
 abbrev pub UnlessRefused : Option EditFault → Status → Type 0 → Type 0 → Type 0
 UnlessRefused None status unchanged rest = rest
 UnlessRefused (Some fault) status unchanged rest = (status ≡ edit_status fault) × unchanged
 
--- The printed lines of a text are stored. They are collected before they are copied.
+-- The printed lines of a text are stored. The lines are collected before they are copied.
 abbrev pub PutsPage : PageForm → List ℕ → Status → Tables → List ℕ × ℕ → List ℕ × ℕ → Type 0
 PutsPage form text status tables old new =
     let rules : Rules = unmeasured tables form.options in

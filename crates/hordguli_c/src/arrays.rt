@@ -40,7 +40,7 @@ pub fn collect_characters(alloc: Global, numbers: &[u32]) -> Result<Vec<char>, A
     Ok(text)
 }
 
-/// Converts numbers to characters. Fails with `NotACharacter` if one of them is not a Unicode scalar value.
+/// Converts numbers to characters. Fails with `NotACharacter` if a number is not a Unicode scalar value.
 /// Otherwise, fails with `NoMemory` if an allocation fails.
 pub fn characters_of(alloc: Global, numbers: &[u32]) -> Result<Vec<char>, Status>
     ensures ok { IfOk result (λ text. All IsScalar numbers.now × (text.items ≡ numbers.now)) }

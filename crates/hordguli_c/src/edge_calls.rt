@@ -245,7 +245,7 @@ pub struct SpanOut {
 fn span_count(line: &VisualLine<'_>, from: usize, to: usize) -> usize
     ensures { result ≡ length (spans_out line.now from to) }
 {
-    // There are no more spans than columns, and the contract of `columns_left` bounds these.
+    // The number of spans is at most the number of columns, which the contract of `columns_left` bounds.
     let _columns = line.columns_left(line.vtol().len());
     let mut count = 0;
     for _span in line.spans(from, to) {
@@ -343,7 +343,7 @@ const LEFT: u32 = 0;
 
 const RIGHT: u32 = 1;
 
-/// One of the two edges of a position (`hordguli_edge` in C).
+/// An edge of a position (`hordguli_edge` in C).
 #[repr(C)]
 #[derive(Clone, Copy)]
 pub struct EdgeOut {
@@ -637,7 +637,7 @@ fn find_line_clusters(
     }
 }
 
-/// Stores where the grapheme clusters of a line end.
+/// Stores the ends of a line's grapheme clusters.
 #[unsafe(no_mangle)]
 pub extern "C" fn hordguli_core_line_clusters(
     alloc: Global,

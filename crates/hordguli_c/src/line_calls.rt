@@ -261,7 +261,7 @@ pub extern "C" fn hordguli_core_runs(
 // The maximum number of bytes reserved for output before its size is known.
 const FIRST_ROOM: usize = 1_024;
 
-// Returns the printed form of lines, which is to be copied to an array of `len` bytes.
+// Returns the printed form of lines, to be copied to an array of `len` bytes.
 fn printed(
     alloc: Global,
     session: &SessionObject,

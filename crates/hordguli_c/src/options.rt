@@ -20,7 +20,7 @@ use bidi::Base;
 use lines::{Options, Print};
 
 // The options and print flags of include/hordguli.h. The two lowest bits of the options are the base
-// direction. Bit 24 states that the lowest bit is 0, and bit 25 that the next one is 0. All calls accept bit
+// direction. Bit 24 states that the lowest bit is 0, and bit 25 that the next bit is 0. All calls accept bit
 // 26.
 const LOW_BIT: u32 = 1;
 
@@ -45,7 +45,7 @@ const REORDER_CLUSTERS: u32 = 32;
 
 const SHOW_SPACES: u32 = 64;
 
-// Both options of a row.
+// The two options that a row can have.
 const REORDERS: u32 = 40;
 
 // Bits 8 to 15 are the tab width. Bits 16 to 23 are reserved: the header sets the lowest of them for a tab

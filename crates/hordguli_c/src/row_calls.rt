@@ -1,4 +1,4 @@
-//! Functions on a row that the caller broke: L1 to L4, from the levels of its paragraph.
+//! Functions on a row that the caller has chosen: L1 to L4, from the levels of its paragraph.
 ghost use Rattle.std.specs.Prelude.{◌≡◌, ◌<◌, ◌≤◌, ℕ, List, Option, length, true, All};
 ghost use Rattle.std.specs.Prelude.{IfErr, IfOk, IsFalse, IsTrue, OnErr, OnOk};
 ghost use Rattle.std.specs.Char.{IsScalar};
@@ -30,9 +30,9 @@ use reorder::{ClusterClasses, reset_levels, visual_order};
 use std::alloc::{AllocError, Global};
 use ucd::{Tables, TextClasses};
 
-/// States, as a theorem, that a line of a paragraph is the row of its characters. All of them must be shown,
-/// and the clusters of the line must either be those of its characters alone or not matter. Costs nothing at
-/// run time.
+/// States, as a theorem, that a line of a paragraph is the row of its characters. All characters of the line
+/// must be shown. The clusters of the line must be the same for its characters alone, or must not matter.
+/// Costs nothing at run time.
 pub fn row_is_line()
     ensures { (tables : Tables) (options : Options) (margin : Option ℕ) (base : ℕ) (text levels : List ℕ)
         (infos : List CharInfo) (start stop : ℕ)

@@ -1,4 +1,4 @@
-//! Directional runs, as they are stored.
+//! Directional runs in the form in which they are stored.
 ghost use Rattle.std.specs.Prelude.{◌≡◌, ◌≤◌, length};
 ghost use Rattle.hordguli_c.specs.Arrays.{put, PutsItems};
 ghost use Rattle.hordguli_c.specs.Runs.{runs_out};
@@ -20,7 +20,7 @@ pub struct RunOut {
 fn run_count(levels: &[u8]) -> usize
     ensures { result ≡ length (runs_out levels.now) }
 {
-    // There are no more runs than characters, and a slice's length is bounded.
+    // The number of runs is at most the number of characters, which is bounded as a slice's length.
     let _len = levels.len();
     let mut count = 0;
     for _run in level_runs(levels) {

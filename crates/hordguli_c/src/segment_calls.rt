@@ -1,5 +1,4 @@
-//! Functions on the characters of a text, without a session: where its grapheme clusters end, and its script
-//! runs.
+//! Functions on the characters of a text, without a session: the ends of grapheme clusters, and script runs.
 ghost use Rattle.std.specs.Prelude.{◌≡◌, ◌<◌, length, map, IfOk, OnErr};
 ghost use Rattle.lines.specs.Clusters.{ends_in};
 ghost use Rattle.hordguli_c.specs.Arrays.{PutsItems};
@@ -17,8 +16,8 @@ use scripts::{ScriptRun, iso_code, resolve, script_runs};
 use std::alloc::{AllocError, Global};
 use ucd::Tables;
 
-// Returns where segments end, given for each character whether a segment ends after it. The last one ends at
-// the end of the text.
+// Returns where segments end, given for each character whether a segment ends after it. The last segment ends
+// at the end of the text.
 fn collect_ends(alloc: Global, ends: &[bool]) -> Result<Vec<usize>, AllocError>
     ensures ends { IfOk result (λ found. found.items ≡ ends_in ends.now 0 (length ends.now)) }
     ensures memory { OnErr result (0 < length ends.now) }
@@ -33,7 +32,7 @@ fn collect_ends(alloc: Global, ends: &[bool]) -> Result<Vec<usize>, AllocError>
     Ok(found)
 }
 
-// Returns where the grapheme clusters of a text end.
+// Returns the ends of a text's grapheme clusters.
 #[tactic(auto, unfolding(crate::specs::Segments::clusters_of))]
 fn clusters_of(alloc: Global, text: &[char]) -> Result<Vec<usize>, AllocError>
     ensures ends { IfOk result (λ found. found.items ≡ clusters_of text.now) }
@@ -61,7 +60,7 @@ fn find_clusters(
     }
 }
 
-/// Stores where the grapheme clusters of a text end.
+/// Stores the ends of a text's grapheme clusters.
 #[unsafe(no_mangle)]
 pub extern "C" fn hordguli_core_clusters(
     alloc: Global,

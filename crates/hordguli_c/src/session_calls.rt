@@ -27,7 +27,7 @@ use session::{Damage, Session};
 use simdutf8::compat::from_utf8;
 use std::alloc::Global;
 
-/// The width at which a session is opened: in columns, or in the caller's unit if it is measured.
+/// The width at which a session is opened: in columns, or in the caller's unit if the session is measured.
 #[derive(Clone, Copy)]
 pub enum OpenWidth {
     Columns(u16),

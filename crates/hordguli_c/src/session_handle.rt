@@ -14,7 +14,8 @@ use store::TreeStore;
 /// The object at the address.
 pub type SessionObject = Session<TreeStore<Kept>>;
 
-/// A handle. Only `of_raw` and `into_raw` use its pointer, and `empty` makes a handle without an object.
+/// A handle of a session. Only `of_raw` and `into_raw` use its pointer, and `empty` makes a handle without an
+/// object.
 #[repr(C)]
 pub struct SessionHandle {
     at: *mut u8,

@@ -4,7 +4,7 @@ ghost use Rattle.hordguli_c.specs.Statuses.{advance_status, edit_status, status_
 
 use session::{AdvanceFault, EditFault};
 
-/// The result of a call. The numbers are those of include/hordguli.h, and never change.
+/// The result of a call. The numbers are defined in include/hordguli.h, and never change.
 #[derive(Clone, Copy)]
 pub enum Status {
     Ok = 0,

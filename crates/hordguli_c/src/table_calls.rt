@@ -25,7 +25,7 @@ pub struct TableFaultOut {
     pub cause: usize,
 }
 
-// The versions of Unicode in include/hordguli.h. The numbers are those in images.
+// The versions of Unicode in include/hordguli.h. The numbers are the same as in images.
 const UNICODE_15_0: u32 = 0x000F_0000;
 
 const UNICODE_17_0: u32 = 0x0011_0000;

@@ -10,7 +10,8 @@ use std::marker::Model;
 use std::mem::replace;
 use std::ptr::null_mut;
 
-/// A handle. Only `of_raw` and `into_raw` use its pointer, and `empty` makes a handle without an object.
+/// A handle of tables. Only `of_raw` and `into_raw` use its pointer, and `empty` makes a handle without an
+/// object.
 #[repr(C)]
 pub struct TablesHandle {
     at: *mut u8,

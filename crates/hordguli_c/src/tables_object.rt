@@ -1,4 +1,4 @@
-//! Tables, with buffers that are reused to lay out a text without a session, and to open a session.
+//! Tables, with buffers that are reused to lay out texts without a session and to open sessions.
 ghost use Rattle.std.specs.Prelude.{◌≡◌, chars, IfOk};
 ghost use Rattle.hordguli_c.specs.Sessions.{IsFresh};
 ghost use Rattle.lines.specs.Engine.{rules_of};
@@ -24,7 +24,7 @@ const KEPT_BYTES: usize = 65_536;
 /// change a result.
 pub struct TablesObject {
     tables: Tables,
-    // An engine on the same tables.
+    // An engine on the tables.
     engine: Engine,
     // The tables in which only LF and CR end paragraphs, and an engine on them.
     line_tables: Tables,
@@ -93,7 +93,7 @@ impl TablesObject {
         &self.tables
     }
 
-    /// Returns the tables, or those in which only LF and CR end paragraphs if `separates` is set.
+    /// Returns the tables or, if `separates` is set, the tables in which only LF and CR end paragraphs.
     pub fn tables_if(&self, separates: bool) -> &Tables
         ensures { result.now ≡ contents_if separates self.now }
     {
@@ -130,8 +130,8 @@ impl TablesObject {
         }
     }
 
-    /// Returns a new engine on the tables, or on those in which only LF and CR end paragraphs if `separates`
-    /// is set. Lends the buffers to it.
+    /// Returns a new engine on the tables or, if `separates` is set, on the tables in which only LF and CR
+    /// end paragraphs. Lends the buffers to it.
     pub fn lend_engine(
         &mut self,
         alloc: Global,

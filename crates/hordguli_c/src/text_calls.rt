@@ -111,7 +111,7 @@ fn put_each_offset(text: &str, array: &mut [usize])
     requires { length array.old ≡ length (chars text.now) }
     ensures { array.new ≡ char_offsets (chars text.now) }
 {
-    // The offsets are less than the number of bytes, and a slice's length is bounded.
+    // Each offset is less than the number of bytes, which is bounded as a slice's length.
     let _bytes = text.len();
     let mut k = 0;
     let mut offset = 0;

@@ -6,7 +6,7 @@ use Rattle.reorder.specs.Order.{highest}
 use Rattle.reorder.specs.Spaces.{line_levels}
 use Rattle.hordguli_fribidi.specs.Types.{base_of, bracket_by, class_of, direction_of}
 
--- the bracket numbers: one for each type, or all 0 if the lengths differ
+-- the bracket numbers, one for each type; all are 0 if the lengths differ
 abbrev pub brackets_of : ℕ → List ℕ → List ℕ
 brackets_of len brackets = if length brackets == len then brackets else replicate len 0
 

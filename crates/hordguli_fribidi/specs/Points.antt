@@ -11,7 +11,7 @@ entry_at index pages c = slice_index_or pages (slice_index_or index (c / 256) 0 
 abbrev pub type_at : List ℕ → List ℕ → ℕ → ℕ
 type_at index pages c = entry_at index pages c
 
--- the mirror or bracket of a code point: the value that its entry refers to, 0 for most
+-- the mirror or bracket of a code point: the value that its entry refers to, which is 0 for most code points
 abbrev pub number_at : List ℕ → List ℕ → List ℕ → ℕ → ℕ
 number_at index pages numbers c = slice_index_or numbers (entry_at index pages c) 0
 
@@ -19,8 +19,7 @@ number_at index pages numbers c = slice_index_or numbers (entry_at index pages c
 abbrev pub bracket_at : List ℕ → List ℕ → List ℕ → ℕ → ℕ → ℕ
 bracket_at index pages numbers c type = if type == 64 then number_at index pages numbers c else 0
 
--- the types, and the brackets, of the code points of a string, if the arrays have the same length as the
--- string
+-- the types and the brackets of a string's code points, if the arrays are as long as the string
 abbrev pub types_at : List ℕ → List ℕ → List ℕ → List ℕ → List ℕ
 types_at index pages characters old = if length old == length characters then map (type_at index pages) characters else old
 

@@ -37,7 +37,7 @@ type_of PDI = 32864
 abbrev pub classes : List BidiClass
 classes = L ∷ R ∷ AL ∷ EN ∷ ES ∷ ET ∷ AN ∷ CS ∷ NSM ∷ BN ∷ B ∷ S ∷ WS ∷ ON ∷ LRE ∷ LRO ∷ RLE ∷ RLO ∷ PDF ∷ LRI ∷ RLI ∷ FSI ∷ PDI ∷ []
 
--- the numbers that have names: those of the classes, of WLTR and WRTL, and of FriBidi's sentinel
+-- the numbers that have names: the numbers of the classes, of WLTR and WRTL, and of FriBidi's sentinel
 abbrev pub named : List ℕ
 named = map type_of classes ++ 32 ∷ 33 ∷ 128 ∷ []
 
@@ -49,8 +49,8 @@ name_index number = position_or_len (λ other. other == number) named
 unfoldable pub class_of : ℕ → BidiClass
 class_of number = slice_index_or classes (position_or_len (λ other. other == number) (map type_of classes)) ON
 
--- The base direction that a number denotes. Numbers other than those of LTR, RTL and WRTL count as ON, which
--- is a weak direction with left-to-right as default.
+-- The base direction that a number denotes. All numbers except those of LTR, RTL and WRTL count as ON, which is a weak
+-- direction with left-to-right as default.
 abbrev pub base_of : ℕ → Base
 base_of number =
     if number == 272 then Ltr else (if number == 273 then Rtl else (if number == 33 then WeakRtl else WeakLtr))
@@ -59,8 +59,8 @@ base_of number =
 abbrev pub direction_of : ℕ → ℕ
 direction_of level = if level == 0 then 272 else 273
 
--- The bracket that a number denotes. The number is the code point of the other bracket of the pair, plus 2^31
--- for an opening bracket. 0 denotes no bracket.
+-- The bracket that a number denotes. The number is the code point of the other bracket of the pair, plus 2^31 for an
+-- opening bracket. The number 0 denotes no bracket.
 abbrev pub bracket_by : ℕ → Option Bracket
 bracket_by number =
     if number == 0 then None

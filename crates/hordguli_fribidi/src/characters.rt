@@ -113,7 +113,7 @@ pub extern "C" fn hordguli_fribidi_core_number(
     number_by_parts(c, index, pages, numbers)
 }
 
-// Returns the mirror or bracket of any code point, and checks each index.
+// Returns the mirror or bracket of any code point. Checks each index.
 #[cold]
 #[inline(never)]
 fn number_by_parts(c: u32, index: &[u8; 4352], pages: &[u16; 4096], numbers: &[u32; 512]) -> u32

@@ -30,9 +30,9 @@ fn arrange_if(types: &[u32], off: usize, levels: &[u8], marks: bool, array: &mut
     }
 }
 
-/// Reorders a line in place: applies L1 to its levels, and puts its part of the string and of the map into
-/// visual order. The string or the map may be missing. The arrays contain the paragraph up to the line's end.
-/// Returns the line's highest level plus one.
+/// Reorders a line in place: applies L1 to its levels, and puts the line's part of the string and of the map
+/// into visual order. The string or the map may be missing. The arrays contain the paragraph up to the line's
+/// end. Returns the line's highest level plus one.
 ///
 /// Returns 0 and changes nothing if, and only if, `levels` and `types` differ in length or `off` is past
 /// their end.

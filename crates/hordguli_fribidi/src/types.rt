@@ -6,7 +6,7 @@ ghost use Rattle.hordguli_fribidi.specs.Types.{base_of, bracket_by, class_of, di
 use bidi::{Base, BracketType};
 use ucd::{BidiClass, Classes};
 
-/// Returns the class with a FriBidi number, or ON if no class has this number.
+/// Returns the class that a FriBidi number denotes, or ON if no class has this number.
 #[tactic(auto, unfolding(crate::specs::Types::class_of))]
 #[inline(always)]
 pub fn class_of(number: u32) -> BidiClass

@@ -1,4 +1,4 @@
-//! Calls to a layout and to its lines, and exchanging its lines.
+//! Calls to a layout and to its lines, and exchanges of its lines.
 ghost use Rattle.std.specs.Prelude.{IfOk, IfErr};
 ghost use Rattle.lines.specs.Engine.{rules_of};
 ghost use Rattle.lines.specs.Layouts.{AreLinesOf, IsLaidOut, Rules};
@@ -73,7 +73,7 @@ pub fn of_laid(laid: &Laid) -> u64 {
     mixed_flag(sum, laid.line(laid.line_count()).is_none())
 }
 
-/// Returns a digest of a line, and of what is printed for it.
+/// Returns a digest of a line and of its printed form.
 pub fn of_line(line: &VisualLine<'_>) -> u64 {
     let mut sum = mixed_flag(line.len() as u64, line.is_first());
     sum = mixed(sum, u64::from(line.base()));
@@ -129,7 +129,7 @@ fn written(line: &VisualLine<'_>) -> u64 {
     of_bytes(&page, is_written)
 }
 
-/// Returns a digest of what was written, and of whether all of it was.
+/// Returns a digest of what was written, and of whether everything was written.
 pub fn of_bytes(page: &Printed, is_written: bool) -> u64 {
     let mut sum = mixed_flag(0, is_written);
     for byte in page.bytes() {

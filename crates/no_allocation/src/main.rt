@@ -2,7 +2,7 @@
 //!
 //! `no_allocation ROUNDS` makes all these calls ROUNDS times, and prints, for each group of calls, a digest
 //! of the results. `tests/fault_injection/run` checks that more rounds allocate nothing more, and print the
-//! same.
+//! same digests.
 #![tactic(auto)]
 
 mod layouts;

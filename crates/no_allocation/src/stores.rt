@@ -6,7 +6,7 @@ use oom_calls::Wrong;
 use std::alloc::Global;
 use store::{Exchange, Measured, ParagraphStore};
 
-/// An item of three ASCII characters and some lines. Its part is its number of lines.
+/// An item of three ASCII characters and some lines. The part of an item is its number of lines.
 #[derive(Drop)]
 pub struct Item {
     lines: usize,

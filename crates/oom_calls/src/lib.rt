@@ -1,5 +1,5 @@
-//! Makes every library call that can run out of memory. A failed call must change nothing, or return what it
-//! was given. The call is then made again. The program `oom_driver` makes these calls.
+//! Makes every library call that can run out of memory. A failed call must change nothing, or return the
+//! values passed to it. The call is then repeated. The program `oom_driver` makes these calls.
 #![tactic(auto)]
 
 mod page;

@@ -1,4 +1,4 @@
-//! Calls to a session. Each is made in its own session, which is compared with an unchanged one.
+//! Calls to a session. Each call is made in its own session, which is compared with an unchanged one.
 use crate::Wrong;
 use crate::page::{Printed, Writer};
 use crate::tables::{engine, let_go};
@@ -11,8 +11,8 @@ use store::ParagraphStore;
 /// The text on which the sessions are opened.
 pub const TEXT: &str = "ab\ncd\nef";
 
-// An edit; the first line, the old lines and the new lines of its damage; and how much it may add to the
-// counters.
+// An edit; the first line, the old lines and the new lines of its damage; and how much the edit may add to
+// the counters.
 struct Row {
     edit: Edit<'static>,
     lines: [usize; 3],
@@ -80,7 +80,7 @@ fn check_refusal(engine: &Engine, fault: EditFault) -> Result<(), Wrong> {
     Ok(())
 }
 
-/// Executes each edit, and checks that a failed one changes nothing. The calls that check this do not
+/// Executes each edit, and checks that a failed edit changes nothing. The calls that check this do not
 /// allocate, so they are also made if nothing fails.
 pub fn try_calls<S: ParagraphStore<Kept> + Drop>(alloc: Global) -> Result<(), Wrong> {
     let untouched: Session<S> = open(alloc)?;
@@ -89,11 +89,11 @@ pub fn try_calls<S: ParagraphStore<Kept> + Drop>(alloc: Global) -> Result<(), Wr
     answer
 }
 
-// Drops a session. No other function does, just as only `let_go` drops an engine.
+// Drops a session. No other function drops a session, just as only `let_go` drops an engine.
 fn close<S: ParagraphStore<Kept> + Drop>(_session: Session<S>) {}
 
-// Each function here owns at most one session, since each value that is dropped where a call may fail makes
-// the proof longer.
+// Each function here owns at most one session, since each value that is dropped when a call fails makes the
+// proof longer.
 fn try_edits<S: ParagraphStore<Kept> + Drop>(
     alloc: Global,
     untouched: &Session<S>,

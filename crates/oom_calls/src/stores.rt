@@ -1,4 +1,4 @@
-//! Replacing items of a store.
+//! Replaces items of a store.
 ghost use Rattle.std.specs.Prelude.{◌^◌, ◌<◌};
 
 use crate::Wrong;
@@ -70,7 +70,7 @@ const REPLACEMENTS: [Replacement; 2] = [
 
 const AFTER: [u8; 7] = [1, 2, 11, 12, 6, 7, 8];
 
-/// Fills an empty store with eight items, and replaces three of them with two others.
+/// Fills an empty store with eight items, and replaces three of them with two new items.
 pub fn try_replace<S: ParagraphStore<Item>>(store: &mut S, alloc: Global) -> Result<(), Wrong> {
     for replacement in &REPLACEMENTS {
         try_one(store, alloc, replacement)?;
@@ -166,7 +166,7 @@ fn holds<S: ParagraphStore<Item>>(store: &S, names: &[u8]) -> bool {
     same
 }
 
-// Returns the replaced items, or the new ones after an allocation failure.
+// Returns the replaced items, or the new items after an allocation failure.
 fn replace<S: ParagraphStore<Item>>(
     store: &mut S,
     range: Range<usize>,

@@ -1,4 +1,4 @@
-//! Reading the table files. An allocation failure must not be reported as a faulty line.
+//! Reads the table files. An allocation failure must not be reported as a faulty line.
 use crate::Wrong;
 use lines::{Engine, Options};
 use std::alloc::Global;
@@ -54,5 +54,6 @@ pub fn engine(alloc: Global) -> Result<Engine, Wrong> {
     Ok(Engine::new(read(alloc)?, Options::default()))
 }
 
-/// Drops an engine. No other function does, since every proof that drops all lists of an engine is slow.
+/// Drops an engine. No other function drops an engine, since every proof that drops all lists of an engine is
+/// slow.
 pub fn let_go(_engine: Engine) {}

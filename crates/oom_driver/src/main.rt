@@ -1,8 +1,9 @@
 //! Tests the libraries under allocation failures, and runs edit scripts on a list of paragraphs.
 //!
-//! `oom_driver` makes every library call that can run out of memory, and prints how each went. A failed call
-//! must change nothing, or return what it was given. The call is then made again. So the output is the same
-//! whichever single allocation fails. `tests/fault_injection/run` makes each allocation fail in turn.
+//! `oom_driver` makes every library call that can run out of memory, and prints the result of each. A failed
+//! call must change nothing, or return the values passed to it. The call is then repeated, so the output is
+//! the same whichever single allocation fails. `tests/fault_injection/run` makes each allocation fail in
+//! turn.
 //!
 //! `oom_driver TEXT SCRIPT` runs an edit script on a text whose paragraphs are kept in a list.
 //! `tests/cli/run` uses it to test scripts with both stores.

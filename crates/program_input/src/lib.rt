@@ -1,6 +1,6 @@
 //! The input of a program: its arguments, the folder of installed table files, and its texts.
 //!
-//! These functions are all that the command needs besides edit scripts.
+//! The command needs only these functions, apart from those for edit scripts.
 #![tactic(auto)]
 
 mod args;

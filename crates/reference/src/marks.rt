@@ -1,4 +1,5 @@
-//! Break marks (UAX #14): at each position the rules are tried one after another, in the order of the annex.
+//! Break marks (UAX #14): at each position, the rules are checked one after another, in the order of the
+//! annex.
 mod before;
 mod character;
 mod classes;

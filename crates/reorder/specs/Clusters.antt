@@ -8,25 +8,25 @@ use Rattle.reorder.specs.Order.{is_odd}
 
 -- whether a cluster ends after each character of a line, and the levels of its shown part
 module _ (ends : List Bool) (levels : List ℕ) where
-  -- whether a character and the one before it are in the same cluster and at the same level
+  -- whether a character and the character before it are in the same cluster and at the same level
   abbrev pub is_joined : ℕ → Bool
   is_joined zero = false
   is_joined (suc i) = not (slice_index_or ends i false) && (slice_index levels (suc i) == slice_index levels i)
 
-  -- the classes with which L3 keeps clusters together: joined characters count as marks
+  -- the classes with which L3 keeps clusters in logical order: joined characters count as marks
   abbrev pub joined_class : ℕ → BidiClass
   joined_class i = if is_joined i then NSM else ON
 
   unfoldable pub cluster_classes : List BidiClass
   cluster_classes = map joined_class (range_with_len 0 (length levels))
 
-  -- a maximal sequence of characters of one cluster at one odd level: the first one, and n more
+  -- a maximal sequence of characters of one cluster at one odd level: a first character, and n more
   pub record IsSequence (first n : ℕ) : Type 0 where
     pub odd : is_odd (slice_index levels first) ≡ true
     pub begins : is_joined first ≡ false
     pub joined : (k : ℕ) → 0 < k → k ≤ n → is_joined (first + k) ≡ true
     pub whole : is_joined (first + n + 1) ≡ false
 
-  -- a character that is the only one of its cluster at its level, or that is at an even level
+  -- a character that has no neighbor of its cluster at its level, or that is at an even level
   abbrev pub IsSingle : ℕ → Type 0
   IsSingle place = (is_odd (slice_index levels place) ≡ false) ⊎ ((is_joined place ≡ false) × (is_joined (suc place) ≡ false))

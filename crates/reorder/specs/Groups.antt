@@ -31,8 +31,7 @@ module _ (classes : List BidiClass) (levels : List ℕ) where
   is_bound place next =
       (next + 1 == place) && (is_mark_at classes place && (is_odd (slice_index levels next) && (slice_index levels place == slice_index levels next)))
 
-  -- each of the first n positions in a list is bound to the next one (`is_bound`), and the position after
-  -- these n is not
+  -- each of the first n positions in a list is bound to the next position (`is_bound`), and position n is not
   pub record AreBound (items : List ℕ) (n : ℕ) : Type 0 where
     pub within : n < length items
     pub bound : (k : ℕ) → k < n → is_bound (slice_index items k) (slice_index items (k + 1)) ≡ true

@@ -3,11 +3,11 @@ use Rattle.std.specs.Prelude.{◌≡◌, ℕ, ◌<◌, ◌≤◌, ◌==◌, not,
 use Rattle.std.specs.Int.{w64, trailing_zeros}
 use Rattle.std.specs.Simd.Lanes.{mask_l}
 
--- the levels from start up to end are all the given level
+-- the levels from `start` up to `end` all equal the given level
 abbrev pub AreAll : List ℕ → ℕ → ℕ → ℕ → Type 0
 AreAll levels start end level = (k : ℕ) → start ≤ k → k < end → slice_index levels k ≡ level
 
--- one bit for each of 16 levels, which is set if the level differs from the given one
+-- one bit for each of 16 levels, which is set if the level differs from the given level
 abbrev pub others : List ℕ → ℕ → ℕ → ℕ
 others levels start level = mask_l (map (λ x. not (x == level)) (take 16 (drop start levels)))
 

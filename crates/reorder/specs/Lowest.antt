@@ -1,5 +1,5 @@
--- Which of two characters L2 puts to the left, determined by the lowest level between them. Only the code
--- uses these definitions.
+-- Which of two characters L2 puts to the left. The lowest level between them determines this. Only the code uses these
+-- definitions.
 use Rattle.std.specs.Prelude.{◌≡◌, ◌≢◌, ℕ, ◌-◌, ◌<◌, ◌≤◌, Bool, true, false, List, length, slice_index, Option, Some, None, ◌⊎◌}
 use Rattle.reorder.specs.Order.{is_odd}
 
@@ -48,12 +48,12 @@ module _ (levels : List ℕ) where
     pub after : IsLeft place next
     pub first : (k : ℕ) → k < length levels → IsLeft place k → k ≢ next → IsLeft next k
 
-  -- the character directly to the right of `place`, or none if all others are to its left
+  -- the character directly to the right of `place`, or none if all other characters are to its left
   abbrev pub IsNext : ℕ → Option ℕ → Type 0
   IsNext place None = (k : ℕ) → k < length levels → k ≢ place → IsLeft k place
   IsNext place (Some next) = IsRightOf place next
 
-  -- Of the characters from `start` on, up to the first one below the level, `first` is the leftmost.
+  -- `first` is the leftmost of the characters from `start` on, up to the first one below the level.
   pub record IsLeftmostOn (level start first : ℕ) : Type 0 where
     pub from : start ≤ first
     pub within : first < length levels

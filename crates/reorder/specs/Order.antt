@@ -66,8 +66,8 @@ module _ (classes : List BidiClass) (levels : List ℕ) where
   abbrev pub precedes_mark : ℕ → Bool
   precedes_mark i = is_mark_at classes (suc i) && (is_odd (slice_index levels i) && (slice_index levels (suc i) == slice_index levels i))
 
-  -- Whether a character is a mark with a base. A mark has a base if the character before it is at the same
-  -- odd level, and is not a mark or has a base too.
+  -- Whether a character is a mark with a base. A mark has a base if the character before it is at the same odd level,
+  -- and is either not a mark or a mark with a base.
   abbrev pub has_base : ℕ → Bool
   has_base zero = false
   has_base (suc i) = precedes_mark i && (not (is_mark_at classes i) || has_base i)

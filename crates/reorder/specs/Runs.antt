@@ -40,7 +40,8 @@ module _ (levels : List ℕ) where
   unfoldable pub runs_of : List Run
   runs_of = map run_from run_starts
 
-  -- Whether a run is maximal: it has characters, all at its level, and the characters next to it are at other levels.
+  -- Whether a run is maximal: the run is not empty, its characters are all at its level, and the characters next to it
+  -- are at other levels.
   pub record IsMaximal (run : Run) : Type 0 where
     pub some : 0 < run.len
     pub within : run.start + run.len ≤ length levels
@@ -57,7 +58,7 @@ module _ (levels : List ℕ) where
     pub in_order : flat_map places_in runs ≡ order_of levels
     pub sums : (f : ℕ → ℕ) → sum_by (λ run. sum_by f (range_with_len run.start run.len)) runs ≡ sum_by f (range_with_len 0 (length levels))
 
-  -- whether the run that a character is in begins at `start`
+  -- whether the run that contains a character begins at `start`
   pub record IsStartOf (place start : ℕ) : Type 0 where
     pub to : start ≤ place
     pub level : (k : ℕ) → start ≤ k → k ≤ place → slice_index levels k ≡ slice_index levels place

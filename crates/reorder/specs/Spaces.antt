@@ -16,8 +16,8 @@ abbrev pub is_blank : BidiClass → Bool
 is_blank WS = true
 is_blank class = is_initiator class || is_pdi class || is_removed class
 
--- Whether the first character is reset to the paragraph level. A separator is always reset. A blank is reset
--- if only blanks are between it and the next separator or the end of the line.
+-- Whether the level of the first character is reset to the paragraph level. The level of a separator is always reset.
+-- The level of a blank is reset if only blanks are between it and the next separator or the end of the line.
 abbrev pub is_reset : List BidiClass → Bool
 is_reset [] = true
 is_reset (class ∷ classes) = ends_segment class || (is_blank class && is_reset classes)

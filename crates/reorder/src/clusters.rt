@@ -35,7 +35,7 @@ impl Classes for ClusterClasses<'_> {
     }
 }
 
-// Returns whether a character and the one before it are in the same cluster and at the same level.
+// Returns whether a character and the character before it are in the same cluster and at the same level.
 fn is_joined(ends: &[bool], levels: &[u8], place: usize) -> bool
     requires { place < length levels.now }
     ensures { result ≡ is_joined ends.now levels.now place }

@@ -45,7 +45,7 @@ fn reverse_groups<C: Classes>(line: &C, levels: &[u8], items: &mut [u32])
 }
 
 // Returns the length of the group that begins at `start`: a base at an odd level and the marks after it at
-// the same level, or else one character.
+// the same level, or else a single character.
 fn group_len<C: Classes>(line: &C, levels: &[u8], start: usize) -> usize
     requires line { length (C.all line.now) ≡ length levels.now }
     requires start { start < length levels.now }
@@ -91,7 +91,7 @@ fn has_mark<C: Classes>(line: &C) -> bool
     found
 }
 
-// For each level from the highest down to the lowest odd one, reverses the runs of characters at that level
+// For each level from the highest down to the lowest odd level, reverses the runs of characters at that level
 // or higher.
 fn reverse_levels(levels: &[u8], top: u8, low: u8, items: &mut [u32])
     requires items { length items.old ≡ length levels.now }

@@ -106,8 +106,8 @@ fn order_places(levels: &[u8], vtol: &mut [u32])
 }
 
 /// Writes the start of each level run of a line, in visual order, to the front of a list, and returns the
-/// number of runs. L2 then moves runs instead of single characters. If there are more runs than half the
-/// characters, writes the logical positions of all characters in visual order instead, and returns `None`.
+/// number of runs. L2 then moves runs instead of single characters. If there are more than half as many runs
+/// as characters, writes the logical positions of all characters in visual order instead, and returns `None`.
 pub fn order_runs(levels: &[u8], items: &mut [u32]) -> Option<usize>
     requires len { length items.old ≡ length levels.now }
     requires limit { length levels.now ≤ u32.MAX }
@@ -184,7 +184,7 @@ pub fn level_run_len(levels: &[u8], start: usize) -> usize
     end - start
 }
 
-// Returns how many of the next `LANES` levels equal `level`, up to the first one that does not.
+// Returns how many of the next `LANES` levels equal `level`, up to the first level that differs.
 #[inline(always)]
 fn same_len(levels: &[u8], start: usize, level: u8) -> usize
     requires { start + LANES ≤ length levels.now }
@@ -195,8 +195,8 @@ fn same_len(levels: &[u8], start: usize, level: u8) -> usize
     first_set(others(levels, start, level), LANES)
 }
 
-// Returns how many levels from `start` on equal `level`, up to the first one that does not. Compares the last
-// `LANES` levels of the list, so that no levels are left to be compared one by one.
+// Returns how many levels from `start` on equal `level`, up to the first level that differs. Compares the
+// last `LANES` levels of the list, so that no levels are left to be compared one by one.
 #[inline(always)]
 fn last_same_len(levels: &[u8], start: usize, level: u8) -> usize
     requires last { length levels.now ≤ start + LANES }
@@ -235,8 +235,8 @@ fn first_set(bits: u64, len: usize) -> usize
 }
 
 // Replaces the starts of runs at the front of a list with the logical positions of all their characters.
-// Works from the last run to the first. Each run has at least one character, so no start is overwritten
-// before it is read.
+// Processes the runs from the last to the first. Each run has at least one character, so no start is
+// overwritten before it is read.
 fn lay_runs(levels: &[u8], count: usize, items: &mut [u32])
     requires count { count ≤ length items.old }
     requires within { AreWithin (length levels.now) (take count items.old) }
@@ -342,8 +342,8 @@ fn is_mark_at<C: Classes>(line: &C, place: u32) -> bool
     }
 }
 
-// For each level from the highest down to the lowest odd one, reverses the runs of positions at that level or
-// higher. Does nothing if there is no odd level.
+// For each level from the highest down to the lowest odd level, reverses the runs of positions at that level
+// or higher. Does nothing if there is no odd level.
 fn reverse_levels(levels: &[u8], top: u8, low: Option<u8>, items: &mut [u32])
     requires within { AreWithin (length levels.now) items.old }
     requires highest { top ≡ highest levels.now }

@@ -78,7 +78,7 @@ impl<'a> Iterator for Runs<'a> {
     }
 }
 
-// Returns where the run directly to the right of another one begins.
+// Returns where the run directly to the right of another run begins.
 fn run_after(levels: &[u8], start: usize, len: usize) -> Option<usize>
     requires start { start < length levels.now }
     requires begins { begins_run levels.now start ≡ true }
@@ -94,7 +94,7 @@ fn run_after(levels: &[u8], start: usize, len: usize) -> Option<usize>
     Some(run_start(levels, place))
 }
 
-// Returns the start of the run that a character is in.
+// Returns the start of the run that contains a character.
 fn run_start(levels: &[u8], place: usize) -> usize
     requires { place < length levels.now }
     ensures { IsStartOf levels.now place result }

@@ -7,13 +7,13 @@ ghost use Rattle.reorder.specs.NoEnds.{AreNoEnds};
 use ucd::{BidiClass, Classes};
 
 /// Applies L1 to a line: resets some of its levels to the paragraph level, `base`. The classes must be the
-/// original ones, unchanged by earlier rules.
+/// original classes, unchanged by earlier rules.
 pub fn reset_levels<C: Classes>(line: &C, base: u8, levels: &mut [u8])
     requires { length (C.all line.now) ≡ length levels.old }
     ensures { levels.new ≡ line_levels base (C.all line.now) levels.old }
 {
-    // Whether a blank before this index would be reset. If not, no character back to the last separator is
-    // reset.
+    // Whether a blank directly before this index would be reset. If not, no character back to the last
+    // separator is reset.
     let mut resets = true;
     let mut at = line.len();
     while at > 0 {
@@ -52,7 +52,7 @@ fn separator_end<C: Classes>(line: &C, end: usize) -> usize
     while at >= AT_ONCE && !has_separator(line, at - AT_ONCE, at) {
         at -= AT_ONCE;
     }
-    // The first group may overlap the one after it, so that no characters are left to be tested one by one.
+    // The first group may overlap the next group, so that no characters are left to be tested one by one.
     if at < AT_ONCE && end >= AT_ONCE && !has_separator(line, 0, AT_ONCE) {
         return 0;
     }
@@ -81,7 +81,8 @@ fn ends_segment(class: BidiClass) -> bool
     matches!(class, BidiClass::S | BidiClass::B)
 }
 
-// Returns whether a character is reset: a separator always is, and a blank is if `after` is true.
+// Returns whether the level of a character is reset: always for a separator, and for a blank only if `after`
+// is true.
 fn is_reset(class: BidiClass, after: bool) -> bool
     ensures { result ≡ (ends_segment class || (is_blank class && after)) }
 {

@@ -26,8 +26,8 @@ abbrev pub number_in : List ℕ → Option ℕ
 number_in text = if nat_lt 0 (length text) && (nat_le (length text) 9 && are_digits 10 text) then Some (number_by 10 text) else None
 
 -- An escape is a backslash and `n`, `r`, another backslash, or `u{H}`. H is a Unicode scalar value in 1 to 6
--- hexadecimal digits. From the text after the backslash, these definitions compute the character and the
--- length of the whole escape.
+-- hexadecimal digits. These definitions compute the character and the length of the whole escape from the text after
+-- the backslash.
 abbrev pub is_character : ℕ → Bool
 is_character n = nat_lt n 0xD800 || (nat_le 0xE000 n && nat_le n 0x10FFFF)
 
@@ -139,7 +139,7 @@ abbrev pub three_in : Option (List ℕ × List ℕ) → Option (ℕ × (ℕ × �
 three_in None = None
 three_in (Some (a, rest)) = both_of (number_in a) (both_in (parted rest))
 
--- which of two words a text is: `false` for the first one, `true` for the other one
+-- which of two words a text is: `false` for the first word, `true` for the second
 abbrev pub choice_in : List ℕ → List ℕ → List ℕ → Option Bool
 choice_in one other text = if pointwise (◌==◌) text one then Some false else (if pointwise (◌==◌) text other then Some true else None)
 
@@ -163,7 +163,7 @@ abbrev pub step_in : Option (List ℕ × List ℕ) → Option (ℕ × (Bool × B
 step_in None = None
 step_in (Some (pos, rest)) = both_of (number_in pos) (turn_in (parted rest))
 
--- the query whose word is followed by two numbers, one number or nothing
+-- a query whose word is followed by two numbers, one number or nothing
 abbrev pub with_two : (ℕ → ℕ → Query) → List ℕ → Option Query
 with_two query rest = option_map (λ n. query n.0 n.1) (both_in (parted rest))
 

@@ -278,7 +278,7 @@ fn step(text: &[char]) -> Option<(usize, (bool, bool))>
     Some((number(pos)?, turn(rest)?))
 }
 
-// Returns `false` for the first of two words, `true` for the other one, and `None` for other texts.
+// Returns `false` for the first of two words, `true` for the second, and `None` for other texts.
 fn choice(one: &[char], other: &[char], text: &[char]) -> Option<bool>
     ensures { result ≡ choice_in one.now other.now text.now }
 {

@@ -1,9 +1,9 @@
--- The codes of scripts (ISO 15924). They are the short names of the property Script in PropertyValueAliases.txt.
+-- The codes of scripts (ISO 15924), which are the short names of the property Script in PropertyValueAliases.txt.
 use Rattle.std.specs.Prelude.{ℕ, ◌+◌, ◌*◌, List, [], ◌∷◌, codes, fold, map, slice_index_or}
 use Rattle.ucd_script.specs.Script.{script_number}
 use Rattle.ucd_script.specs.declared.Script.{Script}
 
--- four letters as a number, the first one in the highest byte
+-- four letters as a number, with the first letter in the highest byte
 abbrev pub tag : List ℕ → ℕ
 tag name = fold (λ n letter. n * 256 + letter) 0 name
 

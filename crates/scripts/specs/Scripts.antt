@@ -1,6 +1,7 @@
--- The script of each character of a text (UAX #24, sections 2.2, 5.1 and 5.2). A character whose property Script is neither Common nor
--- Inherited has that script. A closing bracket has the script of its opening one. Each other character has the script of the one before
--- it. At the start of the text, such characters have the first script that follows, or Common if none does.
+-- The script of each character of a text (UAX #24, sections 2.2, 5.1 and 5.2). A character whose property Script is
+-- neither Common nor Inherited has that script. A closing bracket has the script of its opening bracket. Any other
+-- character has the script of the character before it. At the start of the text, such characters have the first script
+-- that follows, or Common if none does.
 use Rattle.std.specs.Prelude.{ℕ, ◌+◌, ◌==◌, Bool, ◌||◌, not, List, [], ◌∷◌, drop, find, map, option_and_then, option_map, position, slice_get, take, unwrap_or, Option, Some, None, if◌then◌else◌}
 use Rattle.ucd.specs.declared.bracket.Bracket.{Bracket}
 use Rattle.ucd_script.specs.Script.{script, script_eq}
@@ -8,7 +9,7 @@ use Rattle.ucd_script.specs.declared.Script.{Script}
 use Rattle.ucd_script.specs.declared.Script.TheVariants.{Common, Inherited}
 use Rattle.scripts.specs.declared.resolving.Opening.{Opening}
 
--- whether characters with this value of the property take the script of others
+-- whether characters with this value of the property have the script of other characters
 abbrev pub takes_script : Script → Bool
 takes_script script = script_eq script Common || script_eq script Inherited
 
@@ -17,7 +18,8 @@ first_script text = unwrap_or (find (λ own. not (takes_script own)) (map script
 
 -- ---- brackets (UAX #9, BD14 and BD15)
 
--- the index of the innermost opening bracket that a closing bracket matches, among those that are open, the innermost first
+-- the index of the innermost opening bracket that a closing bracket matches, in a list of the open brackets from the
+-- innermost outwards
 abbrev pub matching : ℕ → List Opening → Option ℕ
 matching closing openings = position (λ opening. opening.closing == closing) openings
 
@@ -31,7 +33,7 @@ abbrev pub outside : Option ℕ → List Opening → List Opening
 outside None openings = openings
 outside (Some k) openings = drop (k + 1) openings
 
--- The brackets that are open after a character with this script. Only the innermost 63 are kept.
+-- The brackets that are open after a character, which has this script. Only the innermost 63 are kept.
 abbrev pub open_after : Option Bracket → ℕ → Script → List Opening → List Opening
 open_after None c script openings = openings
 open_after (Some bracket) c script openings =
@@ -39,8 +41,7 @@ open_after (Some bracket) c script openings =
 
 -- ---- scripts
 
--- the script that a character takes from others: from the opening bracket that it closes, or else from the character
--- before it
+-- the script that a character has from another one: the opening bracket that it closes, or else the character before it
 abbrev pub taken_script : Option Bracket → ℕ → Script → List Opening → Script
 taken_script bracket c before openings =
     unwrap_or (option_and_then (λ k. option_map (λ opening. opening.script) (slice_get openings k)) (closed_by bracket c openings)) before

@@ -1,4 +1,4 @@
-//! The codes of scripts (ISO 15924), which are the short names of the property Script. Shapers take them as
+//! The codes of scripts (ISO 15924), which are the short names of the property Script. Shapers accept them as
 //! numbers.
 ghost use Rattle.std.specs.Prelude.{◌≡◌};
 ghost use Rattle.scripts.specs.Codes.{iso_code};
@@ -187,7 +187,7 @@ static CODES: [u32; 178] = [
     0x5A7A7A7A, // Zzzz
 ];
 
-/// Returns the code of a script: its four letters, the first one in the highest byte.
+/// Returns the code of a script: its four letters, with the first letter in the highest byte.
 #[tactic(auto, unfolding(crate::specs::Codes::script_codes))]
 pub fn iso_code(script: Script) -> u32
     ensures { result ≡ iso_code script }

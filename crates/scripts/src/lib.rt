@@ -1,5 +1,5 @@
-//! The scripts of a text (UAX #24): the script of each character, where Common and Inherited characters take
-//! that of others, and the runs of one script.
+//! The scripts of a text (UAX #24): the script of each character, and the runs of one script. Common and
+//! Inherited characters have the script of other characters.
 //!
 //! ```rust
 //! let scripts = resolve(alloc, tables, &['a', '(', 'א', ')', '.'])?;

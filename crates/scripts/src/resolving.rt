@@ -12,8 +12,8 @@ use std::alloc::{AllocError, Global};
 use ucd::{Bracket, Tables};
 use ucd_script::Script;
 
-/// The maximum number of opening brackets that are kept, which bounds the time for each closing one. UAX #9
-/// has the same limit for bracket pairs (BD16).
+/// The maximum number of opening brackets that are kept, which bounds the time for each closing bracket. UAX
+/// #9 has the same limit for bracket pairs (BD16).
 const MOST_OPEN: usize = 63;
 
 /// An opening bracket that is not closed yet: the closing bracket of its pair, and its script.
@@ -30,14 +30,14 @@ pub(crate) fn is_same(one: Script, other: Script) -> bool
     one.number() == other.number()
 }
 
-// Returns whether characters with this value of the property take the script of others.
+// Returns whether characters with this value of the property have the script of other characters.
 fn takes_script(script: Script) -> bool
     ensures { result ≡ takes_script script }
 {
     is_same(script, Script::Common) || is_same(script, Script::Inherited)
 }
 
-// Returns the script of the first character that has one of its own, or Common if there is none.
+// Returns the first script that is neither Common nor Inherited, or Common if there is none.
 fn first_script(text: &[char]) -> Script
     ensures { result ≡ first_script text.now }
 {
@@ -79,7 +79,7 @@ fn closed_by(
     }
 }
 
-// Returns the script that a character takes from others, given the script before it.
+// Returns the script that a character has from other characters, given the script before it.
 fn taken_script(
     bracket: Option<Bracket>,
     openings: &HeapCircularBuffer<Opening>,
@@ -111,7 +111,7 @@ fn script_in(
     }
 }
 
-// Keeps track of the opening brackets at a character with a script.
+// Updates the list of open brackets after a character with a script.
 fn pass(
     bracket: Option<Bracket>,
     openings: &mut HeapCircularBuffer<Opening>,

@@ -13,8 +13,8 @@ is_kept_control c = (nat_le 0x09 c && nat_le c 0x0D) || ((nat_le 0x1C c && nat_l
 abbrev pub is_dropped : ℕ → Bool
 is_dropped c = is_control c && not (is_kept_control c)
 
--- The characters that strings and overstrikes may contain: all but controls, U+2028 and U+2029. So strings and
--- overstrikes never span lines.
+-- The characters that strings and overstrikes may contain: all but controls, U+2028 and U+2029. So neither strings nor
+-- overstrikes span lines.
 abbrev pub is_inline : ℕ → Bool
 is_inline c = not (is_control c || (c == 0x2028 || c == 0x2029))
 
@@ -23,6 +23,6 @@ is_inline c = not (is_control c || (c == 0x2028 || c == 0x2029))
 abbrev pub ends_piece : ℕ → Bool
 ends_piece c = not (is_dropped c || is_inline c)
 
--- a C1 control that introduces the same as ESC and the character 0x40 below the control
+-- a C1 control that introduces the same kind of sequence as ESC and the character 0x40 below the control
 abbrev pub is_c1_introducer : ℕ → Bool
 is_c1_introducer c = nat_le 0x80 c && (nat_lt c 0xA0 && not (c == 0x85))

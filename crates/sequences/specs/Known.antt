@@ -1,4 +1,4 @@
--- Whether the sequence that a text begins with is the same whatever follows the text.
+-- Whether the sequence at the start of a text is the same whatever follows the text.
 use Rattle.std.specs.Prelude.{ℕ, ◌+◌, ◌-◌, nat_lt, ◌==◌, Bool, true, false, ◌||◌, not, List, [], ◌∷◌, length, drop, slice_index, if◌then◌else◌}
 use Rattle.std.specs.List.{prefix_len}
 use Rattle.sequences.specs.Characters.{ends_piece, is_c1_introducer}
@@ -7,13 +7,13 @@ use Rattle.sequences.specs.declared.lengths.TheConstants.{LONGEST_STRING}
 
 -- The definitions below apply to the text after an introducer.
 
--- A string that is too long is known once it ends.
+-- For a string that is too long, this is known once the string ends.
 abbrev pub knows_long : Bool → List ℕ → Bool
 knows_long is_osc [] = false
 knows_long is_osc (c ∷ text) = ends_piece c || (not (terminator_len is_osc (c ∷ text) == 0) || knows_long is_osc text)
 
--- Any other string is known once it is followed by a character that it cannot contain. After ESC, one more character is
--- needed.
+-- For any other string, this is known once a character that the string cannot contain follows it. After ESC, one more
+-- character is needed.
 abbrev pub knows_string : Bool → List ℕ → Bool
 knows_string is_osc text =
     let n = string_end text in

@@ -48,7 +48,7 @@ set_basic n look =
     else if nat_le 100 n && nat_lt n 108 then record look { background = Some (Basic (n - 92)) }
     else look
 
--- a parameter without fields, other than 38, 48 and 58; 0 is the default, and unknown ones change nothing
+-- a parameter without fields, other than 38, 48 and 58; 0 sets the defaults, and unknown parameters change nothing
 abbrev pub with_parameter : ℕ → Look → Look
 with_parameter n look =
     if n == 0 then PLAIN
@@ -90,11 +90,11 @@ rgb r g b = if nat_lt r 256 && (nat_lt g 256 && nat_lt b 256) then Some (Rgb r g
 abbrev pub value : List ℕ → ℕ → ℕ
 value values k = slice_index_or values k 256
 
--- the kinds of colors: indexed, and red, green and blue
+-- the kinds of colors: an index, or red, green and blue
 abbrev pub is_kind : ℕ → Bool
 is_kind kind = kind == 5 || kind == 2
 
--- the color at the start of some values: kind 5 and an index, or kind 2 and red, green and blue
+-- the color that some values begin with: kind 5 and an index, or kind 2 and red, green and blue
 abbrev pub color_of : List ℕ → Option Color
 color_of values =
     if value values 0 == 5 then indexed (value values 1)
@@ -121,7 +121,8 @@ abbrev pub single : List ℕ → ℕ
 single (n ∷ []) = n
 single fields = 256
 
--- What a parameter does, given those that follow it. In `38;5;n` and `38;2;r;g;b`, these are the values of the color.
+-- What a parameter does, given the parameters that follow it. In `38;5;n` and `38;2;r;g;b`, the following parameters
+-- are the values of the color.
 abbrev pub changed : Look → List ℕ → List (List ℕ) → Look
 changed look [] following = look
 changed look (n ∷ []) following =
@@ -145,7 +146,7 @@ taken parameter following =
     else length following
 
 -- The attributes after SGR with these parameters, each a list of fields. The first `skip` parameters belong to the
--- one before them.
+-- parameter before them.
 abbrev pub applied_after : ℕ → Look → List (List ℕ) → Look
 applied_after skip look [] = look
 applied_after (suc skip) look (parameter ∷ following) = applied_after skip look following

@@ -73,14 +73,14 @@ parameters_of look = weight_parameters look ++ (line_parameters look ++ (effect_
 abbrev pub sgr_of : List (List ℕ) → List ℕ
 sgr_of parameters = 0x1B ∷ 0x5B ∷ (join_with_byte 0x3B parameters ++ codes "m")
 
--- what is written to reset attributes, and to set them; nothing for the default ones
+-- the characters that are written to reset attributes and to set them: none for default attributes
 abbrev pub reset_text : Look → List ℕ
 reset_text look = if same_look look PLAIN then [] else sgr_of []
 
 abbrev pub look_text : Look → List ℕ
 look_text look = if same_look look PLAIN then [] else sgr_of (parameters_of look)
 
--- what is written between two attributes
+-- the characters that are written between two attributes
 abbrev pub look_between : Look → Look → List ℕ
 look_between before after = if same_look before after then [] else reset_text before ++ look_text after
 
@@ -95,7 +95,7 @@ osc_of link = 0x1B ∷ (codes "]8;" ++ (link_text link ++ (0x1B ∷ 0x5C ∷ [])
 abbrev pub link_between : List ℕ → List ℕ → List ℕ
 link_between before after = if bytes_eq before after then [] else osc_of after
 
--- what is written between characters with two styles
+-- the characters that are written between characters with two styles
 unfoldable pub between : Style → Style → List ℕ
 between before after = look_between before.look after.look ++ link_between before.link after.link
 

@@ -16,7 +16,7 @@ strikes c text = if is_inline c then after_backspaces text else []
 
 -- Strikes one more character. X over X is bold. A low line (U+005F) under or over X is an underline. A low line over a
 -- low line is underlined if the character before is underlined and not bold, and otherwise bold. A third low line makes
--- it both. Any other character replaces the one before.
+-- it both underlined and bold. Any other character replaces the character before it.
 abbrev pub strike : Bool → Struck → ℕ → Struck
 strike after_underline s c =
     if c == s.shown then
@@ -31,7 +31,7 @@ strike after_underline s c =
 abbrev pub struck : Bool → ℕ → List ℕ → Struck
 struck after_underline c text = fold (strike after_underline) (record { shown = c; bold = false; underlined = false }) (strikes c text)
 
--- the attributes of a place, given those that SGR has set
+-- the attributes of a place, given the attributes that SGR has set
 abbrev pub struck_look : Look → Struck → Look
 struck_look look s = record look { bold = look.bold || s.bold; underline = if s.underlined then Some Single else look.underline }
 

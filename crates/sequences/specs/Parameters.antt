@@ -19,7 +19,7 @@ with_digit n digit = min 256 (10 * n + (digit - 0x30))
 abbrev pub number : List ℕ → ℕ
 number digits = fold with_digit 0 digits
 
--- the fields of one parameter, and the parameters of a text
+-- the fields of a parameter, and the parameters in a text
 abbrev pub fields : List ℕ → List ℕ
 fields text = map number (slice_split is_colon text)
 

@@ -1,4 +1,4 @@
--- Characters that nothing is struck over, several at a time. Only the code uses this definition.
+-- Characters without overstrikes, several at a time. Only the code uses these definitions.
 use Rattle.std.specs.Prelude.{ℕ, List, [], ◌∷◌}
 use Rattle.sequences.specs.Overstrikes.{is_underlined_only}
 use Rattle.sequences.specs.Styled.{Pen}

@@ -1,4 +1,4 @@
--- What is known about the sequence that a text begins with, after each character of the text.
+-- What is known about the sequence at the start of a text, after each character of the text.
 use Rattle.std.specs.Prelude.{ℕ, ◌+◌, ◌-◌, nat_lt, ◌==◌, Bool, true, false, ◌&&◌, ◌||◌, List, [], ◌∷◌, if◌then◌else◌}
 use Rattle.sequences.specs.Characters.{ends_piece, is_c1_introducer, is_inline}
 use Rattle.sequences.specs.Sequences.{is_intermediate, is_parameter, opens_string}
@@ -23,7 +23,7 @@ after_intermediate c = if is_intermediate c then Intermediates else Known
 abbrev pub after_parameter : ℕ → Progress
 after_parameter c = if is_parameter c then Parameters else after_intermediate c
 
--- the state after this number of characters of a string and one more character
+-- the state after the given number of characters of a string and one more character
 abbrev pub after_string : Bool → ℕ → ℕ → Progress
 after_string is_osc n c =
     if is_inline c then (if nat_lt n LONGEST_STRING then InString is_osc (n + 1) else InLong is_osc)

@@ -17,7 +17,7 @@ is_csi_final c = nat_le 0x40 c && nat_le c 0x7E
 abbrev pub is_escape_final : ℕ → Bool
 is_escape_final c = nat_le 0x30 c && nat_le c 0x7E
 
--- The definitions below apply to the text after an introducer. Their lengths do not include the introducer.
+-- The definitions below apply to the text after an introducer. The lengths do not include the introducer.
 
 -- a control sequence: any parameters, any intermediates, and a final character at this index
 abbrev pub csi_end : List ℕ → ℕ
@@ -42,8 +42,8 @@ terminator_len is_osc text =
     if slice_index text 0 == 0x9C || (is_osc && slice_index text 0 == 0x07) then 1
     else if slice_index text 0 == 0x1B && slice_index text 1 == 0x5C then 2 else 0
 
--- A string that is too long ends with its terminator, or else before the next character that ends a piece. This is its length after
--- its first characters.
+-- A string that is too long ends with its terminator, or else before the next character that ends a piece. This
+-- definition computes the string's length after its first characters.
 abbrev pub long_len : Bool → List ℕ → ℕ
 long_len is_osc [] = 0
 long_len is_osc (c ∷ text) =

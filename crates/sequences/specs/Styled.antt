@@ -18,8 +18,8 @@ pub record Style : Type 0 where
 abbrev pub DEFAULT : Style
 DEFAULT = record { look = PLAIN; link = [] }
 
--- What a text leaves for the text after it: a style, the length of all links of the paragraph so far, and whether the last
--- character is underlined and not bold.
+-- The state that a text passes to the text after it: a style, the length of all links of the paragraph so far, and
+-- whether the last character is underlined and not bold.
 pub record Pen : Type 0 where
   pub style : Style
   pub links_len : ℕ
@@ -61,8 +61,8 @@ after_sequence pen (c ∷ text) =
 abbrev pub struck_style : Pen → ℕ → List ℕ → Style
 struck_style pen c text = record { look = struck_look pen.style.look (struck pen.after_underline c text); link = pen.style.link }
 
--- The first part of a text is a complete sequence, a character with all that is struck over it, or a dropped control. This is
--- the length of the first part after its first character.
+-- The first part of a text is a complete sequence, a character with all that is struck over it, or a dropped control.
+-- This definition computes the length of the first part after its first character.
 abbrev pub more_len : ℕ → List ℕ → ℕ
 more_len c text = unwrap_or (sequence_len (c ∷ text)) (1 + 2 * length (strikes c text)) - 1
 
@@ -83,7 +83,7 @@ after_part pen c text None = if is_dropped c then pen else after_character pen c
 abbrev pub after_first_part : Pen → ℕ → List ℕ → Pen
 after_first_part pen c text = after_part pen c text (sequence_len (c ∷ text))
 
--- What a text shows after `skip` characters, which belong to the part before them.
+-- What a text shows after its first `skip` characters, which belong to the part before them.
 abbrev pub styled_after : ℕ → Pen → List ℕ → List (ℕ × Style)
 styled_after skip pen [] = []
 styled_after (suc skip) pen (c ∷ text) = styled_after skip pen text
@@ -101,6 +101,6 @@ styled pen text = styled_after 0 pen text
 unfoldable pub pen_at_end : Pen → List ℕ → Pen
 pen_at_end pen text = pen_after 0 pen text
 
--- the characters alone
+-- the characters that a text shows, without their styles
 unfoldable pub shown_text : List ℕ → List ℕ
 shown_text text = map (λ shown. shown.0) (styled_after 0 START text)

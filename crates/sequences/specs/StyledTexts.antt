@@ -12,7 +12,7 @@ style_of links look link = record { look = look; link = take link.len (drop link
 abbrev pub style_in : List ℕ → StyleRun → Style
 style_in links run = style_of links run.look run.link
 
--- the style at an index: that of the last run that starts there or before it, or else the given one
+-- the style at an index: the style of the last run that starts at or before the index, or else the given style
 abbrev pub style_at : List ℕ → Style → List StyleRun → ℕ → Style
 style_at links style [] k = style
 style_at links style (run ∷ runs) k = style_at links (if nat_le run.start k then style_in links run else style) runs k

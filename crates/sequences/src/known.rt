@@ -8,27 +8,27 @@ ghost use Rattle.sequences.specs.Progress.{after_long_escape};
 use crate::characters::{Class, ends_piece, is_c1_introducer, is_in, is_inline};
 use crate::lengths::{ESC, LONGEST_STRING, is_intermediate, opens_string};
 
-/// What the first characters of a text tell about the sequence that it begins with.
+/// What is known from the first characters of a text about the sequence that they begin.
 #[derive(Clone, Copy)]
 pub enum Progress {
     /// There are no characters yet.
     Start,
-    /// The only one is ESC.
+    /// The only character is ESC.
     Escape,
-    /// The last one introduces a control sequence or is a parameter of it.
+    /// The last character introduces a control sequence or is a parameter of it.
     Parameters,
-    /// The last one is an intermediate.
+    /// The last character is an intermediate.
     Intermediates,
-    /// The last ones are the introducer of a string and this number of its characters. The first field tells
-    /// whether it is OSC.
+    /// The last characters are the introducer of a string and this number of its characters. The first field
+    /// is true for OSC.
     InString(bool, usize),
-    /// The last one is an ESC after a string.
+    /// The last character is an ESC after a string.
     AfterString,
-    /// The last one is in a string that is too long. The field tells whether it is OSC.
+    /// The last character is in a string that is too long. The field is true for OSC.
     InLong(bool),
-    /// The last one is an ESC in such a string. The field tells whether it is OSC.
+    /// The last character is an ESC in a string that is too long. The field is true for OSC.
     AfterLong(bool),
-    /// Whatever follows, the sequence ends at the same place, or there is none.
+    /// Whatever follows, the sequence ends at the same place, or there is no sequence.
     Known,
 }
 
@@ -73,7 +73,7 @@ impl Progress {
     }
 }
 
-/// Returns whether `sequence_len` returns the same for a text whatever follows it.
+/// Returns whether `sequence_len` returns the same result for a text, whatever follows it.
 pub fn is_sequence_known(text: &[char]) -> bool
     ensures { result ≡ knows_sequence text.now }
 {
@@ -92,7 +92,7 @@ fn after_start(c: char) -> Progress
     }
 }
 
-// Returns the state of a text that ends with ESC and this character.
+// Returns the state after ESC and this character.
 fn after_code(code: u32) -> Progress
     ensures { result ≡ after_code code }
 {
@@ -127,7 +127,7 @@ fn after_intermediate(c: char) -> Progress
     }
 }
 
-// Returns the state of a text that ends with this number of characters of a string and one more character.
+// Returns the state after this number of characters of a string and one more character.
 fn after_string(is_osc: bool, len: usize, c: char) -> Progress
     ensures { result ≡ after_string is_osc len c }
 {

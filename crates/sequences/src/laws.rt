@@ -9,13 +9,13 @@ pub fn shows_no_controls()
     ensures { ShowsNoControls }
 {}
 
-/// States, as a theorem, that a text without controls of a kind that is dropped is shown as it is, in the
-/// style that it begins in.
+/// States, as a theorem, that a text without controls of a kind that is dropped is shown unchanged, in the
+/// style in which it begins.
 pub fn shows_plain_text()
     ensures { ShowsPlainText }
 {}
 
-/// States, as a theorem, that the characters that a text shows do not depend on the style that it begins in.
+/// States, as a theorem, that the characters that a text shows do not depend on the style in which it begins.
 pub fn shows_the_same()
     ensures { ShowsTheSame }
 {}
@@ -25,8 +25,8 @@ pub fn shows_itself()
     ensures { ShowsItself }
 {}
 
-/// States, as a theorem, that a text shows what its pieces show, where each piece ends with a control that
-/// remains, with U+2028 or with U+2029. No sequence and no overstrike spans such a character.
+/// States, as a theorem, that a text shows what its pieces show. Each piece ends with a control that remains,
+/// with U+2028 or with U+2029. No sequence and no overstrike spans such a character.
 pub fn shows_pieces()
     ensures { ShowsPieces }
 {}

@@ -4,11 +4,11 @@ ghost use Rattle.sequences.specs.Parameters.{osc_link, uri_link};
 
 use crate::parts::part_end;
 
-/// The greatest length of all links of a paragraph, in characters. URIs are ASCII, so this is 1 MB.
+/// The maximum total length of a paragraph's links, in characters. URIs are ASCII, so this is 1 MB.
 pub const MAX_LINKS_LEN: usize = 1_048_576;
 
-/// Returns the link that a string after OSC sets, which is empty if it ends a link, or `None` for another
-/// string.
+/// Returns the link that a string after OSC sets. The link is empty if the string ends a link. Returns `None`
+/// for any other string.
 pub(crate) fn osc_link(text: &[char]) -> Option<&[char]>
     ensures { MatchOption result (osc_link text.now ≡ None) (λ link. osc_link text.now ≡ Some link.now) }
 {
@@ -18,7 +18,7 @@ pub(crate) fn osc_link(text: &[char]) -> Option<&[char]>
     }
 }
 
-// Returns the link for its parameters, a semicolon and its URI.
+// Returns the link that consists of its parameters, a semicolon and its URI.
 fn uri_link(link: &[char]) -> Option<&[char]>
     ensures { MatchOption result (uri_link link.now ≡ None) (λ found. uri_link link.now ≡ Some found.now) }
 {

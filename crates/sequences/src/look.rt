@@ -3,8 +3,7 @@
 /// A color other than the default one.
 #[derive(Clone, Copy, Debug, PartialEq, Eq)]
 pub enum Color {
-    /// One of the 16 colors that have parameters of their own: 30 to 37 are 0 to 7, and 90 to 97 are 8 to
-    /// 15.
+    /// One of the 16 colors that have their own parameters: 30 to 37 are 0 to 7, and 90 to 97 are 8 to 15.
     Basic(u8),
     /// One of 256 colors, as set by `38;5;n`. A terminal may show it differently from the basic color n.
     Indexed(u8),
@@ -29,7 +28,7 @@ pub enum Blink {
     Rapid,
 }
 
-/// The attributes of a character. `None` is the default of each optional one.
+/// The attributes of a character. `None` stands for the default of an optional attribute.
 #[derive(Clone, Copy, Debug, PartialEq, Eq)]
 pub struct Look {
     pub bold: bool,

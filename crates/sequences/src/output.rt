@@ -166,8 +166,8 @@ fn push_parameters(look: &Look, out: &mut Vec<char>) -> Result<(), AllocError>
     push_colors(look, out)
 }
 
-// Replaces the semicolon at an index with the end of the introducer. If there is no semicolon, appends that
-// end.
+// Replaces the semicolon at an index with the end of the introducer. If there is no semicolon, appends the
+// end of the introducer.
 fn end_introducer(at: usize, out: &mut Vec<char>) -> Result<(), AllocError>
     requires { at ≤ length out.old.items }
     ensures { OnOk result (out.new.items ≡ take at out.old.items ++ 91 ∷ drop (at + 1) out.old.items) }
@@ -241,8 +241,8 @@ fn push_link_between(before: &[char], after: &[char], out: &mut Vec<char>) -> Re
 }
 
 #[tactic(auto, unfolding(crate::specs::Output::between))]
-/// Appends what is written between characters with two styles. Lines begin and end in the default style.
-/// After a failed allocation, some of it may be missing.
+/// Appends the sequences between characters with two styles. Lines begin and end in the default style. After
+/// a failed allocation, some characters may be missing.
 pub fn push_between(
     before: &StyleRef,
     after: &StyleRef,

@@ -10,7 +10,7 @@ pub(crate) const BS: char = '\u{8}';
 
 const LOW_LINE: char = '_';
 
-/// What a place shows: a character, and the attributes that overstrikes give it.
+/// What a place shows: a character, and the attributes that overstrikes add to it.
 #[derive(Clone, Copy)]
 pub(crate) struct Struck {
     pub shown: char,
@@ -112,7 +112,7 @@ pub(crate) fn is_underlined_only(look: Look) -> bool
     look.underline.is_some() && !look.bold
 }
 
-// Returns the attributes of a place, given those that SGR has set.
+// Returns the attributes of a place, given the attributes that SGR has set.
 pub(crate) fn struck_look(look: Look, at: Struck) -> Look
     ensures { result ≡ struck_look look at }
 {

@@ -1,6 +1,6 @@
 //! The parameters of SGR and their fields.
 //!
-//! Texts of parameters, and single parameters, are passed with the character before them. So an empty text
+//! Lists of parameters, and single parameters, are passed with the character before them. So an empty text
 //! has no parameters, and an empty parameter has one field.
 ghost use Rattle.std.specs.Prelude.{◌≡◌, ◌==◌, ◌≤◌, ◌<◌, ◌+◌, length, drop, map, take, count_by};
 ghost use Rattle.std.specs.List.{position_or_len};
@@ -66,7 +66,7 @@ fn after_part(separator: char, text: &[char]) -> &[char]
     split_part(separator, text).1
 }
 
-// Returns a text without its first n parts, or nothing if it has fewer.
+// Returns a text without its first n parts, or an empty text if it has fewer.
 fn without_parts(separator: char, text: &[char], n: usize) -> &[char]
     ensures { parts_after separator result.now ≡ drop n (parts_after separator text.now) }
 {

@@ -17,8 +17,8 @@ use crate::sgr::applied;
 use crate::style::{Link, NO_LINK, StyledText};
 use std::alloc::{AllocError, Global};
 
-/// Collects the characters that texts show, with their styles. Each text continues in the style in which the
-/// text before it has ended.
+/// Collects the characters that texts show, with their styles. Each text begins in the style in which the
+/// text before it ended.
 #[derive(Debug, Drop)]
 pub struct Scanner {
     /// The characters of the paragraph so far.
@@ -242,7 +242,7 @@ fn sgr_parameters(sequence: &[char]) -> Option<&[char]>
     }
 }
 
-// Returns a number of characters at the start of a text that are all shown as they are.
+// Returns a number of characters at the start of a text that are all shown unchanged.
 fn plain_len(text: &[char]) -> usize
     ensures within { result ≤ length text.now }
     ensures kept { list_all (λ c. not (is_dropped c)) (take result text.now) ≡ true }

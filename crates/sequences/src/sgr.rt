@@ -30,7 +30,7 @@ pub(crate) fn applied(look: Look, parameters: &[char]) -> Look
     look
 }
 
-// Returns the attributes after one parameter, given those that follow it.
+// Returns the attributes after one parameter, given the parameters that follow it.
 fn changed(look: Look, parameter: &[char], following: &[char]) -> Look
     ensures { result ≡ changed look (fields_after parameter.now) (parameters_after following.now) }
 {
@@ -60,7 +60,7 @@ fn taken(parameter: &[char], following: &[char]) -> usize
     }
 }
 
-// Returns the number of following parameters that belong to 38, 48 or 58: all if the kind is unknown.
+// Returns the number of following parameters that belong to 38, 48 or 58: all of them if the kind is unknown.
 fn color_len(following: &[char]) -> usize
     ensures { result ≡ color_len (parameters_after following.now) }
 {
@@ -320,7 +320,7 @@ fn with_underline(k: u32, look: Look) -> Look
     }
 }
 
-// Returns the attributes after a parameter with several fields, of which n is the first.
+// Returns the attributes after a parameter with several fields, the first of which is n.
 fn with_fields(n: u32, parameter: &[char], look: Look) -> Look
     ensures { result ≡ with_fields n (drop 1 (fields_after parameter.now)) look }
 {

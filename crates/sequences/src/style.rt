@@ -6,7 +6,8 @@ use crate::look::{Look, PLAIN};
 use crate::same_look::same_look;
 use std::alloc::{AllocError, Global};
 
-/// A part of a list of characters: the parameters of a link, a semicolon and its URI. Empty for no link.
+/// A part of a list of characters: the parameters of a link, a semicolon and its URI. The part is empty if
+/// there is no link.
 #[derive(Clone, Copy, Debug, PartialEq, Eq)]
 pub struct Link {
     pub start: usize,
@@ -16,7 +17,7 @@ pub struct Link {
 /// No link.
 pub const NO_LINK: Link = Link { start: 0, len: 0 };
 
-/// The style of the characters from an index on, up to the next run.
+/// A run: the style of the characters from an index on, up to the next run.
 #[derive(Clone, Copy, Debug, PartialEq, Eq)]
 pub struct StyleRun {
     pub start: usize,
@@ -24,14 +25,15 @@ pub struct StyleRun {
     pub link: Link,
 }
 
-/// A style: attributes and a link, which is its parameters, a semicolon and its URI, or empty for none.
+/// A style: attributes and a link. The link consists of its parameters, a semicolon and its URI, or is empty
+/// if there is none.
 #[derive(Clone, Copy, Debug)]
 pub struct StyleRef<'a> {
     pub look: Look,
     pub link: &'a [char],
 }
 
-/// Characters with their styles. Those before the first run have the default style.
+/// Characters with their styles. The characters before the first run have the default style.
 #[derive(Debug, Drop)]
 pub struct StyledText {
     pub characters: Vec<char>,
@@ -129,7 +131,7 @@ impl StyledText {
         }
     }
 
-    // Returns whether characters that are appended have a style.
+    // Returns whether characters that are appended would have a given style.
     fn ends_in(&self, look: Look, link: Link) -> bool
         ensures { result ≡ true
             → style_at self.now.links.items DEFAULT self.now.runs.items (length self.now.characters.items)

@@ -1,5 +1,4 @@
-//! Worked examples of layouts. The tests also pass if any single allocation outside `refill`
-//! fails.
+//! Worked examples of layouts. The tests must also pass if any single allocation outside `refill` fails.
 ghost use Rattle.std.specs.Prelude.{◌≡◌, ◌<◌, IfOk, OnOk};
 ghost use Rattle.lines.specs.Engine.{rules_of, SameRules};
 ghost use Rattle.lines.specs.Extents.{extents_of};
@@ -79,7 +78,7 @@ static STARTS: [(&str, u16, &[u32]); 13] = [
     ("ab cd\u{2028}e", 1, &[0, 1, 3, 4, 6]),
 ];
 
-// A paragraph, a width, and where the paragraph's lines start if they end at mandatory breaks only.
+// A paragraph, a width, and where the paragraph's lines start if lines end at mandatory breaks only.
 static STARTS_AT_MANDATORY_BREAKS: [(&str, u16, &[u32]); 5] = [
     ("abcdefgh", 3, &[0]),
     ("ab cd ef", 1, &[0]),
@@ -164,7 +163,7 @@ fn longest_paragraph_at_width_one_has_a_line_per_letter(rt: HostRuntime) -> Resu
 }
 
 // Finds the lines of a paragraph at another width. Does not try again after an allocation failure, so that
-// the tests detect a mutant that fails for no reason.
+// the tests detect a mutant that reports failures without a cause.
 fn refill(alloc: Global, engine: &mut Engine, laid: &Laid, width: u16) -> Result<Fill, Fail>
     requires laid { IsLaidOut (rules_of engine.old) laid.now }
     requires width { 0 < width }
@@ -256,7 +255,7 @@ fn reflow(alloc: Global, engine: &mut Engine, laid: &mut Laid, width: u32) -> Re
     Ok(())
 }
 
-// Returns whether the paragraph gets the right lines at three widths, one after another.
+// Returns whether the paragraph has the right lines at three widths, one after another.
 fn reflows(alloc: Global, engine: &mut Engine, laid: &mut Laid) -> Result<bool, Fail>
     requires laid { IsLaidOut (with_advances (rules_of engine.old) laid.old.advances) laid.old }
 {
@@ -320,7 +319,7 @@ fn layout_has_its_text_base_levels_and_marks(rt: HostRuntime) -> Result<(), Fail
     Ok(())
 }
 
-// A line: its length and, for its shown part, the characters, the levels and both position maps.
+// A line: its length, and the characters, the levels and both position maps of its shown part.
 struct Row {
     len: usize,
     chars: &'static [char],

@@ -82,8 +82,8 @@ fn make_each<S: ParagraphStore<Kept>>(
     Ok(())
 }
 
-// Executes an edit, which may raise the counters by at most these numbers, and tries again after an
-// allocation failure.
+// Executes an edit, and tries again after an allocation failure. The edit may raise the counters by at most
+// these numbers.
 fn make_within<S: ParagraphStore<Kept>>(
     rt: &impl Abort,
     edited: &mut Session<S>,
@@ -223,7 +223,7 @@ fn print<'a, S: ParagraphStore<Kept>>(
     }
 }
 
-// Returns whether the sessions print the same, each into one half of the buffer.
+// Returns whether the sessions print the same output, each into one half of the buffer.
 fn same_page<S: ParagraphStore<Kept>, T: ParagraphStore<Kept>>(
     left: &Session<S>,
     right: &Session<T>,
@@ -236,7 +236,7 @@ fn same_page<S: ParagraphStore<Kept>, T: ParagraphStore<Kept>>(
     }
 }
 
-// Returns whether the sessions have the same contents and print the same.
+// Returns whether the sessions have the same contents and print the same output.
 fn same<S: ParagraphStore<Kept>, T: ParagraphStore<Kept>>(
     left: &Session<S>,
     right: &Session<T>,
@@ -270,8 +270,8 @@ fn renew<S: ParagraphStore<Kept>>(
     )
 }
 
-// A session over some store; another one, whose whole text is replaced at once; and a buffer for what both
-// print.
+// A session over some store; another session, whose whole text is replaced at once; and a buffer for the
+// output of both.
 #[derive(Drop)]
 struct Pair<S: ParagraphStore<Kept>, T: ParagraphStore<Kept>> {
     edited: Session<S>,

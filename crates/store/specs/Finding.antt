@@ -19,14 +19,14 @@ pub record Finds {P : Type 0} (size chars lines : P → ℕ) (items : List P) (n
   pub chars_before : found.chars_before ≡ sum_by chars before
   pub lines_before : found.lines_before ≡ sum_by lines before
 
--- the item at an index, with the characters and lines of the items before it
+-- the item at an index, with the numbers of characters and lines in the items before it
 pub record FindsItem {P : Type 0} (chars lines : P → ℕ) (items : List P) (index : ℕ) (found : Found) : Type 0 where
   pub index_is : found.index ≡ index
   pub rest : found.rest ≡ 0
   pub chars_before : found.chars_before ≡ sum_by chars (take index items)
   pub lines_before : found.lines_before ≡ sum_by lines (take index items)
 
--- the bytes and UTF-16 code units of the items before the found one
+-- the numbers of bytes and UTF-16 code units in the items before the found item
 pub record CountsBefore {P : Type 0} (bytes utf16 : P → ℕ) (items : List P) (found : Found) : Type 0 where
   pub bytes_before : found.bytes_before ≡ sum_by bytes (take found.index items)
   pub utf16_before : found.utf16_before ≡ sum_by utf16 (take found.index items)
@@ -48,7 +48,7 @@ pub record IsPlace {P : Type 0} (G : Ghosts P) (unit : Counted) (items : List P)
   pub finds : Finds (measure G unit) G.chars G.lines items n (found_at place)
   pub sums : AreSums G finds.before place.before
 
--- whether a place is that of the item at an index, including all sums of the items before it
+-- whether a place is the start of the item at an index, including all sums of the items before it
 pub record IsItemPlace {P : Type 0} (G : Ghosts P) (items : List P) (index : ℕ) (place : Place) : Type 0 where
   pub index_is : place.index ≡ index
   pub rest : place.rest ≡ 0

@@ -6,7 +6,7 @@ use Rattle.store.specs.Trees.{Tree, Empty, Fork, in_order, height, IsBalanced}
 use Rattle.store.specs.declared.measured.Measured.{Ghosts}
 use Rattle.store.specs.declared.subtree.Node.{Node}
 
--- whether the number of items, and their sums, fit in a `usize`
+-- whether the number of items and their sums fit in a `usize`
 pub record Fits {P : Type 0} (G : Ghosts P) (items : List P) : Type 0 where
   pub count : length items < 2 ^ 64
   pub sums : SumsFit G items

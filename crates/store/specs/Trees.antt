@@ -1,5 +1,4 @@
--- Binary trees of items, balanced trees, and the least number of nodes that a balanced tree of a given height
--- can have.
+-- Binary trees of items, balanced trees, and the minimum number of nodes of a balanced tree of a given height.
 use Rattle.std.specs.Prelude.{◌≡◌, ℕ, zero, suc, ◌+◌, ◌-◌, ◌≤◌, nat_lt, max, List, [], ◌∷◌, ◌++◌, length, Option, Some, None, refl, if◌then◌else◌}
 use Rattle.std.proofs.Common.{ap, ◌∙◌}
 use Rattle.std.specs.Coded.{Coded, code_by, coded_list, coded_option}
@@ -24,7 +23,7 @@ module _ {A : Type 0} where
   IsBalanced Empty = Unit {0}
   IsBalanced (Fork l x r) = IsBalanced l × IsBalanced r × (height l ≤ height r + 1) × (height r ≤ height l + 1)
 
-  -- the number of nodes on the path from the root to an item, both included
+  -- the number of nodes on the path from the root to an item, including both
   abbrev pub nodes_to : Tree A → ℕ → ℕ
   nodes_to Empty i = 0
   nodes_to (Fork l x r) i =
@@ -64,7 +63,7 @@ module _ {A : Type 0} where
   abbrev pub tree_code : Coded A → Coded (Tree A)
   tree_code c = code_by (List (Option A)) (coded_list (coded_option c)) listed (λ os. first (grown_all [] os)) (λ t. ap first (grown_listed t []))
 
--- the least number of nodes of a balanced tree of the given height
+-- the minimum number of nodes of a balanced tree of the given height
 abbrev pub fewest_nodes : ℕ → ℕ
 fewest_nodes zero = 0
 fewest_nodes (suc zero) = 1

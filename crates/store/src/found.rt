@@ -11,13 +11,13 @@ pub struct Found {
     pub index: usize,
     /// The index of the character, line, byte or code unit within the item, starting at 0.
     pub rest: usize,
-    /// The number of characters in the items before this one.
+    /// The number of characters in the items before this item.
     pub chars_before: usize,
-    /// The number of lines in the items before this one.
+    /// The number of lines in the items before this item.
     pub lines_before: usize,
-    /// The number of UTF-8 bytes in the items before this one.
+    /// The number of UTF-8 bytes in the items before this item.
     pub bytes_before: usize,
-    /// The number of UTF-16 code units in the items before this one.
+    /// The number of UTF-16 code units in the items before this item.
     pub utf16_before: usize,
     /// The number of items that the search visited.
     pub visits: usize,

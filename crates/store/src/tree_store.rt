@@ -93,8 +93,7 @@ impl<P: Measured> TreeStore<P> {
     }
 }
 
-// Moves each item into a node of its own, starting with the last item. If an allocation fails, moves all
-// items back.
+// Moves each item into a new node, starting with the last item. If an allocation fails, moves all items back.
 fn hang<P: Measured>(alloc: Global, items: &mut Vec<P>) -> Result<Vec<DetachedNode<P>>, AllocError>
     ensures ok { IfOk result (λ nodes. nodes.items ≡ reverse items.old.items) }
     ensures left { OnOk result (items.new.items ≡ []) }
@@ -127,8 +126,8 @@ fn take_down<P: Measured>(nodes: Vec<DetachedNode<P>>, items: &mut Vec<P>)
     nodes.destroy_empty();
 }
 
-// Allocates what a replacement needs: capacity for the old items, and a node for each new item. Fails if the
-// total number of kept and new items overflows.
+// Allocates the memory for a replacement: capacity for the old items, and a node for each new item. Fails if
+// the total number of kept and new items overflows.
 fn take_memory<P: Measured>(
     alloc: Global,
     kept: usize,

@@ -1,4 +1,4 @@
--- How vectors encode characters: tests for their lengths, and the bytes that are kept from each lane.
+-- How vector code encodes characters: tests for their lengths, and the bytes that are kept from each lane.
 use Rattle.std.specs.Prelude.{ℕ, ◌/◌, ◌%◌, ◌==◌, ◌++◌, nat_lt, Bool, List, [], ◌∷◌, take, if◌then◌else◌}
 
 -- whether a number is below the upper bound of code points
@@ -9,7 +9,7 @@ is_code c = nat_lt c 0x110000
 abbrev pub kept : ℕ → ℕ → ℕ
 kept low high = if high == 0 then (if low == 0 then 1 else 2) else (if low == 0 then 4 else 3)
 
--- the bytes of a lane, the lowest first
+-- the bytes of a lane, with the lowest byte first
 abbrev pub bytes_of : ℕ → List ℕ
 bytes_of word = (word % 256) ∷ (word / 256 % 256) ∷ (word / 65536 % 256) ∷ (word / 16777216 % 256) ∷ []
 

@@ -15,8 +15,8 @@ is_bad bytes = is_some (utf8_error_len (drop (utf8_valid_len bytes) bytes))
 abbrev pub char_len : ℕ → ℕ
 char_len first = if nat_lt first 0xE0 then 2 else (if nat_lt first 0xF0 then 3 else 4)
 
--- A character begins at an index, and the bytes end inside this character. The bytes of a character after its
--- first one are below 0xC0.
+-- A character begins at an index, and the bytes end inside this character. The bytes of a character after its first
+-- byte are below 0xC0.
 pub record IsCutOff (bytes : List ℕ) (at : ℕ) : Type 0 where
   pub begins : 0xC0 ≤ slice_index bytes at
   pub inside : (k : ℕ) → at < k → k < length bytes → slice_index bytes k < 0xC0

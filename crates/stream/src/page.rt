@@ -10,7 +10,7 @@ use std::io::ErrorKind;
 #[derive(Debug, Drop)]
 pub struct Page {
     pub bytes: Vec<u8>,
-    // The capacity that the first write reserves, or 0 after that write.
+    // The capacity that the first write reserves. The value is 0 after that write.
     room: usize,
     failures: u64,
     failed_at: u64,

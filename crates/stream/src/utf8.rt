@@ -149,14 +149,14 @@ fn begins_between(text: &str, low: u8, high: u8) -> bool
     }
 }
 
-/// Returns the longest prefix of `bytes` that is valid UTF-8, and whether the bytes after it are invalid.
-/// They are invalid if no character begins with them.
+/// Returns the longest prefix of `bytes` that is valid UTF-8, and whether the bytes after it are invalid. The
+/// bytes after it are invalid if no character begins with them.
 pub fn front(bytes: &[u8]) -> (&str, bool)
     ensures text { result.0.now ≡ take (utf8_valid_len bytes.now) bytes.now }
     ensures bad { result.1 ≡ is_bad bytes.now }
     ensures few { result.1 ≡ false → length bytes.now < utf8_valid_len bytes.now + 4 }
 {
-    // A chunk usually ends inside a character. Splitting it here means that it is validated only once.
+    // A chunk usually ends inside a character. Splitting the chunk here means that it is validated only once.
     let (whole, cut) = bytes.split_at(whole_len(bytes));
     match from_utf8(whole) {
         Ok(text) if is_beginning(cut) => (text, false),

@@ -5,7 +5,7 @@
 //! - `table_tools properties FOLDER [VERSION]` prints the properties of characters. `tests/fribidi/run`
 //!   compares the tables of FriBidi's interface with this output.
 //!
-//! VERSION is the Unicode version of the files, `15.0` or `17.0`. If it is missing, it is 15.0.
+//! VERSION is the Unicode version of the files, `15.0` (the default) or `17.0`.
 #![tactic(auto)]
 
 mod image;

@@ -7,9 +7,9 @@ use std::io::{BufWriter, Write};
 use tables::in_folder_as;
 use ucd::{BidiClass, LineDetail, Tables, Version};
 
-/// Prints the properties of characters in the table files of a version in a folder. Each line is one property
-/// of a character: a bidi class other than L, a bracket and whether it is an opening one, a mirror, or a line
-/// breaking class with its detail, if the character has a detail.
+/// Prints the properties of characters, from the table files in a folder, which have the given version. Each
+/// line is one property of a character: a bidi class other than L, a bracket and whether it is an opening
+/// bracket, a mirror, or a line breaking class with its detail, if the character has a detail.
 pub fn print_properties(rt: &HostRuntime, version: Version, folder: &str) -> Result<()> {
     let tables = in_folder_as(rt, version, folder)?;
     write_buffered(rt, &tables)

@@ -27,7 +27,7 @@ IsUnusable bytes (Image why) = IsFirstFault bytes why
 IsUnusable bytes Memory = MayAllocate bytes
 IsUnusable bytes other = ⊥
 
--- the first fault of an image that must be of a version, or an allocation failure
+-- the first fault of an image that must have this version, or an allocation failure
 abbrev pub IsUnusableAs : Version → List ℕ → FolderFault → Type 0
 IsUnusableAs version bytes (Image why) = IsFirstFault bytes why ⊎ ((why ≡ image.Version) × IsImage bytes × (image_version bytes ≢ version))
 IsUnusableAs version bytes Memory = MayAllocate bytes
@@ -70,9 +70,9 @@ module _ (has_file : ℕ → List ℕ → Type 0) (cannot_read : ℕ → Type 0)
   abbrev pub IsFileFault : FolderFault → Type 0
   IsFileFault = IsFileFaultAs V15_0
 
-  -- a folder that has an image with certain bytes, or has none, or has one that cannot be read
+  -- a folder that has an image with certain bytes, has an image that cannot be read, or has no image
   module _ (has_image : List ℕ → Type 0) (has_no_image cannot_read_image : Type 0) where
-    -- the tables are those of the image, which is of the version, or those of the files if there is no image
+    -- the tables are those of the image, which has this version, or those of the files if there is no image
     abbrev pub AreInstalledAs : Version → Tables → Type 0
     AreInstalledAs version tables =
         ((bytes : List ℕ) × has_image bytes × IsImageOf bytes tables × (tables.version ≡ version)) ⊎ (has_no_image × AreFromFilesAs version tables)
@@ -80,7 +80,8 @@ module _ (has_file : ℕ → List ℕ → Type 0) (cannot_read : ℕ → Type 0)
     abbrev pub AreInstalled : Tables → Type 0
     AreInstalled = AreInstalledAs V15_0
 
-    -- the image cannot be read, or this is its first fault; or there is no image, and this is the fault of the files
+    -- the image cannot be read, or this is its first fault; or there is no image, and this is the first fault of the
+    -- files
     abbrev pub IsInstalledFaultAs : Version → FolderFault → Type 0
     IsInstalledFaultAs version why =
         IsUnread cannot_read_image image_name why ⊎ (((bytes : List ℕ) × has_image bytes × IsUnusableAs version bytes why) ⊎ (has_no_image × IsFileFaultAs version why))
@@ -88,8 +89,8 @@ module _ (has_file : ℕ → List ℕ → Type 0) (cannot_read : ℕ → Type 0)
     abbrev pub IsInstalledFault : FolderFault → Type 0
     IsInstalledFault = IsInstalledFaultAs V15_0
 
--- The contents of the file system. They are not specified: each file and the image may have any bytes, and reading may
--- fail.
+-- The contents of the file system. The contents are not specified: each file and the image may have any bytes, and
+-- reading may fail.
 abbrev pub any_bytes : ℕ → List ℕ → Type 0
 any_bytes index bytes = ⊤
 

@@ -5,7 +5,7 @@ use ucd::{ImageFault, TableFault};
 /// Why the tables cannot be read.
 #[derive(Clone, Copy, Debug, PartialEq, Eq, Error)]
 pub enum FolderFault {
-    /// The file of this name cannot be read.
+    /// The file with this name cannot be read.
     #[error("cannot read {0}")]
     Unread(&'static str),
     /// A file is malformed, or memory ran out while it was parsed.

@@ -13,16 +13,16 @@ use ucd::file_name;
 /// The name of the compiled image in a folder of installed tables.
 pub const IMAGE_NAME: &str = "tables.image";
 
-/// A folder of tables. The contracts of the functions that read a folder say which of its contents the tables
-/// come from.
+/// A folder of tables. The contracts of the functions that read a folder say from which files the tables
+/// come.
 pub trait TableFolder {
     // The file with this index in `FILE_NAMES` has these bytes.
     ghost has_file: { Self → ℕ → List ℕ → Type 0 };
 
-    // That file cannot be read.
+    // The file with this index cannot be read.
     ghost cannot_read: { Self → ℕ → Type 0 };
 
-    // The image has these bytes, or there is none, or it cannot be read.
+    // The image has these bytes, does not exist, or cannot be read.
     ghost has_image: { Self → List ℕ → Type 0 };
 
     ghost has_no_image: { Self → Type 0 };
@@ -65,7 +65,7 @@ impl<'a> DiskFolder<'a> {
     }
 }
 
-// No contract covers the contents of the file system, so it is trusted that these methods read the files that
+// No contract covers the contents of the file system, so these methods are trusted to read the files that
 // they name.
 impl TableFolder for DiskFolder<'_> {
     ghost has_file = { λ _ index bytes. any_bytes index bytes };

@@ -121,7 +121,7 @@ pub fn from_installed_as<F: TableFolder>(
     }
 }
 
-/// Decodes an image of a version. Refuses an image of another version with the fault `Version`.
+/// Decodes an image of a version. Fails with `Version` if the image is of another version.
 pub fn of_image_as(alloc: Global, version: Version, bytes: &[u8]) -> Result<Tables, FolderFault>
     ensures ok { IfOk result (IsImageOf bytes.now) }
     ensures version { IfOk result (λ tables. tables.version ≡ version) }

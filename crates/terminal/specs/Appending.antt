@@ -9,8 +9,8 @@ use Rattle.terminal.specs.Prefixes.{line_prefix}
 use Rattle.terminal.specs.declared.line_form.LineForm.{LineForm}
 use Rattle.terminal.specs.declared.line_form.PrefixLine.{PrefixLine}
 
--- Characters with styles were appended after a character in the style `before`. The last one has the style `last`. This
--- holds whatever follows.
+-- Characters with styles were appended after a character in the style `before`. The last of them has the style `last`.
+-- The appended characters do not depend on what follows.
 abbrev pub Appends : List ℕ → List ℕ → Style → Style → List (ℕ × Style) → Type 0
 Appends old new before last line = (more : List (ℕ × Style)) → new ++ written_after last more ≡ old ++ written_after before (line ++ more)
 

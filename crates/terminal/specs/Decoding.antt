@@ -35,12 +35,12 @@ pub record IsDecoded (bytes : List ℕ) (n : ℕ) (before after : List ℕ) : Ty
   pub within : n ≤ length bytes
   pub text : (more : List ℕ) → lossy (bytes ++ more) ≡ characters ++ lossy (drop n bytes ++ more)
 
--- Only an incomplete character is left.
+-- The bytes after the first n are only an incomplete character.
 pub record IsAllDecoded (bytes : List ℕ) (n : ℕ) (before after : List ℕ) : Type 0 where
   pub decoded : IsDecoded bytes n before after
   pub rest : IsBeginning (drop n bytes)
 
--- in the mode `Text`, pictures replace the controls that are otherwise dropped
+-- in the mode `Text`, pictures replace controls that the other modes drop
 abbrev pub pictures : Escapes → List ℕ → List ℕ
 pictures Keep text = text
 pictures Strip text = text
@@ -54,14 +54,14 @@ text_after escapes started bytes = pictures escapes (if started then lossy bytes
 abbrev pub good_part : Bool → List ℕ → List ℕ
 good_part strict bytes = if strict && is_bad bytes then take (utf8_valid_len bytes) bytes else bytes
 
--- The first n bytes were decoded. If `strict`, they are valid UTF-8, and the rest is dropped if it is not.
+-- The first n bytes were decoded. If `strict`, these bytes are valid UTF-8, and the rest is dropped if it is not.
 pub record Decodes (strict : Bool) (bytes : List ℕ) (n : ℕ) (stops : Bool) (before after : List ℕ) : Type 0 where
   pub all : IsAllDecoded (good_part strict bytes) n before after
   pub stops_is : stops ≡ (strict && is_bad bytes)
   pub within : n ≤ length bytes
   pub valid : strict ≡ true → (n ≡ utf8_valid_len bytes) × (after ≡ before ++ chars (take n bytes))
 
--- n bytes were read and appended to the waiting ones
+-- n bytes were read and appended to the waiting bytes
 pub record IsRead (n : ℕ) (old new : Decoder) (reader_old reader_new : Device) : Type 0 where
   pub read : IsReadTo old.waiting n old.chunk.items new.chunk.items reader_old reader_new
   pub small : old.waiting + n ≤ vec_len old.chunk

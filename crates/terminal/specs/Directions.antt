@@ -22,7 +22,7 @@ abbrev pub first_level : Tables → List (List ℕ) → Option ℕ
 first_level tables [] = None
 first_level tables (paragraph ∷ following) = or_else (first_strong_level (map (class_of tables) paragraph)) (first_level tables following)
 
--- that level for the paragraphs that a text shows
+-- the level of the first strong character among the paragraphs that a text shows
 unfoldable pub shown_level : Rules → List ℕ → Option ℕ
 shown_level rules text = first_level rules.tables (paragraphs (cut_by rules) (shown_text text))
 
@@ -30,12 +30,13 @@ shown_level rules text = first_level rules.tables (paragraphs (cut_by rules) (sh
 abbrev pub base_by : Option ℕ → Base
 base_by level = if unwrap_or level 0 == 1 then Rtl else Ltr
 
--- the base direction of an input: that of the first paragraph with a strong character in what the input's first
--- characters show
+-- the base direction of an input: the direction of the first paragraph with a strong character, among the paragraphs
+-- that the input's first characters show
 abbrev pub direction_of : Rules → Escapes → List ℕ → Base
 direction_of rules escapes bytes = base_by (shown_level rules (take FIRST_CHARACTERS (input_text escapes bytes)))
 
--- The first n bytes of an input were decoded, and the others are the beginning of a character. Only the code uses this definition.
+-- The first n bytes of an input were decoded, and the other bytes are the beginning of a character. Only the code uses
+-- this definition.
 pub record StartsWith (escapes : Escapes) (bytes : List ℕ) (n : ℕ) (text : List ℕ) : Type 0 where
   pub started : Bool
   pub within : n ≤ length bytes

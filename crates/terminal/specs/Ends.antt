@@ -1,4 +1,4 @@
--- Which ends of blocks are known before the whole text is read.
+-- The ends of blocks that are known before the whole text is read.
 use Rattle.std.specs.Prelude.{◌≡◌, ◌⊎◌, ℕ, zero, suc, ◌+◌, ◌-◌, ◌<◌, ◌≤◌, Bool, true, false, ◌&&◌, List, [], ◌∷◌, ◌++◌, length, take, drop, slice_index, if◌then◌else◌}
 use Rattle.sequences.specs.Characters.{is_dropped}
 use Rattle.sequences.specs.Known.{knows_sequence}

@@ -6,11 +6,11 @@ use Rattle.lines.specs.declared.printing.print.Print.{Print}
 use Rattle.sequences.specs.Output.{written}
 use Rattle.sequences.specs.Styled.{DEFAULT, Style}
 
--- characters that all have one style
+-- characters that all have the same style
 abbrev pub in_style : Style → List ℕ → List (ℕ × Style)
 in_style style chars = map (λ c. (c, style)) chars
 
--- the style of the character at a position, given those of a line in logical order
+-- the style of the character at a position, given the styles of a line's characters in logical order
 abbrev pub style_on : List Style → ℕ → Style
 style_on styles k = slice_index_or styles k DEFAULT
 
@@ -32,8 +32,8 @@ line_chars print visual styles = styled_chars visual styles (ordered_chars print
 abbrev pub shown_line : ℕ → Print → Visual → List Style → List (ℕ × Style)
 shown_line width print visual styles = in_style DEFAULT (padding width print visual) ++ line_chars print visual styles
 
--- the prefix of a paragraph's lines: what it prints on the first line, what it prints on the others, and whether it is
--- to the right of a line
+-- the prefix of a paragraph's lines: what it prints on the first line, what it prints on the other lines, and whether
+-- it is to the right of a line
 pub record LinePrefix : Type 0 where
   pub first : List (ℕ × Style)
   pub others : List (ℕ × Style)
@@ -50,6 +50,6 @@ module _ (prefix : Option LinePrefix) (width : ℕ) (print : Print) (visual : Vi
   abbrev pub styled_line : List ℕ
   styled_line = written (with_prefix prefix visual (shown_line width print visual styles)) ++ codes "\n"
 
-  -- a line; the first line is followed by the base direction if that is printed
+  -- a line; the base direction, if it is printed, follows the first line
   abbrev pub styled_lines : List ℕ
   styled_lines = styled_line ++ (if print.basedir && visual.is_first then direction_line visual.base else [])

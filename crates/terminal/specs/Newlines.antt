@@ -1,4 +1,4 @@
--- The newline at the end of what is written.
+-- The newline at the end of the output.
 use Rattle.std.specs.Prelude.{◌≡◌, ℕ, ◌-◌, ◌<◌, Bool, true, ◌&&◌, not, List, [], ◌∷◌, ◌++◌, length, take, Option, None, Some, if◌then◌else◌}
 use Rattle.std.specs.Option.{option_map_or}
 use Rattle.ucd.specs.declared.tables.Tables.{Tables}
@@ -13,8 +13,8 @@ last_of [] = None
 last_of (c ∷ []) = Some c
 last_of (c ∷ d ∷ text) = last_of (d ∷ text)
 
--- Whether a text with this last character ends a line: the character has bidi class B, or line breaking class BK, CR, LF or NL. An empty
--- text leaves no line open.
+-- Whether a text with this last character ends a line: the character has bidi class B, or line breaking class BK, CR,
+-- LF or NL. An empty text has no line to end.
 abbrev pub is_ended : Tables → Option ℕ → Bool
 is_ended tables last = option_map_or (ends_line tables) last true
 
@@ -25,15 +25,15 @@ without_last bytes = take (length bytes - 1) bytes
 abbrev pub ended_page : Tables → Bool → Option ℕ → List ℕ → List ℕ
 ended_page tables is_last last page = if is_last && not (is_ended tables last) then without_last page else page
 
--- what is written for a text with its sequences
+-- the output for a text with its sequences
 abbrev pub text_output : Rules → Form → Bool → Pen → List ℕ → List ℕ
 text_output rules form is_last pen text = ended_page rules.tables is_last (last_of (shown_text text)) (text_page rules form pen text)
 
--- what is written for an input
+-- the output for an input
 abbrev pub output_page : Rules → Form → Bool → List ℕ → List ℕ
 output_page rules form is_last bytes = text_output rules form is_last START (input_text form.escapes bytes)
 
--- whether a text ends in this character
+-- whether this is the last character of a text
 pub record EndsIn (c : ℕ) (text : List ℕ) : Type 0 where
   pub front : List ℕ
   pub is : text ≡ front ++ c ∷ []

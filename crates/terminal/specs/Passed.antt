@@ -1,4 +1,4 @@
--- How far the text after a CR was scanned. No contract of an exported function uses these definitions.
+-- The state of the search for the character after a CR. No contract of an exported function uses these definitions.
 use Rattle.std.specs.Prelude.{◌≡◌, ℕ, ◌+◌, ◌≤◌, List, ◌++◌, length, take, drop}
 use Rattle.sequences.specs.Progress.{after_all}
 use Rattle.sequences.specs.declared.known.Progress.TheVariants.{Start}
@@ -6,7 +6,7 @@ use Rattle.terminal.specs.Ends.{knows_next}
 use Rattle.terminal.specs.Texts.{next_character}
 use Rattle.terminal.specs.declared.passed.Passed.{Passed}
 
--- The next character of a text is that of the text without its first n characters, whatever follows.
+-- Whatever follows, removing the first n characters of a text does not change its next character.
 pub record Skips (n : ℕ) (text : List ℕ) : Type 0 where
   pub next : (more : List ℕ) → next_character (text ++ more) ≡ next_character (drop n text ++ more)
   pub known : (more : List ℕ) → knows_next (text ++ more) ≡ knows_next (drop n text ++ more)

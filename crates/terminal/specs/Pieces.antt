@@ -38,7 +38,7 @@ directed options base = record options { base = if is_odd base then Rtl else Ltr
 abbrev pub in_direction : Rules → ℕ → Rules
 in_direction rules base = with_options rules (directed rules.options base)
 
--- the printed bytes of pieces, each of which is laid out by itself
+-- the printed bytes of pieces, each of which is laid out separately
 abbrev pub printed_each : Rules → Form → List (ℕ × Style) → List ℕ
 printed_each rules form shown = flat_map (printed_paragraph rules form) (pieces shown)
 

@@ -25,7 +25,7 @@ use Rattle.terminal.specs.declared.form.Prefix.TheVariants as prefix
 abbrev pub quoted : Bool → ℕ → Option Bool
 quoted spaced c = if c == 0x3E then Some true else if spaced && c == 0x20 then Some false else None
 
--- the length of the longest match of `(> ?)+` at the start of a text; with `spaced`, a space may come first
+-- the length of the longest match of `(> ?)+` at the start of a text; if `spaced`, a space may come first
 abbrev pub quote_from : Bool → List ℕ → ℕ
 quote_from spaced [] = 0
 quote_from spaced (c ∷ text) = option_map_or (λ next. suc (quote_from next text)) (quoted spaced c) 0
@@ -48,7 +48,7 @@ prefix_len tables prefix.None text = 0
 prefix_len tables prefix.Quotes text = quote_from false text
 prefix_len tables (prefix.Pattern regex) text = min (length text) (match_len (regex_pattern regex.now) (without_separator tables text))
 
--- the base level of a prefix, given that of what follows it
+-- the base level of a prefix, given the base level of the text after it
 abbrev pub prefix_base : Prefix → ℕ → ℕ
 prefix_base prefix.None base = base
 prefix_base prefix.Quotes base = base
@@ -60,7 +60,7 @@ repeats prefix.None = true
 repeats prefix.Quotes = true
 repeats (prefix.Pattern regex) = false
 
--- A prefix is laid out as a line of its own that shows all its spaces.
+-- A prefix is laid out as a separate line that shows all its spaces.
 abbrev pub prefix_options : Options → ℕ → Options
 prefix_options options base = record options { base = if is_odd base then Rtl else Ltr; nobreak = true; show_spaces = true }
 
@@ -72,13 +72,13 @@ abbrev pub narrow_line : ℕ → List Visual → Option Visual
 narrow_line width (line ∷ []) = if nat_lt line.columns width then Some line else None
 narrow_line width lines = None
 
--- what follows a prefix, or a newline if nothing does
+-- the text after a prefix, or a newline if there is none
 abbrev pub or_one : {A : Type 0} → A → List A → List A
 or_one a [] = a ∷ []
 or_one a (b ∷ list) = b ∷ list
 
--- What is printed on each line for a prefix: its characters, in their styles, or as many spaces as it has columns. A
--- right-to-left prefix is to the right of lines.
+-- What is printed on each line for a prefix: its characters in their styles, or as many spaces as the prefix has
+-- columns. A right-to-left prefix is to the right of lines.
 abbrev pub line_prefix : Bool → Print → Visual → List Style → LinePrefix
 line_prefix repeated print line styles = record {
   first = line_chars print line styles;
@@ -92,8 +92,8 @@ module _ (rules : Rules) (form : Form) (text : List ℕ) (styles : List Style) w
   prefix_line n =
       narrow_line (width_of form) (visuals (prefix_layout rules (prefix_base form.prefix (base_of rules (or_one 10 (drop n text)))) (take n text)))
 
-  -- The printed bytes of a paragraph whose first n characters are a prefix with the given line. What follows the prefix
-  -- is a paragraph of its own.
+  -- The printed bytes of a paragraph whose first n characters are a prefix with the given line. The text after the
+  -- prefix is laid out as a separate paragraph.
   abbrev pub bytes_after : ℕ → Option Visual → List ℕ
   bytes_after n None = styled_bytes None rules (width_of form) (print_of form) text styles
   bytes_after n (Some line) =

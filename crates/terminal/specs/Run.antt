@@ -31,7 +31,7 @@ is_within block = nat_le (length block) PARAGRAPH_LIMIT
 abbrev pub are_within : List (List ℕ) → Bool
 are_within parts = list_all is_within parts
 
--- If the form is strict, blocks are within the limit.
+-- If the form is strict, all blocks are within the limit.
 abbrev pub ArePermitted : Form → List (List ℕ) → Type 0
 ArePermitted form parts = form.strict ≡ true → are_within parts ≡ true
 
@@ -39,7 +39,8 @@ ArePermitted form parts = form.strict ≡ true → are_within parts ≡ true
 abbrev pub have_over : Rules → Pen → List (List ℕ) → Bool
 have_over rules pen parts = list_any (λ shown. has_over rules (characters_of shown)) (shown_blocks pen parts)
 
--- The characters of some bytes that are the same whatever follows these bytes. If they end inside a character, one U+FFFD is missing.
+-- The characters of some bytes, as far as they do not depend on the bytes that follow. If the bytes end inside a
+-- character, the U+FFFD for this character is missing.
 pub record IsText (escapes : Escapes) (bytes text : List ℕ) : Type 0 where
   pub after : List ℕ → List ℕ
   pub begins : (more : List ℕ) → input_text escapes (bytes ++ more) ≡ text ++ after more
@@ -70,7 +71,7 @@ IsTooLong is_cut text =
 abbrev pub HasRead : Device → Device → List ℕ → Type 0
 HasRead old new bytes = Consumes old.bytes new.bytes bytes × (new.passed ≡ old.passed + length bytes)
 
--- At most one chunk was read after these bytes, and all blocks that had ended in them were written before.
+-- At most one chunk was read after these bytes, and only after all blocks that end in these bytes were written.
 pub record WritesFirst (rules : Rules) (form : Form) (bytes : List ℕ) (writer_old writer_new : Device) : Type 0 where
   pub early : List ℕ
   pub late : List ℕ
@@ -104,9 +105,9 @@ EndsBy rules form is_last reader_old reader_new writer_old writer_new bytes firs
     × (((rest : List ℕ) × BeginsWith rules form (good_part form.strict bytes) ended rest) ⊎ (IsAtEnd reader_new.bytes × EndsTooLong rules form bytes ended)))
     ⊎ (IsAtEnd reader_new.bytes × StoppedAt n (output_page rules form is_last bytes) writer_old writer_new)
 
--- How a run ended. Without a fault, the whole input was read, and it is valid UTF-8 if the form is strict. Its lines
--- and nothing else were written, without the last newline if the input is the last one and its text does not end a
--- line. The result says whether a paragraph was over the limit.
+-- How a run ended. Without a fault, the whole input was read, and it is valid UTF-8 if the form is strict. The lines of
+-- the input and nothing else were written, without the last newline if the input is the last one and its text does not
+-- end a line. The result says whether a paragraph was over the limit.
 abbrev pub IsRun : Rules → Form → Bool → Device → Device → Device → Device → Result Bool Fault → Type 0
 IsRun rules form is_last reader_old reader_new writer_old writer_new (Ok over) =
     (bytes : List ℕ) × HasRead reader_old reader_new bytes × IsAtEnd reader_new.bytes × (reader_new.failures ≡ reader_old.failures)

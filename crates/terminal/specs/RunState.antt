@@ -48,13 +48,13 @@ pub record Adds (rules : Rules) (form : Form) (parts : List (List ℕ)) (old new
 abbrev pub is_left_long : ℕ → ℕ → Bool
 is_left_long scanned len = nat_lt PARAGRAPH_LIMIT len && (nat_le PARAGRAPH_LIMIT scanned || nat_lt (2 * PARAGRAPH_LIMIT) len)
 
--- what is left of a text: if it is not too long, no end of a block is known before `scanned`
+-- the rest of a text: if it is not too long, no end of a block is known before `scanned`
 abbrev pub Leaves : Rules → Bool → Bool → ℕ → List ℕ → Type 0
 Leaves rules holds true scanned rest = (holds ≡ true) × IsTooLong (cut_by rules) rest
 Leaves rules holds false scanned rest = IsLeft (cut_by rules) holds scanned rest
 
--- The lines of all blocks that have ended were added to the page, or only the lines of those before one that is too
--- long.
+-- The lines of all blocks that have ended were added to the page. If a block is too long, only the lines of the blocks
+-- before it were added.
 pub record AddsEnded (rules : Rules) (form : Form) (text : List ℕ) (old new : Output) (start scanned : ℕ) (is_long : Bool) : Type 0 where
   pub parts : List (List ℕ)
   pub front : IsFront (cut_by rules) parts text (drop start text)
@@ -64,8 +64,8 @@ pub record AddsEnded (rules : Rules) (form : Form) (text : List ℕ) (old new : 
   pub leaves : Leaves rules form.strict is_long scanned (drop start text)
   pub holds : form.strict ≡ true → length (drop start text) ≡ 0 → length text ≡ 0
 
--- The lines of the blocks of a whole text were added to the page, or only the lines of those before one that is too
--- long.
+-- The lines of all blocks of a whole text were added to the page. If a block is too long, only the lines of the blocks
+-- before it were added.
 abbrev pub AddsLast : Rules → Form → Bool → List ℕ → Output → Output → Bool → Type 0
 AddsLast rules form is_last text old new false =
     (new.page.bytes.items ≡ old.page.bytes.items ++ text_output rules form is_last (pen_of old.scanner) text)
@@ -98,14 +98,14 @@ pub record Gathers (rules : Rules) (form : Form) (bytes : List ℕ) (old new : H
   pub holds : form.strict ≡ true → length new.text.items ≡ 0 → length text ≡ 0
   pub fault_is : fault ≡ fault_after is_long (form.strict && is_bad bytes) new.decoder.decoded
 
--- The bytes before the waiting ones are valid UTF-8. They have these characters, whatever follows.
+-- The bytes before the waiting bytes are valid UTF-8. These bytes have these characters, whatever follows.
 pub record IsValidSoFar (escapes : Escapes) (bytes waiting text : List ℕ) (started : Bool) : Type 0 where
   pub front : List ℕ
   pub whole : bytes ≡ front ++ waiting
   pub utf8 : IsUtf8 front
   pub decoded : (more : List ℕ) → input_text escapes (front ++ more) ≡ text ++ text_after escapes started more
 
--- The bytes so far are the blocks `sent`, a text that is left, and bytes that wait for the next read.
+-- The bytes read so far are the blocks `sent`, the rest of a text, and bytes that wait for the next read.
 pub record IsFed (rules : Rules) (form : Form) (bytes : List ℕ) (sent : List (List ℕ)) (waiting text : List ℕ) (started : Bool) : Type 0 where
   pub decoded : (more : List ℕ) → input_text form.escapes (bytes ++ more) ≡ (concat sent ++ text) ++ text_after form.escapes started (waiting ++ more)
   pub beginning : IsBeginning waiting
@@ -113,7 +113,7 @@ pub record IsFed (rules : Rules) (form : Form) (bytes : List ℕ) (sent : List (
   pub permitted : ArePermitted form sent
   pub valid : form.strict ≡ true → IsValidSoFar form.escapes bytes waiting (concat sent ++ text) started
 
--- What a run did between two states of its source and sink. It wrote the lines of the blocks `sent`.
+-- What a run did between two states of its source and sink. The run wrote the lines of the blocks `sent`.
 pub record IsAt (rules : Rules) (form : Form) (reader_old reader writer_old writer : Device) (waiting text : List ℕ) (started : Bool) (pen : Pen) (written : ℕ) (over : Bool) : Type 0 where
   pub bytes : List ℕ
   pub sent : List (List ℕ)
@@ -125,7 +125,7 @@ pub record IsAt (rules : Rules) (form : Form) (reader_old reader writer_old writ
   pub written_is : written ≡ length (blocks_page rules form sent)
   pub over_is : over ≡ have_over rules START sent
 
--- the state between two reads, when all lines are written
+-- the state between two reads, after all lines are written
 pub record Stands (rules : Rules) (form : Form) (reader_old writer_old reader writer : Device) (held : Held) : Type 0 where
   pub is_at : IsAt rules form reader_old reader writer_old writer (take held.decoder.waiting held.decoder.chunk.items) held.text.items held.decoder.started
       (pen_of held.output.scanner) held.output.written held.output.over
@@ -144,7 +144,7 @@ Steps rules form is_last reader_old writer_old reader_new writer_new held (Ok tr
 Steps rules form is_last reader_old writer_old reader_new writer_new held (Ok false) = IsRun rules form is_last reader_old reader_new writer_old writer_new (Ok held.output.over)
 Steps rules form is_last reader_old writer_old reader_new writer_new held (Err fault) = IsRun rules form is_last reader_old reader_new writer_old writer_new (Err fault)
 
--- what is written at the end of an input, for each result
+-- the output at the end of an input, for each result
 abbrev pub Finishes : Rules → Form → Bool → Held → Bool → Device → Device → Result (Unit {0}) Fault → Type 0
 Finishes rules form is_last held over old new (Ok done) =
     (form.strict ≡ true → held.decoder.waiting ≡ 0)

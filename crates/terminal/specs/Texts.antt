@@ -30,7 +30,7 @@ picture c =
     else if c == 0x7F then 0x2421
     else 0xFFFD
 
--- in the mode `Text`, pictures replace these controls, so that nothing is a sequence
+-- in the mode `Text`, pictures replace these controls, so that the text contains no sequences
 abbrev pub input_text : Escapes → List ℕ → List ℕ
 input_text Keep bytes = decoded bytes
 input_text Strip bytes = decoded bytes
@@ -56,7 +56,7 @@ next_after zero (c ∷ text) = if is_dropped c then next_after (more_len c text)
 abbrev pub next_character : List ℕ → ℕ
 next_character text = next_after 0 text
 
--- characters with their styles in groups as long as the given ones
+-- characters with their styles, in groups that are as long as the given groups
 abbrev pub regrouped : List (List ℕ) → List (ℕ × Style) → List (List (ℕ × Style))
 regrouped [] shown = []
 regrouped (group ∷ groups) shown = take (length group) shown ∷ regrouped groups (drop (length group) shown)
@@ -71,12 +71,12 @@ module _ (is_cut : ℕ → ℕ → Bool) where
   blocks [] = []
   blocks (c ∷ text) = if ends_block c text then (c ∷ []) ∷ blocks text else onto_first c (blocks text)
 
-  -- The paragraphs of what a block shows. With the Unicode tables there is exactly one, since `is_apart` holds for all
+  -- The paragraphs that a block shows. With the Unicode tables there is exactly one, since `is_apart` holds for all
   -- separators.
   abbrev pub styled_paragraphs : List (ℕ × Style) → List (List (ℕ × Style))
   styled_paragraphs shown = regrouped (paragraphs is_cut (characters_of shown)) shown
 
--- what each block shows; a block begins in the style in which the one before it ends
+-- what each block shows; a block begins in the style in which the block before it ends
 abbrev pub shown_blocks : Pen → List (List ℕ) → List (List (ℕ × Style))
 shown_blocks pen [] = []
 shown_blocks pen (block ∷ blocks) = styled pen block ∷ shown_blocks (next_paragraph (pen_at_end pen block)) blocks

@@ -52,7 +52,7 @@ fn put_zeros(len: usize, numbers: &mut Vec<usize>) -> Result<(), AllocError>
     Ok(())
 }
 
-// Replaces the numbers with the style numbers of a text's characters in a mode.
+// Replaces the numbers with the style numbers that a text's characters have in a mode.
 fn number_mode(
     escapes: Escapes,
     text: &StyledText,

@@ -17,12 +17,12 @@ use stream::{CHUNK, read_to, zeroed};
 
 /// Reads and decodes chunks.
 pub(crate) struct Decoder {
-    // The last chunk. Its first `waiting` bytes are the beginning of a character.
+    // The chunk read last. The first `waiting` bytes of the chunk are the beginning of a character.
     chunk: Vec<u8>,
     waiting: usize,
-    // The number of bytes before the waiting ones.
+    // The number of bytes before the waiting bytes.
     pub(crate) decoded: u64,
-    // Whether a character has been decoded. The first one is dropped if it is U+FEFF.
+    // Whether a character has been decoded. The first character is dropped if it is U+FEFF.
     started: bool,
 }
 
@@ -53,7 +53,7 @@ impl Decoder {
         })
     }
 
-    /// Reads bytes into the chunk, after the waiting ones, and returns their number.
+    /// Reads bytes into the chunk, after the waiting bytes, and returns the number of bytes read.
     pub(crate) fn read<R: Source>(&mut self, reader: &mut R) -> Result<usize, ErrorKind>
         requires { self.old.waiting < vec_len self.old.chunk }
         ensures ok { IfOk result (λ n.
@@ -64,7 +64,7 @@ impl Decoder {
     }
 
     /// Decodes the waiting bytes and `len` more bytes, and adds their characters to a text. With
-    /// `form.strict`, stops at bytes that are not UTF-8, drops the rest, and returns whether there are any.
+    /// `form.strict`, stops at the first invalid UTF-8, drops the rest, and returns whether there was any.
     /// After a failed allocation, some characters may be missing.
     pub(crate) fn decode(
         &mut self,
@@ -104,7 +104,7 @@ impl Decoder {
         push_end(self.waiting, text)
     }
 
-    // Moves the bytes in `start..end`, which are not a whole character yet, to the front of the chunk.
+    // Moves the bytes in `start..end`, which are an incomplete character, to the front of the chunk.
     fn keep_bytes(&mut self, start: usize, end: usize)
         requires within { (start ≤ end) × (end ≤ vec_len self.old.chunk) }
         requires counted { self.old.decoded + start ≤ 2 ^ 64 - 1 }
@@ -121,8 +121,8 @@ impl Decoder {
     }
 }
 
-// Returns the end of the bytes that are not dropped, given the number of decoded bytes and the number of all
-// bytes.
+// Returns the end of the bytes that are not dropped, given the number of decoded bytes and the total number
+// of bytes.
 fn end_of(stops: bool, decoded: usize, filled: usize) -> usize
     ensures { result ≡ (if stops then decoded else filled) }
 {
@@ -141,7 +141,7 @@ pub(crate) fn push_end(waiting: usize, text: &mut Vec<char>) -> Result<(), Alloc
 }
 
 /// Removes the character at an index of a text if it is U+FEFF, unless characters were decoded before.
-/// Returns whether any are decoded now.
+/// Returns whether any characters have been decoded by now.
 pub(crate) fn start(started: bool, text: &mut Vec<char>, at: usize) -> bool
     requires { at ≤ vec_len text.old }
     ensures text { text.new.items ≡ take at text.old.items
@@ -168,7 +168,7 @@ fn drop_mark(text: &mut Vec<char>, at: usize)
     }
 }
 
-/// Replaces the characters from an index on with what a mode shows for them.
+/// Replaces the characters from an index on with the characters that a mode shows for them.
 pub(crate) fn show_pictures(escapes: Escapes, text: &mut [char], from: usize)
     requires { from ≤ length text.old }
     ensures { text.new ≡ take from text.old ++ pictures escapes (drop from text.old) }

@@ -8,7 +8,7 @@ use std::str::from_utf8;
 use stream::{front, push_characters};
 
 // Returns the longest prefix of the bytes that is valid UTF-8, and the length of the invalid sequence after
-// it. The length is `None` if no bytes are left, or only the beginning of a character.
+// it. The length is `None` if the rest is empty or only the beginning of a character.
 fn valid_prefix(bytes: &[u8]) -> (&str, Option<usize>)
     ensures { IsValidPrefix bytes.now result.0.now result.1 }
 {
@@ -23,7 +23,7 @@ fn valid_prefix(bytes: &[u8]) -> (&str, Option<usize>)
 }
 
 /// Adds the characters of bytes to a list, and returns the number of decoded bytes. The other bytes are the
-/// beginning of a character. If `strict`, stops at bytes that are not UTF-8, and returns whether there are
+/// beginning of a character. If `strict`, stops at the first invalid UTF-8, and returns whether there was
 /// any. After a failed allocation, some characters may be missing.
 pub(crate) fn decode(
     bytes: &[u8],

@@ -76,7 +76,7 @@ fn first_level(engine: &mut Engine, text: &[char]) -> Option<u8>
     None
 }
 
-// Does the same as `first_level`, for the paragraphs that a text shows.
+// Does the same as `first_level` for the paragraphs that a text shows.
 fn shown_level(alloc: Global, engine: &mut Engine, text: &[char]) -> Result<Option<u8>, AllocError>
     ensures level { IfOk result (λ level. level ≡ shown_level (rules_of engine.old) text.now) }
     ensures rules { SameRules engine.old engine.new }
@@ -86,8 +86,8 @@ fn shown_level(alloc: Global, engine: &mut Engine, text: &[char]) -> Result<Opti
     Ok(first_level(engine, &scanner.text.characters))
 }
 
-// Does the same as `shown_level`, for a text that may continue. Considers only blocks that have ended.
-// Returns `None` if the level depends on what follows.
+// Does the same as `shown_level` for a text that may continue. Considers only blocks that have ended. Returns
+// `None` if the level depends on what follows.
 fn known_level(alloc: Global, engine: &mut Engine, text: &[char]) -> Result<Option<u8>, AllocError>
     ensures level { IfOk result (λ found. IfSome found (λ level. (more : List ℕ)
         → shown_level (rules_of engine.old) (text.now ++ more) ≡ Some level)) }
@@ -129,8 +129,9 @@ fn decode_start(escapes: Escapes, bytes: &[u8], text: &mut Vec<char>) -> Result<
     Ok(n)
 }
 
-/// Returns the base direction of a text: that of the first paragraph with a strong character in what its
-/// first 65,536 characters show, or left-to-right if there is none. Decodes its bytes as `run` does.
+/// Returns the base direction of a text: the direction of the first paragraph with a strong character, among
+/// the paragraphs that the text's first 65,536 characters show, or left-to-right if there is none. Decodes
+/// its bytes as `run` does.
 pub fn whole_direction(
     alloc: Global,
     engine: &mut Engine,

@@ -1,4 +1,4 @@
-//! Where the blocks of a text end.
+//! Finds where the blocks of a text end.
 ghost use Rattle.std.specs.Prelude.{◌≡◌, ◌≤◌, ◌<◌, ◌∷◌, None, true, drop, length, slice_index, take};
 ghost use Rattle.std.specs.Prelude.{IfSome};
 ghost use Rattle.lines.specs.Engine.{rules_of};
@@ -31,8 +31,8 @@ pub(crate) fn is_apart(c: char) -> bool
         || c == '\u{2029}'
 }
 
-/// Returns the length of the sequence or of the dropped control that a text begins with, or `None` if there
-/// is neither.
+/// Returns the length of the sequence or dropped control at the start of a text, or `None` if there is
+/// neither.
 pub(crate) fn skipped_len(text: &[char]) -> Option<usize>
     requires { 0 < length text.now }
     ensures within { IfSome result (λ n. (0 < n) × (n ≤ length text.now)) }
@@ -72,7 +72,7 @@ fn ends_block(engine: &Engine, c: char, text: &[char]) -> bool
     if !is_apart(c) {
         return false;
     }
-    // Only after CR does the next character matter.
+    // The next character matters only after CR.
     if c == '\r' {
         return engine.is_cut(c, next_character(text));
     }

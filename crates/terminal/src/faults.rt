@@ -1,6 +1,6 @@
 //! The errors that end a run early.
 
-/// Why a run ended early. The function's contract says which bytes were written before the error.
+/// Why a run ended early. The contract of `run` says which bytes were written before the error.
 #[derive(Clone, Copy, Debug, PartialEq, Eq)]
 pub enum Fault {
     /// The source failed.

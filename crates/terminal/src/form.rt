@@ -4,7 +4,7 @@ ghost use Rattle.std.specs.Prelude.{◌≡◌, ◌<◌};
 use lines::Print;
 use regex::Regex;
 
-/// What becomes of control sequences, overstrikes and other controls.
+/// How control sequences, overstrikes and other controls are treated.
 #[derive(Clone, Copy, Debug, PartialEq, Eq)]
 pub enum Escapes {
     /// Control sequences become styles in the output, or are dropped.
@@ -16,18 +16,18 @@ pub enum Escapes {
     Text,
 }
 
-/// What counts as a prefix at the start of a paragraph. The text after it is a paragraph of its own, which is
-/// laid out at the remaining width. Its tab stops are counted from its own start.
+/// What counts as a prefix at the start of a paragraph. The text after the prefix is laid out as a separate
+/// paragraph, at the remaining width. The tab stops are counted from the start of this paragraph.
 #[derive(Clone, Copy, Debug)]
 pub enum Prefix<'a> {
-    /// Nothing.
+    /// There are no prefixes.
     None,
-    /// The quote marks of an email: the longest match of `(> ?)+`. They are on each line, in the direction of
-    /// the text after them, and so to the right of right-to-left lines.
+    /// The quote marks of an email: the longest match of `(> ?)+`. The marks are repeated on each line, in
+    /// the direction of the text after them: to the right of right-to-left lines.
     Quotes,
-    /// The match of a pattern at the start of a paragraph without its separator. It is left-to-right and to
-    /// the left of all lines. Lines after the first are indented by as many spaces as it has columns. A match
-    /// that starts later is ignored. Begin the pattern with `\A` to avoid searching for one.
+    /// The match of a pattern at the start of a paragraph without its separator. The match is left-to-right
+    /// and to the left of all lines. Lines after the first are indented by as many spaces as the match has
+    /// columns. A match that starts later is ignored. Begin the pattern with `\A` to avoid searching for one.
     Pattern(&'a Regex),
 }
 
@@ -57,7 +57,7 @@ pub struct Form<'a> {
     /// Writes `LTR` or `RTL` after the first line of each paragraph.
     pub basedir: bool,
     pub escapes: Escapes,
-    /// Stops at bytes that are not UTF-8, and at a paragraph over the limit. A paragraph is then written only
+    /// Stops at the first invalid UTF-8, and at a paragraph over the limit. A paragraph is then written only
     /// once something follows it.
     pub strict: bool,
     /// A prefix that is not narrower than the width is laid out as text.
@@ -79,7 +79,7 @@ impl<'a> Form<'a> {
         }
     }
 
-    /// Returns what is printed.
+    /// Returns the print options.
     pub(crate) fn print(&self) -> Print
         ensures { result ≡ print_of self.now }
     {

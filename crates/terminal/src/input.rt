@@ -72,7 +72,7 @@ impl Held {
     }
 
     // Decodes the waiting bytes and `len` more bytes, and adds the lines of the blocks that have ended to the
-    // page, up to one that is too long. Returns why the run ends, if it does.
+    // page, up to a block that is too long. Returns why the run ends, if it does.
     fn gather(
         &mut self,
         alloc: Global,
@@ -103,8 +103,8 @@ impl Held {
     }
 
     // Adds the lines of the text that is left at the end of the input to the page, up to a block that is too
-    // long. Returns whether there is one. If not, the last input's page ends in a newline only if its text
-    // ends a line.
+    // long. Returns whether there is such a block. If not, the last input's page ends in a newline only if
+    // its text ends a line.
     fn gather_last(
         &mut self,
         alloc: Global,
@@ -125,8 +125,8 @@ impl Held {
     }
 }
 
-// Returns why a run ends after a chunk, given whether a block is too long, and whether the bytes are not
-// UTF-8 from an index on.
+// Returns why a run ends after a chunk, given whether a block is too long, and whether the bytes from an
+// index on are not UTF-8.
 fn fault_of(is_long: bool, stops: bool, at: u64) -> Option<Fault>
     ensures { result ≡ fault_after is_long stops at }
 {
@@ -237,14 +237,14 @@ fn step<R: Source, W: Sink>(
 /// neither bidi class B nor line breaking class BK, CR, LF or NL.
 ///
 /// A paragraph over `PARAGRAPH_LIMIT` is laid out in pieces of this length, in the direction of the first
-/// one, unless the form is strict. Returns whether there was such a paragraph.
+/// piece, unless the form is strict. Returns whether there was such a paragraph.
 ///
 /// Errors:
 ///
 /// - `Read`: the source failed. All paragraphs that have ended were written.
 /// - `Write`: the sink failed.
-/// - `NotUtf8`: the form is strict, and the input is not UTF-8. All paragraphs before this, except the last
-///   one, were written.
+/// - `NotUtf8`: the form is strict, and the input is not UTF-8. All paragraphs before the first invalid byte,
+///   except the last one, were written.
 /// - `ParagraphTooLong`: the form is strict, and a paragraph with its sequences is longer than
 ///   `PARAGRAPH_LIMIT`. All paragraphs before it were written.
 /// - `Memory`: an allocation failed.

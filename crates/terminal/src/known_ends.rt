@@ -15,13 +15,13 @@ use lines::Engine;
 pub(crate) enum FirstEnd {
     /// The block has this number of characters.
     At(usize),
-    /// It is not known. No block ends before this index, which is the length of the text or that of a CR. The
-    /// text after the CR was scanned this far.
+    /// The end is not known. No block ends before this index, which is the length of the text or the index of
+    /// a CR. The text after the CR was scanned this far.
     After(usize, Passed),
 }
 
 // Returns whether a block ends after a character, given the text after it. If that depends on what follows
-// the text, returns how far the text is scanned now.
+// the text, returns how far the text has been scanned by now.
 fn ends_known(engine: &Engine, c: char, text: &[char], passed: Passed) -> Result<bool, Passed>
     requires { HasPassed passed text.now }
     ensures ends { IfOk result (λ ends. ends ≡ ends_block (cut_by (rules_of engine.now)) c text.now) }
@@ -32,7 +32,7 @@ fn ends_known(engine: &Engine, c: char, text: &[char], passed: Passed) -> Result
     if !is_apart(c) {
         return Ok(false);
     }
-    // Only after CR does the next character matter.
+    // The next character matters only after CR.
     if c == '\r' {
         match known_next(text, passed) {
             Ok(next) => Ok(engine.is_cut(c, next)),

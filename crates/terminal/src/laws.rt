@@ -1,9 +1,9 @@
-//! Theorems about what is printed. Calls of these functions cost nothing at run time.
+//! Theorems about the printed lines. Calls of these functions cost nothing at run time.
 ghost use Rattle.terminal.specs.Newlines.{PagesEndInNewlines};
 ghost use Rattle.terminal.specs.Plain.{PrintsPlainLines, PrintsWithoutPrefix};
 
-/// States, as a theorem, that the lines of a paragraph are those that `lines` prints if all its characters
-/// have the default style, under any rules and at any width.
+/// States, as a theorem, that a paragraph whose characters all have the default style is printed as the crate
+/// `lines` prints it, under any rules and at any width.
 pub fn prints_plain_lines()
     ensures { PrintsPlainLines }
 {}

@@ -1,4 +1,4 @@
-//! Lays out what a text for a terminal shows, and adds the lines to a page, each character in its style.
+//! Lays out what a terminal shows for a text, and adds the lines to a page, with each character in its style.
 //!
 //! `push_text` takes characters with their control sequences. For a text in which nothing is a sequence,
 //! replace each character by its `picture` first.

@@ -17,7 +17,7 @@ use lines::{Print, VisualLine};
 use sequences::{StyledText, push_between};
 use std::alloc::AllocError;
 
-// Appends what is between characters with two styles.
+// Appends the sequences between characters with two styles.
 fn push_change(
     text: &StyledText,
     before: usize,
@@ -70,8 +70,8 @@ fn char_at(text: &[char], at: usize) -> char
     if at < text.len() { text[at] } else { '\0' }
 }
 
-// Returns the number of spaces in place of the tab at a visual position of a line, or 0 for another
-// character.
+// Returns the number of spaces in place of the tab at a visual position of a line, or 0 if the character
+// there is not a tab.
 fn spaces_at(line: &VisualLine<'_>, text: &[char], place: usize) -> usize
     requires text { text.now ≡ line.now.text }
     requires plain { is_measured line.now ≡ false }
@@ -126,8 +126,8 @@ fn number_at(line: &VisualLine<'_>, part: &Part<'_>, place: usize) -> usize
     }
 }
 
-// Appends the character at a visual position of a line, and returns the number of its style. `before` is that
-// of the character before it.
+// Appends the character at a visual position of a line, and returns the number of its style. `before` is the
+// style number of the character before it.
 fn push_place(
     line: &VisualLine<'_>,
     part: &Part<'_>,

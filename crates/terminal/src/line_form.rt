@@ -13,7 +13,7 @@ pub(crate) struct LineForm<'a> {
     pub(crate) prefix: Option<&'a PrefixLine<'a>>,
 }
 
-/// The line of a prefix, with its shown characters and their styles.
+/// The line of the prefix, with its shown characters and their styles.
 #[derive(Clone, Copy)]
 pub(crate) struct PrefixLine<'a> {
     pub(crate) line: &'a VisualLine<'a>,

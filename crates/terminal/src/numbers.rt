@@ -38,7 +38,7 @@ impl<'a> Part<'a> {
         }
     }
 
-    /// Returns the characters in a range, and only their numbers.
+    /// Returns the characters in a range, with only their style numbers.
     pub(crate) fn paragraph(&self, start: usize, end: usize) -> Part<'a>
         requires within { (start ≤ end) × (end ≤ length self.now.characters.now) }
         requires len { length self.now.numbers.now ≡ length self.now.characters.now }
@@ -74,7 +74,7 @@ impl<'a> Part<'a> {
     }
 }
 
-// Replaces the empty text after a prefix that nothing follows.
+// The text that is used if nothing follows a prefix.
 const NEWLINE: &[char] = &['\n'];
 
 const DEFAULT_NUMBER: &[usize] = &[0];
@@ -106,9 +106,9 @@ fn put_number(numbers: &mut [usize], start: usize, end: usize, number: usize)
     }
 }
 
-// Replaces the numbers of a text's characters, all of which are 0, with those of their styles. The style of a
-// character is that of the last run that starts at it or before it, so the runs are processed from the last
-// to the first.
+// Replaces the numbers of a text's characters, all of which are 0, with their style numbers. A character has
+// the style of the last run that starts at or before it, so the runs are processed from the last to the
+// first.
 fn put_numbers(text: &StyledText, numbers: &mut [usize])
     requires len { length numbers.old ≡ length text.now.characters.items }
     requires zero { (k : ℕ) → slice_index numbers.old k ≡ 0 }
@@ -129,7 +129,7 @@ fn put_numbers(text: &StyledText, numbers: &mut [usize])
     }
 }
 
-/// Replaces the numbers with those of the styles of a text's characters.
+/// Replaces the numbers with the style numbers of a text's characters.
 pub(crate) fn number_styles(text: &StyledText, numbers: &mut Vec<usize>) -> Result<(), AllocError>
     ensures styles { OnOk result (map (numbered text.now.links.items text.now.runs.items) numbers.new.items
         ≡ styles_of (styled_of text.now)) }

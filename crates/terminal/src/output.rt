@@ -50,16 +50,16 @@ impl Drop for Output {
     }
 }
 
-/// What is left of a text after its blocks that have ended.
+/// The rest of a text after the blocks that have ended.
 #[derive(Clone, Copy)]
 pub(crate) struct Left {
-    /// Where it begins.
+    /// The index at which the rest begins.
     pub(crate) start: usize,
-    /// The number of its characters after which no block ends, whatever follows the text.
+    /// The number of characters of the rest after which no block ends, whatever follows the text.
     pub(crate) scanned: usize,
-    /// If a CR is next, how far the text after it was scanned.
+    /// If the next character is a CR, how far the text after it was scanned.
     pub(crate) passed: Passed,
-    /// Whether its first block is too long. In that case, `scanned` does not matter.
+    /// Whether the first block of the rest is too long. In that case, `scanned` does not matter.
     pub(crate) is_long: bool,
 }
 
@@ -109,7 +109,7 @@ impl Output {
         Ok(shown.last)
     }
 
-    /// Adds the lines of the blocks of a text that have ended, whatever follows it, up to one that is too
+    /// Adds the lines of the blocks of a text that have ended, whatever follows it, up to a block that is too
     /// long. If the form is strict, holds back a block that nothing follows yet. No block ends before the
     /// index `scanned`, whatever follows the text. If the character there is a CR, the text after it was
     /// scanned as far as `passed`.
@@ -149,7 +149,7 @@ impl Output {
                         is_long: true,
                     });
                 }
-                // Like `fribidi`, does not write the last paragraph before bytes that are not UTF-8.
+                // Like the command `fribidi`, does not write the last paragraph before invalid UTF-8.
                 FirstEnd::At(k) if is_held(form, k, rest.len()) => {
                     return Ok(Left {
                         start,
@@ -169,9 +169,9 @@ impl Output {
         }
     }
 
-    /// Adds the lines of the blocks of a text that nothing follows, up to one that is too long. If there is
-    /// none, and the text is the last one, the page ends in a newline only if the text ends a line. Returns
-    /// whether there is one.
+    /// Adds the lines of the blocks of a text that nothing follows, up to a block that is too long. Returns
+    /// whether there is such a block. If not, and the text is the last one, the page ends in a newline only
+    /// if the text ends a line.
     pub(crate) fn push_last(
         &mut self,
         alloc: Global,
@@ -263,9 +263,9 @@ fn is_too_long(form: &Form, len: usize) -> bool
     form.strict && len > PARAGRAPH_LIMIT
 }
 
-// Returns what is left of a text, which begins at `start`, has `len` characters, and has no known end. If the
-// form is strict, it is too long if its first block is, or if the sequence after its CR is longer than a
-// block may be.
+// Returns the rest of a text. The rest begins at `start`, has `len` characters, and has no known end. If the
+// form is strict, the rest is too long if its first block is, or if the sequence after its CR is longer than
+// a block may be.
 fn left_open(form: &Form, start: usize, scanned: usize, passed: Passed, len: usize) -> Left
     ensures start { result.start ≡ start }
     ensures scanned { result.scanned ≡ scanned }

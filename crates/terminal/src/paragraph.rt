@@ -226,7 +226,8 @@ fn push_after(
     push_styled(alloc, page, engine, &lines, rest, out)
 }
 
-// Adds the lines of one paragraph. Its first `len` characters are its prefix, if they are not too wide.
+// Adds the lines of one paragraph. The first `len` characters of the paragraph are its prefix, if they are
+// not too wide.
 fn push_split(
     alloc: Global,
     page: &mut Page,
@@ -262,7 +263,7 @@ fn push_split(
     }
 }
 
-// Adds the lines of one paragraph at the engine's rules.
+// Adds the lines of one paragraph by the engine's rules.
 fn push_formed(
     alloc: Global,
     page: &mut Page,

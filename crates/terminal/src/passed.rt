@@ -27,7 +27,7 @@ impl Passed {
         Passed::at(0)
     }
 
-    // Nothing was scanned yet of the part that begins at `start`.
+    // Nothing of the part that begins at `start` was scanned yet.
     fn at(start: usize) -> Passed
         ensures start { result.start ≡ start }
         ensures scanned { result.scanned ≡ 0 }
@@ -42,7 +42,7 @@ impl Passed {
 }
 
 /// Returns the first character of a text that is neither in a sequence nor dropped. If it depends on what
-/// follows the text, returns how far the text is scanned now. Scans no character twice.
+/// follows the text, returns how far the text has been scanned by now. Scans no character twice.
 pub(crate) fn known_next(text: &[char], passed: Passed) -> Result<char, Passed>
     requires { HasPassed passed text.now }
     ensures next { IfOk result (λ c. c ≡ next_character text.now) }

@@ -30,7 +30,7 @@ fn piece_end(at: usize, len: usize) -> usize
     }
 }
 
-// Adds the lines of the pieces after the first one, at the engine's rules.
+// Adds the lines of the pieces after the first one, by the engine's rules.
 fn push_rest(
     alloc: Global,
     page: &mut Page,
@@ -94,8 +94,8 @@ fn push_directed(
     result
 }
 
-/// Adds the lines of a paragraph, given the styles of its characters. One over the limit is laid out in
-/// pieces.
+/// Adds the lines of a paragraph, given the styles of its characters. A paragraph over the limit is laid out
+/// in pieces.
 pub(crate) fn push_pieces(
     alloc: Global,
     page: &mut Page,

@@ -110,7 +110,7 @@ pub(crate) fn prefix_len(
     }
 }
 
-/// Returns the base level of a prefix, given what follows it.
+/// Returns the base level of a prefix, given the text after it.
 pub(crate) fn prefix_base(engine: &mut Engine, prefix: &Prefix<'_>, rest: &[char]) -> u8
     ensures base { result ≡ prefix_base prefix.now (base_of (rules_of engine.old) rest.now) }
     ensures rules { SameRules engine.old engine.new }
@@ -133,7 +133,7 @@ fn prefix_options(options: Options, base: u8) -> Options
     }
 }
 
-/// Lays out a prefix as a line of its own, in the direction of a base level.
+/// Lays out a prefix as a separate line, in the direction of a base level.
 pub(crate) fn lay_out_prefix(
     alloc: Global,
     engine: &mut Engine,

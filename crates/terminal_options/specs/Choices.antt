@@ -16,7 +16,7 @@ use Rattle.terminal_options.specs.declared.choices.Width.TheVariants as width
 use Rattle.ucd.specs.declared.version.Version.{Version}
 use Rattle.ucd.specs.declared.version.Version.TheVariants.{V15_0, V17_0}
 
--- one decimal digit or more
+-- one or more decimal digits
 abbrev pub is_numeral : Text → Bool
 is_numeral [] = false
 is_numeral (c ∷ text) = list_all (λ c. nat_lt (digit_value c) 10) (c ∷ text)

@@ -20,7 +20,7 @@ options_for (Pattern text) = (false, Some text.now)
 abbrev pub has_prefix : List Row → Bool
 has_prefix rows = is_given (codes "quotes") rows || is_some (first_of (codes "prefix") rows)
 
--- if the arguments have either option, those of the environment do not count
+-- if the arguments have either option, those in the environment are ignored
 abbrev pub prefix_rows : Rows → List Row
 prefix_rows rows = if has_prefix rows.line then rows.line else rows.environment
 
@@ -54,7 +54,7 @@ pub record AreSettings (rows : Rows) (settings : Settings) : Type 0 where
   pub strict : settings.strict ≡ is_set (codes "strict") rows
   pub files : map (λ file. file.now) settings.files.items ≡ unwrap_or (all_of (codes "files") rows.line) []
 
--- `clap` refuses words with this kind of error
+-- `clap` refuses the words with this kind of error
 abbrev pub IsRefusal : Bool → List Text → OptionFault → Type 0
 IsRefusal files words (fault.Words error) = IsAmong (kind_of error) (fault_of (program files) words)
 IsRefusal files words fault.NoMemory = Unit {0}

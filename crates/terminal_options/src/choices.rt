@@ -18,7 +18,7 @@ pub enum Marks {
     Clusters,
     /// Nonspacing marks follow their base.
     After,
-    /// Each character is at its own place in the visual order.
+    /// Each character is reordered by itself.
     Logical,
 }
 

@@ -123,7 +123,7 @@ fn with_flags<'a>(alloc: Global, command: Command<'a>) -> Result<Command<'a>, Al
     )
 }
 
-// Adds the options of the strict command, which are not shown, so that they can be refused by name.
+// Adds the options of the strict command, hidden from the help, so that they can be refused by name.
 fn with_profile_flags<'a>(alloc: Global, command: Command<'a>) -> Result<Command<'a>, AllocError>
     ensures { IfOk result (λ new. app_of new
         ≡ fold with_rule (app_of command.entry) (map flag_rule profile_flags)) }
@@ -149,7 +149,7 @@ fn with_profile_flags<'a>(alloc: Global, command: Command<'a>) -> Result<Command
     )
 }
 
-// Adds options without a value, given their names and help texts. Help leaves them out if `hide` is set.
+// Adds options without a value, given their names and help texts. The help omits them if `hide` is set.
 fn with_each_flag<'a>(
     alloc: Global,
     command: Command<'a>,
@@ -227,7 +227,7 @@ fn direction<'a>(alloc: Global) -> Arg<'a>
     .short('d')
 }
 
-// Returns an option of the strict command, which is not shown.
+// Returns an option of the strict command, hidden from the help.
 fn script<'a>(alloc: Global) -> Arg<'a>
     ensures rule { rule_of result ≡ value_rule (codes "script") }
     ensures local { result.global ≡ false }

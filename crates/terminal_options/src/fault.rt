@@ -5,8 +5,8 @@ use thiserror::Error;
 /// Why the options are refused.
 #[derive(Debug, Drop, Error)]
 pub enum OptionFault {
-    /// `clap` refuses the words, or they request help or the version. Displayed as the message of the `clap`
-    /// error.
+    /// `clap` refuses the words, or the words request help or the version. The fault is displayed as the
+    /// message of the `clap` error.
     #[error("{0}")]
     Words(clap::Error),
     /// The option belongs to the strict command.

@@ -113,7 +113,7 @@ fn prefix_of<'a>(given: &Given<'_, 'a>) -> Option<Prefix<'a>>
 
 /// Returns the settings, given the words of `HORDGULI_OPTIONS` and the arguments after the program's name.
 ///
-/// Fails with `Words` if `clap` refuses either of them, then with `Profile` if an option of the strict
+/// Fails with `Words` if `clap` refuses either list of words, then with `Profile` if an option of the strict
 /// command is set, and then with the fault of the first value that has no meaning.
 pub fn settings<'a>(
     alloc: Global,

@@ -1,4 +1,4 @@
-//! Tests of what is written for a terminal, through public calls.
+//! Tests of the output for a terminal, through public calls.
 #![tactic(auto)]
 
 #[cfg(test)]

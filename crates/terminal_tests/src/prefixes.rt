@@ -1,4 +1,4 @@
-//! Tests of prefixes and of text without a width: each row is a text and what is written for it.
+//! Tests of prefixes and of text without a width: each row is a text and its output.
 use crate::texts::{engine, form, is_written_as};
 use lines::Engine;
 use regex::Regex;
@@ -124,7 +124,7 @@ fn quote_keeps_its_styles(rt: HostRuntime) -> Result<(), Fail> {
             "\u{1b}[31m> one two\u{1b}[m\n",
             "\u{1b}[31m> one\u{1b}[m\n\u{1b}[31m> two\u{1b}[m\n",
         ),
-        // A color of what follows
+        // A color of the text after the quote
         ("> \u{1b}[31mone\u{1b}[m\n", "> \u{1b}[31mone\u{1b}[m\n"),
         // Padding has the default style.
         ("\u{1b}[31m> אב\u{1b}[m\n", "  \u{1b}[31mבא <\u{1b}[m\n"),
@@ -224,9 +224,9 @@ fn matches_that_are_no_prefix_are_text(rt: HostRuntime) -> Result<(), Fail> {
     for (pattern, width, text, expected) in [
         // An empty match
         (r"\Ax*", 4, "one two\n", "one\ntwo\n"),
-        // As wide as the width
+        // A match that is as wide as the width
         (r"\A\d+", 4, "1234 a\n", "1234\na\n"),
-        // Not at the start
+        // A match that is not at the start
         (r"\d+ ", 20, "a 12 b\n", "a 12 b\n"),
         // The separator is not matched.
         (r"(?s)\A.*", 9, "ab\n", "ab\n"),

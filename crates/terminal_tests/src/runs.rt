@@ -1,4 +1,4 @@
-//! Each row is an input, what is written for it, and how the run ends.
+//! Each row is an input, its output, and how the run ends.
 use crate::texts::{engine, form};
 use device::{FromRead, ToWrite};
 use lines::Engine;
@@ -212,7 +212,7 @@ fn modes_strip_styles_or_show_controls(rt: HostRuntime) -> Result<(), Fail> {
     Ok(())
 }
 
-// Returns whether the lines before a failed read are written as expected.
+// Returns whether the lines written before a failed read are as expected.
 fn is_written_before_failure(
     alloc: Global,
     engine: &mut Engine,
@@ -384,8 +384,8 @@ fn input_that_is_all_invalid_is_read_to_its_end(rt: HostRuntime) -> Result<(), F
     Ok(())
 }
 
-// Returns whether a strict run ends with a fault after writing the lines that are expected, wherever the
-// first chunk ends.
+// Returns whether a strict run ends with a fault after writing the expected lines, wherever the first chunk
+// ends.
 fn ends_with(
     alloc: Global,
     engine: &mut Engine,

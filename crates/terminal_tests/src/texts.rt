@@ -1,4 +1,4 @@
-//! Each row is a text and what is written for it.
+//! Each row is a text and its output.
 use lines::{Engine, Options, PARAGRAPH_LIMIT};
 use std::alloc::Global;
 use std::test::Fail;

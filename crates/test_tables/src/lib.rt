@@ -1,4 +1,4 @@
-//! Test tables: the lines of the seven table files that the tests' characters need. They are constants,
+//! Test tables: the lines of the seven table files that the tests' characters need. The lines are constants,
 //! because tests cannot open files. A character that no line lists has the file's default.
 #![tactic(auto)]
 

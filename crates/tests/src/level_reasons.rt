@@ -1,5 +1,5 @@
-//! Tests how the algorithm arrives at the levels of worked examples. The tests also pass if any one allocation
-//! fails.
+//! Tests how the algorithm arrives at the levels of worked examples. The tests must also pass if any one
+//! allocation fails.
 use crate::files::{FILES, read};
 use bidi::{Base, NeutralRule, ParagraphReasons, SequenceStep, reasons};
 use std::alloc::{AllocError, Global};
@@ -77,7 +77,7 @@ fn space_takes_the_direction_of_a_bracket_that_n0_has_set(rt: HostRuntime) -> Re
     Ok(result?)
 }
 
-// An override in an isolate: the letter becomes L, and has the level of the override.
+// An override in an isolate: the type of the letter becomes L, and its level is that of the override.
 const OVERRIDDEN: [char; 5] = ['a', '\u{2067}', '\u{202D}', '\u{5D0}', '\u{2069}'];
 
 fn is_overridden(reasons: &ParagraphReasons) -> bool {

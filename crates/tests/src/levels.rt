@@ -1,5 +1,5 @@
-//! Tests that the levels of short lists equal those of the reference implementation, and worked examples of
-//! levels.
+//! Tests worked examples of levels, and that the levels of short lists equal those of the reference
+//! implementation.
 ghost use Rattle.std.specs.Prelude.{◌≡◌, map, IfOk};
 ghost use Rattle.ucd.specs.Properties.{properties_of};
 
@@ -41,7 +41,7 @@ pub fn properties_of(
     text.iter().map(|c| tables.properties(*c)).collect(alloc)
 }
 
-// Replaces `levels` with the levels of a list, and returns whether the base level is that of `base_level`.
+// Replaces `levels` with the levels of a list, and returns whether `base_level` returns the same base level.
 fn put_levels(
     alloc: Global,
     resolver: &mut Resolver,
@@ -81,8 +81,8 @@ fn brackets_of(
     text.iter().map(|c| bracket_type(tables, *c)).collect(alloc)
 }
 
-// Replaces `levels` with the levels for classes and bracket types, and returns whether the base level is that
-// of `base_level_of`.
+// Replaces `levels` with the levels for classes and bracket types, and returns whether `base_level_of`
+// returns the same base level.
 fn put_levels_of(
     resolver: &mut Resolver,
     classes: &[BidiClass],
@@ -97,8 +97,8 @@ fn put_levels_of(
     Ok(level == base_level_of(classes, base))
 }
 
-// Replaces `levels` with the levels for the classes and bracket types of a text, and returns whether the base
-// level is that of `base_level_of`.
+// Replaces `levels` with the levels for the classes and bracket types of a text, and returns whether
+// `base_level_of` returns the same base level.
 fn put_levels_by(
     alloc: Global,
     resolver: &mut Resolver,
@@ -112,7 +112,7 @@ fn put_levels_by(
     put_levels_of(resolver, &classes, &brackets, base, levels)
 }
 
-// Returns whether the levels from an index on are the wanted ones.
+// Returns whether the levels from an index on are the expected ones.
 fn are_from(levels: &[u8], place: usize, wanted: &[u8]) -> bool {
     match levels.get(place..) {
         Some(after) => after == wanted,
@@ -168,8 +168,8 @@ fn is_found(
 }
 
 // Returns the list with an unmatched PDF before it. X9 removes the PDF, so the levels after it are those of
-// the list alone. But these levels are found by the full rules, and not by the fast path for a paragraph that
-// is a single sequence.
+// the list alone. But these levels are found by the full rules, not by the fast path for a paragraph that is
+// a single sequence.
 fn after_pdf(alloc: Global, text: &[char]) -> Result<Vec<char>, AllocError> {
     let mut longer = Vec::new(alloc);
     longer.push('\u{202C}')?;
@@ -266,7 +266,7 @@ struct Row {
     levels: &'static str,
 }
 
-// Paragraphs, some of which are a single sequence. Long and short ones alternate.
+// Paragraphs, some of which are a single sequence. Long and short paragraphs alternate.
 static ROWS: [Row; 6] = [
     Row {
         text: "a\u{202B}b\u{202C}c",
@@ -328,7 +328,7 @@ fn finds_by(
     Ok(is_base && are_digits(&levels, digits.as_bytes()))
 }
 
-// Returns whether a text has these levels if no resolver is reused.
+// Returns whether a new resolver finds these levels of a text.
 fn resolves_to(
     alloc: Global,
     tables: &Tables,
@@ -431,10 +431,10 @@ const INNER: &[BidiClass] = &[
     BidiClass::ON,
 ];
 
-// In the first two rows, the third character opens a pair that the last one closes. The brackets have the
-// caller's numbers or code points. The next two rows have brackets with different numbers, and a closing
-// bracket before an opening one. The others have a pair around an isolate with a closing bracket, brackets
-// that are not ON, and lists without brackets.
+// In the first two rows, the third character opens a pair that the last character closes. The brackets have
+// the caller's numbers or code points. The next two rows have brackets with different numbers, and a closing
+// bracket before an opening one. The other rows have a pair around an isolate with a closing bracket,
+// brackets that are not ON, and lists without brackets.
 static LIST_ROWS: [ListRow; 8] = [
     ListRow {
         classes: INNER,

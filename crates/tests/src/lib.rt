@@ -1,5 +1,5 @@
-//! Tests of tables, levels, scripts, marks, stores and streams, through public calls: a module for each
-//! library.
+//! Tests of tables, levels, scripts, marks, stores and streams, through public calls. There is a module for
+//! each library.
 #![tactic(auto)]
 
 #[cfg(test)]

@@ -1,5 +1,5 @@
-//! Tests the break marks of worked examples, and compares those of lists of characters with the reference
-//! implementation. The tests also pass if any one allocation fails.
+//! Tests the break marks of worked examples, and compares the break marks of lists of characters with the
+//! reference implementation. The tests must also pass if any one allocation fails.
 ghost use Rattle.std.specs.Prelude.{◌≡◌, map, OnOk};
 ghost use Rattle.ucd.specs.Properties.{properties_of};
 
@@ -24,7 +24,7 @@ fn marks_of(
     }
 }
 
-// Returns whether the marks are those that the annex's symbols denote.
+// Returns whether the marks are the ones that the annex's symbols denote.
 fn are_signs(marks: &[Mark], signs: &str) -> bool {
     let mut all_right = marks.len() == signs.chars().count();
     for (mark, sign) in marks.iter().zip(signs.chars()) {
@@ -98,18 +98,18 @@ static NUMBERS: [(&str, &str, &str); 23] = [
     ("%(1.)$1", "××××××!", "××××××!"),
 ];
 
-// Texts with a degree sign or a euro sign, and their marks without whole numbers, and with them. A line may
-// end after a space inside what would otherwise be a number, but not after a no-break space.
+// Texts with a degree sign or a euro sign, and their marks without and with whole numbers. A line may end
+// after a space inside what would otherwise be a number, but not after a no-break space.
 static SIGNS: [(&str, &str, &str); 3] = [
     ("-5\u{B0}", "××!", "××!"),
     ("\u{20AC}\u{A0}30", "×××!", "×××!"),
     ("\u{20AC} 30", "×÷×!", "×÷×!"),
 ];
 
-// The marks of U+00A9 and a modifier, if U+00A9 is unassigned and if it is not.
+// The marks of U+00A9 and a modifier, if U+00A9 is unassigned and if it is assigned.
 static PICTOGRAPHS: [(&[u8], &str); 2] = [(b"", "×!"), (b"00A9;So", "÷!")];
 
-// Checks the marks of a text without whole numbers, and with them.
+// Checks the marks of a text without and with whole numbers.
 fn check(
     rt: &impl Abort,
     alloc: Global,
@@ -201,7 +201,7 @@ fn check_pictograph(
     Ok(result?)
 }
 
-// There is no break between an unassigned pictograph and a modifier.
+// No break is allowed between an unassigned pictograph and a modifier.
 #[test]
 fn modifier_stays_with_an_unassigned_pictograph_only(rt: HostRuntime) -> Result<(), Fail> {
     for (categories, want) in &PICTOGRAPHS {
@@ -246,8 +246,8 @@ fn read_all(
     Ok(())
 }
 
-// Returns whether the marks of the text are those of the reference implementation, both without whole numbers
-// and with them.
+// Returns whether the marks of the text equal those of the reference implementation, both without and with
+// whole numbers.
 fn agrees(tables: &Tables, kept: &mut Kept) -> Result<bool, AllocError> {
     read_all(tables, &kept.text, &mut kept.properties)?;
     Ok(agrees_where(tables, false, kept)? && agrees_where(tables, true, kept)?)

@@ -1,5 +1,5 @@
-//! Tests the rules that decide the break marks of worked examples. The tests also pass if any one allocation
-//! fails.
+//! Tests which rules decide the break marks of worked examples. The tests must also pass if any one
+//! allocation fails.
 use crate::files::{FILES, read};
 use breaks::{LineRule, Reason, reasons};
 use std::alloc::{AllocError, Global};
@@ -109,7 +109,7 @@ fn percent_after_a_slash_is_lb31_without_whole_numbers(rt: HostRuntime) -> Resul
     check(&rt, rt.alloc(), "1/%", false, &rules)
 }
 
-// Returns whether a reason has this base, this base behind spaces, and these classes.
+// Returns whether a reason has this last base, this last base that is not a space, and these classes.
 fn has_parts(
     reason: &Reason,
     base: usize,

@@ -38,7 +38,7 @@ static NESTED: [(&str, &str); 2] = [
     ),
 ];
 
-// Returns whether the last letters of the codes are these.
+// Returns whether the codes end in these letters.
 fn are_scripts(scripts: &[Script], letters: &str) -> bool {
     let mut all_right = scripts.len() == letters.chars().count();
     for (script, letter) in scripts.iter().zip(letters.chars()) {
@@ -47,8 +47,8 @@ fn are_scripts(scripts: &[Script], letters: &str) -> bool {
     all_right
 }
 
-// Returns whether the runs follow one another, up to the end of a text, and each has another script than the
-// one before it.
+// Returns whether the runs follow one another, up to the end of a text, and each run has another script than
+// the run before it.
 fn are_runs(runs: &[ScriptRun], len: usize) -> bool {
     let mut all_right = true;
     let mut start = 0_usize;

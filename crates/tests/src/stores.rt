@@ -1,5 +1,5 @@
-//! Compares both stores with each other. The tests also pass if any one allocation fails: a failed `replace`
-//! changes nothing, and is tried again.
+//! Compares both stores with each other. The tests must also pass if any one allocation fails: a failed
+//! `replace` changes nothing, and is tried again.
 ghost use Rattle.std.specs.Prelude.{◌≡◌, ◌+◌, ◌-◌, ◌^◌, ◌<◌, sum_by};
 
 use std::alloc::{AllocError, Global};
@@ -67,7 +67,7 @@ impl Exchange for Item {
     ghost keeps_utf16 = { λ item lines fits. refl };
 }
 
-// Adds a number to the lines that are exchanged.
+// An exchanger that adds a number to the lines of each part.
 #[derive(Drop)]
 struct Adder {
     more: usize,
@@ -78,7 +78,7 @@ impl Exchanger<Item> for Adder {
 
     ghost use Rattle.std.specs.Prelude.{refl, ℕ};
 
-    // The number that is added. No work is counted.
+    // The number to add. No work is counted.
     ghost Kind = { ℕ };
 
     ghost kind = { λ by. by.more };
@@ -357,12 +357,12 @@ fn replaced<S: ParagraphStore<Item>>(
     replace_again(rt, store, range, first, items(alloc, first, count)?)
 }
 
-// Returns whether both stores have returned equal items, and as many as the range has.
+// Returns whether both stores have returned equal items, as many as there are in the range.
 fn are_replaced(old: &[Item], other: &[Item], (start, end): (usize, usize)) -> bool {
     old == other && Some(old.len()) == end.checked_sub(start)
 }
 
-// Both stores, with the same items.
+// Both stores, which have the same items.
 #[derive(Drop)]
 struct Both<S: ParagraphStore<Item>, T: ParagraphStore<Item>> {
     tree: S,
@@ -501,7 +501,7 @@ fn two_items_take_the_place_of_three(rt: HostRuntime) -> Result<(), Fail> {
     Ok(check_stores(&rt, rt.alloc(), Check::ThreeByTwo)?)
 }
 
-// Returns whether each item has as many lines as its part had, plus seven, and its part has as many as the
+// Returns whether each item has seven more lines than its part had, and the part has as many lines as the
 // item had.
 fn are_exchanged<S: ParagraphStore<Item>>(store: &S, parts: &[usize]) -> bool {
     let mut all_right = parts.len() == store.count();
@@ -524,7 +524,7 @@ fn numbers(alloc: Global) -> Result<Vec<usize>, AllocError> {
     Ok(numbers)
 }
 
-// Returns whether the returned parts are those of the first exchange, each plus seven.
+// Returns whether each returned part is seven more than the corresponding part of the first exchange.
 fn are_back(parts: &[usize]) -> bool {
     let mut all_right = true;
     for (index, lines) in parts.iter().enumerate() {
@@ -561,8 +561,8 @@ fn parts_are_exchanged_in_the_order_of_the_items(rt: HostRuntime) -> Result<(), 
     Ok(check_stores(&rt, rt.alloc(), Check::Exchanges)?)
 }
 
-// Returns the greatest number of items that a search visits, over searches for every `step`-th character and
-// for the last one.
+// Returns the maximum number of items that a search visits, over searches for every `step`-th character and
+// for the last character.
 fn most_visits<S: ParagraphStore<Item>>(store: &S, step: usize) -> usize {
     let mut most = 0;
     let total = store.total_chars();

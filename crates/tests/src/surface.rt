@@ -42,7 +42,7 @@ fn to_write_is_a_sink_that_ends_with_its_writer(rt: HostRuntime) {
 
 // ucd
 
-// Returns whether a check holds for the test tables. False if they cannot be read.
+// Returns whether a check holds for the test tables, or `false` if they cannot be read.
 fn of_tables<F: FnOnce(&ucd::Tables) -> bool>(alloc: Global, check: F) -> bool
     requires { F.IsAlwaysCallable check }
 {
@@ -508,8 +508,8 @@ enum Call {
     ExchangeAll,
 }
 
-// Returns whether the example of a call holds in both stores. False after an allocation failure. Only this
-// function names both stores, since each function that does is slow to prove.
+// Returns whether the example of a call holds in both stores, or `false` after an allocation failure. Only
+// this function names both stores, since a function that names them is slow to prove.
 fn holds(alloc: Global, call: Call) -> bool {
     holds_in::<store::VecStore<Item>>(alloc, call) & holds_in::<store::TreeStore<Item>>(alloc, call)
 }

@@ -1,5 +1,5 @@
 //! Tests lookups in the seven files and in copies of tables, and the faults of malformed files. The tests
-//! also pass if any one allocation fails.
+//! must also pass if any one allocation fails.
 use crate::files::{FILES, read};
 use std::alloc::{AllocError, Global};
 use std::process::Abort;
@@ -17,7 +17,7 @@ const EMPTY: UcdFiles<'_> = UcdFiles {
 };
 
 // A character and its two classes; if it is a bracket, the other bracket of its pair and whether it is the
-// opening one; its mirror; whether it is wide, a mark and a future pictograph; and its number for line
+// opening bracket; its mirror; whether it is wide, a mark and a future pictograph; and its number for line
 // breaking.
 type Row = (
     char,
@@ -128,7 +128,7 @@ fn looked_up(tables: &Tables, c: char) -> Row {
     )
 }
 
-// Returns whether a character's properties are those of its row.
+// Returns whether a character has the properties of its row.
 fn are_of(properties: Properties, row: &Row) -> bool {
     let are = [
         properties.is_wide(),
@@ -163,7 +163,7 @@ fn names_give_their_classes_and_other_names_none(rt: HostRuntime) {
     assert!(rt; Line::from_name(b"NSM") == None);
 }
 
-// Returns files of which only one has lines.
+// Returns seven files, only one of which has lines.
 fn only(file: usize, lines: &[u8]) -> UcdFiles<'_> {
     let mut files = EMPTY;
     match file {
@@ -178,7 +178,7 @@ fn only(file: usize, lines: &[u8]) -> UcdFiles<'_> {
     files
 }
 
-// The first of 200 characters that have a line each. 100 of them are in one page, and 100 in the next.
+// The first of 200 characters, each of which has a line. 100 of them are in one page, and 100 in the next.
 const FIRST: u32 = 0x3F9C;
 
 const NAMES: [(&str, Bidi); 3] = [("R", Bidi::R), ("AL", Bidi::AL), ("EN", Bidi::EN)];
@@ -415,7 +415,8 @@ static FAULTS: [(usize, &[u8], usize, Cause); 14] = [
     (6, b"0041;N;x", 1, Cause::FieldCount),
     (7, b"0042..0041;Emoji", 1, Cause::Reversed),
     (7, b"41;Emoji", 1, Cause::CodePoint),
-    // Ranges across a page boundary that overlap in the last character of one and the first of the other.
+    // Ranges across a page boundary that overlap in the last character of one range and the first character
+    // of the other.
     (1, b"00F0..0110;R\n\n0110..0120;L", 3, Cause::NamedBefore),
     (1, b"0101..0120;R\n00F0..0101;L", 2, Cause::NamedBefore),
     (4, b"10FFFF;AL\n0000..10FFFF;AL", 2, Cause::NamedBefore),
@@ -466,7 +467,7 @@ fn names_pictograph(alloc: Global, lines: &[u8]) -> Result<bool, TableFault> {
     Ok(tables.is_future_pictograph('\u{A9}'))
 }
 
-// Lines of another property name no characters, so they may be repeated. Those of Extended_Pictographic may
+// Lines of another property name no characters, so they may be repeated. Lines of Extended_Pictographic may
 // not.
 #[test]
 fn only_extended_pictographic_is_refused_when_repeated(rt: HostRuntime) -> Result<(), Fail> {

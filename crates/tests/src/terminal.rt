@@ -1,4 +1,5 @@
-//! Tests what texts for a terminal show, and how this is written. Each row is a text and its expected output.
+//! Tests what a terminal shows for texts, and how this is written. Each row is a text and its expected
+//! output.
 use sequences::{
     Link, MAX_LINKS_LEN, NO_LINK, PLAIN, Progress, Scanner, StyleRef, StyledText,
     is_sequence_known, push_between, sequence_len, shows_itself, shows_no_controls, shows_pieces,
@@ -15,7 +16,8 @@ fn push_characters(text: &str, out: &mut Vec<char>) -> Result<(), AllocError> {
     Ok(())
 }
 
-// Returns the style in which a character is shown, given that of the character before it, and the next run.
+// Returns the style in which a character is shown, given the style of the character before it, and the next
+// run.
 fn style_at<'a>(
     text: &'a StyledText,
     k: usize,
@@ -47,7 +49,7 @@ fn push_line(text: &StyledText, out: &mut Vec<char>) -> Result<(), AllocError> {
     push_between(&before, &plain, out)
 }
 
-// Returns how the characters that a text shows are written.
+// Returns the bytes that are written for the characters that a text shows.
 fn rewritten(alloc: Global, text: &[char]) -> Result<Vec<char>, AllocError> {
     let mut scanner = Scanner::new(alloc);
     scanner.push_text(text)?;

@@ -1,5 +1,5 @@
-//! Tests tables of Unicode 17.0, and how those of 15.0 differ. The tests also pass if any one allocation
-//! fails.
+//! Tests tables of Unicode 17.0, and how tables of 15.0 differ. The tests must also pass if any one
+//! allocation fails.
 use std::alloc::Global;
 use std::test::Fail;
 use ucd::{
@@ -7,7 +7,8 @@ use ucd::{
     Tables, UcdFiles, Version,
 };
 
-// The class and the category of U+FEFF do not combine to a detail. U+25CD has those of U+25CC.
+// The class and the category of U+FEFF do not combine to a detail. U+25CD has the class and the category of
+// U+25CC.
 const FILES: UcdFiles<'_> = UcdFiles {
     bidi_class: b"05D0;L",
     bidi_brackets: b"",

@@ -1,4 +1,4 @@
--- Upper bounds on how far the counters of an engine rise.
+-- Upper bounds on the increase of an engine's counters.
 use Rattle.std.specs.Prelude.{◌≡◌, ℕ, true}
 use Rattle.lines.specs.Engine.{filled_of, written_of, LaysOutAtMost}
 use Rattle.lines.specs.Printing.{skips_lines}

@@ -47,8 +47,8 @@ module _ (is_cut : ℕ → ℕ → Bool) where
     pub within : are_within (paragraphs is_cut text) ≡ true
     pub more : 1 < length (paragraphs is_cut text)
 
-  -- A fault that is found before a text's first paragraph ends. Either the paragraph is too long, or invalid
-  -- UTF-8 follows the text, which has no paragraph boundary. `bad` tells whether invalid UTF-8 follows.
+  -- A fault that is found before a text's first paragraph ends. Either the paragraph is too long, or invalid UTF-8
+  -- follows the text, which has no paragraph boundary. `bad` says whether invalid UTF-8 follows.
   abbrev pub IsFaultAhead : List ℕ → Bool → ℕ → RunFault → Type 0
   IsFaultAhead text bad place f.ParagraphTooLong = StartsLong text
   IsFaultAhead text bad place (f.NotUtf8 n) = IsOpen text × (bad ≡ true) × (n ≡ place)
@@ -69,7 +69,7 @@ pub record IsBeginning (bytes : List ℕ) : Type 0 where
   pub fault : utf8_error_len bytes ≡ None
   pub few : length bytes < 4
 
--- n bytes were read, and are after the waiting bytes in the buffer
+-- n bytes were read, and follow the waiting bytes in the buffer
 pub record IsRead (n : ℕ) (old new : Held) (reader_old reader_new : Device) : Type 0 where
   pub read : IsReadTo old.waiting n old.chunk.items new.chunk.items reader_old reader_new
   pub small : old.waiting + n ≤ vec_len old.chunk
@@ -97,7 +97,7 @@ pub record FindsFault (rules : Rules) (bytes : List ℕ) (old new : Held) (engin
   pub same : new ≡ old
   pub engine : engine_new ≡ engine_old
 
--- the lines to write at the end of a text: those of the page, and those of the held characters
+-- the lines to write at the end of a text: those on the page, and those of the held characters
 abbrev pub last_lines : Rules → ℕ → Print → Held → List ℕ
 last_lines rules width print held =
     held.page.bytes.items ++ page rules width print (if length held.text.items == 0 then [] else held.text.items ∷ [])
@@ -128,7 +128,7 @@ pub record StopsAfter (rules : Rules) (print : Print) (held : Held) (reader_old 
   pub left : IsOpen (cut_by rules) rest
   pub counts : Prints (length (concat pars)) print engine_old engine_new
 
--- what is written at the end of a text, for each result of the run
+-- the output at the end of a text, for each result of the run
 abbrev pub Finishes : Rules → ℕ → Print → Held → Device → Device → Result (Unit {0}) RunFault → Type 0
 Finishes rules width print held old new (Ok done) = (held.waiting ≡ 0) × Wrote (last_lines rules width print held) old new
 Finishes rules width print held old new (Err (f.NotUtf8 n)) = (0 < held.waiting) × (n ≡ held.decoded) × (new ≡ old)
@@ -137,9 +137,9 @@ Finishes rules width print held old new (Err (f.Write n)) =
 Finishes rules width print held old new (Err f.Memory) = (held.waiting ≡ 0) × (0 < length held.text.items) × (prints_some print ≡ true) × (new ≡ old)
 Finishes rules width print held old new (Err fault) = ⊥
 
--- What a run did between two states of its source and sink. It decoded the bytes that it read, except for
--- `waiting` at their end. It wrote the lines of the paragraphs `sent`. It holds the lines of `gathered`, and
--- `text`, the characters after the last paragraph boundary.
+-- What a run did between two states of its source and sink. The run decoded the bytes that it read, except for the last
+-- ones, `waiting`, and wrote the lines of the paragraphs `sent`. The run holds the lines of `gathered`, and `text`, the
+-- characters after the last paragraph boundary.
 pub record IsAt (rules : Rules) (width : ℕ) (print : Print) (reader_old reader_new writer_old writer_new : Device) (waiting text lines : List ℕ) : Type 0 where
   pub decoded : List ℕ
   pub sent : List (List ℕ)
@@ -153,7 +153,7 @@ pub record IsAt (rules : Rules) (width : ℕ) (print : Print) (reader_old reader
   pub lines_are : lines ≡ page rules width print gathered
   pub ahead : reader_new.passed ≤ reader_old.passed + length (encode_utf8_all (concat sent)) + read_ahead
 
--- the state between two reads, when all lines are written and counted
+-- the state between two reads, after all lines are written and counted
 pub record Stands (rules : Rules) (width : ℕ) (print : Print) (reader_old writer_old : Device) (engine_old : Engine) (reader_new writer_new : Device) (engine_new : Engine) (held : Held) : Type 0 where
   pub is_at : IsAt rules width print reader_old reader_new writer_old writer_new (take held.waiting held.chunk.items) held.text.items []
   pub all_sent : is_at.gathered ≡ []

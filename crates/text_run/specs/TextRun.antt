@@ -19,7 +19,7 @@ use Rattle.stream.specs.Utf8.{front_of, is_bad}
 use Rattle.stream.specs.declared.reading.TheConstants.{CHUNK}
 use Rattle.device.specs.Device.{Device, FailedLast, Took, Wrote, StoppedAt}
 
--- how an input ended: either the source had no more bytes, or it failed
+-- how an input ended: the source had no more bytes, or it failed
 pub data Ending : Type 0 where
   AtEnd : Ending
   AtFailure : Ending

@@ -20,7 +20,7 @@ use lines::{Engine, PARAGRAPH_LIMIT, Print};
 use std::alloc::{AllocError, Global};
 use stream::{Page, push_characters};
 
-// What the characters after a text mean for its first paragraph.
+// How the characters after a text affect its first paragraph.
 #[derive(Clone, Copy, Debug, PartialEq, Eq)]
 enum Ahead {
     // The paragraph is too long.
@@ -81,8 +81,8 @@ pub fn bad_at(is_bad: bool, place: u64) -> Option<RunFault>
     }
 }
 
-// Returns what `more` means for a text that has no paragraph boundary and is not too long. `more` must not
-// have more characters than a paragraph may have.
+// Returns how `more` affects a text that has no paragraph boundary and is not too long. `more` must not have
+// more characters than a paragraph may have.
 fn look_ahead(engine: &Engine, text: &[char], more: &str) -> Ahead
     requires uncut { SplitsAt (cut_by (rules_of engine.now)) text.now None }
     requires short { length text.now ≤ PARAGRAPH_LIMIT }
@@ -196,7 +196,7 @@ fn push_ended(
     push_characters(rest, held)
 }
 
-// Adds the lines of the paragraph whose characters are those of `held` followed by `front`. May add the
+// Adds the lines of the paragraph that consists of the characters in `held` and then `front`. May add the
 // characters of `front` to `held`. If nothing is printed, `held` already has capacity for them.
 fn push_first(
     alloc: Global,
@@ -222,7 +222,7 @@ fn push_first(
     ensures rules { SameRules engine.old engine.new }
 {
     // Fast path: if `held` is empty, the whole paragraph is in `front`. Only its first characters decide the
-    // direction, so the others are not decoded.
+    // direction, so the other characters are not decoded.
     if held.is_empty() && print.skips_lines() {
         return push_base_direction(page, engine, print, front);
     }

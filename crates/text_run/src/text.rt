@@ -32,7 +32,7 @@ use stream::{CHUNK, Page, front, read_to, zeroed};
 
 /// What a run keeps between two reads.
 struct Held {
-    // The last chunk. Its first `waiting` bytes are the beginning of a character.
+    // The chunk read last. The first `waiting` bytes of the chunk are the beginning of a character.
     chunk: Vec<u8>,
     waiting: usize,
     // The number of bytes decoded before the waiting bytes.
@@ -85,7 +85,7 @@ impl Held {
     }
 
     // Decodes the waiting bytes and `len` more bytes. Adds to the page the lines of the paragraphs whose end
-    // is then known. Returns what is wrong with the text, if anything.
+    // is then known. Returns the fault of the text, if there is one.
     //
     // Allocates only if a character is decoded and no paragraph is too long. If some of the bytes are not
     // UTF-8, allocates only if a paragraph ends before them.
@@ -182,7 +182,7 @@ impl Held {
         }
     }
 
-    // Moves the bytes in `start..end`, which are not a whole character yet, to the front of the chunk.
+    // Moves the bytes in `start..end`, which are an incomplete character, to the front of the chunk.
     fn keep_bytes(&mut self, start: usize, end: usize)
         requires within { (start ≤ end) × (end ≤ vec_len self.old.chunk) }
         requires counted { self.old.decoded + start ≤ 2 ^ 64 - 1 }

@@ -58,7 +58,7 @@ told_of None = out_of_range
 abbrev pub told_count : ℕ → List ℕ
 told_count count = codes "= " ++ decimal count
 
--- the reply that consists of this start, the numbers of each item, each after a space, and a newline
+-- the reply that consists of this start, the numbers of each item, with a space before each number, and a newline
 abbrev pub told_each : {A : Type 0} → (A → List ℕ) → List A → List ℕ
 told_each numbers items = told_count (length items) ++ flat_map (λ item. listed (numbers item)) items ++ codes "\n"
 
@@ -70,7 +70,7 @@ side_text After = codes "after"
 abbrev pub edge_text : Edge → List ℕ
 edge_text edge = codes " " ++ decimal edge.pos ++ codes " " ++ side_text edge.side
 
--- the reply of one edge, and the reply of two
+-- the replies that consist of one edge and of two edges
 abbrev pub told_edge : Edge → List ℕ
 told_edge edge = codes "=" ++ edge_text edge ++ codes "\n"
 
@@ -192,7 +192,7 @@ module _ (kept : List Layout) where
   abbrev pub ends_text : Rules → ℕ → List ℕ
   ends_text rules n = ends_by (line_edges rules kept n)
 
-  -- the reply to `runs`, which counts from the start of the line
+  -- the reply to `runs`, in which positions count from the start of the line
   abbrev pub runs_by : Option Visual → List ℕ
   runs_by (Some line) = told_each run_numbers (runs_of line.levels)
   runs_by None = out_of_range

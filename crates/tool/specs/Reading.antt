@@ -80,15 +80,16 @@ pub record ExecutesLine (rules : Rules) (options : ScriptOptions) (line : List �
   pub lines : new.lines ≡ old.lines + 1
   pub empty : new.line.items ≡ []
 
--- An allocation failed for a line that is valid UTF-8. Either fewer characters were stored than the line has, or fewer
--- than the text of its insert represents, or the allocation failed for the line's command, which is not refused.
+-- An allocation failed for a line that is valid UTF-8. There are three cases: fewer characters were stored than the
+-- line has; fewer were stored than the text of its insert represents; or the allocation failed for the line's command,
+-- which is not refused.
 abbrev pub WantsMemory : Rules → Bool → List ℕ → Reading → Held → Type 0
 WantsMemory rules queries line reading held =
     (length reading.text.items < length (chars line))
     ⊎ (LacksInserted (chars line) (chars (string_bytes reading.inserted))
     ⊎ ((command : Command) × (command_of_line queries line ≡ Some command) × (command_refusal rules held command ≡ None) × TakesMemory rules held command))
 
--- a line failed: it is not valid, a write failed within its reply, or an allocation failed
+-- a line failed: the line is not valid, a write failed within its reply, or an allocation failed
 abbrev pub FailsAt : Rules → ScriptOptions → List ℕ → Reading → ℕ → ℕ → Held → Held → Device → Device → RunFault → Type 0
 FailsAt rules options line reading lines written held_old held_new old new (f.BadLine n) =
     (is_good options.queries line ≡ false) × (n ≡ lines + 1) × (held_new ≡ held_old) × (new ≡ old)
@@ -123,8 +124,8 @@ GrowsNot bytes old new f.Memory =
     (length (old.line.items ++ bytes) ≤ LINE_LIMIT) × (0 < length bytes) × (new.line.items ≡ old.line.items) × (new.lines ≡ old.lines)
 GrowsNot bytes old new fault = ⊥
 
--- The first n bytes of a chunk were read. In the case `GoesOn`, the whole chunk continues the unfinished
--- line. In the case `EndsLine`, a line ended and was executed.
+-- The first n bytes of a chunk were read. `GoesOn`: the whole chunk continues the unfinished line. `EndsLine`: a line
+-- ended and was executed.
 pub record GoesOn (chunk : List ℕ) (n : ℕ) (state_old state_new : SessionState) (old new : Reading) (writer_old writer_new : Device) : Type 0 where
   pub all : n ≡ length chunk
   pub none : NoEnd chunk
@@ -191,8 +192,7 @@ pub record IsAt (rules : Rules) (options : ScriptOptions) (start : SessionState)
   pub ahead : length reading.line.items + length waiting ≤ LINE_LIMIT + CHUNK
   pub short : length reading.line.items ≤ LINE_LIMIT
 
--- An allocation failed for the line after those that were executed. This line ends in the waiting bytes or continues in
--- them.
+-- An allocation failed for the line after the executed lines. This line ends in the waiting bytes or continues in them.
 pub record WantsIn (rules : Rules) (options : ScriptOptions) (start : SessionState)
     (reader_old reader writer_old writer : Device) (state : SessionState) (reading : Reading) : Type 0 where
   pub state_before : SessionState

@@ -21,21 +21,20 @@ Answered rules options held lines wrong k old new (Some (fault.Write n)) =
 Answered rules options held lines wrong k old new (Some fault.Memory) = Wrote (answers rules options held (take k lines)) old new
 Answered rules options held lines wrong k old new stop = (stop ≡ wrong) × (k ≡ length lines) × Wrote (answers rules options held lines) old new
 
--- the executed lines: those that were replied to, and the one whose reply was not written completely
+-- the executed lines: those that were replied to, and the line whose reply was not written completely
 abbrev pub executed_lines : List (List ℕ) → ℕ → Option RunFault → List (List ℕ)
 executed_lines lines k (Some (fault.Write n)) = take (k + 1) lines
 executed_lines lines k stop = take k lines
 
--- an allocation failed, either before anything was read or after bytes beyond the lines that were replied to
--- were read
+-- an allocation failed, either before any read or after a read of bytes beyond the lines that were replied to
 abbrev pub WantsMore : List (List ℕ) → Device → Device → Option RunFault → Type 0
 WantsMore done old new (Some fault.Memory) =
     ((length done ≡ 0) × (new.passed ≡ old.passed)) ⊎ (old.passed + length (with_ends done) < new.passed)
 WantsMore done old new stop = ⊤
 
--- A run ended after the first k lines. Only these lines were executed, and the next one if a write failed
--- within its reply. At most `line_read_ahead` bytes after the k lines were read. The session did at most the
--- work that these lines and the next one require.
+-- A run ended after the first k lines. Only these lines were executed, and also the next one if a write failed within
+-- its reply. At most `line_read_ahead` bytes after the k lines were read. The session did at most the work that these
+-- lines and the next one require.
 pub record EndsAfter (rules : Rules) (options : ScriptOptions) (old new : SessionState) (lines : List (List ℕ))
     (wrong : Option RunFault) (k : ℕ) (reader_old reader_new writer_old writer_new : Device)
     (stop : Option RunFault) : Type 0 where

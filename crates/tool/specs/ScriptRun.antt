@@ -98,7 +98,7 @@ answers rules options held (line ∷ lines) =
 
 -- ---- the run
 
--- whether a line is valid, and the lines before the first one that is not
+-- whether a line is valid, and the lines before the first invalid line
 abbrev pub is_good : Bool → List ℕ → Bool
 is_good queries line = is_some (command_of_line queries line)
 

@@ -11,8 +11,8 @@ use Rattle.text_run.specs.TextRun.{Ending, AtEnd, AtFailure}
 abbrev pub is_line_end : ℕ → Bool
 is_line_end b = b == 10
 
--- The bytes after the last line end are a line if the script has ended and there is at least one. If the
--- source failed, these bytes are a line only if they already exceed the length limit.
+-- If the script has ended, the bytes after the last line end are a line, unless there are none. If the source failed,
+-- they are a line only if they already exceed the length limit.
 abbrev pub is_last_line : Ending → List ℕ → Bool
 is_last_line AtEnd rest = nat_lt 0 (length rest)
 is_last_line AtFailure rest = nat_lt LINE_LIMIT (length rest)

@@ -26,7 +26,7 @@ pub const ANSWER_ROOM: usize = 65;
 /// The bytes of a reply.
 pub type Answer = ArrayVec<u8, ANSWER_ROOM>;
 
-/// Returns the reply to an edit: which lines were replaced, and by how many, or why the edit was refused.
+/// Returns the reply to an edit: which lines were replaced and by how many, or why the edit was refused.
 pub fn answer_of(edit: &Result<Damage, EditFault>) -> Answer
     ensures { result.items ≡ answer_text edit.now }
 {
@@ -152,7 +152,8 @@ pub fn offset_answer(offset: Option<usize>) -> Answer
     }
 }
 
-/// Returns the reply to a conversion of an offset: the position, and how far the offset is past its start.
+/// Returns the reply to a conversion of an offset: the position, and how far the offset is past the start of
+/// the character there.
 pub fn position_answer(found: Option<(usize, usize)>) -> Answer
     ensures { result.items ≡ told_of (option_map (λ place. place.0 ∷ place.1 ∷ []) found) }
 {

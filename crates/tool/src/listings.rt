@@ -40,7 +40,7 @@ pub fn write_spans<W: Sink>(
 fn span_count(line: &VisualLine<'_>, start: usize, end: usize) -> usize
     ensures { result ≡ length (spans_of line.now start end) }
 {
-    // There are no more spans than columns, and the contract of `columns_left` bounds these.
+    // The number of spans is at most the number of columns, which the contract of `columns_left` bounds.
     let _columns = line.columns_left(line.vtol().len());
     let mut count = 0;
     for _span in line.spans(start, end) {
@@ -107,7 +107,7 @@ fn shown_len(line: &VisualLine<'_>) -> usize
 fn run_count(line: &VisualLine<'_>) -> usize
     ensures { result ≡ length (runs_of line.now.levels) }
 {
-    // There are no more runs than characters.
+    // The number of runs is at most the number of characters.
     let _chars = shown_len(line);
     let mut count = 0;
     for _run in line.runs() {
@@ -138,7 +138,7 @@ fn write_each_run<W: Sink>(
     Ok(written)
 }
 
-/// Writes where the grapheme clusters of a line end. `written` is the number of bytes already written.
+/// Writes the ends of a line's grapheme clusters. `written` is the number of bytes already written.
 pub fn write_ends<W: Sink>(writer: &mut W, written: u64, ends: &[usize]) -> Result<u64, RunFault>
     requires { written ≤ (W.state writer.old).passed }
     ensures ok { IfOk result (PassedOn (told_each (λ end. end ∷ []) ends.now) written

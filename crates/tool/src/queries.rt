@@ -163,7 +163,7 @@ fn edge_caret<S: ParagraphStore<Kept>>(
     ensures memory { OnErr result (HasCharacter (length (text_of session.now.kept))
         (edge_of pos is_after)) }
 {
-    // By these theorems, the columns of a line are the sum of those of its characters.
+    // By these theorems, the columns of a line are the sum of the columns of its characters.
     lines_are_ordered();
     runs_have_all_columns();
     // The contract of `width` shows that the session is laid out.
@@ -381,7 +381,7 @@ fn write_line_runs<W: Sink, S: ParagraphStore<Kept>>(
     }
 }
 
-// Writes where the grapheme clusters of a line end. `written` is the number of bytes already written.
+// Writes the ends of a line's grapheme clusters. `written` is the number of bytes already written.
 fn write_line_clusters<W: Sink, S: ParagraphStore<Kept>>(
     session: &Session<S>,
     writer: &mut W,

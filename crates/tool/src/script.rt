@@ -37,7 +37,7 @@ use text_run::RunFault;
 /// The maximum length of a line in bytes, excluding the line end.
 pub const LINE_LIMIT: usize = 1_048_576;
 
-// The documents state this limit as a number. Contracts use the constant.
+// The documents state this limit as a number, and contracts use the constant.
 const _: () = prove!(LINE_LIMIT == 1_048_576);
 
 /// Options for running a script.
@@ -223,7 +223,7 @@ fn execute<W: Sink, S: ParagraphStore<Kept>>(
     write_answer(writer, written, &edit)
 }
 
-// Parses the bytes of a line. Returns `None` if they are not a valid line of a script.
+// Parses the bytes of a line. Returns `None` if the bytes are not a valid line of a script.
 //
 // Stores the line's characters in `text`, and the text of an insert in `inserted`. Checks that the bytes are
 // UTF-8 before allocating.
@@ -415,7 +415,7 @@ fn finish<W: Sink, S: ParagraphStore<Kept>>(
         → IsScriptRun (rules_of session.old.engine) options.now start session.new reader_start reader_now
         writer_start (W.state writer.new) result }
 
-    // An allocation can fail only for the last line, if there is one.
+    // An allocation can fail only for the last line.
     ensures memory { IsErrOf result RunFault.Memory → (0 < length reading.old.line.items)
         × FailsAt (rules_of session.old.engine) options.now reading.old.line.items
         reading.new reading.old.lines reading.old.written (held_at session.old)
@@ -512,7 +512,7 @@ pub fn run_script<R: Source, W: Sink, S: ParagraphStore<Kept> + Drop>(
 /// whose reply could not be written. The session's work is at most what these lines and the line at which the
 /// run ended require.
 ///
-/// Fails with `Memory` only before anything is read, or while a line is read or executed. That line then
+/// Fails with `Memory` only before anything is read, or while a line is read or executed. The line then
 /// changes nothing, and no byte of its reply is written.
 pub fn run_script_in<R: Source, W: Sink, S: ParagraphStore<Kept>>(
     alloc: Global,

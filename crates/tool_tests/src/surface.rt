@@ -67,7 +67,7 @@ const ARGUMENTS: [&str; 8] = [
     "T",
 ];
 
-// Returns whether a check holds for the settings of these arguments. False if they are refused.
+// Returns whether a check holds for the settings of these arguments, or `false` if the arguments are refused.
 fn of_settings<F: FnOnce(&tool::Settings<'_>) -> bool>(alloc: Global, check: F) -> bool
     requires { F.IsAlwaysCallable check }
 {

@@ -203,7 +203,7 @@ pub struct hordguli_bytes {
     pub length: usize,
 }
 
-/// The first malformed line, by file and then by line, or the fault of an image.
+/// The first malformed line, in the order of files and then of lines, or the fault in an image.
 #[derive(Clone, Copy, Debug, Default, PartialEq, Eq)]
 #[repr(C)]
 pub struct hordguli_table_fault {
@@ -216,8 +216,8 @@ pub struct hordguli_table_fault {
 }
 
 /// What an edit replaced: `old_lines` lines from `first_line` on became `new_lines` lines, and likewise for paragraphs.
-/// All other lines are unchanged, except that line `first_line + old_lines` becomes line `first_line + new_lines`, and
-/// so on. If there are fewer lines than before, clear the rows below the last one. By design, damage names whole
+/// All other lines are unchanged but renumbered: line `first_line + old_lines` becomes line `first_line + new_lines`,
+/// and so on. If there are fewer lines than before, clear the rows below the last one. By design, damage names whole
 /// paragraphs: all that contain or touch the edited range, even if nothing is inserted or deleted. So text that is
 /// appended after a final separator also replaces the last paragraph. For the lines that changed, see
 /// `hordguli_changed_lines`. A caller that redraws everything may pass NULL as `damage`.
@@ -233,7 +233,7 @@ pub struct hordguli_damage {
 }
 
 /// Which lines a call changed: `old_lines` lines from `first_line` on became `new_lines` lines. All other lines are the
-/// same as before, except that the lines that follow are renumbered.
+/// same as before, but the lines that follow are renumbered.
 #[derive(Clone, Copy, Debug, Default, PartialEq, Eq)]
 #[repr(C)]
 pub struct hordguli_changed {
@@ -251,8 +251,8 @@ pub struct hordguli_counts {
     pub width: usize,
 }
 
-/// Work counters, for checking that edits stay incremental. They count characters since the session was opened, and
-/// saturate at UINT64_MAX.
+/// Work counters, for checking that edits stay incremental. The counters count characters since the session was opened,
+/// and saturate at UINT64_MAX.
 #[derive(Clone, Copy, Debug, Default, PartialEq, Eq)]
 #[repr(C)]
 pub struct hordguli_work {
@@ -295,7 +295,8 @@ pub struct hordguli_run {
     pub zero: u32,
 }
 
-/// The character at `pos`, and how many of its bytes or code units come before an offset: 0 at its start.
+/// The character at `pos` that contains an offset. `rest` is how many of its bytes or code units come before the
+/// offset.
 #[derive(Clone, Copy, Debug, Default, PartialEq, Eq)]
 #[repr(C)]
 pub struct hordguli_position {
@@ -358,9 +359,9 @@ pub struct hordguli_cluster {
     pub end: usize,
 }
 
-/// The characters from `start` up to but not including `end`. `kind` is 1 if any of them is alphabetic or numeric, such as
-/// a letter, a digit, a vowel sign (U+05B8) or a fraction (U+00BD). Else it is 0, as for spaces and punctuation. `zero`
-/// is 0.
+/// The characters from `start` up to but not including `end`. `kind` is 1 if any of them is alphabetic or numeric, such
+/// as a letter, a digit, a vowel sign (U+05B8) or a fraction (U+00BD). Else `kind` is 0, as for spaces and punctuation.
+/// `zero` is 0.
 #[derive(Clone, Copy, Debug, Default, PartialEq, Eq)]
 #[repr(C)]
 pub struct hordguli_word {
@@ -389,7 +390,7 @@ pub struct hordguli_edge {
 }
 
 /// The `length` characters of a text from position `start` on, all of one script. `script` has the four letters of its
-/// code (ISO 15924), the first one in the highest byte, such as 0x4C61746E for `Latn`. This is the value of an
+/// code (ISO 15924), with the first letter in the highest byte, such as 0x4C61746E for `Latn`. This is the value of an
 /// `hb_script_t` of HarfBuzz.
 #[derive(Clone, Copy, Debug, Default, PartialEq, Eq)]
 #[repr(C)]
@@ -429,8 +430,8 @@ extern "C" {
     /// Returns "15.0", the Unicode version of tables that `hordguli_tables_open_builtin`, `hordguli_tables_open_folder` and
     /// `hordguli_tables_read` open.
     pub fn hordguli_unicode_version() -> *const c_char;
-    /// Returns the Unicode version of column widths, grapheme clusters and scripts, such as "18.0". It belongs to the
-    /// library, and does not depend on the tables.
+    /// Returns the Unicode version of column widths, grapheme clusters and scripts, such as "18.0". This version belongs to
+    /// the library, and does not depend on the tables.
     ///
     /// Since: 0.6.
     pub fn hordguli_width_unicode_version() -> *const c_char;
@@ -453,9 +454,10 @@ extern "C" {
         tables: *mut hordguli_tables,
         version: u32,
     ) -> hordguli_status;
-    /// Opens tables from a compiled image, such as the file `tables.image` that is installed with the table files. They have
-    /// the version of the image. `fault` may be NULL, and is set only on TABLE_FAULT. The causes up to HORDGULI_CAUSE_ENTRY
-    /// are ruled out before any memory is allocated. If memory runs out before a later cause is found, NO_MEMORY is returned.
+    /// Opens tables from a compiled image, such as the file `tables.image` that is installed with the table files. The
+    /// tables have the version of the image. `fault` may be NULL, and is set only on TABLE_FAULT. The causes up to
+    /// HORDGULI_CAUSE_ENTRY are ruled out before any memory is allocated. If memory runs out before a later cause is found,
+    /// NO_MEMORY is returned.
     ///
     /// Errors: NULL, OVERLAP, ALREADY_OPEN, TABLE_FAULT, NO_MEMORY.
     ///
@@ -494,8 +496,8 @@ extern "C" {
         fault: *mut hordguli_table_fault,
     ) -> hordguli_status;
     /// Opens tables of Unicode 15.0 from the files in a folder. `folder` is a NUL-terminated path. `fault` may be NULL, and
-    /// is set only on UNREAD_FILE or TABLE_FAULT. On UNREAD_FILE, `errno` is that of the failed `open` or `read`, such as
-    /// ENOENT. If memory runs out before either fault is found, NO_MEMORY is returned.
+    /// is set only on UNREAD_FILE or TABLE_FAULT. On UNREAD_FILE, `errno` is the error of the failed `open` or `read`, such
+    /// as ENOENT. If memory runs out before either fault is found, NO_MEMORY is returned.
     ///
     /// Errors: NULL, OVERLAP, ALREADY_OPEN, UNREAD_FILE, TABLE_FAULT, NO_MEMORY.
     ///
@@ -541,10 +543,10 @@ extern "C" {
     ///                          sizeof buffer, buffer, &written);
     /// ```
     ///
-    /// The handle keeps the memory that a call used. A later call that needs no more than that allocates nothing, unless
-    /// only one of the two calls has HORDGULI_LINE_SEPARATORS. The handle keeps at most 5 MB: memory for a text or for lines
-    /// of more than 65,536 bytes is freed. `hordguli_tables_close` frees it. Threads that call this at the same time need a
-    /// handle of tables each.
+    /// The handle keeps the memory that a call used. A later call that needs no more memory allocates nothing, unless only
+    /// one of the two calls has HORDGULI_LINE_SEPARATORS. The handle keeps at most 5 MB: memory for a text or for lines of
+    /// more than 65,536 bytes is freed. `hordguli_tables_close` frees what is kept. Threads that call this function at the
+    /// same time each need their own tables handle.
     ///
     /// On NOT_UTF8, `hordguli_valid_utf8` says where. NO_MEMORY comes before NO_ROOM, because the lines are gathered before
     /// their size is known.
@@ -592,14 +594,15 @@ extern "C" {
         valid: *mut usize,
     ) -> hordguli_status;
     /// Decodes UTF-8 text of `length` bytes. Stores the number of its characters in `*count`, and this many elements in each
-    /// array. Each array has `capacity` elements. NULL arrays are skipped, so with both NULL no room is needed (see BUFFERS).
+    /// array. Each array has `capacity` elements. NULL arrays are skipped, so with both NULL any capacity is enough (see
+    /// BUFFERS).
     /// - `characters`: characters, for the functions in `Clusters and scripts`, `Rows` and `Levels and properties`
     /// - `offsets`: byte offset of each character
     ///
     /// On NO_ROOM, `*count` is set and the arrays are unchanged. Text that is not UTF-8 is refused, as in all functions, so
     /// a position always means the same character. On NOT_UTF8, `hordguli_valid_utf8` says where. To replace invalid bytes
-    /// with U+FFFD, decode the text before the first of them, write U+FFFD, skip one byte, and repeat. So each invalid byte
-    /// becomes one U+FFFD.
+    /// with U+FFFD, decode the text before the first of them, write U+FFFD, skip one byte, and repeat. Each invalid byte
+    /// then becomes one U+FFFD.
     ///
     /// Errors: NULL, OVERLAP, NOT_UTF8, NO_ROOM.
     ///
@@ -693,8 +696,8 @@ extern "C" {
     ///
     /// Errors: NULL, OVERLAP, WIDTH_OUT_OF_RANGE, CLOSED, NO_MEMORY.
     ///
-    /// Cost: O(n), plus wrapping each paragraph, except those that are one line, fit the new width and, with
-    /// HORDGULI_SHOW_SPACES, hide no space that fits.
+    /// Cost: O(n), plus wrapping each paragraph. A paragraph of one line that fits the new width is skipped, unless
+    /// HORDGULI_SHOW_SPACES is set and the line hides a space that fits.
     pub fn hordguli_set_width(
         session: *mut hordguli_session,
         width: u32,
@@ -713,11 +716,11 @@ extern "C" {
         damage: *mut hordguli_damage,
     ) -> hordguli_status;
     /// Stores in `*changed` which lines changed in the last successful call that edited the text, set the width or set
-    /// advances. These are the lines of its damage, which names whole paragraphs, without the longest run of unchanged lines
-    /// at the start, and then without the longest such run at the end. An unchanged line has the same characters, levels,
-    /// maps, columns, advances, base level and length as before, and is still the first of its paragraph, or still is not.
-    /// The padding, which depends on the width, is not compared: RTL lines move when the width changes, so draw all of them
-    /// then. After the session is opened, all lines count as changed. A failed call has no effect on this.
+    /// advances. These are the lines of the call's damage, which names whole paragraphs, less the longest run of unchanged
+    /// lines at the start and then the longest such run at the end. An unchanged line has the same characters, levels, maps,
+    /// columns, advances, base level and length as before, and is the first line of its paragraph if and only if it was
+    /// before. The padding, which depends on the width, is not compared: RTL lines move when the width changes, so draw all
+    /// of them then. After the session is opened, all lines count as changed. A failed call does not change the result.
     ///
     /// Errors: NULL, OVERLAP, CLOSED.
     ///
@@ -728,8 +731,8 @@ extern "C" {
         session: *mut hordguli_session,
         changed: *mut hordguli_changed,
     ) -> hordguli_status;
-    /// Sets the advances of the `count` characters that start at `pos`, in a measured session, and rewraps the paragraphs that
-    /// have one of these characters. Stores in `*damage` which lines were replaced: none if `count` is 0.
+    /// Sets the advances of the `count` characters that start at `pos`, in a measured session, and rewraps the paragraphs
+    /// that contain them. Stores in `*damage` which lines were replaced: none if `count` is 0.
     ///
     /// After an edit, set the advances of all new paragraphs, since a shaper may choose other glyphs next to the edit.
     /// `hordguli_paragraph` stores where they start and how long they are.
@@ -785,11 +788,9 @@ extern "C" {
     /// Stores information about a line in `*info`, and `info->shown` elements in each array. Each array has `capacity`
     /// elements. NULL arrays are skipped, so with all arrays NULL any capacity is enough (see BUFFERS). Positions count from the
     /// start of the line.
-    /// - `characters`: characters in visual order, mirrored
-    /// - `levels`: level of each character after L1, in logical order
-    /// - `ltov`: visual position of each logical position
-    /// - `vtol`: logical position of each visual position
-    /// - `columns`: columns at each visual position
+    ///   characters characters in visual order, mirrored levels level of each character after L1, in logical order ltov
+    ///   visual position of each logical position vtol logical position of each visual position columns columns of the
+    ///   character at each visual position
     ///
     /// On NO_ROOM, `*info` is set and the arrays are unchanged.
     ///
@@ -808,7 +809,7 @@ extern "C" {
         columns: *mut usize,
     ) -> hordguli_status;
     /// Stores the directional runs of a line's shown part, from left to right, for shaping text: the longest ranges of
-    /// characters at one level after L1. They do not depend on HORDGULI_REORDER_NSM and HORDGULI_REORDER_CLUSTERS, which
+    /// characters at one level after L1. The runs do not depend on HORDGULI_REORDER_NSM and HORDGULI_REORDER_CLUSTERS, which
     /// move characters only inside runs. The number of runs is stored in `*count`, and the runs in an array of `capacity`
     /// elements. NULL with capacity 0 returns NO_ROOM if there are runs (see BUFFERS). Fails with OUT_OF_RANGE if the line
     /// does not exist. To read the characters of a run in logical order:
@@ -832,8 +833,8 @@ extern "C" {
     ) -> hordguli_status;
     /// Writes `count` lines, starting with line `first`, to a buffer, as UTF-8. NULL with capacity 0 returns NO_ROOM if
     /// there is anything to write (see BUFFERS). `print` selects what is written for each line, in the order VISUAL,
-    /// BASEDIR, LTOV, VTOL, LEVELS. Each of these ends in U+000A. Numbers are decimal, separated by spaces. For example, to
-    /// write the lines that an edit replaced:
+    /// BASEDIR, LTOV, VTOL, LEVELS. Each of these items ends in U+000A. Numbers are decimal, separated by spaces. For
+    /// example, to write the lines that an edit replaced:
     ///
     /// ```c
     /// status = hordguli_lines_utf8(&session, damage.first_line, damage.new_lines,
@@ -885,7 +886,7 @@ extern "C" {
         characters: *mut u32,
         length: *mut usize,
     ) -> hordguli_status;
-    /// Stores in `*length` how many bytes of UTF-8 the `count` characters that start at `pos` need.
+    /// Stores in `*length` the UTF-8 length, in bytes, of the `count` characters that start at `pos`.
     ///
     /// Errors: NULL, OVERLAP, CLOSED, OUT_OF_RANGE.
     ///
@@ -896,7 +897,7 @@ extern "C" {
         count: usize,
         length: *mut usize,
     ) -> hordguli_status;
-    /// Stores in `*byte` how many bytes of UTF-8 the text before `pos` needs. Fails with OUT_OF_RANGE if `pos` is past the
+    /// Stores in `*byte` the UTF-8 length, in bytes, of the text before `pos`. Fails with OUT_OF_RANGE if `pos` is past the
     /// end.
     ///
     /// Errors: NULL, OVERLAP, CLOSED, OUT_OF_RANGE.
@@ -909,8 +910,8 @@ extern "C" {
         pos: usize,
         byte: *mut usize,
     ) -> hordguli_status;
-    /// Stores in `*unit` how many UTF-16 code units the text before `pos` needs, which is how the Language Server Protocol
-    /// counts. Fails with OUT_OF_RANGE if `pos` is past the end.
+    /// Stores in `*unit` the length of the text before `pos` in UTF-16 code units, the unit of the Language Server Protocol.
+    /// Fails with OUT_OF_RANGE if `pos` is past the end.
     ///
     /// Errors: NULL, OVERLAP, CLOSED, OUT_OF_RANGE.
     ///
@@ -971,7 +972,7 @@ extern "C" {
     /// does not exist yet. Then `paragraph` and `line` are the numbers of paragraphs and lines in the text.
     ///
     /// U+2028, U+000B and U+000C end a line, but not its paragraph. At the end of a text that ends with one, the place and
-    /// the caret stay on that line. Each line has at least one character, and here none follows.
+    /// the caret stay on that line: a new line would have no character.
     ///
     /// Errors: NULL, OVERLAP, CLOSED, OUT_OF_RANGE.
     ///
@@ -985,10 +986,10 @@ extern "C" {
     ///   - Before a shown character: at its left edge if its level is even, else at its right edge. At an odd level, with
     ///     HORDGULI_REORDER_CLUSTERS or HORDGULI_REORDER_NSM, that can be inside its cluster; `hordguli_edge_caret` stores the
     ///     end of the cluster.
-    ///   - Before a character that is not shown, and at the end of the text: at the end of the line. That is right of all
-    ///     columns in an LTR paragraph, and column 0 in an RTL one.
+    ///   - Before a character that is not shown, and at the end of the text: at the end of the line. The end is right of all
+    ///     columns in an LTR paragraph, and column 0 in an RTL paragraph.
     ///   - At the start of a paragraph that does not exist yet (see `hordguli_place_of`): at column 0. `level` is then the
-    ///     base level of an empty paragraph. If it is odd, draw the caret at the right edge of the screen.
+    ///     base level of an empty paragraph. If this level is odd, draw the caret at the right edge of the screen.
     ///
     /// Errors: NULL, OVERLAP, CLOSED, OUT_OF_RANGE.
     ///
@@ -1031,7 +1032,7 @@ extern "C" {
     /// Errors: NULL, OVERLAP, CLOSED, OUT_OF_RANGE, NO_MEMORY.
     ///
     /// Cost: O(log n), plus time and memory proportional to the characters around `pos`, up to the nearest places where a
-    /// cluster ends whatever comes before and after. At worst, as among flags, these are the whole paragraph.
+    /// cluster ends regardless of context. At worst, as among flags, these are all characters of the paragraph.
     pub fn hordguli_cluster_at(
         session: *mut hordguli_session,
         pos: usize,
@@ -1040,7 +1041,7 @@ extern "C" {
     /// Stores in `*word` the word that contains the character at `pos`: the segment between two word boundaries (UAX #29)
     /// in the paragraph. Fails with OUT_OF_RANGE if `pos` is the end of the text.
     ///
-    /// The next word starts at `word.end`, and the previous one holds the character at `word.start - 1`.
+    /// The next word starts at `word.end`, and the previous word contains the character at `word.start - 1`.
     ///
     /// Errors: NULL, OVERLAP, CLOSED, OUT_OF_RANGE, NO_MEMORY.
     ///
@@ -1053,10 +1054,10 @@ extern "C" {
         word: *mut hordguli_word,
     ) -> hordguli_status;
     /// Stores the columns that the characters from `from` up to but not including `to` cover in a line, for drawing a
-    /// selection: as few spans as possible, from left to right. Where the direction changes, a selection can have several.
-    /// `from` and `to` are positions in the text; those outside the line are ignored. The number of spans is stored in
-    /// `*count`, and the spans in an array of `capacity` elements. NULL with capacity 0 returns NO_ROOM if there are spans
-    /// (see BUFFERS). Fails with OUT_OF_RANGE if the line does not exist.
+    /// selection: as few spans as possible, from left to right. Where the direction changes, a selection can have several
+    /// spans. `from` and `to` are positions in the text; those outside the line are ignored. The number of spans is stored
+    /// in `*count`, and the spans in an array of `capacity` elements. NULL with capacity 0 returns NO_ROOM if there are
+    /// spans (see BUFFERS). Fails with OUT_OF_RANGE if the line does not exist.
     ///
     /// ```c
     /// for (size_t line = first_line; line <= last_line; line++) {
@@ -1080,15 +1081,15 @@ extern "C" {
         count: *mut usize,
     ) -> hordguli_status;
     /// Stores in `*caret` where to draw the caret at an edge: on the line of the character that the edge belongs to. This is
-    /// the character at `pos` for HORDGULI_BEFORE, and the one before `pos` for HORDGULI_AFTER.
+    /// the character at `pos` for HORDGULI_BEFORE, and the character before `pos` for HORDGULI_AFTER.
     ///   - If a caret unit begins (or ends) with that character: at the start (or end) of the unit.
     ///   - At another shown character: at its leading edge, which is the left one if its level is even, or its trailing edge.
     ///   - At a character that is not shown, and before the end of the text: as in `hordguli_caret_at`.
     ///
     /// `level` is the level of that character. In the line where a new paragraph would start, an odd `level` means that the
-    /// caret is at the right edge of the screen. A block cursor covers the cell at `column`, or at an odd level the one to
-    /// its left; if there is no such cell, the nearest one. Fails with OUT_OF_RANGE if the position is past the end of the
-    /// text, and for the edge after position 0.
+    /// caret is at the right edge of the screen. A block cursor covers the cell at `column`, or at an odd level the cell to
+    /// its left. If there is no such cell, it covers the nearest one. Fails with OUT_OF_RANGE if the position is past the
+    /// end of the text, and for the edge after position 0.
     ///
     /// Errors: NULL, OVERLAP, UNKNOWN_OPTION, CLOSED, OUT_OF_RANGE, NO_MEMORY.
     ///
@@ -1101,10 +1102,10 @@ extern "C" {
         caret: *mut hordguli_caret,
     ) -> hordguli_status;
     /// Moves a caret to the nearest boundary to the left or right on its line. Stores the edge there in `*next`, and 1 in
-    /// `*moved`. The stored edge is an edge of the caret unit that was passed. At the end of the line, stores 0 in `*moved`, and
-    /// leaves `*next` unchanged. The caller then chooses the next line, of which column 0 is the left end and SIZE_MAX the
-    /// right end. In a left-to-right document, the key Right leads to the left end of the line below, and Left to the right
-    /// end of the line above:
+    /// `*moved`. The stored edge is an edge of the caret unit that was passed. At the end of the line, stores 0 in `*moved`,
+    /// and leaves `*next` unchanged. The caller then chooses the next line. Column 0 is its left end, and SIZE_MAX its right
+    /// end. In a left-to-right document, the key Right leads to the left end of the line below, and Left to the right end of
+    /// the line above:
     ///
     /// ```c
     /// // Right
@@ -1119,8 +1120,8 @@ extern "C" {
     /// line above (0). Past the last line, `hordguli_edge_at` returns OUT_OF_RANGE.
     ///
     /// Each step changes the column. Repeated steps reach every boundary in their direction. With HORDGULI_REORDER_NSM and
-    /// without HORDGULI_REORDER_CLUSTERS, this holds if the marks of the text have no columns. Of the nonspacing marks of
-    /// Unicode 15.0, only U+2D7F and U+1171E have columns.
+    /// without HORDGULI_REORDER_CLUSTERS, this holds only if the marks in the text have no columns. Of the nonspacing marks
+    /// of Unicode 15.0, only U+2D7F and U+1171E have columns.
     ///
     /// Errors: NULL, OVERLAP, UNKNOWN_OPTION, CLOSED, OUT_OF_RANGE, NO_MEMORY.
     ///
@@ -1179,8 +1180,8 @@ extern "C" {
     ///   - else before the first space that is not shown;
     ///   - else after the last character of the line.
     ///
-    /// In the line where a new paragraph would start, both are before the end of the text. Fails with OUT_OF_RANGE for later
-    /// lines.
+    /// In the line where a new paragraph would start, both edges are before the end of the text. Fails with OUT_OF_RANGE for
+    /// later lines.
     ///
     /// Errors: NULL, OVERLAP, CLOSED, OUT_OF_RANGE.
     ///
@@ -1193,8 +1194,8 @@ extern "C" {
         first: *mut hordguli_edge,
         last: *mut hordguli_edge,
     ) -> hordguli_status;
-    /// Stores where the grapheme clusters of a line end, counted from the start of the line, in an array of `capacity`
-    /// elements, and their number in `*count`. NULL with capacity 0 returns NO_ROOM (see BUFFERS). The last one is the
+    /// Stores the ends of a line's grapheme clusters, counted from the start of the line, in an array of `capacity`
+    /// elements, and their number in `*count`. NULL with capacity 0 returns NO_ROOM (see BUFFERS). The last end is the
     /// length of the line, even if a cluster continues on the next line. Fails with OUT_OF_RANGE if the line does not exist.
     ///
     /// NO_MEMORY comes before NO_ROOM.
@@ -1211,9 +1212,9 @@ extern "C" {
         ends: *mut usize,
         count: *mut usize,
     ) -> hordguli_status;
-    /// Stores where the grapheme clusters of a text of `count` characters end, in an array of `capacity` elements, and their
-    /// number in `*cluster_count`. NULL with capacity 0 returns NO_ROOM, unless `count` is 0 (see BUFFERS). The first
-    /// cluster starts at 0, each other one where the one before it ends, and the last one ends at `count`. No cluster
+    /// Stores the ends of the grapheme clusters in a text of `count` characters, in an array of `capacity` elements, and
+    /// their number in `*cluster_count`. NULL with capacity 0 returns NO_ROOM, unless `count` is 0 (see BUFFERS). The first
+    /// cluster starts at 0, each later one at the end of the cluster before it, and the last one ends at `count`. No cluster
     /// continues after a separator, so the clusters are those of a session with this text (`hordguli_cluster_at`), even for
     /// a text of several paragraphs. NO_MEMORY comes before NO_ROOM.
     ///
@@ -1234,9 +1235,11 @@ extern "C" {
     ///   - A character has the script of its property Script, in the Unicode version that `hordguli_width_unicode_version`
     ///     returns. A private-use or unassigned character has the script Unknown (`Zzzz`).
     ///   - If the property is Common or Inherited, as for a space, a digit or a mark, the character has the script of the
-    ///     one before it. At the start of the text, it has the first script that follows, or Common (`Zyyy`) if none does.
-    ///   - But a closing bracket whose property is Common has the script of its opening bracket, if it has one. Brackets are
-    ///     those of the tables. Of brackets that are nested more than 63 deep, only the innermost 63 are matched.
+    ///     character before it. At the start of the text, such a character has the first script that follows, or Common
+    ///     (`Zyyy`) if none does.
+    ///   - But a closing bracket whose property is Common has the script of its opening bracket, if it has one. The tables
+    ///     determine which characters are brackets. Of brackets that are nested more than 63 deep, only the innermost 63 are
+    ///     matched.
     ///
     /// The property Script_Extensions is not used. The number of runs is stored in `*run_count`, and the runs in an array of
     /// `capacity` elements. NULL with capacity 0 returns NO_ROOM, unless `count` is 0 (see BUFFERS). NO_MEMORY comes before
@@ -1257,8 +1260,8 @@ extern "C" {
     ) -> hordguli_status;
     /// Puts a row of `count` characters into visual order. The caller chooses where the row starts and ends. `base` is the
     /// base level of its paragraph (`hordguli_base`), and `levels` are the levels of the row's characters in the whole
-    /// paragraph (`hordguli_levels`). `options` can have HORDGULI_REORDER_NSM and HORDGULI_REORDER_CLUSTERS. The clusters
-    /// are those of these characters alone. Stores `count` elements in each array. Each array has `capacity` elements. NULL
+    /// paragraph (`hordguli_levels`). `options` can have HORDGULI_REORDER_NSM and HORDGULI_REORDER_CLUSTERS. Only these
+    /// characters determine the clusters. Stores `count` elements in each array. Each array has `capacity` elements. NULL
     /// arrays are skipped, so with all arrays NULL any capacity is enough (see BUFFERS). Positions count from the start of
     /// the row.
     /// - `visual`: characters in visual order, mirrored (UAX #9, L4)
@@ -1359,8 +1362,8 @@ extern "C" {
         marks: *mut u8,
     ) -> hordguli_status;
     /// Stores the properties of `count` characters in `records`, an array of `count` elements. All properties are from the
-    /// tables, except the columns (see COLUMNS). A character that no table names has line breaking class XX, and no mirror,
-    /// bracket or flags. Its bidi class is L, or with tables of Unicode 17.0 the default in DerivedBidiClass.txt.
+    /// tables, except the columns (see COLUMNS). A character that no table file names has line breaking class XX, and no
+    /// mirror, bracket or flags. Its bidi class is L, or with tables of Unicode 17.0 the default in DerivedBidiClass.txt.
     ///
     /// Errors: NULL, OVERLAP, CLOSED, NOT_A_CHARACTER.
     ///

@@ -23,7 +23,7 @@ pub enum Error {
     NotCharBoundary,
     /// The session was not opened by [`Session::open_measured`](crate::Session::open_measured).
     NotMeasured,
-    /// Bytes are not valid UTF-8.
+    /// The bytes are not valid UTF-8.
     NotUtf8,
     /// The library does not know the Unicode version.
     UnknownVersion,
@@ -84,7 +84,7 @@ impl fmt::Display for Error {
 
 impl std::error::Error for Error {}
 
-/// The first malformed line of the table files, by file and then by line, or the fault of an image.
+/// The first malformed line of the table files, in the order of files and then of lines, or the fault in an image.
 #[derive(Clone, Copy, Debug, PartialEq, Eq, Hash)]
 #[non_exhaustive]
 pub struct TableFault {

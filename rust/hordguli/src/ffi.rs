@@ -87,7 +87,7 @@ unsafe fn array<T>(
     Ok(items)
 }
 
-/// How many items a call with an array is first made for.
+/// The number of items for which a call with an array is first made.
 const USUAL_COUNT: usize = 16;
 
 /// A text has at most this many characters.

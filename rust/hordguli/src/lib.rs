@@ -1,8 +1,8 @@
 //! Lays out bidirectional text in lines: Unicode's bidirectional and line breaking algorithms (UAX #9, UAX #14).
 //!
 //! This is a safe interface to the C library `libhordguli`, whose levels, order and line breaks are proved to follow
-//! the annexes. The crate itself is not proved. It has the same rules and limits, which `docs/reference.md` in the
-//! sources describes, and no dependencies.
+//! the annexes. The crate itself is not proved. The crate has the same rules and limits, which `docs/reference.md` in
+//! the sources describes, and no dependencies.
 //!
 //! | Task | Calls |
 //! |---|---|
@@ -15,7 +15,7 @@
 //!
 //! # One string
 //!
-//! All calls need [`Tables`]. Open them once, and keep them.
+//! All calls need [`Tables`]. Open tables once, and keep them.
 //!
 //! ```
 //! use hordguli::{wrap, Options, Tables};
@@ -85,7 +85,8 @@
 //! # An editor
 //!
 //! A position has two edges: the leading edge of the character at that position, and the trailing edge of the character
-//! before it. They are apart where the direction changes or a line wraps. So an editor keeps an [`Edge`] as its caret:
+//! before it. The two are apart where the direction changes or a line wraps. So an editor keeps an [`Edge`] as its
+//! caret:
 //!
 //! | The caret was last moved by | Edge to keep |
 //! |---|---|
@@ -157,9 +158,10 @@
 //!
 //! # Errors
 //!
-//! Calls return [`Error`]. After an error, nothing has changed. Each method lists its errors; [`Error::Unexpected`] is none of them.
-//! Nothing panics, except [`row`] and [`row_runs`] if their slices have different lengths, and arithmetic on positions that overflows.
-//! Where the crate allocates, it returns [`Error::OutOfMemory`] too, except in [`wrap`], which makes a `String` of each line.
+//! Calls return [`Error`]. After an error, nothing has changed. Each method lists its errors, which never include
+//! [`Error::Unexpected`]. Nothing panics, except [`row`] and [`row_runs`] if their slices have different lengths, and
+//! arithmetic on positions that overflows. If an allocation in the crate fails, it also returns [`Error::OutOfMemory`],
+//! except in [`wrap`], which makes a `String` of each line.
 //!
 //! # Threads
 //!
@@ -216,7 +218,8 @@ pub fn unicode_version() -> &'static str {
     ffi::unicode_version()
 }
 
-/// Returns the Unicode version of column widths and grapheme clusters, such as `18.0`. It does not depend on the tables.
+/// Returns the Unicode version of column widths and grapheme clusters, such as `18.0`. This version does not depend on
+/// the tables.
 #[must_use]
 pub fn width_unicode_version() -> &'static str {
     ffi::width_unicode_version()

@@ -9,8 +9,8 @@ use crate::{Break, CharPos, Edge, Error, Level, Print, Row, Run, Session, Span, 
 
 /// A line of a session. [`Session::line`] and [`Session::lines`] return lines.
 ///
-/// The tail of a line is all white space at its end, with its separator. It is not shown. The rest of the line is its shown part, to
-/// which [`Options::show_spaces`](crate::Options::show_spaces) adds spaces of the tail.
+/// The tail of a line is all white space at its end, with its separator. The tail is not shown. The rest of the line is
+/// its shown part, to which [`Options::show_spaces`](crate::Options::show_spaces) adds spaces from the tail.
 #[derive(Clone, Copy)]
 pub struct Line<'a> {
     session: &'a Session,
@@ -125,7 +125,7 @@ impl<'a> Line<'a> {
 
     /// Returns the directional runs of the shown part, from left to right, for shaping text.
     ///
-    /// They do not depend on [`Options::reorder_nsm`](crate::Options::reorder_nsm) and
+    /// The runs do not depend on [`Options::reorder_nsm`](crate::Options::reorder_nsm) and
     /// [`Options::reorder_clusters`](crate::Options::reorder_clusters), which move characters only inside runs.
     ///
     /// ```
@@ -157,8 +157,9 @@ impl<'a> Line<'a> {
         }))
     }
 
-    /// Returns the columns that a range of the text covers in the line, for drawing a selection: as few spans as possible, from left
-    /// to right. Where the direction changes, a selection can have several. Characters outside the line are ignored.
+    /// Returns the columns that a range of the text covers in the line, for drawing a selection: as few spans as
+    /// possible, from left to right. Where the direction changes, a selection can have several spans. Characters
+    /// outside the line are ignored.
     ///
     /// ```
     /// use hordguli::{BytePos, Options, Session, Span, Tables};
@@ -191,7 +192,7 @@ impl<'a> Line<'a> {
         }))
     }
 
-    /// Returns the grapheme clusters of the line, in logical order. The last one ends with the line, even if a cluster
+    /// Returns the grapheme clusters of the line, in logical order. The last cluster ends with the line, even if it
     /// continues on the next line.
     ///
     /// # Errors

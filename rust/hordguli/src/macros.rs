@@ -1,4 +1,5 @@
-/// Declares a type for the numbers of the C library that have names. A later library may use numbers that have none here.
+/// Declares a type for the numbers of the C library that have names. A later library may use numbers that have no names
+/// here.
 macro_rules! numbers {
     (
         $(#[$type_doc:meta])*

@@ -34,10 +34,10 @@
 //! | constants of `format_chars` | the characters, such as `'\u{200f}'` for `RLM` |
 //! | `UNICODE_VERSION` | [`Tables::version`] |
 //!
-//! What differs:
+//! The differences are:
 //!
 //! - Levels are per character, and not per byte.
-//! - [`row`] and lines are mirrored (UAX #9, L4). `reorder_line` leaves brackets as they are.
+//! - [`row`] and lines are mirrored (UAX #9, L4). `reorder_line` leaves brackets unchanged.
 //! - [`Session`] finds the lines itself, and a line's tail is not shown. To choose the lines yourself, use [`row`].
 //! - Ranges of [`Run`]s are in characters.
 //!

@@ -75,29 +75,30 @@ impl Options {
         self
     }
 
-    /// Whether nonspacing marks at odd levels come after their base in visual order (UAX #9, L3). Use it if the terminal draws a mark
-    /// onto the cell to its left.
+    /// Whether nonspacing marks at odd levels come after their base in visual order (UAX #9, L3). Use this option if
+    /// the terminal draws a mark onto the cell to its left.
     pub const fn reorder_nsm(mut self, is_set: bool) -> Self {
         self.reorder_nsm = is_set;
         self
     }
 
-    /// Whether lines do not end inside a number such as `$(1,200)`. It changes nothing with tables of Unicode 17.0.
+    /// Whether lines do not end inside a number such as `$(1,200)`. This option changes nothing with tables of Unicode
+    /// 17.0.
     pub const fn whole_numbers(mut self, is_set: bool) -> Self {
         self.whole_numbers = is_set;
         self
     }
 
-    /// Whether adjacent characters of a grapheme cluster at the same odd level stay in logical order. Use it if the
-    /// terminal draws clusters as units, such as emoji families. [`reorder_nsm`](Options::reorder_nsm) then has no
-    /// effect.
+    /// Whether adjacent characters of a grapheme cluster at the same odd level stay in logical order. Use this option
+    /// if the terminal draws clusters as units, such as emoji families. [`reorder_nsm`](Options::reorder_nsm) then has
+    /// no effect.
     pub const fn reorder_clusters(mut self, is_set: bool) -> Self {
         self.reorder_clusters = is_set;
         self
     }
 
-    /// Whether the spaces at the start of a line's tail are shown, as many as fit in the width. So they have carets,
-    /// hits and spans.
+    /// Whether the spaces at the start of a line's tail are shown, as many as fit in the width. These spaces then have
+    /// carets, hits and spans.
     pub const fn show_spaces(mut self, is_set: bool) -> Self {
         self.show_spaces = is_set;
         self
@@ -110,8 +111,8 @@ impl Options {
         self
     }
 
-    /// Sets a tab stop every `columns` columns. With 0, the default, there are none, and a tab has no columns. In a measured session, any
-    /// other number sets stops at the multiples of each tab's own advance.
+    /// Sets a tab stop every `columns` columns. With 0, the default, there are no tab stops, and a tab has no columns.
+    /// In a measured session, any other number sets stops at the multiples of each tab's own advance.
     pub const fn tab_width(mut self, columns: u8) -> Self {
         self.tab_width = columns;
         self
@@ -158,7 +159,7 @@ const fn if_set(is_set: bool, bit: u32) -> u32 {
     }
 }
 
-/// What is written for each line, in the order of the constants. Combine them with `|`. Each item is a line of its own.
+/// What is written for each line, in the order of the constants. Combine them with `|`. Each item is a separate line.
 ///
 /// ```
 /// use hordguli::{layout, Options, Print, Tables};

@@ -17,7 +17,7 @@ position! {
 
 /// A position in a text: [`CharPos`], [`BytePos`] or [`Utf16Pos`].
 ///
-/// A plain number is no position, so units cannot be mixed up:
+/// A plain number is not a position, so units cannot be mixed up:
 ///
 /// ```compile_fail,E0277
 /// # fn of(session: &hordguli::Session) -> Result<(), hordguli::Error> {
@@ -32,8 +32,8 @@ position! {
 /// ```
 ///
 /// Methods that take a [`BytePos`] or [`Utf16Pos`] first convert it as [`Session::position_of_byte`] or
-/// [`Session::position_of_utf16`] do, at their cost. They fail with [`Error::OutOfRange`] if it is past the end of the text, and with
-/// [`Error::NotCharBoundary`] if it is inside a character.
+/// [`Session::position_of_utf16`] do, at their cost. Such methods fail with [`Error::OutOfRange`] if the position is
+/// past the end of the text, and with [`Error::NotCharBoundary`] if it is inside a character.
 pub trait Position: Copy + sealed::Resolve {}
 
 /// A range of a text: `a..b`, `a..`, `..b` or `..`, where `a` and `b` are [`Position`]s of one type.
@@ -45,7 +45,8 @@ pub(crate) mod sealed {
     use super::*;
 
     pub trait Resolve {
-        /// Converts the position to characters. A `CharPos` may be past the end; the call that it is passed to finds that out.
+        /// Converts the position to characters. A `CharPos` may be past the end; the call to which it is passed checks
+        /// this.
         fn resolve(self, session: &Session) -> Result<CharPos, Error>;
     }
 

@@ -142,8 +142,8 @@ pub struct Counts {
     pub width: usize,
 }
 
-/// Work counters, for checking that edits stay incremental. They count characters since the session was opened, and saturate at
-/// `u64::MAX`.
+/// Work counters, for checking that edits stay incremental. The counters count characters since the session was opened,
+/// and saturate at `u64::MAX`.
 #[derive(Clone, Copy, Debug, Default, PartialEq, Eq, Hash)]
 pub struct Work {
     /// Characters whose levels and break marks were computed.
@@ -200,8 +200,8 @@ pub struct Hit {
 pub struct Word {
     /// The characters of the word.
     pub range: Range<CharPos>,
-    /// Whether any of them is alphabetic or numeric, such as a letter, a digit or a vowel sign. It is false for spaces and
-    /// punctuation.
+    /// Whether any of them is alphabetic or numeric, such as a letter, a digit or a vowel sign. The value is false for
+    /// spaces and punctuation.
     pub is_alphanumeric: bool,
 }
 
@@ -222,7 +222,7 @@ impl Span {
     }
 }
 
-/// Characters at one level. They are read from left to right if the level is even, else from right to left.
+/// Characters at one level. The characters are read from left to right if the level is even, else from right to left.
 ///
 /// The range is in characters of the text for a line ([`CharPos`]), and in indexes for a row (`usize`).
 #[derive(Clone, Debug, PartialEq, Eq, Hash)]
@@ -252,7 +252,8 @@ pub enum Side {
     After,
 }
 
-/// One of the two edges of a position. They are apart on the screen where the direction changes or a line wraps.
+/// One of the two edges of a position. The two edges are apart on the screen where the direction changes or a line
+/// wraps.
 ///
 /// An editor keeps an edge as its caret. Edits happen at `pos` either way.
 #[derive(Clone, Copy, Debug, Default, PartialEq, Eq, Hash)]
@@ -346,7 +347,7 @@ impl Row {
     }
 }
 
-/// Whether a character is a bracket (UAX #9, BD14 and BD15). Each has the other bracket of its pair.
+/// Whether a character is a bracket (UAX #9, BD14 and BD15). Each bracket has the other bracket of its pair.
 #[derive(Clone, Copy, Debug, PartialEq, Eq, Hash)]
 pub enum Bracket {
     /// An opening bracket.
@@ -371,7 +372,7 @@ pub struct Character {
     pub bidi_class: BidiClass,
     /// Its line breaking class.
     pub line_class: LineClass,
-    /// Its width in columns, from 0 to 3. It is 0 for a tab and other control characters.
+    /// Its width in columns, from 0 to 3. The width is 0 for a tab and other control characters.
     pub columns: u8,
 }
 
@@ -398,7 +399,7 @@ macro_rules! class_names {
     ($($type:ident)*) => {
         $(
             impl $type {
-                /// Returns the short name of the class, such as `AL`. It is `?` for a class of a later library.
+                /// Returns the short name of the class, such as `AL`. The name is `?` for a class of a later library.
                 #[must_use]
                 pub fn name(self) -> &'static str {
                     self.known_name().unwrap_or("?")

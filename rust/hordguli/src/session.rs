@@ -49,7 +49,7 @@ pub struct Session {
 impl Session {
     /// Opens a session on a text. `width` is in columns.
     ///
-    /// The session shares the tables, which may be dropped before it.
+    /// The session shares the tables, which may be dropped before the session.
     ///
     /// # Errors
     ///
@@ -65,12 +65,13 @@ impl Session {
 
     /// Opens a measured session, for text in any font. `width` is from 1 to 2,147,483,647.
     ///
-    /// Each character has an advance, in a unit that the caller chooses, such as 1/64 pixel. The width, and all columns of the session,
-    /// are in this unit. A new character has advance 0, until [`set_advances`](Session::set_advances) sets it. All
-    /// others keep theirs, even if an edit joins or splits paragraphs.
+    /// Each character has an advance, in a unit that the caller chooses, such as 1/64 pixel. The width, and all columns
+    /// of the session, are in this unit. A new character has advance 0, until [`set_advances`](Session::set_advances)
+    /// sets it. All other characters keep their advances, even if an edit joins or splits paragraphs.
     ///
-    /// The advances of a paragraph add up to at most 4,294,967,295. With [`Options::tab_width`], a tab moves to the next multiple of its
-    /// own advance, or stays where it is if that is 0. What is printed has no padding; [`Line::padding`] is what aligns a line right.
+    /// The advances of a paragraph add up to at most 4,294,967,295. With [`Options::tab_width`], a tab moves to the
+    /// next multiple of its own advance, or stays where it is if its advance is 0. Lines are printed without padding;
+    /// [`Line::padding`] is the padding that aligns a line right.
     ///
     /// ```
     /// use hordguli::{CharPos, Options, Session, Tables};
@@ -187,8 +188,8 @@ impl Session {
         self.handle.set_measured_width(width).map(Damage::new)
     }
 
-    /// Sets the advances of the characters from `pos` on, in a measured session, and rewraps the paragraphs that have one of these
-    /// characters. Returns which lines were replaced: none if `advances` is empty.
+    /// Sets the advances of the characters from `pos` on, in a measured session, and rewraps the paragraphs that
+    /// contain them. Returns which lines were replaced: none if `advances` is empty.
     ///
     /// After an edit, set the advances of all new paragraphs, since a shaper may choose other glyphs next to the edit. The `old_lines`
     /// of the edit have then become the `new_lines` of this call.
@@ -314,7 +315,7 @@ impl Session {
             .text_utf32(range.start.0, range.end - range.start)
     }
 
-    /// Returns how many bytes of UTF-8 characters need.
+    /// Returns the length of characters in UTF-8, in bytes.
     ///
     /// # Errors
     ///
@@ -414,7 +415,7 @@ impl Session {
         Line::new(self, line)
     }
 
-    /// Returns an iterator over lines. Those that do not exist are left out.
+    /// Returns an iterator over lines. Lines that do not exist are skipped.
     ///
     /// ```
     /// use hordguli::{Options, Session, Tables};
@@ -553,10 +554,11 @@ impl Session {
     /// - Before a shown character: at its left edge if its level is even, else at its right edge. At an odd level, with
     ///   [`Options::reorder_clusters`] or [`Options::reorder_nsm`], that can be inside its cluster;
     ///   [`edge_caret`](Session::edge_caret) returns the end of the cluster.
-    /// - Before a character that is not shown, and at the end of the text: at the end of the line. That is right of all columns in a
-    ///   left-to-right paragraph, and column 0 in a right-to-left one.
-    /// - At the start of a paragraph that does not exist yet (see [`place`](Session::place)): at column 0. `level` is then the base
-    ///   level of an empty paragraph. If it is odd, draw the caret at the right edge of the screen.
+    /// - Before a character that is not shown, and at the end of the text: at the end of the line. The end is right of
+    ///   all columns in a left-to-right paragraph, and column 0 in a right-to-left paragraph.
+    /// - At the start of a paragraph that does not exist yet (see [`place`](Session::place)): at column 0. `level` is
+    ///   then the base level of an empty paragraph. If this level is odd, draw the caret at the right edge of the
+    ///   screen.
     ///
     /// # Errors
     ///
@@ -601,8 +603,8 @@ impl Session {
     ///
     /// # Cost
     ///
-    /// O(log n), plus time and memory proportional to the characters around `pos`, up to the nearest places where a cluster ends
-    /// whatever comes before and after. At worst, as among flags, these are the whole paragraph.
+    /// O(log n), plus time and memory proportional to the characters around `pos`, up to the nearest places where a
+    /// cluster ends regardless of context. At worst, as among flags, these are all characters of the paragraph.
     pub fn cluster(&self, pos: impl Position) -> Result<Range<CharPos>, Error> {
         let pos = pos.resolve(self)?;
         let it = self.handle.cluster_at(pos.0)?;
@@ -611,7 +613,7 @@ impl Session {
 
     /// Returns the word of the character at `pos`: the segment between two word boundaries (UAX #29) of its paragraph.
     ///
-    /// The next word starts at the end of its range, and the previous one holds the character before its start.
+    /// The next word starts at the end of its range, and the previous word contains the character before its start.
     ///
     /// # Errors
     ///
@@ -632,10 +634,10 @@ impl Session {
     // ---- Edges ----
 
     /// Returns where to draw the caret at an edge: on the line of the character that the edge belongs to. This is the
-    /// character at the position for [`Edge::before`], and the one before it for [`Edge::after`].
+    /// character at the position for [`Edge::before`], and the character before the position for [`Edge::after`].
     ///
     /// A caret moves over one caret unit: a grapheme cluster or, if its characters are in several level runs, the part
-    /// in one of them.
+    /// in one such run.
     ///
     /// - If a caret unit begins (or ends) with that character: at the start (or end) of the unit.
     /// - At another shown character: at its leading edge, which is the left one if its level is even, or its trailing edge.
@@ -658,8 +660,8 @@ impl Session {
     /// line. [`edge_at`](Session::edge_at) then returns the end of the next line.
     ///
     /// Each step changes the column. Repeated steps reach every boundary in their direction. With
-    /// [`Options::reorder_nsm`] and without [`Options::reorder_clusters`], this holds if the marks of the text have no
-    /// columns.
+    /// [`Options::reorder_nsm`] and without [`Options::reorder_clusters`], this holds only if the marks in the text
+    /// have no columns.
     ///
     /// ```
     /// use hordguli::{CharPos, Direction, Edge, Options, Session, Tables};
@@ -724,7 +726,8 @@ impl Session {
     /// - else before the first space that is not shown;
     /// - else after the last character of the line.
     ///
-    /// In the line where a new paragraph would start (see [`place`](Session::place)), both are before the end of the text.
+    /// In the line where a new paragraph would start (see [`place`](Session::place)), both edges are before the end of
+    /// the text.
     ///
     /// # Errors
     ///

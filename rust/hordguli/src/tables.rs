@@ -6,9 +6,10 @@ use crate::ffi::TablesHandle;
 use crate::numbers::{UnicodeVersion, TABLE_FILES};
 use crate::Error;
 
-/// Character properties from the Unicode Character Database, of Unicode 15.0 or 17.0. Line breaks follow the rules of the version.
+/// Character properties from the Unicode Character Database, version 15.0 or 17.0. Line breaks follow the rules of this
+/// version.
 ///
-/// The library contains the tables of both versions. [`builtin`](Tables::builtin) opens those of 15.0.
+/// The library contains the tables of both versions. [`builtin`](Tables::builtin) opens the tables of 15.0.
 ///
 /// Tables can be sent to another thread, but not shared by threads, since a call needs them to itself:
 ///
@@ -17,8 +18,8 @@ use crate::Error;
 /// share(hordguli::Tables::builtin().unwrap());
 /// ```
 ///
-/// [`layout`](crate::layout) keeps at most 5 MB of memory in the tables for its next call. Sessions share the tables that they were
-/// opened with, which may be dropped before them.
+/// [`layout`](crate::layout) keeps at most 5 MB of memory in the tables for its next call. Sessions share the tables
+/// that they were opened with, and the tables may be dropped before the sessions.
 pub struct Tables {
     pub(crate) handle: TablesHandle,
 }
@@ -54,8 +55,8 @@ impl Tables {
         TablesHandle::open_builtin_version(version.number()).map(Self::new)
     }
 
-    /// Opens tables from a compiled image, such as the file `tables.image` that is installed with the table files. They have the
-    /// version of the image.
+    /// Opens tables from a compiled image, such as the file `tables.image` that is installed with the table files. The
+    /// tables have the version of the image.
     ///
     /// # Errors
     ///

@@ -22,8 +22,7 @@ use crate::{ffi, Break, Character, Error, Level, Options, Print, Row, Run, Scrip
 /// # Cost
 ///
 /// Time and memory proportional to the text and the lines. The tables keep the memory that a call used. A later call
-/// that needs no more than that allocates only the result. Memory for texts or lines of more than 65,536 bytes is
-/// freed.
+/// that needs no more memory allocates only the result. Memory for texts or lines of more than 65,536 bytes is freed.
 pub fn layout(
     tables: &Tables,
     text: &str,
@@ -168,10 +167,10 @@ pub fn breaks(tables: &Tables, chars: &[char], options: Options) -> Result<Vec<B
 
 /// Puts a row, whose start and end the caller has chosen, into visual order.
 ///
-/// `base` is the base level of its paragraph ([`base_level`]), and `levels` are the levels of the row's characters in the whole
-/// paragraph ([`levels`]). L1 applies to the row as to a line: separators, and white space before them and at the end of the row, get
-/// the level `base`. Only [`Options::reorder_nsm`] and [`Options::reorder_clusters`] change the result. The clusters are those of
-/// these characters alone.
+/// `base` is the base level of its paragraph ([`base_level`]), and `levels` are the levels of the row's characters in
+/// the whole paragraph ([`levels`]). L1 applies to the row as to a line: separators, and white space before them and at
+/// the end of the row, get the level `base`. Only [`Options::reorder_nsm`] and [`Options::reorder_clusters`] change the
+/// result. Only these characters determine the clusters.
 ///
 /// ```
 /// use hordguli::{base_level, levels, row, BaseDirection, Options, Tables};
@@ -324,7 +323,8 @@ pub fn decode(bytes: &[u8]) -> Result<(Vec<char>, Vec<usize>), Error> {
     ffi::decode(bytes)
 }
 
-/// Returns where the grapheme clusters of a text end. They are those of a session with this text, and the last one ends at its end.
+/// Returns the ends of the grapheme clusters of a text. The clusters are the same as in a session with this text, and
+/// the last one ends at the end of the text.
 ///
 /// ```
 /// assert_eq!(hordguli::clusters(&['e', '\u{301}', 'a'])?, [2, 3]);

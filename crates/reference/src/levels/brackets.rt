@@ -37,8 +37,7 @@ pub fn resolve_brackets(
     Ok(())
 }
 
-// BD16: returns the pairs. Pairing stops at the first opening bracket at which 63 brackets are already on the
-// stack.
+// BD16: returns the pairs. Pairing stops at an opening bracket if 63 brackets are already on the stack.
 fn pairs_of(
     alloc: Global,
     tables: &Tables,
@@ -69,8 +68,8 @@ fn bracket_at(tables: &Tables, c: char, class: BidiClass) -> Option<Bracket> {
     }
 }
 
-// Pairs a closing bracket with the newest opening bracket that it matches, if there is one. Removes that
-// opening bracket and the newer ones from the stack.
+// Pairs a closing bracket with the newest opening bracket that it matches, if there is one. Removes this
+// opening bracket and all newer brackets from the stack.
 fn close(
     openers: &mut Vec<Opener>,
     pairs: &mut Vec<Pair>,
@@ -87,8 +86,8 @@ fn close(
     Ok(())
 }
 
-// Returns the newest opening bracket that a closing one matches: how many brackets are below it on the stack,
-// and its index in the text.
+// Returns the newest opening bracket that a closing bracket matches: how many brackets are below it on the
+// stack, and its index in the text.
 fn newest(openers: &[Opener], c: char) -> Option<(usize, usize)> {
     let mut newest = None;
     for (held, opener) in openers.iter().enumerate() {

@@ -35,7 +35,7 @@ fn is_neutral(class: BidiClass) -> bool {
     )
 }
 
-// Returns the least index from `from` on whose type is not neutral, or the length.
+// Returns the first index from `from` on whose type is not neutral, or the length.
 fn after_neutrals(types: &[BidiClass], from: usize) -> usize {
     for at in from..types.len() {
         if !is_neutral(types[at]) {

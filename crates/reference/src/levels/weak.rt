@@ -12,7 +12,7 @@ pub fn resolve_weak(types: &mut [BidiClass], sos: BidiClass) {
     w7(types, sos);
 }
 
-// W1: NSM gets the type of the character before it.
+// W1: an NSM becomes the type of the character before it.
 fn w1(types: &mut [BidiClass], sos: BidiClass) {
     let mut before = sos;
     for slot in types.iter_mut() {
@@ -129,7 +129,7 @@ fn is_terminator(class: BidiClass) -> bool {
     matches!(class, BidiClass::ET)
 }
 
-// Returns the least index from `from` on that has no terminator, or the length.
+// Returns the first index from `from` on without a terminator, or the length.
 fn after_terminators(types: &[BidiClass], from: usize) -> usize {
     for at in from..types.len() {
         if !is_terminator(types[at]) {

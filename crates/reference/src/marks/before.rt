@@ -1,5 +1,5 @@
-//! What the rules need to know about the bases before a position, updated in one pass over the characters.
-//! The rules therefore never look back, however long the run of spaces or RI before a position is.
+//! What the rules need to know about the bases before a position, updated in one pass over the characters. So
+//! the rules never look back, however long the run of spaces or RI before a position is.
 
 use crate::marks::character::Character;
 use crate::marks::classes::{BK, CM, CR, LF, NL, SP, ZW, ZWJ, has};
@@ -18,7 +18,7 @@ pub struct Before {
     pub is_future_pictograph: bool,
     /// The class of the last character, which is directly before the position.
     pub end: LineClass,
-    /// The class of the base before the last one.
+    /// The class of the base before the last base.
     pub second: Option<LineClass>,
     /// The class of the last base that is not a space.
     pub unspaced: Option<LineClass>,
@@ -48,7 +48,8 @@ impl Before {
         has(CM | ZWJ, next.class) && !has(BK | CR | LF | NL | SP | ZW, self.end)
     }
 
-    // Returns the state after the first character of a base, given what is kept of the state before it.
+    // Returns the state after the first character of a base, given the parts of the earlier state that are
+    // kept.
     fn begun(
         first: &Character,
         second: Option<LineClass>,

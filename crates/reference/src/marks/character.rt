@@ -1,7 +1,7 @@
 //! The properties of a character that line breaking needs (UAX #14, LB1, LB9 and LB10).
 use ucd::{LineClass, Tables};
 
-/// The properties of a character that the rules need. The class is the one after LB1.
+/// The properties of a character that the rules need. The class is the class after LB1.
 #[derive(Clone, Copy, Debug)]
 pub struct Character {
     pub class: LineClass,

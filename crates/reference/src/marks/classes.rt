@@ -2,7 +2,7 @@
 
 use ucd::LineClass;
 
-/// A set of line breaking classes: a bit for each, in the order of `LineClass`.
+/// A set of line breaking classes: one bit for each class, in the order of `LineClass`.
 pub type Classes = u64;
 
 /// Returns whether the class is in the set.

@@ -31,8 +31,8 @@ const SPACES: Options = Options {
     ..NO_TAB_STOPS
 };
 
-// A paragraph, its advances, a width, and where its lines start. Also, for each line, the left edge of each
-// visual position and, last, the right edge of the line.
+// A paragraph, its advances, a width, and where its lines start. For each line, the row also has the left
+// edge of each visual position and, last, the right edge of the line.
 struct Row {
     text: &'static str,
     advances: &'static [u32],
@@ -334,7 +334,7 @@ fn is_refilled(alloc: Global, engine: &mut Engine, row: &Row) -> Result<bool, Fa
     result
 }
 
-// Puts the lines at the row's width into the layout.
+// Exchanges the layout's lines for those at the row's width.
 fn exchanges(alloc: Global, engine: &mut Engine, laid: &mut Laid, row: &Row) -> Result<bool, Fail>
     requires laid { IsLaidOut (with_advances (rules_of engine.old) laid.old.advances) laid.old }
 {
@@ -419,7 +419,7 @@ static COLUMNS: [ColumnRow; 7] = [
     ("abcdefghijklmnop qrstuvwxyz", &[1; 27], 20),
 ];
 
-// Returns whether a line is the same by advances as by columns.
+// Returns whether a line is the same with advances as with columns.
 fn is_same_line(measured: &VisualLine<'_>, line: &VisualLine<'_>) -> bool {
     (measured.len() == line.len())
         & (measured.chars() == line.chars())

@@ -1,4 +1,4 @@
-//! Tests that marks are after their bases with the option `reordernsm`, and before them without it.
+//! Tests that marks come after their bases with the option `reordernsm`, and before them without it.
 use super::lay_out;
 use super::printed::{ALL, PLAIN, UNMIRRORED, are_printed};
 use crate::files::{FILES, engine};
@@ -128,7 +128,7 @@ static POINT_ROWS: [Row; 1] = [(
     &[2, 0, 1],
 )];
 
-// A paragraph, a width, what is printed, and the bytes.
+// A paragraph, a width, the print options, and the printed bytes.
 static PRINTED: [(&str, u16, Print, &str); 3] = [
     (
         "\u{5D0}\u{300}(\u{5D1}",

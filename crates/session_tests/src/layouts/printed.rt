@@ -1,5 +1,5 @@
-//! Tests that a paragraph is printed as the same bytes line by line, by its layout, and directly, without
-//! keeping a layout.
+//! Tests that a paragraph is printed as the same bytes in three ways: line by line, by its layout, and
+//! directly without a layout.
 use super::{engine, lay_out};
 use device::ToWrite;
 use lines::{Engine, Laid, PARAGRAPH_LIMIT, Print, PrintFault, WriteFault};
@@ -46,8 +46,8 @@ const DIRECTION: Print = Print {
     ..NOTHING
 };
 
-// A paragraph, a width, what is printed, and the bytes. Shorter paragraphs follow longer ones, and reuse
-// their lists.
+// A paragraph, a width, the print options, and the printed bytes. Shorter paragraphs follow longer
+// paragraphs, and reuse their lists.
 static ROWS: [(&str, u16, Print, &str); 10] = [
     ("abcdefgh ij kl", 3, PLAIN, "abc\ndef\ngh\nij\nkl\n"),
     (
@@ -128,7 +128,8 @@ pub(super) fn is_written(laid: &Laid, width: u16, print: &Print, bytes: &[u8]) -
         && holds(&at_once, bytes)
 }
 
-// Returns whether a paragraph is written into a buffer of `room` bytes, at most up to the end of the buffer.
+// Returns whether a paragraph is written correctly into a buffer of `room` bytes, up to the end of the
+// buffer.
 fn fills(
     alloc: Global,
     engine: &mut Engine,

@@ -18,13 +18,14 @@ fn engine(alloc: Global, reordernsm: bool) -> Result<Engine, TableFault> {
     files::engine(alloc, &FILES, options)
 }
 
-// A paragraph, a width, a line, where a range of it starts and ends, and the columns that the range covers.
+// A paragraph, a width, a line, the start and end of a range in the line, and the columns that the range
+// covers.
 type SpanRow<'a> = (&'a str, u16, [usize; 3], &'a [(usize, usize)]);
 
 const MIXED: &str = "abc \u{5d0}\u{5d1}\u{5d2} def";
 
 // In the last two rows, the range of a space and a letter covers one interval, since the mark between them
-// takes no columns, and the range of a mark covers none.
+// has no columns, and the range of a mark covers no interval.
 static SPANS: [SpanRow<'_>; 15] = [
     (MIXED, 80, [0, 2, 6], &[(2, 4), (5, 7)]),
     (MIXED, 80, [0, 3, 5], &[(3, 4), (6, 7)]),

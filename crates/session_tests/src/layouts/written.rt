@@ -1,4 +1,4 @@
-//! Tests the bytes of a line, written completely and up to each failure of the writer.
+//! Tests the bytes of a line that is written completely, or up to any failure of the writer.
 use super::printed::{ALL, LEVELS, PLAIN, UNMIRRORED};
 use super::{engine, lay_out};
 use device::ToWrite;
@@ -29,7 +29,7 @@ fn writes(line: &VisualLine<'_>, width: u32, print: &Print, bytes: &[u8]) -> boo
     all_right
 }
 
-// A width, what is printed, and the bytes of the line.
+// A width, the print options, and the bytes of the line.
 static ROWS: [(u32, Print, &str); 5] = [
     (4, PLAIN, "12)\u{5D0}\n"),
     (7, PLAIN, "   12)\u{5D0}\n"),

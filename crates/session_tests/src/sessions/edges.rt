@@ -14,7 +14,7 @@ fn edge_of((pos, side): Row) -> Edge {
     Edge { pos, side }
 }
 
-// A text, its width and an edge; the line, the column and the level of the caret there.
+// A text, its width and an edge; the line, the column and the level of the caret at the edge.
 type CaretRow<'a> = (&'a str, u16, Row, Option<(usize, usize, u8)>);
 
 const MIXED: &str = "abc \u{5d0}\u{5d1}\u{5d2} def";
@@ -178,7 +178,7 @@ static STEPS: [StepRow<'_>; 24] = [
     ("ab\n", 80, (3, Side::Before), Direction::Left, None),
 ];
 
-// A text, its width, a line and a column; the edge there.
+// A text, its width, a line and a column; the edge at the column.
 type ColumnRow<'a> = (&'a str, u16, [usize; 2], Option<Row>);
 
 static COLUMNS: [ColumnRow<'_>; 13] = [

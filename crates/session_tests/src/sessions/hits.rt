@@ -129,7 +129,8 @@ fn has_columns<S: ParagraphStore<Kept>>(
 // A text and a position; the start and the end of the cluster there.
 type ClusterRow<'a> = (&'a str, usize, Option<(usize, usize)>);
 
-// A woman, a joiner and a man form one cluster. So do a letter and its mark, and CR and LF.
+// A woman, a joiner and a man form one cluster. A letter and its mark also form a cluster, and so do CR and
+// LF.
 static CLUSTERS: [ClusterRow<'_>; 17] = [
     ("a\u{1f469}\u{200d}\u{1f468}b", 0, Some((0, 1))),
     ("a\u{1f469}\u{200d}\u{1f468}b", 1, Some((1, 4))),

@@ -8,7 +8,7 @@ use std::process::Abort;
 use std::test::Fail;
 use store::TreeStore;
 
-// The least width that is refused, apart from 0.
+// The smallest width above 0 that is refused.
 const TOO_WIDE: u32 = 2_147_483_648;
 
 // Opens a measured session on a text, and sets the advances of all characters.

@@ -91,8 +91,8 @@ fn have_room(text: &[char], advances: &[u32]) -> bool {
     all
 }
 
-// Returns whether a line may end after the character at an index, if no break opportunity fits. No other
-// characters of these texts join a cluster.
+// Returns whether a line may end after the character at an index, if no break opportunity fits. In these
+// texts, no other characters join a cluster.
 fn ends_cluster(text: &[char], k: usize) -> bool {
     match (text.get(k), text.get(k.wrapping_add(1))) {
         (Some(c), Some('\u{300}')) => ('\u{2066}'..='\u{2069}').contains(c),
@@ -132,7 +132,7 @@ impl Reference {
         by_break.or(by_cluster).or(least).unwrap_or((end, shown))
     }
 
-    // Returns whether the lines of a session are those of the text.
+    // Returns whether a session has the lines of the text.
     fn has_lines(&self, session: &Session<TreeStore<Kept>>) -> bool {
         let (mut n, mut first) = (0usize, 0usize);
         let mut all = true;

@@ -20,7 +20,7 @@ const SHOWN: Print = Print {
     nomirror: false,
 };
 
-// The first line and the number of lines; what is printed for them, if they exist.
+// The first line and the number of lines; the output for these lines, if they exist.
 type Lines<'a> = (usize, usize, Option<&'a str>);
 
 pub(super) static LINES: [Lines<'_>; 8] = [
@@ -69,7 +69,7 @@ fn are_lines<S: ParagraphStore<Kept>>(
     }
 }
 
-// A position and a count; the part of the first paragraph, if the range exists.
+// A position and a count; the characters of this range in the first paragraph, if the range exists.
 type Part<'a> = (usize, usize, Option<&'a [char]>);
 
 pub(super) static PARTS: [Part<'_>; 7] = [
@@ -87,8 +87,8 @@ fn is_part<S: ParagraphStore<Kept>>(session: &Session<S>, row: &Part<'_>) -> boo
     session.text(pos, count) == wanted
 }
 
-// A replacement in the lines `ab`, `cd` and `ef`: a position, a count and the new text. Then the first line,
-// the old lines and the new lines of the damage, or why the edit is refused. Then the text after the edit.
+// A replacement in the lines `ab`, `cd` and `ef`: a position, a count and the new text; the first line, the
+// old lines and the new lines of the damage, or why the edit is refused; and the text after the edit.
 type Replaced<'a> = (
     usize,
     usize,

@@ -165,8 +165,8 @@ pub(super) static ROWS: [Row<'_>; 20] = [
         [0, 11],
         "abc def ghi",
     ),
-    // The first of these rows keeps a line that just fits. The others set the width to one column less, and
-    // set it back.
+    // The first of these rows keeps a line that just fits. The others make the width one column smaller, and
+    // then restore it.
     (
         "ab cd \nef",
         80,
@@ -210,7 +210,7 @@ fn each_edit_returns_its_damage_and_changes_the_text(rt: HostRuntime) -> Result<
     check_in_tree(&rt, rt.alloc(), Check::Rows)
 }
 
-// An edit, the lines of its damage, and what is printed after it.
+// An edit, the lines of its damage, and the output after the edit.
 type Step<'a> = (Edit<'a>, Result<[usize; 3], EditFault>, &'a str);
 
 // The options that print visual lines, with their levels (`LEVELS`) or without (`SHOWN`).
@@ -335,8 +335,8 @@ pub(super) static EDITS: [Edit<'_>; 6] = [
     Edit::Insert(3, "\ne"),
 ];
 
-// Calls `run`. Does not try again after an allocation failure, so that the tests detect a mutant that fails
-// for no reason.
+// Calls `run`. Does not try again after an allocation failure, so that the tests detect a mutant that reports
+// failures without a cause.
 fn run<S: ParagraphStore<Kept>>(
     edited: &mut Session<S>,
     edits: &[Edit<'_>],
