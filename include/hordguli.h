@@ -819,7 +819,7 @@ typedef struct hordguli_hit {
 } hordguli_hit;
 
 /* Stores in `*hit` the character at a column of a line. New programs call `hordguli_edge_at` or `hordguli_nearest_edge`.
- * Column 0 is the left edge of the shown part, right of padding.
+ * Column 0 is the left edge of the shown part, to the right of any padding.
  *   - In the shown part: the character that covers the column, with `trailing` 0.
  *   - Right of the shown part: the rightmost character of nonzero width, with `trailing` 1 if its level is even, else
  *     0.
@@ -952,7 +952,7 @@ hordguli_status hordguli_step(hordguli_session *session, hordguli_edge edge, uin
                               uint32_t *moved);
 
 /* Stores in `*edge` the edge at a column of a line, for moving to another line, as with Up and Down. For mouse clicks,
- * see `hordguli_nearest_edge`. Column 0 is the left edge of the shown part, right of padding.
+ * see `hordguli_nearest_edge`. Column 0 is the left edge of the shown part, to the right of any padding.
  *   - In the shown part: the left end of the caret unit that covers the column.
  *   - Right of the shown part: its right end. So columns 0 and SIZE_MAX are the two ends of the line on the screen.
  *   - In a line of width 0: before its start.

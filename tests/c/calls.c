@@ -944,7 +944,7 @@ static void nearest_edges(void) {
 }
 
 static void edges_of_clusters(void) {
-    /* a letter and its mark, which is written after it on the screen */
+    /* a letter and its mark; in visual order, the mark comes after the letter */
     show("\u05d0\u05b8\u05d1", HORDGULI_REORDER_NSM, 80);
     CARET(0, BEFORE, 0, 2, 1);
     CARET(1, BEFORE, 0, 2, 1);

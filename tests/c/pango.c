@@ -182,7 +182,7 @@ static void shape(size_t first, size_t end, size_t count) {
     for (unsigned k = 0; k < glyphs; k++) shaped[infos[k].cluster] += (uint32_t)positions[k].x_advance;
 }
 
-/* Shapes characters of any styles, and sets the advances of the paragraph. */
+/* Shapes characters, one run of equal style at a time, and sets the advances of the paragraph. */
 static void shape_all(hordguli_session *session, size_t from, size_t to, size_t count) {
     for (size_t first = from, end = from; first < to; first = end) {
         while (end < to && is_same(&styles[end], &styles[first])) end++;

@@ -1,6 +1,6 @@
 /* Makes the same edits on several threads at the same time, each in its own session. All sessions must end with the
- * same lines. Layouts of the same text without a session, with tables of each thread, must have these lines too. Half
- * of the sessions are opened on tables that the threads share, under a lock. Then the threads hand sessions over to
+ * same lines. Each thread also lays out the same text without a session, with its own tables: the lines must be the same.
+ * Half of the sessions are opened on tables that the threads share, under a lock. Then the threads hand sessions over to
  * each other: each edit of a session is made by any free thread, and the thread that makes the last edit closes the
  * session.
  * Usage: threads FOLDER THREADS CHANGES. */

@@ -1,6 +1,6 @@
-/* Compares FriBidi's functions with the functions of the library OURS, on COUNT random lists of types. A list has 1 to
- * 200 of the 23 types, some brackets, and one of the five base directions. Half of the lists have no type that X9
- * removes. Usage: compare OURS COUNT [SEED].
+/* Compares FriBidi's functions with the functions of the library OURS, on COUNT random lists of types. Each
+ * list has 1 to 200 elements, each of one of the 23 types, some of them brackets, and is resolved in one of the five base
+ * directions. Half of the lists have no type that X9 removes. Usage: compare OURS COUNT [SEED].
  *
  * The results must be equal if no predicate of docs/fribidi-compat.md holds for a list. For each predicate, they must
  * differ on at least half of the lists for which only this predicate holds. */

@@ -137,7 +137,7 @@ number_rows false = rows_of_numbers V15_0
 unfoldable pub rows : Bool → List Row
 rows whole_numbers = rows_before_numbers V15_0 ++ (number_rows whole_numbers ++ rows_after_numbers V15_0)
 
--- the bases, with the nearest one changed so that LB8a and LB30b for pictographs do not apply to it
+-- the bases, with the nearest one changed so that LB8a and the part of LB30b on pictographs do not apply to it
 abbrev pub plain : List Base → List Base
 plain [] = []
 plain (b ∷ bases) = record { first = record b.first { is_future_pictograph = false }; attached = narrow class.CM ∷ [] } ∷ bases

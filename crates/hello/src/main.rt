@@ -1,5 +1,5 @@
 //! A session in a few lines: opens a text, edits it, changes its width, reads it and prints it. `README.md`
-//! shows the lines of `main` and `edit`, and CI compares them.
+//! shows the bodies of `main` and `edit`. CI checks that they are the same.
 #![tactic(auto)]
 
 use anyhow::Result;

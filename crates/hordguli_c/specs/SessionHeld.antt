@@ -1,4 +1,4 @@
--- What a session handle owns: nothing if it is null, and otherwise the block of a session with this value.
+-- What a session handle owns: nothing if it is null, and otherwise the allocation that holds the session.
 use Rattle.std.specs.Prelude.{◌≡◌, Option, Some, None}
 use base.Fml.{Fml, ftrue, fex}
 use denote.RattleType.{RattleType}

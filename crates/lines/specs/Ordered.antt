@@ -39,8 +39,8 @@ pub record RunsAdjoin (line : Visual) : Type 0 where
   pub odd : (j k : ℕ) → AreInRun line j k → is_odd (slice_index line.levels j) ≡ true
       → columns_left line (slice_index line.ltov k + 1) + columns_between line j k ≡ columns_left line (slice_index line.ltov j + 1)
 
--- Whether the characters of each level run at an even level, and those of each part of a cluster in a level run at an
--- odd level, are next to each other in logical order. `ends` says where the clusters of the line's paragraph end. The
+-- Whether these characters are adjacent on the line, in logical order from left to right: all characters of a level run at
+-- an even level; in a level run at an odd level, those of one cluster. `ends` says where the clusters of the line's paragraph end. The
 -- line starts at `start`.
 pub record ClustersAdjoin (line : Visual) (ends : List Bool) (start : ℕ) : Type 0 where
   pub even : (j k : ℕ) → AreInRun line j k → is_odd (slice_index line.levels j) ≡ false

@@ -207,7 +207,7 @@ impl Sum {
     }
 }
 
-/// The infos for the characters of a paragraph, reused for the next one, and a cache of columns.
+/// Buffers that each paragraph reuses: the `CharInfo` of each character, and a cache of column widths.
 #[derive(Drop)]
 pub(crate) struct InfoBuffers {
     pub(crate) infos: Vec<CharInfo>,

@@ -166,7 +166,7 @@ impl Engine {
         }
     }
 
-    /// Returns an empty list for the next paragraph's text, of about `len` characters. The list has the
+    /// Returns an empty list for the text of the next paragraph, which has about `len` characters. It has the
     /// capacity of a recycled text, if that capacity is suitable. Allocates nothing.
     pub fn take_text(&mut self, alloc: Global, len: usize) -> Vec<char>
         ensures text { result.items ≡ [] }
@@ -244,8 +244,8 @@ impl Engine {
         self.counts.written.get()
     }
 
-    /// Returns whether a paragraph has exactly one line, which stays the same at this width because it fits.
-    /// If spaces at the end of lines are shown, the line must not hide a space that would fit, either. The
+    /// Returns whether a paragraph has exactly one line and this line fits the width, so that it stays as it
+    /// is. If spaces at the end of lines are shown, the line must not hide a space that would fit, either. The
     /// paragraph must have been laid out with this engine's tables and options.
     pub fn keeps_lines(&self, laid: &Laid, width: u32) -> bool
         ensures value { result ≡ keeps_lines (rules_of self.now) width laid.now }

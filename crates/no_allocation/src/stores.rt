@@ -60,7 +60,7 @@ impl Exchange for Item {
     ghost keeps_utf16 = { λ item part fits. refl };
 }
 
-/// Returns a digest of what the calls return, which is the same in each round.
+/// Returns a digest of the calls' results. The results are the same in each round.
 pub fn digest<S: ParagraphStore<Item> + Drop>(alloc: Global, rounds: u32) -> Result<u64, Wrong> {
     let mut store = S::new(alloc);
     let Ok(items) = vec![in alloc; Item { lines: 1 }, Item { lines: 2 }, Item { lines: 3 }] else {

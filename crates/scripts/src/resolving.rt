@@ -30,7 +30,8 @@ pub(crate) fn is_same(one: Script, other: Script) -> bool
     one.number() == other.number()
 }
 
-// Returns whether characters with this value of the property have the script of other characters.
+// Returns whether a character with this Script value (Common or Inherited) takes the script of another
+// character.
 fn takes_script(script: Script) -> bool
     ensures { result ≡ takes_script script }
 {

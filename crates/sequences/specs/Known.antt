@@ -27,7 +27,7 @@ knows_after_escape (c ∷ text) =
     else if opens_string c then knows_string (c == 0x5D) text
     else nat_lt (prefix_len is_intermediate (c ∷ text)) (length (c ∷ text))
 
--- whether it is already known where the sequence that a text begins with ends, or that there is none
+-- whether the characters so far determine the end of the sequence at the start of a text, or show that there is none
 abbrev pub knows_sequence : List ℕ → Bool
 knows_sequence [] = false
 knows_sequence (c ∷ text) =

@@ -87,8 +87,8 @@ module _ (line : Visual) (start : ℕ) (cluster : Cluster) where
   abbrev pub holder : ℕ → Option ℕ
   holder k = greatest (λ j. nat_le shown_begin j && takes_columns line j) (suc k)
 
-  -- the column of the edge after character k: its unit's trailing end if the unit ends with it, or else its own
-  -- trailing edge
+  -- the column of the edge after character k: the trailing end of k's unit if the unit ends with k, or else the
+  -- trailing edge of k
   abbrev pub column_by : ℕ → Option ℕ → ℕ
   column_by k None = trailing_edge line k
   column_by k (Some j) = if unit_end j == suc k then (unit_of j).trailing else trailing_edge line k

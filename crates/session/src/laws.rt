@@ -18,7 +18,7 @@ use lines::{Laid, clusters_adjoin, lines_are_ordered, runs_adjoin, runs_have_all
 
 /// States, as a theorem, that a text split at a paragraph boundary is laid out as its two parts are, for any
 /// tables, options and width. The layouts of the text are those of the first part, followed by those of the
-/// second part. If the text is measured, each part has its own advances. The same holds for what is printed.
+/// second part. If the text is measured, each part has the advances of its characters. The same holds for what is printed.
 /// So the parts of a long text may be laid out in any order.
 /// Costs nothing at run time.
 pub fn texts_are_laid_out_in_parts()

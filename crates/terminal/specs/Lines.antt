@@ -32,8 +32,8 @@ line_chars print visual styles = styled_chars visual styles (ordered_chars print
 abbrev pub shown_line : ℕ → Print → Visual → List Style → List (ℕ × Style)
 shown_line width print visual styles = in_style DEFAULT (padding width print visual) ++ line_chars print visual styles
 
--- the prefix of a paragraph's lines: what it prints on the first line, what it prints on the other lines, and whether
--- it is to the right of a line
+-- the prefix of a paragraph's lines: what is printed on the first line and on each other line, and whether the prefix is
+-- to the right of the line
 pub record LinePrefix : Type 0 where
   pub first : List (ℕ × Style)
   pub others : List (ℕ × Style)

@@ -78,7 +78,7 @@ or_one a [] = a ∷ []
 or_one a (b ∷ list) = b ∷ list
 
 -- What is printed on each line for a prefix: its characters in their styles, or as many spaces as the prefix has
--- columns. A right-to-left prefix is to the right of lines.
+-- columns. A right-to-left prefix is printed to the right of each line.
 abbrev pub line_prefix : Bool → Print → Visual → List Style → LinePrefix
 line_prefix repeated print line styles = record {
   first = line_chars print line styles;

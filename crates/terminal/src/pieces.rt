@@ -68,7 +68,7 @@ fn directed(options: Options, base: u8) -> Options
     }
 }
 
-// Adds the lines of the pieces after the first one, in the direction of a base level.
+// Adds the lines of all pieces but the first, with the base direction of the given level.
 fn push_directed(
     alloc: Global,
     page: &mut Page,

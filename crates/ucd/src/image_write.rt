@@ -73,7 +73,7 @@ pub struct PageBytes {
     pub(crate) entries: Vec<u8>,
 }
 
-/// Returns the page numbers of all blocks, and pages, no two of which are equal. If `separates` is set, only
+/// Returns the page number of each block, and the distinct pages. If `separates` is set, only
 /// LF and CR end paragraphs in these pages.
 pub fn page_bytes(alloc: Global, pages: &Pages, separates: bool) -> Result<PageBytes, AllocError>
     ensures { IfOk result (λ bytes. (version : Version)
