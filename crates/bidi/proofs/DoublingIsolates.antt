@@ -15,7 +15,7 @@ use Rattle.bidi.specs.Doubling.{double}
 use Rattle.bidi.specs.Explicit.{directed, directed_at, span_of}
 use Rattle.bidi.proofs.DoublingLists.{after-shift, before-shift, begins-after, begins-at, collapse, collapse-more, collapse-next, collapse-same, collapse-shift, double-past, ends-after, ends-at, get_or-double, least-double, least-past, length-double, map-range-double, range-last, shift, shift-collapse, shift-high, shift-low, slice-double, unwrap-shift}
 
--- the count of a repeated item that is not counted
+-- repeating an item that is not counted does not change the count
 count-ignores : (p : BidiClass → Bool) (k : ℕ) (xs : List BidiClass) → p (class_at xs k) ≡ false → count_by p (double k xs) ≡ count_by p xs
 count-ignores p k [] not_counted = refl
 count-ignores p zero (x ∷ xs) not_counted = sum_by-cons (λ t. cond (p t) 1 0) x (x ∷ xs) ∙ ap (λ b. cond b 1 0 + count_by p (x ∷ xs)) not_counted ∙ zero-add (count_by p (x ∷ xs))

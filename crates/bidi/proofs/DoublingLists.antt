@@ -52,7 +52,7 @@ pub collapse-next : (k : ℕ) → collapse k (suc k) ≡ k
 collapse-next zero = refl
 collapse-next (suc k) = ap suc (collapse-next k)
 
--- an index that is not one of the two equal items is the index of its old index
+-- unless the item at j is one of the two equal items, j is the new index of its old index
 pub shift-collapse : (k j : ℕ) → collapse k j ≢ k → shift k (collapse k j) ≡ j
 shift-collapse k zero other = refl
 shift-collapse zero (suc zero) other = absurd (other refl)
@@ -263,8 +263,8 @@ ends-after k j =
       | inr low ↦ inl (omega (arith, collapse-low k j low), omega (arith, low, collapse-low k j low))
     ]
 
--- a part of a list that begins after another item than the repeated one, read by a test that ignores the repeated
--- item
+-- if a function of lists ignores whether the item is repeated, it has the same result for a part of the new list and the
+-- corresponding part of the old one
 pub slice-double : {T A : Type 0} (d : T) (read : List T → A) (k : ℕ) (xs : List T) → ((m : ℕ) (ys : List T) → get_or ys m d ≡ get_or xs k d → read (double m ys) ≡ read ys)
     → (start old_start end old : ℕ) → Begins k start old_start → Ends k end old
     → read (slice_range (double k xs) start end) ≡ read (slice_range xs old_start old)

@@ -11,7 +11,7 @@ use Rattle.bidi.specs.Sequences.{direction}
 use Rattle.bidi.specs.Weak.{weak}
 use Rattle.bidi.specs.declared.neutral_steps.NeutralStep.{NeutralStep}
 
--- N1 and N2 step by step give the types of N1 and N2
+-- N1 and N2 step by step yield the types of N1 and N2
 classes_by : (embedding sos eos : BidiClass) (before types : List BidiClass)
     → map (λ (s : NeutralStep). s.class) (each_into (neutral_step embedding sos eos) before types) ≡ each_by (neutral_at embedding sos eos) before types
 classes_by embedding sos eos before [] = refl

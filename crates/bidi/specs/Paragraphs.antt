@@ -1,5 +1,5 @@
--- The input for resolving the sequences of a paragraph, which is data on each character that X9 keeps, and
--- the resulting levels.
+-- The input for resolving the sequences of a paragraph, and the resulting levels. The input is data on each
+-- character that X9 keeps.
 use Rattle.std.specs.Prelude.{◌≡◌, ℕ, ◌<◌, max, true, false, Option, None, All, List, length, map, slice_index}
 use Rattle.ucd.specs.declared.bracket.Bracket.{Bracket}
 use Rattle.bidi.specs.BracketTypes.{bracket_at, bracket_types}

@@ -97,7 +97,7 @@ may_have c is_wide = not (is_one_of (CP ∷ OP ∷ []) c.class) || same c.is_wid
 -- Whether the outcome of an entry has the same mark as the rules. `befores` are the results of the conditions on the
 -- bases before the position, for each value of the bits. `after` are those on a character of each width and the example
 -- bases after it, and `marks` are the marks of each outcome before these examples. A character can be a ZWJ that joins
--- the last base only if characters may join that.
+-- the last base only if characters may join that base.
 module _ (befores : List (List Bool)) (by_row : List Mark) (after : Bool → ℕ → List Bool) (marks : ℕ → List Mark) (outcome : ℕ) (is_unattached asked : Bool) (c_is_wide : Bool) where
   abbrev pub gives_bits : List Bool → List Mark → ℕ → Bool
   gives_bits after marks index =

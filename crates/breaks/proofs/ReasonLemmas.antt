@@ -7,7 +7,7 @@ use Rattle.breaks.specs.Reasons.{first_by}
 use Rattle.breaks.specs.Rules.{Row, Rule, rule_of}
 use Rattle.breaks.specs.declared.line_rule.LineRule.{LineRule}
 
--- the first of some values that is there
+-- the first value that is not `None`
 abbrev pub first_of : {A : Type 0} → List (Option A) → Option A
 first_of [] = None
 first_of (one ∷ more) = option_or one (first_of more)
@@ -20,7 +20,7 @@ or_assoc : {A : Type 0} → (a b c : Option A) → option_or (option_or a b) c �
 or_assoc None b c = refl
 or_assoc (Some a) b c = refl
 
--- one value after another is tried
+-- trying one value after another finds the first one that is not `None`
 pub tried : {A : Type 0} → (one : Option A) (more : List (Option A)) → fold option_or one more ≡ option_or one (first_of more)
 tried one [] = sym (or_none one)
 tried one (next ∷ more) = tried (option_or one next) more ∙ or_assoc one next (first_of more)

@@ -88,8 +88,8 @@ symbols = first_symbols ++ (narrow class.CM ∷ narrow class.ZWJ ∷ [])
 abbrev pub shown : ℕ → Character
 shown number = get_or symbols number (narrow class.XX)
 
--- The part of a character that the rules of 17.0 read, except for the width of its base (LB19a), which is a bit of
--- the walk. Only QU and AL have a detail.
+-- The part of a character that the rules of 17.0 read, except for the width of its base (LB19a), which the walk
+-- records. Only QU and AL have a detail.
 abbrev pub told_17 : Character → Character
 told_17 c = record {
   class = c.class;

@@ -1,4 +1,4 @@
--- What a parse of the command line gives for arguments that are required or have a default.
+-- The result of parsing the command line, for arguments that are required or have a default.
 use Rattle.std.proofs.Common.{◌≡◌, ◌∙◌, ◌<◌, ◌≤◌, ap, ap₂, arith, drop, codes, false, inl, inr, is_some, length, List, [], ◌∷◌, map, ℕ, zero, suc, None, Some, refl, subst, sym, true}
 use Rattle.std.specs.List.{list_all, list_any, slice_index_or}
 use Rattle.std.specs.Prelude.{pos}

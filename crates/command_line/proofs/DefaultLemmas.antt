@@ -44,7 +44,7 @@ head_value : (P : Bor Text → Type 0) (how : Reading) (vs : List (Bor Text)) �
 head_value P how [] all some = absurd (omega arith)
 head_value P how (v ∷ vs) all some = (v, refl, refl, All-get_or P (v ∷ vs) 0 v (omega arith) all)
 
--- An argument that takes a value and has a default has a first value. Its parser accepts that value and gives its
+-- An argument that takes a value and has a default has a first value. Its parser accepts that value and returns its
 -- parsed form.
 pub record HasValue (a : Arg) (q : ValueParser) (f : Found) : Type 0 where
   pub text : Text
@@ -201,7 +201,7 @@ number_in t low high some inside =
       whole = without_minus-cond t ∙ rw plain refl;
     }
 
--- if a type has all numbers of a range, the text of a number in that range is parsed as that number
+-- if a type can hold all numbers of a range, the text of a number in that range is parsed as that number
 pub number_read : (E : Type 0) (G : Text → Result ℕ E → Type 0) (bits high : ℕ) (t : Text) (r : Option ℕ)
     → ReadsOne G t r → ((u : Text) (x : Result ℕ E) → G u x → ParsesUnsigned bits 10 u x) → high < 2 ^ bits
     → IsNumeral 10 (without_leading_plus t) → digits_value 10 (without_leading_plus t) ≤ high

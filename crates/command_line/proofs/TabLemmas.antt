@@ -1,4 +1,4 @@
--- The tab width that the arguments give.
+-- The tab width that the arguments specify.
 use Rattle.std.proofs.Common.{◌≡◌, ◌∙◌, ◌≤◌, ℕ, Result, true, List, Option, Some, None, ap, codes, is_some, option_map, sym, inl, inr, unwrap_or, arith}
 use Rattle.std.specs.Str.Parse.{ParsesUnsigned}
 use Rattle.clap.specs.Words.{ReadsOne, Row, Text, first_of, one_text, rows_of}

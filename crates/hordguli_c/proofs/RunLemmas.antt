@@ -21,6 +21,6 @@ runs_few levels =
       length-order levels,
     )
 
--- the runs that an iterator has at first are as many as those of the levels
+-- an iterator initially has as many runs as the levels
 pub length-runs : (levels : List ℕ) (runs : List Run) → runs ≡ runs_of levels → length runs ≡ length (runs_out levels)
 length-runs levels runs is = ap (λ (s : List Run). length s) is ∙ sym (length-map (runs_of levels) run_out)

@@ -71,7 +71,7 @@ put_next all array_old array rest x k within put =
           ∙ sym (append_assoc put.done (x ∷ []) (drop (k + 1) array_old));
     }
 
--- the spans that an iterator has at first are as many as those of the range
+-- an iterator initially has as many spans as the range
 pub length-out : (line : Visual) (from to : ℕ) (spans : List Span) → spans ≡ spans_of line from to
     → length spans ≡ length (spans_out line from to)
 length-out line from to spans is = ap (λ (s : List Span). length s) is ∙ sym (length-map (spans_of line from to) span_out)

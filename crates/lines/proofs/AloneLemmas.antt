@@ -33,7 +33,7 @@ is_unjoined _ = false
 abbrev is_apart : ℕ → Bool
 is_apart c = stands_apart (grapheme_cluster_break c) && is_unjoined (indic_conjunct_break c)
 
--- whether each row of a table that meets a range of code points has a value that passes a test
+-- whether each row of a table that overlaps a range of code points has a value that passes a test
 abbrev rows_pass : {V : Type 0} → (V → Bool) → ℕ → ℕ → List (Row V) → Bool
 rows_pass test first last [] = true
 rows_pass test first last (r ∷ rows) = (nat_le (suc r.1) first || (nat_le (suc last) r.0 || test r.2)) && rows_pass test first last rows

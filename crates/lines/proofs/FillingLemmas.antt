@@ -333,7 +333,7 @@ starts_line nobreak width place (p ∷ rest) some within =
 
 -- ---- where lines start
 
--- if all line starts are below n, appending n gives line starts of a longer paragraph
+-- if all line starts are below n, appending n yields line starts of a longer paragraph
 pub starts_more : (n m : ℕ) (starts : List ℕ) → AreStarts n starts → n < m → AreStarts m (starts ++ n ∷ [])
 starts_more n m starts are order =
     let size : length (starts ++ n ∷ []) ≡ length starts + 1 = length-append starts (n ∷ []) in

@@ -50,7 +50,7 @@ module _ {A : Type 0} (xs ys : List A) where
       let j : length ys - 0 ≡ length ys = omega arith in
       ap (λ n. drop n xs) i ∙ drop-length xs ∙ sym (ap (λ n. drop n ys) j ∙ drop-length ys)
 
-  -- the items before the last k, where the lengths are known by other names
+  -- the items before the last k are the same, given numbers that equal the lengths
   pub read_as : (n m k : ℕ) → n ≡ length xs → m ≡ length ys → slice_get xs (n - k - 1) ≡ slice_get ys (m - k - 1)
       → slice_get xs (length xs - k - 1) ≡ slice_get ys (length ys - k - 1)
   read_as n m k n-is m-is same =

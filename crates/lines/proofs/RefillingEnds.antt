@@ -63,7 +63,7 @@ greatest_least p (suc n) k below passed =
 -- ---- where the first line ends
 
 -- A character before n that does not fit in the first line, or after which the line must end. So the line ends before n,
--- or has no place at which it may end and fits.
+-- or there is no place at which it both may end and fits.
 abbrev pub Ends : ℕ → ℕ → List CharInfo → Type 0
 Ends width n rest = (m : ℕ) × (m < n) × (m < length rest) × ((fits_to width rest m ≡ false) ⊎ (must_end rest m ≡ true))
 

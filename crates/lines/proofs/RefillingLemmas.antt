@@ -24,7 +24,7 @@ starts_shift nobreak width s place (suc left) (p ∷ rest) =
     let e : suc (s + place) ≡ s + suc place = omega arith in
     ap (λ m. starts nobreak width m left rest) e ∙ starts_shift nobreak width s (suc place) left rest
 
--- the i-th start is no earlier than the characters left of an earlier line
+-- each start is at or after the end of the earlier line, of which `left` characters remain
 start_low : (nobreak : Bool) (width place left : ℕ) (rest : List CharInfo) (i : ℕ) → i < length (starts nobreak width place left rest)
     → place + left ≤ get_or (starts nobreak width place left rest) i 0
 start_low nobreak width place zero [] i within = absurd (omega (arith, within))

@@ -19,7 +19,7 @@ is_level level x same = eqb-true x level (not-false _ same)
 is_other : (level x : ℕ) → differs level x ≡ true → ¬ (x ≡ level)
 is_other level x other = λ same. both_ways (x == level) (not-true _ other) (eq-eqb x level same)
 
--- how many of n levels from i on come before the first other one
+-- how many of n levels from i on come before the first different one
 abbrev pub IsSameLen : List ℕ → ℕ → ℕ → ℕ → ℕ → Type 0
 IsSameLen levels level i n r = (r ≤ n) × AreAll levels i (i + r) level × (r < n → ¬ (get_or levels (i + r) 0 ≡ level))
 
@@ -65,7 +65,7 @@ last_len_is levels level first start n r last from rest found =
     same_len_from levels level start n r (omega arith)
     (found ∙ ap (λ m. first_set m n) bits ∙ first_set_mask_l p (chunk start n levels) n (length-chunk start n levels (omega arith)) (omega arith))
 
--- the run goes on for as many levels
+-- the run continues over the next `len` levels if they are all at its level
 pub AlongRun-all : (levels : List ℕ) (start level «end» len : ℕ) → AlongRun levels start level «end» → «end» + len ≤ length levels
     → AreAll levels «end» («end» + len) level → AlongRun levels start level («end» + len)
 AlongRun-all levels start level «end» len w within same = AlongRun-group levels start level «end» len w within (λ j below. sym (same («end» + j) (omega arith) (omega (arith, below))))

@@ -49,7 +49,7 @@ module _ (levels : List ℕ) where
             ]
       ]
 
-  -- the items from the one to the right of another one
+  -- the items from x on are x and the items from the one directly to its right
   next_from : (x next : ℕ) (ys : List ℕ) → Sorted (IsLeft levels) ys → Has x ys → Has next ys → IsLeft levels x next
       → EachOf (λ y. IsLeft levels x y → (y ≡ next) ⊎ IsLeft levels next y) ys → items_from x ys ≡ x ∷ items_from next ys
   next_from x next [] sorted has there right each = absurd has

@@ -49,7 +49,7 @@ module _ (text : List ℕ) (n d : ℕ) (within : n < length text) where
       ap unescaped (begins_at text n d within) ∙ one (get_or text n d) (drop (n + 1) text) (Some (c, len)) is ∙ ap (option_map (λ cs. c ∷ cs)) rest in
       ap (option_map (λ cs. front ++ cs)) here ∙ joined front c (unescaped (drop (n + len) text))
 
-  -- if the next escape is invalid, decoding the text gives `None`
+  -- if the next escape is invalid, decoding the text yields `None`
   pub none_written : (front : List ℕ) → written (get_or text n d) (drop (n + 1) text) ≡ None → option_map (λ cs. front ++ cs) (unescaped (drop n text)) ≡ None
   none_written front is =
       ap (option_map (λ cs. front ++ cs)) (ap unescaped (begins_at text n d within) ∙ one (get_or text n d) (drop (n + 1) text) None is)

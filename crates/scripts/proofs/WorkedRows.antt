@@ -15,7 +15,7 @@ bracket c =
     (cond (c == 0x5B) (Some (record { pair = 0x5D; opens = true }))
     (cond (c == 0x5D) (Some (record { pair = 0x5B; opens = false })) None)))
 
--- a closing bracket has the script of its opening one, and what follows it has that too
+-- a closing bracket has the script of its opening bracket, and so does the space after it
 row-brackets : scripts_of bracket (0x61 ∷ 0x28 ∷ 0x5D0 ∷ 0x29 ∷ 0x20 ∷ []) ≡ Latin ∷ Latin ∷ Hebrew ∷ Latin ∷ Latin ∷ []
 unfolding script script_rows scripts_of value_in
 row-brackets = refl

@@ -1,4 +1,4 @@
--- No part of a text spans a character that neither is dropped nor can be in a string, so that what is after it plays no role.
+-- No part of a text spans a character that neither is dropped nor can be in a string, so what is after it does not matter.
 use Rattle.std.proofs.Common.{◌≡◌, ℕ, zero, suc, ◌+◌, ◌-◌, ◌*◌, ◌<◌, ◌≤◌, ◌==◌, Bool, true, false, ◌&&◌, ◌||◌, List, [], ◌∷◌, ◌++◌, length, take, drop, slice_index, nat_le, nat_lt, Some, None, if◌then◌else◌, refl, sym, ap, subst, ◌∙◌, append_assoc, inl, inr, arith}
 use Rattle.std.specs.Prelude.{fold, not, MatchOption, Option, option_map, unwrap_or, ⊤}
 use Rattle.std.specs.List.{prefix_len}

@@ -48,6 +48,6 @@ pub no_backspaces_in : (text : List ℕ) → list_all (λ c. not (is_dropped c))
 no_backspaces_in [] e = refl
 no_backspaces_in (c ∷ text) e = no_backspaces c text (not-true _ (and_parts (not (is_dropped c)) _ e).0)
 
--- and its attributes stay the same
+-- without overstrikes, the attributes of a character stay the same
 pub plain_look : (look : Look) (c : ℕ) → struck_look look (record { shown = c; bold = false; underlined = false }) ≡ look
 plain_look look c = ap (λ bold. let l : Look = record look { bold = bold } in l) (or-false look.bold)

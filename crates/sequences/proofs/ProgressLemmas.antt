@@ -1,4 +1,4 @@
--- The characters of a text tell, one by one, whether its sequence is known.
+-- Whether it is known where the sequence at the start of a text ends, after each character of the text.
 use Rattle.std.proofs.Common.{◌≡◌, ℕ, zero, suc, ◌+◌, ◌-◌, ◌≤◌, ◌==◌, nat_lt, Bool, true, false, ◌&&◌, ◌||◌, not, List, [], ◌∷◌, ◌++◌, length, drop, slice_index, if◌then◌else◌, refl, sym, ap, ap₂, inl, inr, ◌∙◌, arith}
 use Rattle.std.specs.List.{prefix_len}
 use Rattle.std.proofs.lemmas.Bool.{cases_Bool, cases_lt, cond-true, cond-false, eqb-true, false≢true, le-ltb, lt-ltb}
@@ -17,7 +17,7 @@ pub after_all-append : (progress : Progress) (text more : List ℕ) → after_al
 after_all-append progress [] more = refl
 after_all-append progress (c ∷ text) more = after_all-append (advanced progress c) text more
 
--- what is known stays known
+-- once the end of the sequence is known, more characters do not change that
 pub known_stays : (text : List ℕ) → after_all Known text ≡ Known
 known_stays [] = refl
 known_stays (c ∷ text) = known_stays text

@@ -1,4 +1,4 @@
--- Attributes that are the same are equal.
+-- Attributes for which `same_look` is true are equal.
 use Rattle.std.proofs.Common.{◌≡◌, ℕ, ◌==◌, Bool, true, false, ◌&&◌, Some, None, if◌then◌else◌, refl, sym, ap, ◌∙◌}
 use Rattle.std.specs.Prelude.{Option}
 use Rattle.std.proofs.lemmas.Bool.{and_parts, eqb-true, false≢true}

@@ -1,4 +1,4 @@
--- The character that is shown at a place, beside the first one that is struck there.
+-- The character that is shown at a place, compared with the first one that is struck there.
 use Rattle.std.proofs.Common.{◌≡◌, ◌⊎◌, ℕ, ◌==◌, Bool, true, false, ◌&&◌, ◌||◌, not, List, [], ◌∷◌, fold, sym, subst, ap, inl, inr, ◌∙◌}
 use Rattle.std.proofs.lemmas.Bool.{and_parts, cases_Bool, cond-true, cond-false, cond_both, eqb-true, false≢true}
 use Rattle.sequences.specs.Characters.{is_inline}

@@ -104,7 +104,7 @@ plain_run-pen pen (c ∷ run) rest e none =
     ∙ ap (λ (p : Pen). pen_after 0 p text) (after_first_part-plain pen c text kept (quiet run rest parts.1 none))
     ∙ plain_run-pen (plain_step pen) run rest parts.1 none
 
--- it does not matter how many there are
+-- the pen after such characters does not depend on how many there are
 plain_pen-some : (pen : Pen) (c : ℕ) (run : List ℕ) → plain_pen pen (c ∷ run) ≡ plain_step pen
 plain_pen-some pen c [] = refl
 plain_pen-some pen c (d ∷ run) = plain_pen-some (plain_step pen) d run

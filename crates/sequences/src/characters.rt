@@ -5,7 +5,7 @@ ghost use Rattle.sequences.specs.Characters.{ends_piece, is_c1_introducer, is_co
 ghost use Rattle.sequences.specs.Characters.{is_kept_control};
 ghost use Rattle.sequences.specs.Classes.{is_in};
 
-/// Sets of characters that a scan passes over.
+/// Sets of characters that a scan skips.
 #[derive(Clone, Copy)]
 pub(crate) enum Class {
     Parameter,

@@ -139,7 +139,7 @@ impl Scanner {
         Ok(2 * count)
     }
 
-    // Passes over the first part of a text, and returns its length.
+    // Processes the first part of a text, and returns its length.
     fn pass(&mut self, first: char, rest: &[char], text: &[char]) -> Result<usize, AllocError>
         requires { text.now ≡ first ∷ rest.now }
         ensures len { IfOk result (λ len. len ≡ suc (more_len first rest.now)) }
@@ -171,7 +171,7 @@ impl Scanner {
         Ok(())
     }
 
-    // Passes over some characters of a text, and returns their number.
+    // Processes some characters of a text, and returns their number.
     fn advance(&mut self, text: &[char]) -> Result<usize, AllocError>
         requires { 0 < length text.now }
         ensures some { IfOk result (λ len. 0 < len) }

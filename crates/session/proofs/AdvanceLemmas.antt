@@ -97,9 +97,9 @@ module _ (rules : Rules) (width : ℕ) where
   advances-layouts false list ps each = refl
   advances-layouts true list ps each = ap Some (listed list ps each)
 
--- ---- the limit: paragraphs have room if the advances of each add up to less than 2^32
+-- ---- the limit: the advances of each paragraph must add up to less than 2^32
 
--- the paragraphs have room if all advances together are below the limit
+-- each paragraph is within the limit if the sum of all advances is
 pub sum_fits : (list : List ℕ) (ps : List (List ℕ)) → sum list < 2 ^ 32 → have_room list ps ≡ true
 sum_fits list [] few = refl
 sum_fits list (p ∷ ps) few =
@@ -130,7 +130,7 @@ other_room (Some list) p ps e =
     accepted (have_room (drop (length p) list) ps)
     (and_parts (nat_lt (sum (take (length p) list)) (2 ^ 32)) (have_room (drop (length p) list) ps) (roomy list (p ∷ ps) e)).1
 
--- room depends only on the advances of the characters
+-- whether paragraphs are within the limit depends only on the advances of their characters
 room-same : (xs ys : List ℕ) (ps : List (List ℕ)) → take (length (concat ps)) xs ≡ take (length (concat ps)) ys → have_room xs ps ≡ have_room ys ps
 room-same xs ys [] e = refl
 room-same xs ys (p ∷ ps) e =
@@ -204,7 +204,7 @@ module _ (rules : Rules) (width : ℕ) (left mid right : List (List ℕ)) (new :
       (layouts-append rules width (Some (drop (length (concat left)) old)) mid right
       ∙ ap (λ l. layouts_from rules width (Some (drop (length (concat left)) old)) mid ++ layouts_from rules width (Some l) right) before_right)
 
-  -- if the old advances have room, the new ones in the middle decide
+  -- if the old advances are within the limit, only the new ones in the middle matter
   pub room-middle : have_room old (left ++ (mid ++ right)) ≡ true → have_room after (left ++ (new ++ right)) ≡ have_room fresh new
   room-middle has =
       let outer = and_parts (have_room old left) (have_room (drop (length (concat left)) old) (mid ++ right)) (sym (room-append old left (mid ++ right)) ∙ has) in

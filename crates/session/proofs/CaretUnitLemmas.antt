@@ -225,7 +225,7 @@ module _ (line : Visual) (ordered : IsOrdered line) (start : ℕ) (cluster : Clu
     pub start_is : IsMember line start cluster k (from_start k)
     start_is = member (from_start k) (omega arith) (omega (arith, start_first.to, end_above)) start_takes
 
-    -- each character that belongs to it is in its range
+    -- each character that belongs to the unit is in the unit's range
     pub member_from : (j : ℕ) → IsMember line start cluster k j → from_start k ≤ j
     member_from j is =
         elim (cases_lt j (from_start k)) [
@@ -239,7 +239,7 @@ module _ (line : Visual) (ordered : IsOrdered line) (start : ℕ) (cluster : Clu
     member_begins : (j : ℕ) → IsMember line start cluster k j → run_begin line k ≤ j
     member_begins j is = omega (arith, is.from)
 
-    -- each has the same unit
+    -- all characters that belong to the unit have the same unit
     pub same_unit : (j : ℕ) → IsMember line start cluster k j → unit_of line start cluster j ≡ unit_of line start cluster k
     same_unit j is =
         let begins : run_begin line k ≤ j = member_begins j is in
@@ -258,7 +258,7 @@ module _ (line : Visual) (ordered : IsOrdered line) (start : ℕ) (cluster : Clu
         ∙ ap (λ n. built line start cluster (from_start k) n (level_at line j)) end
         ∙ ap (λ n. built line start cluster (from_start k) (to_end k) n) level
 
-    -- the visual places of its characters
+    -- the visual positions of the unit's characters
     abbrev is_of_unit : ℕ → Bool
     is_of_unit = is_in_unit line (from_start k) (to_end k)
 
@@ -279,7 +279,7 @@ module _ (line : Visual) (ordered : IsOrdered line) (start : ℕ) (cluster : Clu
         let ends = and_parts (nat_le (from_start k) j) (nat_lt j (to_end k)) parts.0 in
         member j (leb-true (from_start k) j ends.0) (ltb-true j (to_end k) ends.1) parts.1
 
-    -- the last character that belongs to it
+    -- the last character that belongs to the unit
     pub last_member : (m : ℕ) × (k ≤ m) × IsLast (takes_columns line) (to_end k) m
     last_member = last_from (takes_columns line) (to_end k) k end_above held.takes
 
@@ -307,7 +307,7 @@ module _ (line : Visual) (ordered : IsOrdered line) (start : ℕ) (cluster : Clu
       last = ltb-true 0 (columns_between line j (suc j)) is.takes;
     }
 
-    -- from one character to the next, by its columns
+    -- the columns before the next character are those before this one, plus the character's own
     columns_of_member : (j : ℕ) → IsMember line start cluster k j
         → (next_at j ≡ left_at j + width_at line j) × (wide (suc j) ≡ wide j + width_at line j) × (wide (suc j) ≤ wide (to_end k))
     columns_of_member j is = (
@@ -316,7 +316,7 @@ module _ (line : Visual) (ordered : IsOrdered line) (start : ℕ) (cluster : Clu
       between_rises line (from_start k) (suc j) (to_end k) (omega (arith, member_from j is)) (member_to j is) (omega (arith, end_within, ordered.text)),
     )
 
-    -- no columns follow those of its last character
+    -- no columns of the unit follow those of its last character
     same_wide : (m : ℕ) → k ≤ m → IsLast (takes_columns line) (to_end k) m → wide (to_end k) ≡ wide (suc m)
     same_wide m after_k last =
         between_same line (from_start k) (suc m) (to_end k) (omega (arith, start_first.to, after_k)) last.below (omega (arith, end_within, ordered.text))
@@ -334,7 +334,7 @@ module _ (line : Visual) (ordered : IsOrdered line) (start : ℕ) (cluster : Clu
         let has : 0 < width_at line j = omega (arith, found.3, found.4, between_more line (from_start k) j from size) in
         (j, member j from to (takes_if line j size has), found.3, found.4)
 
-    -- the rightmost one of its characters
+    -- the rightmost of the unit's characters
     rightmost : (m : ℕ) → IsMember line start cluster k m
         → (j : ℕ) × IsMember line start cluster k j × (next_at m ≤ next_at j) × (columns_left line (after (greatest is_of_unit (length line.vtol)) 0) ≡ next_at j)
     rightmost m own =
@@ -353,7 +353,7 @@ module _ (line : Visual) (ordered : IsOrdered line) (start : ℕ) (cluster : Clu
           ap (λ (o : Option ℕ). columns_left line (after o 0)) (greatest_is is_of_unit (length line.vtol) place last) ∙ sym there,
         )
 
-    -- its characters are next to each other from left to right
+    -- the unit's characters are next to each other from left to right
     module _ (at : (j : ℕ) → IsMember line start cluster k j → left_at j ≡ left_at (from_start k) + wide j)
         (left_is : left_of (unit_of line start cluster k) ≡ left_at (from_start k))
         (right_is : right_of (unit_of line start cluster k) ≡ left_at (from_start k) + wide (to_end k)) where
@@ -456,7 +456,7 @@ module _ (line : Visual) (ordered : IsOrdered line) (start : ℕ) (cluster : Clu
         pub reading_columns : HasColumns line start cluster k
         reading_columns = rising_columns at (omega (arith, odd_left, last_right)) last_right
 
-    -- it has columns, within the line
+    -- the unit has columns, and they are within the line
     module _ (columns : HasColumns line start cluster k) where
       pub unit_some : left_of (unit_of line start cluster k) < right_of (unit_of line start cluster k)
       unit_some =

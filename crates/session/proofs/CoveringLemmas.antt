@@ -80,7 +80,7 @@ module _ (line : Visual) where
       let at : k + (n - k) ≡ n = omega arith in
       subst (λ i. columns_between line j k ≤ columns_between line j i) at (rise j k (n - k) order (omega arith))
 
-  -- the character of a range that has a column of it
+  -- the character of a range that covers a given column of the range
   pub between_at : (j d o : ℕ) → j + d ≤ length line.text → o < columns_between line j (j + d)
       → (k : ℕ) × (j ≤ k) × (k < j + d) × (columns_between line j k ≤ o) × (o < columns_between line j (suc k))
   between_at j zero o within below = absurd (omega (arith, below, none_between j, (let n : j + 0 ≡ j = omega arith in ap (columns_between line j) n)))

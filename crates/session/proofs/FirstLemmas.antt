@@ -20,7 +20,7 @@ pub record IsLast (test : ℕ → Bool) (n b : ℕ) : Type 0 where
   pub fails : (c : ℕ) → b < c → c < n → test c ≡ false
 
 module _ (test : ℕ → Bool) where
-  -- numbers that fail are passed over
+  -- numbers that fail are skipped
   skipped : (a d m : ℕ) → ((c : ℕ) → a ≤ c → c < a + d → test c ≡ false) → least test a (d + m) ≡ least test (a + d) m
   skipped a zero m fails =
       let n : 0 + m ≡ m = omega arith in
@@ -145,7 +145,7 @@ module _ (test : ℕ → Bool) where
             (omega (arith, before.0), before.1)
       ]
 
-  -- the number after the last one below n that passes: it and those up to n fail
+  -- the number after the last one below n that passes; the numbers from there up to n fail
   pub begin_to : (n : ℕ) → after (greatest test n) 0 ≤ n
   begin_to zero = omega arith
   begin_to (suc n) =

@@ -47,7 +47,7 @@ module _ (is_cut : ℕ → ℕ → Bool) where
       → is_within_limit is_cut text ≡ (b && is_within_limit is_cut after)
   first_tested text first after split b e = ap are_within split ∙ ap (λ c. c && is_within_limit is_cut after) e
 
-  -- if the first paragraph is not too long, the other paragraphs decide
+  -- if the first paragraph is not too long, the text is within the limit if and only if the other paragraphs are
   pub within_after : (text first after : List ℕ) → paragraphs is_cut text ≡ first ∷ paragraphs is_cut after → not (nat_le (length first) PARAGRAPH_LIMIT) ≡ false
       → is_within_limit is_cut text ≡ is_within_limit is_cut after
   within_after text first after split short = first_tested text first after split true (not-false _ short)
@@ -146,7 +146,7 @@ some_spelled bytes (c ∷ cs) s e some = omega (arith, ap length (ap chars (sym 
 pub some_chars : (bytes : List ℕ) → IsUtf8 bytes → 0 < length bytes → 0 < length (chars bytes)
 some_chars bytes u some = some_spelled bytes u.0 u.1.0 u.1.1 some
 
--- a text whose bytes are tested for being none
+-- a text has characters if a test shows that it has bytes
 pub text_some : (bytes : List ℕ) (b : Bool) → IsUtf8 bytes → b ≡ (length bytes == 0) → b ≡ false → 0 < length (chars bytes)
 text_some bytes b utf8 e t = some_chars bytes utf8 (some_left bytes b e t)
 

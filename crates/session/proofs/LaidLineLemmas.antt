@@ -173,7 +173,7 @@ module _ (kept : List Layout) (lined : All IsLined kept) where
 abbrev ReadsBy : Layout → Type 0
 ReadsBy l = (n : ℕ) (line : Visual) → slice_get (visuals l) n ≡ Some line → ClustersAdjoin line (cluster_ends l.text) (get_or (map begins l.lines) n 0)
 
--- what is known of the layout of a paragraph
+-- what is known about the layout of a paragraph
 pub record IsLaid (l : Layout) : Type 0 where
   pub lined : IsLined l
   pub ordered : All IsOrdered (visuals l)
@@ -254,7 +254,7 @@ module _ (kept : List Layout) (laid : All IsLaid kept) where
         offset = sym (ap (λ (p : Place). p.offset) is_place) ∙ ap (λ m. rest - get_or ss m 0) back ∙ omega arith;
       }
 
-  -- what holds by the cluster ends of a paragraph holds by the clusters of the text
+  -- a fact stated with the cluster ends of a paragraph also holds for the clusters of the text
   reads_in : (n : ℕ) (i : IsIn lines_of kept n) (line : Visual) → slice_get (visuals i.item) i.rest ≡ Some line → (start : ℕ)
       → sum_by chars_of i.before + get_or (starts_in i.item) i.rest 0 ≡ start → length line.levels ≤ line.len
       → ClustersAdjoin line (cluster_ends i.item.text) (get_or (starts_in i.item) i.rest 0) → OddReads kept line start
@@ -346,11 +346,12 @@ marks_stay rules pieces (inl stay) = λ k d within. inl stay
 marks_stay rules pieces (inr none) =
     λ k d within. inr (none.0, in_parts (λ c. is_mark (class_of rules.tables c) ≡ true → columns_of c ≡ 0) pieces none.1 k d within)
 
--- what is known of a paragraph
+-- what is known about a paragraph
 abbrev IsKnown : Rules → List ℕ → Type 0
 IsKnown rules p = (0 < length p) × ((rules.options.reorder_clusters ≡ true) ⊎ MarksStay rules p)
 
--- if a fact about paragraphs implies one about their layouts, with whatever advances, it holds of all layouts of a text
+-- if Q implies P for each paragraph's layout, with any advances, and Q holds for all paragraphs of a text, P holds for all
+-- its layouts
 each_layout : (Q : List ℕ → Type 0) (P : Layout → Type 0) (rules : Rules) (width : ℕ) (advances : Option (List ℕ)) (ps : List (List ℕ)) → All Q ps
     → ((own : Option (List ℕ)) (p : List ℕ) → (advances ≡ None → own ≡ None) → Q p → P (layout_of (with_advances rules own) width p))
     → All P (layouts_from (with_advances rules None) width advances ps)

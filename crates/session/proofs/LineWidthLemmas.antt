@@ -19,11 +19,11 @@ abbrev sum_below : (ℕ → ℕ) → ℕ → ℕ
 sum_below f zero = 0
 sum_below f (suc n) = sum_below f n + f n
 
--- the indices of the numbers below n in a list that has each of them
+-- a list contains each number below n: the index of each
 abbrev HasEach : List ℕ → ℕ → Type 0
 HasEach xs n = (k : ℕ) → k < n → (i : ℕ) × (i < length xs) × (get_or xs i 0 ≡ k)
 
--- they are also in the list without a later number
+-- if n is removed, the list still contains each number below n
 without : (xs : List ℕ) (n i : ℕ) → i < length xs → get_or xs i 0 ≡ n → HasEach xs n → HasEach (remove xs i) n
 without xs n i within is each k below =
     let found = each k below in

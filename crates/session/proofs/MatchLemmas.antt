@@ -23,7 +23,7 @@ module _ {A : Type 0} (is_marked : A → Bool) where
   abbrev pub Begins : List A → Type 0
   Begins xs = (x : A) → slice_get xs 0 ≡ Some x → is_marked x ≡ true
 
-  -- an item that is not the first one of its part is not the first one of others
+  -- an item that is not the first of its part differs from the first item of another list
   not_first : (xs others : List A) (k : ℕ) → IsPart xs → Begins others → 0 < k → k < length xs → slice_get xs k ≡ slice_get others 0 → ⊥
   not_first xs others k part begins later within same = elim (slice_get_cases xs k).1 [
     | inl found ↦

@@ -53,7 +53,8 @@ slice_more pars i end below within =
 slice_none : (pars : List (List ℕ)) (i end : ℕ) → end ≤ i → slice_range pars i end ≡ []
 slice_none pars i end past = let n : end - i ≡ 0 = omega arith in ap (λ m. take m (drop i pars)) n
 
--- The advances from `from` on are those of the paragraphs from `i` on. All have room if these have room.
+-- The advances from `from` on are those of the paragraphs from `i` on. All paragraphs are within the limit if and only if
+-- these are.
 pub record HavePassed (pars : List (List ℕ)) (list : List ℕ) (first end i from : ℕ) : Type 0 where
   pub low : first ≤ i
   pub size : from + length (concat (slice_range pars i end)) ≡ length list

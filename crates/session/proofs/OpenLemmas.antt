@@ -87,7 +87,7 @@ module _ (is_measured : Bool) (engine : Engine) (whole : List ℕ) (width : ℕ)
             counts = counts;
           }
 
--- the reason for refusing to open a session is that for its text, unless the width is none
+-- if the width is not 0, the reason for refusing to open a session is the reason for refusing its text
 pub opening-text : (is_cut : ℕ → ℕ → Bool) (whole : List ℕ) (width : ℕ) → (width ≡ 0 → ⊥) → opening_refusal is_cut whole width ≡ text_refusal is_cut whole
 opening-text is_cut whole width some = cond-false (width == 0) (Some WidthOutOfRange) (text_refusal is_cut whole) (ne_eqb width 0 some)
 
@@ -110,7 +110,7 @@ module _ (law : ParagraphsArePieces) (few : LinesAreFew) (rules : Rules) (width 
         utf16 = units-laid len_utf16 utf16_few;
       }
 
--- so do those of the first layouts of a list
+-- if the totals of all layouts of a list fit, so do those of the first ones
 sum-front : (size : Layout → ℕ) (front more all : List Layout) → front ++ more ≡ all → sum_by size all < 2 ^ 64 → sum_by size front < 2 ^ 64
 sum-front size front more all parts fits = omega (arith, fits, sum_by-append size front more, ap (sum_by size) parts)
 

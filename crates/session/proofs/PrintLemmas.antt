@@ -145,7 +145,7 @@ front_more kept i from left part l read within part-is front whole so_far =
     ∙ wanted_parts (visuals l) rest from left part (omega (arith, within, length-visuals l)) (part-is ∙ ap (λ n. min left (n - from)) (sym (length-visuals l)))))
     ∙ so_far
 
--- printing all lines gives the printed bytes of the whole text
+-- printing all lines yields the printed bytes of the whole text
 pub lines_page_all : (state : SessionState) (print : Print) (count : ℕ) → count ≡ length (lines_in state.kept) → page_at state print ≡ flat_map (line_bytes state.width print) (lines_in state.kept)
     → lines_page state 0 count print ≡ page_at state print
 lines_page_all state print count is law =

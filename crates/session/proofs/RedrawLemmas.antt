@@ -11,7 +11,7 @@ use Rattle.session.specs.Kept.{lines_in}
 use Rattle.session.specs.Measuring.{IsMeasuredDamage}
 use Rattle.session.specs.declared.edits.Damage.{Damage}
 
--- the number of lines of layouts is that before some of them, in these, and after them
+-- the number of lines of a list of layouts is the sum of the lines before a range, in it, and after it
 line_parts : (kept : List Layout) (first count : ℕ) → length (lines_in kept)
     ≡ length (lines_in (take first kept)) + (length (lines_in (slice_range kept first (first + count))) + length (lines_in (drop (first + count) kept)))
 line_parts kept first count =

@@ -64,7 +64,7 @@ Remains-worked engine next width is_measured kept pos new whole answer same coun
   counts = counts;
 }
 
--- filling fewer characters is within the bound of more
+-- a call that fills at most n characters also fills at most any greater number
 fills_within : (few many : ℕ) (old new : Engine) → few ≤ many → FillsAtMost few old new → FillsAtMost many old new
 fills_within few many old new le counts = record {
   analysed = counts.analysed;
@@ -217,7 +217,7 @@ module _ (engine : Engine) (width : ℕ) (kept : List Layout) (whole : IsWholeLa
     pub region_sizes : length region ≡ length (concat mid)
     region_sizes = ap length (sym region_is) ∙ length-replaced mid_list new from (length new) reach_in ∙ omega (arith, reach_in, mid_sizes)
 
-    -- the paragraphs of the range have at most all characters
+    -- the paragraphs of the range have at most as many characters as the text
     pub mid_within : length (concat mid) ≤ length (text_of kept)
     mid_within = omega (arith, upto_sizes (pars_of kept), start_of-le-length (pars_of kept) back.index)
 
@@ -232,7 +232,7 @@ module _ (engine : Engine) (width : ℕ) (kept : List Layout) (whole : IsWholeLa
         sym (length-take-le back.index (pars_of kept) (omega (arith, range.back_is.border_is.within, number)))
         ∙ ap length (take_both (pars_of kept) front.index back.index rise) ∙ length-append left mid
 
-    -- the paragraphs have room if those of the range do
+    -- the advances of all paragraphs are within the limit if and only if those of the range are
     room_is : have_room (advances_set list pos new) (paragraphs (cut_by rules) (text_of kept)) ≡ have_room region mid
     room_is =
         let has : have_room (left_list ++ (mid_list ++ right_list)) (left ++ (mid ++ right)) ≡ true =

@@ -155,7 +155,7 @@ module _ (rules : Rules) (kept : List Layout) (n : ℕ) (line : Visual) (start :
         (eq-eqb (unit_end line start has.cluster m) (suc (unit.end - 1)) ends)
         ∙ ap (λ (u : CaretUnit). u.trailing) same
 
-    -- its first character is in the cluster too, and begins a unit, which is the same one
+    -- the first character of the unit's range is in the cluster too, and the unit that it begins is the same one
     first_cluster : cluster_at kept (start + unit.start) ≡ Some has.cluster
     first_cluster =
         let own : IsMember line start has.cluster k unit.start = start_is line facts.ordered start has.cluster k held in

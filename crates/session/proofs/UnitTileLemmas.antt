@@ -19,7 +19,7 @@ use Rattle.session.proofs.CaretUnitLemmas.{even_columns, falling_columns, in_one
 use Rattle.session.proofs.CaretUnitLemmas.{EvenAdjoins, HasColumns, IsHeld, IsMember, OddAdjoins}
 use Rattle.session.proofs.CoveringLemmas.{covered, covering_is, takes_if, uncovered, width_of, CoveredBy}
 
--- the cluster of a position, which is that of each position in it
+-- the cluster of a position, which is also the cluster of each other position in it
 pub record HasCluster (kept : List Layout) (pos : ℕ) : Type 0 where
   pub cluster : Cluster
   pub is : cluster_at kept pos ≡ Some cluster
@@ -64,7 +64,7 @@ module _ (kept : List Layout) (line : Visual) (start : ℕ) where
         ∙ ap (unit_in kept line start) (ordered.inverse.at_ltov k within)
         ∙ ap (option_map (λ c. unit_of line start c k)) is
 
-    -- the columns of a unit are all found to be in it
+    -- for each column of a unit, that unit is found
     module _ (k : ℕ) (has : HasCluster kept (start + k)) (held : IsHeld line start has.cluster k) where
       abbrev unit : CaretUnit
       unit = unit_of line start has.cluster k
@@ -144,7 +144,7 @@ module _ (kept : List Layout) (line : Visual) (start : ℕ) where
           | inr past ↦ absurd (none-some unit (sym (no_unit column past) ∙ is))
         ]
 
-    -- boundaries are at most at the line's right end
+    -- no boundary is past the line's right end
     pub boundary_within : (c : ℕ) → IsBoundary kept line start c → c ≤ line.columns
     boundary_within c (inl (at, unit, is, inl same)) =
         let covers = found_covers at unit is in omega (arith, same, covers.left, covers.right, covers.within)
@@ -152,7 +152,7 @@ module _ (kept : List Layout) (line : Visual) (start : ℕ) where
         let covers = found_covers at unit is in omega (arith, same, covers.within)
     boundary_within c (inr none) = omega (arith, none.1)
 
-    -- there is none between the two ends of a unit
+    -- there is no boundary between the two ends of a unit
     pub none_inside : (column : ℕ) (unit : CaretUnit) → Covers kept line start column unit → (c : ℕ) → IsBoundary kept line start c → left_of unit < c → right_of unit ≤ c
     none_inside column unit covers c (inl (at, other, is, inl same)) after =
         elim (cases_lt c (right_of unit)) [

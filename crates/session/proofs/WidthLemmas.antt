@@ -121,7 +121,7 @@ zip_push R [] (b ∷ ys) x y all more = absurd all
 zip_push R (a ∷ xs) [] x y all more = absurd all
 zip_push R (a ∷ xs) (b ∷ ys) x y all more = (all.0, zip_push R xs ys x y all.1 more)
 
--- a width change fills at most all characters of the text again
+-- a width change refills at most as many characters as the text has
 none_or_all : (keeps : Bool) (n : ℕ) → (if keeps then 0 else n) ≤ n
 none_or_all true n = omega arith
 none_or_all false n = omega arith

@@ -21,7 +21,7 @@ next_after-skip zero text = refl
 next_after-skip (suc skip) [] = refl
 next_after-skip (suc skip) (c ∷ text) = next_after-skip skip text
 
--- a part that is dropped is passed over
+-- a part that is dropped is skipped
 skipped : (c : ℕ) (text : List ℕ) (n : ℕ) → is_dropped c ≡ true → suc (more_len c text) ≡ n → next_character (c ∷ text) ≡ next_character (drop n (c ∷ text))
 skipped c text n e len =
     cond-true (is_dropped c) (next_after (more_len c text) text) c e ∙ next_after-skip (more_len c text) text ∙ ap (λ k. next_character (drop k (c ∷ text))) len

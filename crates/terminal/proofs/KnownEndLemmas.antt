@@ -48,7 +48,7 @@ next_known zero (c ∷ text) more known =
       | inr n ↦ cond-false (is_dropped c) _ _ n ∙ sym (cond-false (is_dropped c) _ _ n)
     ]
 
--- ---- passing over the first part of a text
+-- ---- skipping the first part of a text
 
 knows-skip : (skip : ℕ) (text : List ℕ) → knows_after skip text ≡ knows_after 0 (drop skip text)
 knows-skip zero text = refl
@@ -127,7 +127,7 @@ module _ (rules : Rules) where
         (drop-append-le (k + 1) text more (omega (arith, within)));
   }
 
--- what is no end stays none when more text follows
+-- a character that ends no block still ends none when more text follows
 pub no_ends_append : (is_cut : ℕ → ℕ → Bool) (n : ℕ) (text more : List ℕ) → n ≤ length text → AreNoEnds is_cut n text → AreNoEnds is_cut n (text ++ more)
 no_ends_append is_cut n text more within none k below rest =
     ap₂ (ends_block is_cut) (get_or_append_left text more 0 k (omega (arith, below, within)))

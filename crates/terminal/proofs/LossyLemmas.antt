@@ -34,7 +34,7 @@ lossy_after a b u = ⊎_elim
     ∙ ap (λ t. a ++ t) (sym (utf8_lossy_step b (λ e. omega (arith, e, some)))))
     (utf8_or_not b)
 
--- an invalid sequence stays one, whatever follows
+-- an invalid sequence stays invalid, whatever follows
 pub error_more : (x more : List ℕ) (n : ℕ) → utf8_error_len x ≡ Some n → utf8_error_len (x ++ more) ≡ Some n
 unfolding utf8_error_len
 error_more [] more n e = absurd cc

@@ -251,14 +251,14 @@ module _ (rules : Rules) (form : Form) where
       by_mode Strip = refl
       by_mode Text = refl
 
-  -- blocks that show nothing have an empty page
+  -- the page of a block that shows nothing is empty
   pub pages_none : (parts : List (List (ℕ × Style))) → length (joined parts) ≡ 0 → flat_map (block_page rules form) parts ≡ []
   pages_none [] none = refl
   pages_none (p ∷ parts) none =
       let first : p ≡ [] = nil_from_length p (omega (arith, none, length-append p (joined parts))) in
       ap₂ (λ (xs ys : List ℕ). xs ++ ys) (ap (block_page rules form) first ∙ block_none) (pages_none parts (omega (arith, none, length-append p (joined parts))))
 
-  -- others have one that ends in a newline
+  -- the page of any other block ends in a newline
   pub pages_end : (parts : List (List (ℕ × Style))) → 0 < length (joined parts) → EndsIn 10 (flat_map (block_page rules form) parts)
   pages_end [] some = absurd (omega (arith, some))
   pages_end (p ∷ parts) some = by_rest (pages_end parts) (joined parts) refl

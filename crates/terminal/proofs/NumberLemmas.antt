@@ -27,7 +27,8 @@ module _ (links : List ℕ) (runs : List StyleRun) where
   style_at-push style [] run k = refl
   style_at-push style (first ∷ rs) run k = style_at-push (if nat_le first.start k then style_in links first else style) rs run k
 
-  -- Numbers of styles, of which those from an index on are right. The first `left` runs alone decide the others, which are 0.
+  -- Numbers of styles, of which those from an index on are right. The others are 0, and depend only on the first `left`
+  -- runs.
   pub record IsNumbered (len left end : ℕ) (numbers : List ℕ) : Type 0 where
     pub within : left ≤ length runs
     pub short : end ≤ len

@@ -273,7 +273,7 @@ module _ (is_cut : ℕ → ℕ → Bool) where
             ∙ sym joined ∙ ap (paragraphs is_cut) (sym (shows_pieces.characters s.piece s.rest s.end (apart_ends s.end tests.0)) ∙ ap shown_text (sym s.whole))
       ]
 
--- only a following LF plays a role for a boundary
+-- whether there is a boundary before a character depends only on whether it is LF
 lf_alone : (rules : Rules) (c x y : ℕ) → (x == 10) ≡ false → (y == 10) ≡ false → cut_by rules c x ≡ cut_by rules c y
 lf_alone rules c x y one other =
     let class_at = class_of rules.tables in

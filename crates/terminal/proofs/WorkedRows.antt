@@ -18,7 +18,7 @@ is_cut before after = (before == 10 || before == 13) && not (before == 13 && aft
 lines : blocks is_cut (codes "a\nb") ≡ codes "a\n" ∷ codes "b" ∷ []
 lines = refl
 
--- a sequence is passed over to look for LF
+-- the search for LF skips a sequence
 cr_sequence_lf : blocks is_cut (text_of (codes "a|^[31m\nb")) ≡ text_of (codes "a|^[31m\n") ∷ codes "b" ∷ []
 cr_sequence_lf = refl
 

@@ -1,4 +1,4 @@
--- The test for numbers in a range tells what `parse` tells.
+-- The test for numbers in a range agrees with `parse`.
 use Rattle.std.proofs.Common.{◌≡◌, ◌<◌, ◌≤◌, ◌^◌, ◌&&◌, arith, ℕ, Bool, true, false, List, [], ◌∷◌, None, Some, refl, nat_lt, nat_le}
 use Rattle.std.specs.Char.{digit_value}
 use Rattle.std.specs.List.{list_all}

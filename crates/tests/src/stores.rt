@@ -67,7 +67,7 @@ impl Exchange for Item {
     ghost keeps_utf16 = { λ item lines fits. refl };
 }
 
-// An exchanger that adds a number to the lines of each part.
+// An exchanger that adds a number to each part, which is a number of lines.
 #[derive(Drop)]
 struct Adder {
     more: usize,

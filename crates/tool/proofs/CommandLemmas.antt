@@ -17,7 +17,7 @@ use Rattle.text_run.specs.declared.faults.RunFault.{RunFault}
 use Rattle.text_run.specs.declared.faults.RunFault.TheVariants as f
 
 module _ (rules : Rules) (print : Print) (command : Command) (old new : Held) where
-  -- whether the text, the width and the reply after a command are those that the edit's result gives
+  -- whether the text, the width and the reply after a command agree with the edit's result
   record Told (edit : Result Damage EditFault) : Type 0 where
     pub held : new ≡ after_command rules old command
     pub text : answer_to rules print old command ≡ answer_text edit

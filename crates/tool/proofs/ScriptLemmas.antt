@@ -25,7 +25,7 @@ use Rattle.tool.proofs.WorkLemmas.{lines_work_bad, lines_work_more}
 
 -- ---- lines
 
--- splitting at line ends gives at least one part
+-- splitting at line ends yields at least one part
 pub parts_some : (bytes : List ℕ) → (p : List ℕ) × (ps : List (List ℕ)) × (slice_split is_line_end bytes ≡ p ∷ ps)
 parts_some [] = ([], [], refl)
 parts_some (b ∷ bytes) =

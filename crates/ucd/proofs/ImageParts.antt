@@ -26,7 +26,7 @@ module _ (bytes : List ℕ) (at : ℕ) (part : List ℕ) (from count : ℕ) (sho
   pub shows_less : (less : ℕ) → less ≤ count → Shows bytes at part from less
   shows_less less le = record { each = λ i j least most is. shows.each i j least (omega arith) is }
 
--- the pairs that bytes show
+-- the pairs that a part of an image holds
 module _ {V : Type 0} (decode : ℕ → Option V) (bytes : List ℕ) (at : ℕ) (part : List ℕ) (from count : ℕ) (shows : Shows bytes at part from (8 * count)) where
   pub point_shown : (k : ℕ) → k < count → point_at decode bytes at k ≡ point_at decode part from k
   point_shown k lt = u32_shown bytes at part from (8 * count) shows (at + 8 * k) (from + 8 * k) (omega arith) (omega arith) (omega arith)

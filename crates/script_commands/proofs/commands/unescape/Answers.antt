@@ -52,7 +52,7 @@ returns-in-None-clause-ok c =
 pub returns-clause-ok : goal.returns-clause-ok
 returns-clause-ok c = sym (all_written c.args.text.now (chars (string_bytes c.loop-at.inserted)) c.loop-at.at (omega (arith, c.loop-at-test.false))) ∙ c.loop-at.invariant.whole
 
--- if an escape is not valid, `unescaped` gives `None`
+-- if an escape is not valid, `unescaped` returns `None`
 none_is : (o : Option (List ℕ)) → is_some o ≡ false → None ≡ o
 none_is None none = refl
 none_is (Some cs) none = absurd (true≢false none)

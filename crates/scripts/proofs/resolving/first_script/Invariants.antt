@@ -2,6 +2,6 @@ use Rattle.std.proofs.Common.{◌≡◌, drop}
 use Rattle.scripts.specs.Scripts.{first_script}
 use Rattle.scripts.proofs.resolving.first_script.Given as goal
 
--- the characters so far take the script of others
+-- the characters so far have the script of other characters
 abbrev pub invariant-loop-k : goal.invariant-loop-k
 invariant-loop-k l = first_script (drop l.k l.text) ≡ first_script l.text

@@ -101,7 +101,7 @@ returns-clause-ok g c =
     (g.S.ParagraphStore.items c.loop-rest.store ++ c.loop-rest.new.items) c.loop-rest.invariant.laid_out none in
     subst (λ ks. OnOk c.append.result (g.S.ParagraphStore.items c.append.new.store ≡ ks)) all c.append.ensures
 
--- a count that rises by part of what is left
+-- a count that rises by at most what is left stays within the bound for the whole
 rises : (whole left done old mid new : ℕ) → old ≤ mid → mid + left ≤ old + whole → done ≤ left → RisesBy done mid new → RisesBy whole old new
 rises whole left done old mid new least most within by = record { least = omega (arith, least, by.least); most = omega (arith, most, within, by.most) }
 

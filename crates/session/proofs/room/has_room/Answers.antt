@@ -7,7 +7,7 @@ use Rattle.session.proofs.AdvanceLemmas.{sum_fits}
 use Rattle.session.proofs.RoomLemmas.{joined_sum, room_of_parts}
 use Rattle.session.proofs.room.has_room.Goals as goal
 
--- all advances together add up to few enough
+-- the sum of all advances is below the limit
 pub returns-then-fit_together : goal.returns-then-fit_together
 returns-then-fit_together c =
     let front = c.args.front.now.advances.now in

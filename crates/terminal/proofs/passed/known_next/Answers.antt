@@ -37,7 +37,7 @@ returns-in-None-clause-known c =
     let at = c.loop-passed in
     part_knows at.passed c.args.text.now c.split_at.result.1.now at.invariant c.split_at.ensures.back ∙ c.in-None.ensures.alone refl
 
--- the part is passed over
+-- the part is skipped
 pub loop-passed-preserved : goal.loop-passed-preserved
 loop-passed-preserved c =
     let text = c.args.text.now in
