@@ -1,4 +1,4 @@
--- The levels of a text with two characters of one kind beside each other.
+-- The levels of a text with two characters of one kind next to each other.
 use Rattle.std.proofs.Common.{◌≡◌, ℕ, zero, suc, ◌<◌, true, List, [], ◌∷◌, ◌++◌, length, map, slice_index, Option, refl, sym, ap, ◌∙◌, inl, inr, arith}
 use Rattle.ucd.specs.Tables.{class_of, bracket_of}
 use Rattle.ucd.specs.declared.bidi_class.BidiClass.{BidiClass}

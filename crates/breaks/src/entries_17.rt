@@ -310,7 +310,7 @@ pub static OUTCOMES: [u8; ENTRY_COUNT] = outcomes! {
 };
 
 /// The answers to the questions, from `LB15B` on, before each symbol: a mark, another question about the base
-/// after that one, or `LB19A` if the answer depends on the base's width. CM and ZWJ are passed over.
+/// after that one, or `LB19A` if the answer depends on the base's width. CM and ZWJ are skipped.
 pub static ANSWERS: [u8; ANSWER_COUNT] = outcomes! {
     // LB15B
     N N N N N N N N N N N N N N M M N M M M M M M M M M M M M M M M M M M M M M N N M M M M M M M N N;

@@ -8,7 +8,7 @@
 //! assert!(rt; iso_code(runs[1].script) == u32::from_be_bytes(*b"Hebr"));
 //! ```
 //!
-//! The property Script is that of the kit's crate `ucd_script`. Brackets are those of the tables.
+//! The property Script comes from the kit's crate `ucd_script`. Brackets are those of the tables.
 #![tactic(auto)]
 
 mod codes;

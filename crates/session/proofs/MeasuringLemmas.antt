@@ -178,7 +178,7 @@ module _ (kept : List Layout) (i : ℕ) (l : Layout) (read : Some l ≡ slice_ge
       let here : get_or kept i l ≡ l = sym (unwrap_or-slice_get kept i l) ∙ ap (λ o. unwrap_or o l) (sym read) in
       subst (λ r. IsFresh r l) (sym same) (subst (IsFresh (rules_of start)) here (all i l read_within))
 
--- a paragraph within a list is there
+-- there is a layout at each index below the length of a list
 pub read_some : (kept : List Layout) (i : ℕ) → i < length kept → None ≡ slice_get kept i → ⊥
 read_some kept i below none = elim (slice_get_cases kept i).1 [
   | inl found ↦ cc (none ∙ found.2)
