@@ -8,7 +8,7 @@
 #   make fribidi    Proves and builds FriBidi's interface, bin/libhordguli_fribidi.so, for LD_PRELOAD.
 #   make python     Builds the Python wheel, hordguli-VERSION-py3-none-manylinux2014_x86_64.whl, from what make c has built (DIST=dist).
 #   make ucd        Collects the seven table files of Unicode 15.0 in ucd/, if they are not there: from Debian's package unicode-data,
-#                   which apt downloads if this system has another version, or from a folder by UNICODE=FOLDER.
+#                   which apt downloads if this system has another version, or from a folder with UNICODE=FOLDER.
 #   make ucd-17     Collects those of Unicode 17.0 in ucd-17.0/, in the same way.
 #   make image      Compiles the table files of both versions to ucd/tables.image and ucd-17.0/tables.image, with a program that it
 #                   proves and builds. make c runs it too.
@@ -17,8 +17,8 @@
 #   make uninstall  Removes what make install has installed, with the same PREFIX, LIBDIR, DESTDIR and ZSHDIR.
 #
 #   make ARCH=arm64 program c fribidi
-#                   Proves as above, and builds for ARM64 in bin/arm64/, by Debian's gcc-aarch64-linux-gnu. With ARCH=arm64, the targets
-#                   python, install, deb, dist and test-packages are for what is there.
+#                   Proves as above, and builds for ARM64 in bin/arm64/, with Debian's gcc-aarch64-linux-gnu. With ARCH=arm64, the targets
+#                   python, install, deb, dist and test-packages use what is there.
 #
 # For contributors
 #
@@ -34,15 +34,15 @@
 #   make dist       Builds hordguli-VERSION-linux-x86_64.tar.gz and the Python wheel from the same files (DIST=dist).
 #   make test-packages  Tests the packages in new Debian 12 and 13 systems (debootstrap, as root): four minutes.
 #   make test-reproducible  Compiles and builds all packages in two folders, and compares them byte by byte.
-#   make test-arm64 Tests bin/arm64 by qemu-user, and compares its output with that of bin: 20 processor minutes.
+#   make test-arm64 Tests bin/arm64 with qemu-user, and compares its output with that of bin: 20 processor minutes.
 #   make test-threads  Runs the C library's test of threads under ThreadSanitizer and helgrind, after make c: a minute.
 #   make test-draw  Tests examples/draw.c with HarfBuzz, cairo and Noto fonts (installs Debian packages): 20 seconds.
 #   make test-widget  Tests examples/widget.py with GTK 4 under Xvfb, after make c (installs Debian packages): a minute.
 #   make test-guide Tests the programs of docs/guide.md, and the pictures there, after make c (installs Debian packages): 20 seconds.
 #   make test-recipes  Tests the recipes of docs/guide.md with Debian's programs under tmux, after make program (installs packages): 30 seconds.
 #   make test-pango Compares measured sessions with Pango, in C and in Python, after make c (installs Debian packages): two minutes.
-#   make test-programs  Tests three C programs that are written from the manual, beside a plain model, less and ICU, after make c (installs
-#                   Debian packages): a minute.
+#   make test-programs  Tests three C programs that are written from the manual, against a simple model, less and ICU, after make c
+#                   (installs Debian packages): a minute.
 #   make test-python  Tests the Python package, compares it with python-bidi and pyfribidi, and runs its mutants, after make c.
 #   make test-rust  Tests the Rust crates, also with Rust 1.63 (Debian 12), and runs their mutants, after make c.
 #   make test-hosts Runs examples/many on three hosts on the loopback address, and kills one during a run.

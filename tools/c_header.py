@@ -1,6 +1,6 @@
 """Parses C headers: include/hordguli.h, c/core.h and c/fribidi/core.h.
 
-A declaration in an unknown form ends the program, so that none is passed over.
+A declaration in an unknown form ends the program, so that none is skipped.
 """
 import os, re, sys
 from typing import NamedTuple

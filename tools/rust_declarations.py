@@ -15,7 +15,7 @@ TYPES = [
     (r"BREAK_\w+|BRACKET_(NONE|OPEN|CLOSE)|BIDI_CLASS_\w+|LINE_CLASS_\w+", "u8"),
     (r"TABLE_FILES|BIDI_CLASS|BIDI_BRACKETS|BIDI_MIRRORING|LINE_BREAK|GENERAL_CATEGORY|EAST_ASIAN_WIDTH|EMOJI_DATA|IMAGE|CAUSE_\w+", "usize"),
 ]
-MACROS = '''/// Sets a tab stop every `n` columns, from 1 to 255. A greater `n` gives an unknown option.
+MACROS = '''/// Sets a tab stop every `n` columns, from 1 to 255. Calls refuse a greater `n` as an unknown option.
 pub const fn HORDGULI_TAB_WIDTH(n: u32) -> u32 {
     if n > 255 {
         1 << 16

@@ -1,4 +1,4 @@
-//! Measures the crate `hordguli` beside `unicode-bidi` with `unicode-linebreak`: strings in UTF-8 that are laid out at 80 columns, their
+//! Compares the crate `hordguli` with `unicode-bidi` and `unicode-linebreak`: strings in UTF-8 that are laid out at 80 columns, their
 //! levels and break marks alone, and edits. Prints nanoseconds, the minimum of several alternating runs, and the ratio. A ratio above a
 //! third has a star.
 //!

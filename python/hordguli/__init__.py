@@ -7,7 +7,7 @@
 - `display` returns one visual string, as `get_display` of python-bidi does. `wrap` returns visual lines.
 - `Session` keeps a text and its lines under edits, and has what an editor needs: carets, hits, selections. Its columns are
   terminal cells or, with a function `measure`, the units in which that function measures text.
-  `hordguli.harfbuzz.Measure` measures by font files.
+  `hordguli.harfbuzz.Measure` measures with font files.
 - `levels`, `base_level`, `breaks`, `clusters`, `row`, `row_runs`, `script_runs` and `properties` are for programs that lay out
   lines themselves.
 - `explain` returns what decides a layout. `python3 -m hordguli explain TEXT` prints it, or writes a page.

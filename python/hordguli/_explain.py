@@ -276,7 +276,7 @@ def _layouts(text: str, options: Options, tables: Optional[Tables]) -> dict[str,
 
 
 class _Numbered:
-    """Different items, in the order in which they were added. `numbers` has the number of each, by its key."""
+    """Distinct items, in the order in which they were added. `numbers` maps the key of each item to its number."""
 
     def __init__(self) -> None:
         self.items: list[Any] = []

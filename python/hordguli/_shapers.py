@@ -1,4 +1,4 @@
-"""HarfBuzz, by the first of three ways that works: its library, PyGObject, or the package `uharfbuzz`.
+"""HarfBuzz, through the first of three interfaces that works: its library, PyGObject, or the package `uharfbuzz`.
 
 All have the same methods, and return the same advances. Only `Library` reads all glyphs of a text in one call.
 """
@@ -53,7 +53,7 @@ class _Owned:
 
 
 class Library:
-    """HarfBuzz's library, by `ctypes`."""
+    """HarfBuzz's library, through `ctypes`."""
 
     # The functions that return pointers. All other parameters and results are 32 bits wide.
     _POINTERS = {
@@ -156,7 +156,7 @@ class Introspected:
 
 
 class Uharfbuzz:
-    """HarfBuzz by the package `uharfbuzz`, which contains it."""
+    """HarfBuzz through the package `uharfbuzz`, which contains it."""
 
     def __init__(self) -> None:
         self._hb = import_module("uharfbuzz")

@@ -1,4 +1,4 @@
-"""Measures text by font files, with HarfBuzz. Importing this module is an `ImportError` where none of these is installed:
+"""Measures text with font files, using HarfBuzz. Importing this module is an `ImportError` where none of these is installed:
 
 1. HarfBuzz's library `libharfbuzz.so.0`, from Debian's package `libharfbuzz0b`
 2. PyGObject with HarfBuzz: Debian's packages `python3-gi`, `gir1.2-harfbuzz-0.0` and `libharfbuzz-gobject0`
@@ -27,7 +27,7 @@ UNITS = 64
 """The units of a pixel."""
 
 _Shaper = find_shaper()
-_CONTEXT = 5  # HarfBuzz looks at so many characters before and after those that it shapes.
+_CONTEXT = 5  # HarfBuzz looks at this many characters before and after those that it shapes.
 _SPACES_OF_A_TAB = 8
 _LONGEST_KNOWN, _MOST_KNOWN = 128, 4096  # characters of a run whose advances are kept, and runs
 _CHUNK, _MOST_STAYING = 64, 256  # characters that are looked at together, and those that are known to stay in a part

@@ -90,7 +90,7 @@ class Session:
 
     With a function `measure`, the session lays out text in any font. The width and all columns are in a unit that the function
     chooses, such as 1/64 pixel, and the width is from 1 to 2,147,483,647. `measure(paragraph)` returns the advance of each
-    character of a `ParagraphText`: whole numbers from 0 on. `hordguli.harfbuzz.Measure` measures by font files.
+    character of a `ParagraphText`: whole numbers from 0 on. `hordguli.harfbuzz.Measure` measures with font files.
 
     The session calls `measure` for each paragraph when it opens. Before an edit, it calls `measure` for each paragraph whose text
     the edit will change, with the new text. If `measure` raises an exception, the session is unchanged. Further exceptions:
@@ -388,7 +388,7 @@ class Session:
         return found
 
     def _paragraph_texts(self, text: str, count: int) -> list[ParagraphText]:
-        """Returns the paragraphs of the session, whose text and number are given, for a function `measure`."""
+        """Returns the session's paragraphs for a function `measure`, given the session's text and the number of its paragraphs."""
         found = []
         for index in range(count):
             length = len(text) if count == 1 else self._info(index).length

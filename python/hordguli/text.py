@@ -252,7 +252,7 @@ def properties(text: str, *, tables: Optional[Tables] = None) -> list[Character]
 
 
 def clusters(text: str) -> list[int]:
-    """Returns where the grapheme clusters of a text end (UAX #29). They are those of a `Session`.
+    """Returns where the grapheme clusters of a text end (UAX #29). A `Session` on this text has the same clusters.
 
     >>> hordguli.clusters("e\\u0301a")
     [2, 3]

@@ -1,4 +1,4 @@
-"""A walk over the characters of a paragraph that gives its break marks, as `crates/breaks` does it.
+"""A walk over the characters of a paragraph that finds its break marks, as in `crates/breaks`.
 
 Two tables are computed from the rules of reference.py. For each state and each symbol of the next character, the first has the next state
 and an outcome: a mark, or a question about the bases after the next one. For each question and each symbol, and for the end, the second
@@ -433,7 +433,7 @@ def is_wide_base(c):
 
 
 def answer(model, question, following):
-    """Returns the mark that answers a question about the bases that begin in these characters, after the marks of an earlier base."""
+    """Returns the mark that answers a question, given the characters that follow. They may begin with marks of the base before."""
     for c in following:
         if c.line_class not in ATTACHED:
             question = model.answers[question, symbol_of(c, model.version)]

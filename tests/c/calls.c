@@ -250,7 +250,7 @@ static void opened_by_version(const char *folder, const char *folder_17) {
     if (from == NULL) return;
     length = fread(image, 1, sizeof image, from);
     fclose(from);
-    OK(hordguli_tables_open_image(&other, image, length, &fault)); /* an image has its version */
+    OK(hordguli_tables_open_image(&other, image, length, &fault)); /* the version comes from the image */
     has_rules_of_17(&other);
     HOLDS(are_equal(&read, &other));
     hordguli_tables_close(&other);

@@ -231,7 +231,7 @@ static void carets_and_steps_are_right(hordguli_session *session) {
     }
 }
 
-/* From one end of a line, repeated steps meet each boundary once. */
+/* From one end of a line, repeated steps reach each boundary once. */
 static void steps_meet_each_boundary(hordguli_session *session, size_t line, uint32_t direction) {
     size_t columns = line < line_count ? lines[line].columns : 0, met = 0, boundaries = 0;
     hordguli_edge edge;

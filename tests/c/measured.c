@@ -485,7 +485,7 @@ static void lay_out(void) {
             lay_out_line(at, end, base, at == start);
         }
     }
-    /* without HORDGULI_REORDER_CLUSTERS, marks that have columns may be apart from their cluster */
+    /* without HORDGULI_REORDER_CLUSTERS, marks that have columns may be separated from the rest of their cluster */
     unit_count = 0;
     if ((options & HORDGULI_REORDER_NSM) == 0 || (options & HORDGULI_REORDER_CLUSTERS) != 0) find_units();
 }

@@ -191,8 +191,9 @@ static void shape_all(hordguli_session *session, size_t from, size_t to, size_t 
     check(hordguli_set_advances(session, 0, count, shaped, NULL) == HORDGULI_OK, "cannot measure");
 }
 
-/* After an edit at `pos`, shapes the characters between two spaces around what has changed, or all characters. The
- * paragraph has `count` characters, of which `added` are new. `added` is -1 if a character was deleted. */
+/* After an edit at `pos`, shapes the characters between the nearest spaces around what has changed or, if `is_whole` is
+ * set, all characters. The paragraph has `count` characters, of which `added` are new. `added` is -1 if a character was
+ * deleted. */
 static void shape_edited(hordguli_session *session, size_t pos, int added, size_t count, int is_whole) {
     static Style old[MOST];
     size_t from = 0, to = count, old_count = count - (size_t)added, kept = added > 0 ? pos + 1 : pos;

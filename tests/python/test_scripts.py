@@ -1,4 +1,4 @@
-"""Script runs, compared with a plain reading of UAX #24 and of the Unicode Character Database (Debian's package unicode-data)."""
+"""Script runs, compared with a reference implementation of UAX #24 that reads the Unicode Character Database (Debian's unicode-data)."""
 
 import pathlib
 import re
@@ -39,7 +39,8 @@ def read_brackets(folder):
 SCRIPTS = read_scripts() if (FOLDER / "Scripts.txt").exists() else {}
 BRACKETS = read_brackets(pathlib.Path(__file__).parents[2] / "ucd") if SCRIPTS else {}
 CLOSING = {closing: opening for opening, closing in BRACKETS.items()}
-# Letters of four scripts, Common and Inherited characters, brackets, a bracket that has a script, an unassigned and a private-use one
+# Letters of four scripts, Common and Inherited characters, brackets, two brackets that have a script, a private-use character, and an
+# unassigned one.
 LETTERS = "ab\u03b1\u05d0\u0628" + " 1.\u0300\u0651\u200d" + "()[]\u2329\u232a\u3008\u3009\u2045\u2046" + "\u0f3a\u0f3b\ue000\u0378"
 
 

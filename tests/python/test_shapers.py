@@ -1,6 +1,6 @@
 """The ways in which `hordguli.harfbuzz` uses HarfBuzz. Needs Debian's HarfBuzz, PyGObject and fonts.
 
-Debian has no package `uharfbuzz`. In its place, a stand-in with its interface calls HarfBuzz by PyGObject.
+Debian has no package `uharfbuzz`. In its place, a stand-in with its interface calls HarfBuzz through PyGObject.
 """
 
 import gc

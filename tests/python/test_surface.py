@@ -1,4 +1,4 @@
-"""The declarations of the package, beside include/hordguli.h; its documentation."""
+"""The declarations of the package, compared with include/hordguli.h; its documentation."""
 
 import copy
 import ctypes

@@ -1,4 +1,4 @@
-"""A plain model of `hordguli`: what it prints for some texts and options.
+"""A simple model of `hordguli`: what it prints for some texts and options.
 
 Each step is a function of its own, in the order in which a text goes through them:
 

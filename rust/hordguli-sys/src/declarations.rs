@@ -175,7 +175,7 @@ pub const HORDGULI_BRACKET_NONE: u8 = 0;
 pub const HORDGULI_BRACKET_OPEN: u8 = 1;
 pub const HORDGULI_BRACKET_CLOSE: u8 = 2;
 
-/// Sets a tab stop every `n` columns, from 1 to 255. A greater `n` gives an unknown option.
+/// Sets a tab stop every `n` columns, from 1 to 255. Calls refuse a greater `n` as an unknown option.
 pub const fn HORDGULI_TAB_WIDTH(n: u32) -> u32 {
     if n > 255 {
         1 << 16

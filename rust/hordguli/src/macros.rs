@@ -56,7 +56,7 @@ macro_rules! position {
             }
         }
 
-        /// Overflow is that of `usize`: it panics in debug builds.
+        /// Overflows as `usize` does: panics in debug builds.
         impl std::ops::Add<usize> for $name {
             type Output = Self;
 
@@ -65,7 +65,7 @@ macro_rules! position {
             }
         }
 
-        /// Overflow is that of `usize`: it panics in debug builds.
+        /// Overflows as `usize` does: panics in debug builds.
         impl std::ops::Sub<usize> for $name {
             type Output = Self;
 
@@ -74,7 +74,7 @@ macro_rules! position {
             }
         }
 
-        /// The distance between two positions. Overflow is that of `usize`: it panics in debug builds.
+        /// The distance between two positions. Overflows as `usize` does: panics in debug builds.
         impl std::ops::Sub for $name {
             type Output = usize;
 

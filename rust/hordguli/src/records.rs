@@ -88,13 +88,13 @@ pub(crate) fn breaks_of(marks: Vec<u8>) -> Vec<Break> {
 /// An edit replaces all paragraphs that contain or touch its range, even if it inserts and deletes nothing.
 #[derive(Clone, Debug, PartialEq, Eq, Hash)]
 pub struct Damage {
-    /// The lines before the edit that were replaced.
+    /// The lines that were replaced, as numbered before the edit.
     pub old_lines: Range<usize>,
     /// The lines that replace them. They start at the same line.
     pub new_lines: Range<usize>,
-    /// The paragraphs before the edit that were replaced.
+    /// The paragraphs that were replaced, as numbered before the edit.
     pub old_paragraphs: Range<usize>,
-    /// The paragraphs that replace them. They start at the same paragraph.
+    /// The paragraphs that replace them, starting with the same number.
     pub new_paragraphs: Range<usize>,
 }
 
