@@ -344,8 +344,8 @@ bit-low : (b : Bool) → (if b then 1 else 0) ≤ 1
 bit-low true = omega arith
 bit-low false = omega arith
 
--- one step of the pass in numbers: the rise of the neutrals next to the previous type, and of those next to the type
--- itself
+-- one step of the pass, computed with numbers: from the rise of the neutrals next to the previous type, it finds that of
+-- the neutrals next to this type
 step-is : (rise : ℕ) (neutral is : Bool) → rise ≤ 1
     → ((rise + (if neutral then 1 else (if is then 2 else 0))) / 2 == 1) ≡ (((rise == 1) && neutral) || (if neutral then false else is))
 step-is zero true true low = refl

@@ -20,7 +20,7 @@ abbrev pub begun_by : Character → List Character → Base
 begun_by c attached = record { first = c; attached = attached }
 
 -- Conditions on the rules under which the character c can be doubled, with this mark between the two. `Like` relates two lists of bases
--- that the rules do not distinguish behind another base. A mark before the two characters stays the same (`ahead`), and so does the
+-- that the rules do not distinguish after another base. A mark before the two characters stays the same (`ahead`), and so does the
 -- one after the base of the second (`here`). The others are the same since the bases before them are alike.
 pub record Doubles (rs : List Rule) (Like : List Base → List Base → Type 0) (c : Character) (mark : Mark) : Type 0 where
   pub ahead : (last : Base) (before front : List Base) (attached : List Character) (after : List Base)

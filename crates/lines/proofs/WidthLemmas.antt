@@ -278,7 +278,7 @@ columns_take k ps = from_take 0 k ps
 
 -- ---- ranges
 
--- a range is the same as the range of its indices within the list
+-- a range that is clipped to the length of the list selects the same items
 pub range_clipped : (xs : List ℕ) (start end first past : ℕ) → first ≡ min start past → past ≡ min end (length xs) → slice_range xs first past ≡ slice_range xs start end
 range_clipped xs start end first past is_first is_past =
     elim (cases_lt past start) [

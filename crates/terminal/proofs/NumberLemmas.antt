@@ -38,7 +38,7 @@ module _ (links : List ℕ) (runs : List StyleRun) where
     pub zero : (k : ℕ) → k < end → get_or numbers k 0 ≡ 0
     pub known : (k : ℕ) → get_or numbers k 0 ≤ length runs
 
-  -- the last of the runs that are left decides the style from its start on
+  -- from its start on, the last of the `left` runs determines the style
   style_at-left : (left : ℕ) (run : StyleRun) (k : ℕ) → 0 < left → left ≤ length runs → run ≡ get_or runs (left - 1) run
       → style_at links DEFAULT (take left runs) k ≡ (if nat_le run.start k then style_in links run else style_at links DEFAULT (take (left - 1) runs) k)
   style_at-left left run k some within r =
@@ -47,7 +47,7 @@ module _ (links : List ℕ) (runs : List StyleRun) where
       ∙ ap (λ rs. style_at links DEFAULT rs k) (take_more runs (left - 1) run (omega (arith, some, within)) ∙ ap (λ x. take (left - 1) runs ++ x ∷ []) (sym r))
       ∙ style_at-push DEFAULT (take (left - 1) runs) run k
 
-  -- before its start, the other runs that are left decide
+  -- before its start, the other runs among the first `left` determine the style
   rest_before : (left : ℕ) (run : StyleRun) (k : ℕ) → 0 < left → left ≤ length runs → run ≡ get_or runs (left - 1) run → k < run.start
       → style_at links DEFAULT (take (left - 1) runs) k ≡ style_at links DEFAULT (take left runs) k
   rest_before left run k some within r before =

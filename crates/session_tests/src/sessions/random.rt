@@ -85,8 +85,8 @@ fn push_part(new: &mut String, text: &str, start: usize, count: usize) -> Result
     Ok(())
 }
 
-// Returns the damage of an edit of the range from `pos` to `end`, in which the numbers of new lines and
-// paragraphs are 0, and the length of the paragraphs that the edit touches. The edit touches the paragraphs
+// Returns the damage of an edit of the range from `pos` to `end`, and the length of the paragraphs that the
+// edit touches. In the damage, the numbers of new lines and paragraphs are 0. The edit touches the paragraphs
 // whose spans overlap or adjoin the range.
 fn touched<T: ParagraphStore<Kept>>(old: &Session<T>, pos: usize, end: usize) -> (Damage, usize) {
     let (mut first_line, mut old_lines, mut first_par, mut old_pars) = (0, 0, 0, 0);
