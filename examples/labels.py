@@ -4,7 +4,7 @@
     python3 examples/labels.py PICTURE
 
 Matplotlib draws characters from left to right, and shapes nothing. So it gets lines in visual order. arabic_reshaper replaces Arabic
-letters by characters for their joined forms, which Matplotlib's own font has. Needs Debian's python3-matplotlib and
+letters with characters for their joined forms, which Matplotlib's own font has. Needs Debian's python3-matplotlib and
 python3-arabic-reshaper.
 """
 import sys

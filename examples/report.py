@@ -4,7 +4,7 @@
     python3 examples/report.py PDF FONT < TEXT
 
 ReportLab draws characters from left to right, and shapes nothing. So it gets lines in visual order. arabic_reshaper replaces Arabic
-letters by characters for their joined forms, which FONT must have. Needs Debian's python3-reportlab and python3-arabic-reshaper.
+letters with characters for their joined forms, which FONT must have. Needs Debian's python3-reportlab and python3-arabic-reshaper.
 """
 import sys
 

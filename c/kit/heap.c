@@ -17,7 +17,7 @@ tried rattle_alloc(size_t n, size_t a);
 tried rattle_realloc(uint8_t *p, size_t kept, size_t n, size_t a);
 void rattle_dealloc(uint8_t *p);
 
-/* The address of blocks that do not exist. */
+/* Its address stands for a block that was not allocated. */
 static uint8_t nothing;
 
 static tried block_or_nothing(uint8_t *p) {

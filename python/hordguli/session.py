@@ -207,7 +207,7 @@ class Session:
         return self._edit("", size(pos), size(count), library.hordguli_delete, size(pos), size(count))
 
     def replace(self, pos: SupportsIndex, count: SupportsIndex, text: str) -> Damage:
-        """Replaces the `count` characters from `pos` on by text, in one edit. Returns which lines were replaced.
+        """Replaces the `count` characters from `pos` on with text, in one edit. Returns which lines were replaced.
 
         >>> with hordguli.Session("ab\\ncd") as text:
         ...     text.replace(1, 2, "--").new_lines, text.text()
@@ -287,7 +287,7 @@ class Session:
     def _edit(self, text: str, pos: int, count: int, *call: Any) -> Damage:
         """Makes an edit by a call of the C library. In a session that measures, sets the advances too.
 
-        The edit replaces the `count` characters from `pos` on by text.
+        The edit replaces the `count` characters from `pos` on with text.
         """
         if self._measure is None:
             return get_record(Damage, self._call, *call)

@@ -315,7 +315,7 @@ class Layout:
         self.options = options
 
     def laid_out(self, text, styles, width):
-        """Returns the lines of a paragraph. Without characters, behind a prefix, it is as with a newline alone."""
+        """Returns the lines of a paragraph. An empty paragraph after a prefix is laid out like a lone newline."""
         text = text or "\n"
         with hordguli.Session(text, WIDEST if width is None else width, self.options, tables=self.tables) as session:
             return [self.line(line, styles, width) for line in session[:]]

@@ -33,7 +33,7 @@ def colour(value):
 
 
 def cells_on_screen(output, width):
-    """Returns the cells of each row of a screen, up to the width, and whether the column behind it is empty."""
+    """Returns the cells of each row of a screen, up to the width, and whether the column after it is empty."""
     import pyte
 
     screen = pyte.Screen(width + 1, ROWS)

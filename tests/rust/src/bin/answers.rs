@@ -63,7 +63,7 @@ const ALPHABET: [char; 48] = [
     '\u{25CC}',
 ];
 
-/// A pseudorandom sequence, and the checksum of what was told.
+/// A pseudorandom sequence, and the checksum of the recorded values.
 struct Teller {
     state: Cell<u64>,
     sum: Cell<u64>,
@@ -94,7 +94,7 @@ impl Teller {
         values.for_each(|value| self.tell(name, value));
     }
 
-    /// Tells the status of a result, and returns its value.
+    /// Records the status of a result, and returns its value.
     fn told<T>(&self, name: &str, result: Result<T, Error>) -> Option<T> {
         self.tell(name, result.as_ref().err().map_or(0, status_of));
         result.ok()
@@ -123,7 +123,7 @@ fn status_of(error: &Error) -> u64 {
     }
 }
 
-/// What can be told as a number.
+/// What can be recorded as a number.
 trait Value {
     fn number(self) -> u64;
 }
