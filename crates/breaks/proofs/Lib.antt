@@ -14,6 +14,7 @@ pub mod PassLemmas17
 pub mod QuestionLemmas
 pub mod QuestionLemmas17
 pub mod ReasonLemmas
+pub mod ReasonMarks
 pub mod ReasonSteps
 pub mod StepLemmas
 pub mod StepLemmas17

@@ -1,9 +1,9 @@
 //! The rule that decides each break mark.
-ghost use Rattle.std.specs.Prelude.{◌≡◌, [], ◌∷◌, ◌++◌, length, map, reverse, IfOk, OnOk};
+ghost use Rattle.std.specs.Prelude.{◌≡◌, ◌<◌, [], ◌∷◌, ◌++◌, length, map, reverse, IfOk, OnErr, OnOk};
 ghost use Rattle.breaks.specs.Bases.{class_of};
 ghost use Rattle.breaks.specs.Reasons.{base_reasons, chars_in, names, next_class, reasons_after};
 ghost use Rattle.breaks.specs.Reasons.{reasons_inside, reasons_of};
-ghost use Rattle.breaks.specs.Marks.{marks_after};
+ghost use Rattle.breaks.specs.Marks.{marks_after, marks_of};
 ghost use Rattle.breaks.specs.Rules.{mark_by, rules};
 ghost use Rattle.breaks.specs.Seen.{base_in, rest};
 
@@ -152,8 +152,15 @@ pub fn reasons(
     text: &[char],
     whole_numbers: bool,
 ) -> Result<Vec<Reason>, AllocError>
-    ensures { IfOk result (λ list. list.items ≡ reasons_of tables.now whole_numbers text.now) }
+    ensures reasons { IfOk result (λ list. list.items ≡ reasons_of tables.now whole_numbers text.now) }
+    ensures marks { IfOk result (λ list. map (λ reason. reason.mark) list.items
+        ≡ marks_of tables.now whole_numbers text.now) }
+    ensures len { IfOk result (λ list. length list.items ≡ length text.now) }
+    ensures memory { OnErr result (0 < length text.now) }
 {
+    if text.is_empty() {
+        return Ok(Vec::new(alloc));
+    }
     let edition = Edition {
         version: tables.version(),
         whole_numbers,

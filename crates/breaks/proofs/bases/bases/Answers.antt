@@ -1,4 +1,3 @@
-use Rattle.std.proofs.Common.{◌≡◌}
 use Rattle.breaks.proofs.FoundLemmas.{found_more}
 use Rattle.breaks.proofs.bases.bases.Goals as goal
 

@@ -1,4 +1,4 @@
-use Rattle.std.proofs.Common.{◌≡◌, List, [], ◌∷◌, ◌++◌, map, refl, ap₂, ◌∙◌}
+use Rattle.std.proofs.Common.{List, [], ◌∷◌, ◌++◌, map, refl, ap₂, ◌∙◌}
 use Rattle.std.specs.Option.{option_or}
 use Rattle.ucd.specs.declared.version.Version.TheVariants.{V15_0}
 use Rattle.breaks.specs.Reasons as names

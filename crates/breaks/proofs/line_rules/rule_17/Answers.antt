@@ -1,4 +1,4 @@
-use Rattle.std.proofs.Common.{◌≡◌, List, false, [], ◌∷◌, map, refl, ap₂, ◌∙◌}
+use Rattle.std.proofs.Common.{List, false, [], ◌∷◌, map, refl, ap₂, ◌∙◌}
 use Rattle.std.specs.Option.{option_or}
 use Rattle.ucd.specs.declared.version.Version.TheVariants.{V17_0}
 use Rattle.breaks.specs.Reasons.{names, names_LB26_to_LB28, names_LB28a, names_LB29_to_LB30b, names_before_numbers, names_of_numbers}

@@ -1,4 +1,4 @@
-use Rattle.std.proofs.Common.{◌≡◌, map, unwrap_or, sym, ap, ◌∙◌}
+use Rattle.std.proofs.Common.{map, unwrap_or, sym, ap, ◌∙◌}
 use Rattle.breaks.specs.Reasons.{first_by, names}
 use Rattle.breaks.specs.Rules.{rules}
 use Rattle.breaks.specs.Seen.{base_in}

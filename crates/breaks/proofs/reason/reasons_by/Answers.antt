@@ -1,4 +1,4 @@
-use Rattle.std.proofs.Common.{◌≡◌, ◌+◌, ◌-◌, ◌<◌, [], ◌∷◌, ◌++◌, List, drop, get_or, length, map, subst, sym, ap, ap₂, ◌∙◌, arith}
+use Rattle.std.proofs.Common.{◌≡◌, ◌+◌, ◌-◌, [], ◌∷◌, ◌++◌, List, drop, get_or, length, map, sym, ap, ap₂, ◌∙◌, arith}
 use Rattle.std.proofs.lemmas.List.{drop-map, length-map}
 use Rattle.breaks.specs.Bases.{Base}
 use Rattle.breaks.specs.Marks.{marks_after}
@@ -7,7 +7,7 @@ use Rattle.breaks.specs.Rules.{mark_by, rules}
 use Rattle.breaks.specs.Seen.{base_in, character_in, rest}
 use Rattle.breaks.specs.declared.mark.Mark.TheVariants.{Never}
 use Rattle.breaks.specs.declared.reason.Reason.{Reason}
-use Rattle.breaks.proofs.ReasonSteps.{before_at, chars_step, found_at, found_here, mark_below, mark_here, marks_step, nearest, next_before, reasons_step}
+use Rattle.breaks.proofs.ReasonSteps.{chars_step, found_at, found_here, mark_below, mark_here, marks_step, nearest, next_before, reasons_step}
 use Rattle.breaks.proofs.reason.reasons_by.Goals as goal
 
 pub next-before-requires-clause-bases : goal.next-before-requires-clause-bases
