@@ -4,11 +4,13 @@ use Rattle.std.proofs.Common.{◌≡◌, ℕ, zero, suc, ◌+◌, ◌-◌, ◌<�
 use Rattle.std.specs.Prelude.{not}
 use Rattle.std.specs.List.{All, AllZip, slice_get, slice_range}
 use Rattle.std.proofs.lemmas.Bool.{cases_lt, not-false, not-true}
-use Rattle.std.proofs.lemmas.List.{get_or-drop, get_or-map, get_or-take, length-append, length-drop, length-map, length-take-le}
-use Rattle.std.proofs.lemmas.Option.{slice_get_within, unwrap_or-slice_get}
+use Rattle.std.proofs.Math.Seq.{drop-length}
+use Rattle.std.proofs.lemmas.List.{append-nil, drop_more, get_or-drop, get_or-map, get_or-take, length-append, length-drop, length-map, length-take-le}
+use Rattle.std.proofs.lemmas.Option.{get_or_from_slice_get, slice_get_within, unwrap_or-slice_get}
 use Rattle.lines.specs.Extents.{LineExtents}
-use Rattle.lines.specs.Layouts.{Layout, Rules}
+use Rattle.lines.specs.Layouts.{visuals, Layout, Rules}
 use Rattle.lines.specs.Matching.{MatchAtEnd, MatchAtStart}
+use Rattle.lines.specs.Visual.{Visual}
 use Rattle.session.specs.Changes.{HasLines}
 use Rattle.session.specs.Kept.{lines_in, BringsTo, IsFresh}
 use Rattle.session.specs.Matching.{at_width, AreBrought, MatchingAtEnd, MatchingAtStart}
@@ -96,6 +98,45 @@ all_compared ks new first end i most order within past is =
       | inl less ↦ inl (omega (arith, size, less, past, is))
       | inr more ↦ inr (omega (arith, more, past, is))
     ]
+
+-- ---- one paragraph, and a new one
+
+-- if all lines but the last of two equally long lists match at the start, none match at the end
+pub only_last_differs : (xs ys : List Visual) (s : ℕ) → MatchAtStart xs ys s → length xs ≡ length ys → s + 1 ≡ length xs → MatchAtEnd xs ys 0
+only_last_differs xs ys s start sizes left =
+    let i : length xs - 0 ≡ length xs = omega arith in
+    let j : length ys - 0 ≡ length ys = omega arith in
+    let last : length xs - 0 - 1 ≡ s = omega (arith, left) in
+    let last_2 : length ys - 0 - 1 ≡ s = omega (arith, left, sizes) in
+    record {
+      in_first = omega arith;
+      in_second = omega arith;
+      same = ap (λ n. drop n xs) i ∙ drop-length xs ∙ sym (ap (λ n. drop n ys) j ∙ drop-length ys);
+      most = λ first second same. start.most (omega (arith, left)) (omega (arith, left, sizes)) (sym (ap (slice_get xs) last) ∙ same ∙ ap (slice_get ys) last_2);
+    }
+
+range_of_one : (ks : List Layout) (first end : ℕ) (o : Layout) → Some o ≡ slice_get ks first → end - first ≡ 1 → slice_range ks first end ≡ o ∷ []
+range_of_one ks first end o read one =
+    ap (λ n. take n (drop first ks)) one ∙ ap (take 1) (drop_more ks first o (slice_get_within ks first o (sym read)))
+    ∙ ap (λ (x : Layout). x ∷ []) (get_or_from_slice_get ks first o o (sym read))
+
+list_of_one : (ks : List Layout) (o : Layout) → length ks ≡ 1 → o ≡ get_or ks 0 o → ks ≡ o ∷ []
+list_of_one [] o size is = absurd (cc size)
+list_of_one (k ∷ []) o size is = ap (λ (x : Layout). x ∷ []) (sym is)
+list_of_one (k ∷ l ∷ ks) o size is = absurd (omega (arith, size))
+
+module _ (ks new : List Layout) (first end s : ℕ) (o w : Layout) (read : Some o ≡ slice_get ks first) (one : end - first ≡ 1) (size : length new ≡ 1) (is : w ≡ get_or new 0 w) where
+  one-old : lines_in (slice_range ks first end) ≡ visuals o
+  one-old = ap lines_in (range_of_one ks first end o read one) ∙ append-nil (visuals o)
+
+  one-new : lines_in new ≡ visuals w
+  one-new = ap lines_in (list_of_one new w size is) ∙ append-nil (visuals w)
+
+  pub pair_at_start : MatchAtStart (visuals o) (visuals w) s → MatchAtStart (lines_in (slice_range ks first end)) (lines_in new) s
+  pair_at_start match = subst (λ xs. MatchAtStart xs (lines_in new) s) (sym one-old) (subst (λ ys. MatchAtStart (visuals o) ys s) (sym one-new) match)
+
+  pub pair_at_end : MatchAtEnd (visuals o) (visuals w) s → MatchAtEnd (lines_in (slice_range ks first end)) (lines_in new) s
+  pair_at_end match = subst (λ xs. MatchAtEnd xs (lines_in new) s) (sym one-old) (subst (λ ys. MatchAtEnd (visuals o) ys s) (sym one-new) match)
 
 -- ---- all paragraphs, at another width
 

@@ -3,7 +3,7 @@
 //! paragraph or both are not, so the search ends at the first pair whose line counts differ.
 ghost use Rattle.std.specs.Prelude.{◌≡◌, ◌+◌, ◌^◌, ◌<◌, ◌≤◌, ℕ, length, map};
 ghost use Rattle.std.specs.List.{All, slice_range};
-ghost use Rattle.lines.specs.Layouts.{Rules};
+ghost use Rattle.lines.specs.Layouts.{visuals, Rules};
 ghost use Rattle.lines.specs.Matching.{MatchAtEnd, MatchAtStart};
 ghost use Rattle.session.specs.Changes.{without_same, HasLines};
 ghost use Rattle.session.specs.Kept.{lines_in, BringsTo, IsFresh};
@@ -78,8 +78,58 @@ fn staying_end(kept: &Kept, part: &Option<Extents>) -> Matching
     }
 }
 
-/// Returns how many lines at the start of adjacent paragraphs are the same as at the start of the new ones.
-pub fn matching_at_start<S: ParagraphStore<Kept>>(
+/// How many lines at the start and at the end of adjacent paragraphs are the same as those of new ones.
+#[derive(Clone, Copy, Debug)]
+pub struct SameEnds {
+    pub start: usize,
+    pub end: usize,
+}
+
+// Returns how many lines at each end of two paragraphs are the same.
+fn ends_of_pair(old: &Kept, new: &Kept) -> SameEnds
+    ensures start { MatchAtStart (visuals old.now) (visuals new.now) result.start }
+    ensures end { MatchAtEnd (visuals old.now) (visuals new.now) result.end }
+{
+    let lines = old.lines();
+    let start = old.laid().matching_at_start(new.laid());
+    // Fast path: if all lines but the last of both paragraphs are the same, the last lines differ.
+    let end = if new.lines() == lines && start < lines && lines - start == 1 {
+        0
+    } else {
+        old.laid().matching_at_end(new.laid())
+    };
+    SameEnds { start, end }
+}
+
+/// Returns how many lines at each end of adjacent paragraphs are the same as those of the new ones.
+pub fn same_ends<S: ParagraphStore<Kept>>(
+    store: &S,
+    first: usize,
+    end: usize,
+    new: &[Kept],
+) -> SameEnds
+    requires order { first ≤ end }
+    requires within { end ≤ length (S.items store.now) }
+    ensures start { All HasLines (S.items store.now) → All HasLines new.now → MatchAtStart
+        (lines_in (slice_range (S.items store.now) first end)) (lines_in new.now) result.start }
+    ensures end { All HasLines (S.items store.now) → All HasLines new.now → MatchAtEnd
+        (lines_in (slice_range (S.items store.now) first end)) (lines_in new.now) result.end }
+{
+    // Fast path for one paragraph that replaces another: looks it up once.
+    if new.len() == 1 && end - first == 1 {
+        let Some(kept) = store.get(first) else {
+            unreachable!()
+        };
+        return ends_of_pair(kept, &new[0]);
+    }
+    SameEnds {
+        start: matching_at_start(store, first, end, new),
+        end: matching_at_end(store, first, end, new),
+    }
+}
+
+// Returns how many lines at the start of adjacent paragraphs are the same as at the start of the new ones.
+fn matching_at_start<S: ParagraphStore<Kept>>(
     store: &S,
     first: usize,
     end: usize,
@@ -106,8 +156,8 @@ pub fn matching_at_start<S: ParagraphStore<Kept>>(
     count
 }
 
-/// Returns how many lines at the end of adjacent paragraphs are the same as at the end of the new ones.
-pub fn matching_at_end<S: ParagraphStore<Kept>>(
+// Returns how many lines at the end of adjacent paragraphs are the same as at the end of the new ones.
+fn matching_at_end<S: ParagraphStore<Kept>>(
     store: &S,
     first: usize,
     end: usize,

@@ -13,7 +13,7 @@ ghost use Rattle.session.specs.Borders.{damage_between, IsBorder};
 ghost use Rattle.session.specs.declared.edits.EditFault.TheVariants.{NoMemory};
 
 use crate::borders::{Border, back_border, back_part, front_border, front_part};
-use crate::changed::{matching_at_end, matching_at_start, without_same};
+use crate::changed::{same_ends, without_same};
 use crate::edits::{ChangedLines, Damage, EditFault, TEXT_LIMIT, TextRange};
 use crate::joined::{Form, lay_out_joined};
 use crate::kept::Kept;
@@ -64,8 +64,7 @@ pub fn put<S: ParagraphStore<Kept>>(
     ensures memory { OnErr result (0 < back.index - front.index + length new.items) }
     ensures engine { engine.new ≡ engine.old }
 {
-    let start = matching_at_start(store, front.index, back.index, &new);
-    let end = matching_at_end(store, front.index, back.index, &new);
+    let same = same_ends(store, front.index, back.index, &new);
     let (total, new_pars) = (store.total_lines(), new.len());
     match store.replace(front.index..back.index, new) {
         Ok(old) => recycle(engine, old),
@@ -80,7 +79,7 @@ pub fn put<S: ParagraphStore<Kept>>(
         old_pars: back.index - front.index,
         new_pars,
     };
-    *changed = without_same(damage, start, end);
+    *changed = without_same(damage, same.start, same.end);
     Ok(damage)
 }
 

@@ -48,10 +48,10 @@ pub returns-clause-changed : goal.returns-clause-changed
 returns-clause-changed g c =
     let ks = g.S.ParagraphStore.items c.args.store.now in
     let mid = slice_range ks c.args.front.index c.args.back.index in
-    let s = c.matching_at_start-start.result in
-    let e = c.matching_at_end-end.result in
-    let start = subst (λ (ns : List Layout). All HasLines ks → All HasLines ns → MatchAtStart (lines_in mid) (lines_in ns) s) c.deref.ensures.value c.matching_at_start-start.ensures in
-    let end = subst (λ (ns : List Layout). All HasLines ks → All HasLines ns → MatchAtEnd (lines_in mid) (lines_in ns) e) c.deref-2.ensures.value c.matching_at_end-end.ensures in
+    let s = c.same_ends-same.result.start in
+    let e = c.same_ends-same.result.end in
+    let start = subst (λ (ns : List Layout). All HasLines ks → All HasLines ns → MatchAtStart (lines_in mid) (lines_in ns) s) c.deref.ensures.value c.same_ends-same.ensures.start in
+    let end = subst (λ (ns : List Layout). All HasLines ks → All HasLines ns → MatchAtEnd (lines_in mid) (lines_in ns) e) c.deref.ensures.value c.same_ends-same.ensures.end in
     let found = AreFound-put ks c.args.new.items c.args.front c.args.back c.requires.front c.requires.back c.requires.order s e start end in
     let put = c.in-Ok.ensures.ok in
     let made = (AreSums-splice ks c.args.new.items c.args.front c.args.back
