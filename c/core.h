@@ -138,6 +138,11 @@ uint32_t hordguli_core_levels(hordguli_tables *tables, uint32_t direction, const
 uint32_t hordguli_core_marks(hordguli_tables *tables, uint32_t options, const uint32_t *characters,
                              size_t characters_length, uint8_t *marks, size_t marks_length);
 
+uint32_t hordguli_core_reasons(hordguli_tables *tables, uint32_t direction, const uint32_t *characters,
+                               size_t characters_length, hordguli_reason *records, size_t records_length);
+uint32_t hordguli_core_break_reasons(hordguli_tables *tables, uint32_t options, const uint32_t *characters,
+                                     size_t characters_length, hordguli_break_reason *records, size_t records_length);
+
 /* If `records_length` is less than `characters_length`, returns NO_ROOM after CLOSED. */
 uint32_t hordguli_core_properties(hordguli_tables *tables, const uint32_t *characters, size_t characters_length,
                                   hordguli_character *records, size_t records_length);

@@ -542,6 +542,24 @@ PUBLIC hordguli_status hordguli_marks(hordguli_tables *tables, uint32_t options,
                                                 ROOM(uint8_t, marks, none), capacity);
 }
 
+PUBLIC hordguli_status hordguli_reasons(hordguli_tables *tables, uint32_t direction, const uint32_t *characters,
+                                        size_t count, size_t capacity, hordguli_reason *reasons) {
+    hordguli_reason none[1];
+    if (tables == NULL || LACKS(reasons, capacity) || LACKS(characters, count)) return HORDGULI_NULL;
+    if (OVERLAP_3(AT(tables), ARRAY(reasons, capacity), ARRAY(characters, count))) return HORDGULI_OVERLAP;
+    return (hordguli_status)hordguli_core_reasons(tables, direction, NUMBERS(characters), count,
+                                                  ROOM(hordguli_reason, reasons, none), capacity);
+}
+
+PUBLIC hordguli_status hordguli_break_reasons(hordguli_tables *tables, uint32_t options, const uint32_t *characters,
+                                              size_t count, size_t capacity, hordguli_break_reason *reasons) {
+    hordguli_break_reason none[1];
+    if (tables == NULL || LACKS(reasons, capacity) || LACKS(characters, count)) return HORDGULI_NULL;
+    if (OVERLAP_3(AT(tables), ARRAY(reasons, capacity), ARRAY(characters, count))) return HORDGULI_OVERLAP;
+    return (hordguli_status)hordguli_core_break_reasons(tables, options, NUMBERS(characters), count,
+                                                        ROOM(hordguli_break_reason, reasons, none), capacity);
+}
+
 PUBLIC hordguli_status hordguli_properties(hordguli_tables *tables, size_t count, const uint32_t *characters,
                                            hordguli_character *records) {
     hordguli_character none[1];

@@ -15,3 +15,4 @@ pub mod Edges
 pub mod Rows
 pub mod Levels
 pub mod Segments
+pub mod Reasons

@@ -63,8 +63,8 @@ pub fn put_levels(list: &[u8], array: &mut [u8])
     array[..list.len()].copy_from_slice(list);
 }
 
-// Returns the number of a break mark in C.
-fn mark_number(mark: Mark) -> u8
+/// Returns the number of a break mark in C.
+pub fn mark_number(mark: Mark) -> u8
     ensures { result ≡ mark_number mark }
 {
     match mark {

@@ -200,15 +200,17 @@ pub struct CharacterOut {
     pub bracket: u8,
 }
 
+/// Returns the number of a bidi class in C.
 #[tactic(auto, unfolding(crate::specs::Levels::bidi_number))]
-fn bidi_number(class: BidiClass) -> u8
+pub fn bidi_number(class: BidiClass) -> u8
     ensures { result ≡ bidi_number class }
 {
     class as u8
 }
 
+/// Returns the number of a line breaking class in C.
 #[tactic(auto, unfolding(crate::specs::Levels::line_number))]
-fn line_number(class: LineClass) -> u8
+pub fn line_number(class: LineClass) -> u8
     ensures { result ≡ line_number class }
 {
     class as u8

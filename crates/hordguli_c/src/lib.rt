@@ -9,6 +9,7 @@ mod level_calls;
 mod line_calls;
 mod options;
 mod raw_box;
+mod reason_calls;
 mod row_calls;
 mod runs;
 mod segment_calls;
