@@ -1,7 +1,7 @@
 -- Lists of opening brackets: the list of closers of each, and how the pass that finds the pairs changes both.
 use Rattle.std.proofs.Common.{◌≡◌, ◌≢◌, ℕ, zero, suc, ◌+◌, ◌<◌, ◌≤◌, ◌==◌, Bool, false, List, ◌++◌, ◌∷◌, [], map, length, take, get_or, set, slice_index, Option, Some, None, unwrap_or, if◌then◌else◌, refl, sym, ap, ◌∙◌, inl, inr, arith}
 use Rattle.std.proofs.lemmas.Bool.{cond-true, cond-false, cases_Bool, cases_eq, cases_lt, cases_order, eq-eqb, ne_eqb}
-use Rattle.std.proofs.lemmas.List.{get_or-take, get_or_append_left, get_or_push, get_or_default, get_or_past, length-take, length_push, get_or-map, length-map, map-append, take-map, get_or-set_same, get_or-set_other, length-set}
+use Rattle.std.proofs.lemmas.List.{get_or-take, get_or_append_left, get_or_push, get_or_default, get_or_past, get_or_read, length-take, length_push, get_or-map, length-map, map-append, take-map, get_or-set_same, get_or-set_other, length-set}
 use Rattle.std.proofs.lemmas.List.FromFn.{fill_by_all}
 use Rattle.std.proofs.Math.ListN.{get_or-map as read_field}
 use Rattle.ucd.specs.declared.bidi_class.BidiClass.{BidiClass}
@@ -9,10 +9,10 @@ use Rattle.ucd.specs.declared.bracket.Bracket.{Bracket}
 use Rattle.bidi.specs.declared.bracket_type.BracketType.{BracketType}
 use Rattle.bidi.specs.declared.brackets.BracketPair.{BracketPair}
 use Rattle.bidi.specs.declared.brackets.Opener.{Opener}
-use Rattle.bidi.specs.Brackets.{closer_of}
+use Rattle.bidi.specs.Brackets.{canonical, closer_of}
 use Rattle.bidi.specs.BracketTypes.{bracket_types}
-use Rattle.bidi.specs.Closers.{AreInOrder, as_pair, closed_by, closers_by, closers_of, index_of, left_by, opener_at}
-use Rattle.bidi.proofs.PairLemmas.{Walks, Walks-start, closed_at, closers_of-at, length-closers_of}
+use Rattle.bidi.specs.Closers.{AreInOrder, as_pair, closed_by, closers_by, closers_of, index_of, left_by, newest, opener_at, pair_of}
+use Rattle.bidi.proofs.PairLemmas.{greatest_found, Walks, Walks-start, closed_at, closers_of-at, length-closers_of}
 
 abbrev pub closer_at : List BracketPair → ℕ → ℕ
 closer_at pairs i = get_or (map (λ (p : BracketPair). p.closer) pairs) i 0
@@ -344,3 +344,13 @@ item-is pairs len i order inside =
       within = opener_or-within pairs (i + 1) len order;
       free = λ m after before. none-between pairs i len m order inside (omega arith) before;
     }
+
+-- the position of the newest opener that a closing bracket matches is below the number of openers
+pub newest_within : (openers : List Opener) (closer m : ℕ) → Some m ≡ newest openers closer → m < length openers
+newest_within openers closer m e = (greatest_found (λ i. canonical (pair_of openers i) == canonical closer) (length openers) m (sym e)).0
+
+-- the index of an opener read from the list
+pub index_read : (openers : List Opener) (m : ℕ) (opener : Opener) → m < length openers → opener ≡ get_or openers m opener → opener.index ≡ index_of openers m
+index_read openers m opener within is =
+    let none : Opener = record { index = 0; pair = 0 } in
+    ap (λ (o : Opener). o.index) (get_or_read openers m opener within is none) ∙ sym (read_field (λ (o : Opener). o.index) openers m none)

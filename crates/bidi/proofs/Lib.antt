@@ -2,6 +2,7 @@ mod AloneLemmas
 mod BaseLemmas
 pub mod BlockLemmas
 mod BracketLemmas
+mod BracketStepLemmas
 mod BracketTypeLemmas
 mod ClosersLemmas
 mod CutLemmas
@@ -34,6 +35,7 @@ mod NoBracketLemmas
 mod OpenersLemmas
 pub mod PairLemmas
 pub mod PartLemmas
+mod PartnerLemmas
 mod PiecesLemmas
 mod PlainLemmas
 mod ResolverLemmas
@@ -42,11 +44,13 @@ mod RunLemmas
 mod SequenceStartLemmas
 mod SequenceStepLemmas
 pub mod TextCutLemmas
+pub mod ToldLemmas
 mod WaitingLemmas
 mod WeakLemmas
 mod WeakStateLemmas
 mod WeakStepLemmas
 mod WeakTableLemmas
+mod WorkedBracketSteps
 mod WorkedBrackets
 mod WorkedLevels
 mod WorkedRows

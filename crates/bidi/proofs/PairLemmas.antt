@@ -80,7 +80,7 @@ lives-item live (suc k) m h =
           rw e (omega (arith, rest.0), rest.1)
     ]
 
-range-more : (a n : ℕ) → range_with_len a (suc n) ≡ range_with_len a n ++ (a + n) ∷ []
+pub range-more : (a n : ℕ) → range_with_len a (suc n) ≡ range_with_len a n ++ (a + n) ∷ []
 range-more a zero = let e : a ≡ a + 0 = omega arith in ap (λ i. i ∷ []) e
 range-more a (suc n) =
     let e : a + 1 + n ≡ a + suc n = omega arith in
@@ -176,11 +176,11 @@ lives-cut live other (suc k) m h below after =
           ∙ sym (ap (take m) e)
     ]
 
-cases_Option : (o : Option ℕ) → (o ≡ None) ⊎ ((x : ℕ) × (o ≡ Some x))
+pub cases_Option : (o : Option ℕ) → (o ≡ None) ⊎ ((x : ℕ) × (o ≡ Some x))
 cases_Option None = inl refl
 cases_Option (Some x) = inr (x, refl)
 
-or-no : (x y : Bool) → y ≡ false → (x || y) ≡ x
+pub or-no : (x y : Bool) → y ≡ false → (x || y) ≡ x
 or-no true y e = refl
 or-no false y e = e
 
@@ -192,7 +192,7 @@ abbrev pub with_pair : List Pair → ℕ → ℕ → List Pair
 with_pair pairs i j = pairs ++ record { opener = i; closer = j } ∷ []
 
 -- after a pair has been added, its opener has its closer, and other openers keep theirs
-closer_of-at : (pairs : List Pair) (i j : ℕ) → closer_of pairs i ≡ None → closer_of (with_pair pairs i j) i ≡ Some j
+pub closer_of-at : (pairs : List Pair) (i j : ℕ) → closer_of pairs i ≡ None → closer_of (with_pair pairs i j) i ≡ Some j
 closer_of-at [] i j none = cond-true (i == i) (Some j) None (eq-eqb i i refl)
 closer_of-at (p ∷ pairs) i j none =
     elim (cases_Bool (p.opener == i)) [
@@ -202,11 +202,11 @@ closer_of-at (p ∷ pairs) i j none =
           ∙ closer_of-at pairs i j (sym (cond-false (p.opener == i) (Some p.closer) (closer_of pairs i) other) ∙ none)
     ]
 
-closer_of-past : (pairs : List Pair) (i j x : ℕ) → i ≢ x → closer_of (with_pair pairs i j) x ≡ closer_of pairs x
+pub closer_of-past : (pairs : List Pair) (i j x : ℕ) → i ≢ x → closer_of (with_pair pairs i j) x ≡ closer_of pairs x
 closer_of-past [] i j x ne = cond-false (i == x) (Some j) None (ne_eqb i x ne)
 closer_of-past (p ∷ pairs) i j x ne = ap (λ o. if p.opener == x then Some p.closer else o) (closer_of-past pairs i j x ne)
 
-covers-from : (pairs : List Pair) (a j i : ℕ) → closer_of pairs a ≡ Some j → a ≤ i → i < j → covers pairs i ≡ true
+pub covers-from : (pairs : List Pair) (a j i : ℕ) → closer_of pairs a ≡ Some j → a ≤ i → i < j → covers pairs i ≡ true
 covers-from [] a j i e from to = absurd (cc)
 covers-from (p ∷ pairs) a j i e from to =
     elim (cases_Bool (p.opener == a)) [
@@ -290,29 +290,29 @@ module _ (bracket_of : ℕ → Option Bracket) (characters : List ℕ) (types : 
   abbrev pub match_for : ℕ → Option ℕ
   match_for k = greatest (λ i. live (before k) i && fits bracket_of characters types i k) k
 
-  opens_closes_none : (k : ℕ) → opens k ≡ true → closes k ≡ false
+  pub opens_closes_none : (k : ℕ) → opens k ≡ true → closes k ≡ false
   opens_closes_none k e =
       and_right (is_other (class_at types k)) (is_closing (bracket_of (get_or characters k 0)))
       (opening_closes_none (bracket_of (get_or characters k 0)) (and_parts (is_other (class_at types k)) (is_opening (bracket_of (get_or characters k 0))) e).1)
 
-  live_parts : (pairs : List Pair) (i : ℕ) → live pairs i ≡ true → (opens i ≡ true) × (covers pairs i ≡ false)
+  pub live_parts : (pairs : List Pair) (i : ℕ) → live pairs i ≡ true → (opens i ≡ true) × (covers pairs i ≡ false)
   live_parts pairs i e = let parts = and_parts (opens i) (not (covers pairs i)) e in (parts.0, not-true (covers pairs i) parts.1)
 
   -- a character adds no pair if it is not a closing bracket or matches no opener
-  pairs-no : (k : ℕ) → closes k ≡ false → before (suc k) ≡ before k
+  pub pairs-no : (k : ℕ) → closes k ≡ false → before (suc k) ≡ before k
   pairs-no k e = ap (λ l. before k ++ l) (cond-false (closes k) (paired_with bracket_of characters types (match_for k) k) [] e) ∙ append-nil (before k)
 
-  pairs-some : (k i : ℕ) → closes k ≡ true → match_for k ≡ Some i → before (suc k) ≡ with_pair (before k) i k
+  pub pairs-some : (k i : ℕ) → closes k ≡ true → match_for k ≡ Some i → before (suc k) ≡ with_pair (before k) i k
   pairs-some k i e found =
       ap (λ l. before k ++ l) (cond-true (closes k) (paired_with bracket_of characters types (match_for k) k) [] e ∙ ap (λ o. paired_with bracket_of characters types o k) found)
 
-  pairs-none : (k : ℕ) → closes k ≡ true → match_for k ≡ None → before (suc k) ≡ before k
+  pub pairs-none : (k : ℕ) → closes k ≡ true → match_for k ≡ None → before (suc k) ≡ before k
   pairs-none k e found =
       ap (λ l. before k ++ l) (cond-true (closes k) (paired_with bracket_of characters types (match_for k) k) [] e ∙ ap (λ o. paired_with bracket_of characters types o k) found)
       ∙ append-nil (before k)
 
   -- each character adds either no pair or a pair with the opener that it matches
-  cases_step : (k : ℕ) → (before (suc k) ≡ before k) ⊎ ((i : ℕ) × (closes k ≡ true) × (match_for k ≡ Some i))
+  pub cases_step : (k : ℕ) → (before (suc k) ≡ before k) ⊎ ((i : ℕ) × (closes k ≡ true) × (match_for k ≡ Some i))
   cases_step k =
       elim (cases_Bool (closes k)) [
         | inr other ↦ inl (pairs-no k other)
@@ -322,12 +322,12 @@ module _ (bracket_of : ℕ → Option Bracket) (characters : List ℕ) (types : 
         ]
       ]
 
-  match_parts : (k i : ℕ) → match_for k ≡ Some i → (i < k) × (live (before k) i ≡ true)
+  pub match_parts : (k i : ℕ) → match_for k ≡ Some i → (i < k) × (live (before k) i ≡ true)
   match_parts k i e =
       let found = greatest_found (λ i. live (before k) i && fits bracket_of characters types i k) k i e in
       (found.0, (and_parts (live (before k) i) (fits bracket_of characters types i k) found.1).0)
 
-  covers_none : (k x : ℕ) → k ≤ x → covers (before k) x ≡ false
+  pub covers_none : (k x : ℕ) → k ≤ x → covers (before k) x ≡ false
   covers_none zero x h = refl
   covers_none (suc k) x h =
       elim (cases_step k) [
@@ -435,7 +435,7 @@ module _ (bracket_of : ℕ → Option Bracket) (characters : List ℕ) (types : 
   length-held : (k : ℕ) (places : List ℕ) (openers : List Opener) (closers : List ℕ) → Walks k places openers closers → length (lives (live (before k)) k) ≡ length openers
   length-held k places openers closers now = sym (ap length now.held) ∙ now.size
 
-  place-below : (k : ℕ) (places : List ℕ) (openers : List Opener) (closers : List ℕ) → Walks k places openers closers → (m : ℕ)
+  pub place-below : (k : ℕ) (places : List ℕ) (openers : List Opener) (closers : List ℕ) → Walks k places openers closers → (m : ℕ)
       → m < length openers → (get_or places m 0 < k) × (live (before k) (get_or places m 0) ≡ true)
   place-below k places openers closers now m h =
       let lt : m < length (lives (live (before k)) k) = omega (arith, length-held k places openers closers now) in
@@ -450,7 +450,7 @@ module _ (bracket_of : ℕ → Option Bracket) (characters : List ℕ) (types : 
     room = λ j h. absurd (omega arith);
   }
 
-  full : (k : ℕ) (places : List ℕ) (openers : List Opener) (closers : List ℕ) → Walks k places openers closers → is_full bracket_of characters types k ≡ (opens k && nat_le 63 (length openers))
+  pub full : (k : ℕ) (places : List ℕ) (openers : List Opener) (closers : List ℕ) → Walks k places openers closers → is_full bracket_of characters types k ≡ (opens k && nat_le 63 (length openers))
   full k places openers closers now = ap (λ n. opens k && nat_le 63 n) (length-lives (live (before k)) k ∙ length-held k places openers closers now)
 
   room-next : (k : ℕ) → ((j : ℕ) → j < k → is_full bracket_of characters types j ≡ false)
@@ -516,7 +516,7 @@ module _ (bracket_of : ℕ → Option Bracket) (characters : List ℕ) (types : 
       }
 
   -- the last live opener that a closing bracket matches is the newest such opener on the list
-  match_held : (k : ℕ) (places : List ℕ) (openers : List Opener) (closers : List ℕ) → Walks k places openers closers
+  pub match_held : (k : ℕ) (places : List ℕ) (openers : List Opener) (closers : List ℕ) → Walks k places openers closers
       → match_for k ≡ item_of places (newest openers (get_or characters k 0))
   match_held k places openers closers now =
       let c = get_or characters k 0 in
@@ -527,7 +527,7 @@ module _ (bracket_of : ℕ → Option Bracket) (characters : List ℕ) (types : 
       ∙ ap (λ n. item_of (lives (live (before k)) k) (greatest test n)) size
       ∙ ap (λ (l : List ℕ). item_of l (newest openers c)) (sym now.held)
 
-  closes_opens_none : (k : ℕ) → closes k ≡ true → opens k ≡ false
+  pub closes_opens_none : (k : ℕ) → closes k ≡ true → opens k ≡ false
   closes_opens_none k e = false_from_ne_true (opens k) (λ o. both_ways (closes k) (opens_closes_none k o) e)
 
   Walks-close_by : (k : ℕ) (places : List ℕ) (openers : List Opener) (closers : List ℕ) (found : Option ℕ) → newest openers (get_or characters k 0) ≡ found → k < length types → closes k ≡ true

@@ -1,4 +1,6 @@
 pub mod Base
+pub mod BracketPasses
+pub mod BracketSteps
 pub mod BracketTypes
 pub mod Brackets
 pub mod Closers

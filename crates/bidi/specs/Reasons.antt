@@ -12,11 +12,13 @@ use Rattle.bidi.specs.declared.base.Base.{Base}
 use Rattle.bidi.specs.declared.paragraph_reasons.ParagraphReasons.{ParagraphReasons}
 use Rattle.ucd.specs.declared.bracket.Bracket.{Bracket}
 use Rattle.bidi.specs.Brackets.{brackets}
+use Rattle.bidi.specs.BracketSteps.{bracket_step}
 use Rattle.bidi.specs.Explicit.{directed, inside_at, level_at, type_at}
 use Rattle.bidi.specs.Neighbours.{nearest}
 use Rattle.bidi.specs.Neutral.{agree, implicit_level, is_neutral, neutral_at}
 use Rattle.bidi.specs.Sequences.{direction, eos, first_of, sequences, sos, stayed}
 use Rattle.bidi.specs.Weak.{is_left, w1, w2, w3, w4, w5, w6, weak}
+use Rattle.bidi.specs.declared.bracket_steps.BracketStep.{BracketStep}
 use Rattle.bidi.specs.declared.explicit_steps.ExplicitStep.{ExplicitStep}
 use Rattle.bidi.specs.declared.neutral_steps.NeutralRule.{NeutralRule}
 use Rattle.bidi.specs.declared.neutral_steps.NeutralRule.TheVariants.{N1, N2}
@@ -76,8 +78,8 @@ abbrev pub numbered : {T U : Type 0} → (ℕ → T → U) → ℕ → List T �
 numbered f k [] = []
 numbered f k (item ∷ items) = f k item ∷ numbered f (suc k) items
 
--- the types of a sequence after each rule, at index k, given its explicit types and its types after N0
-module _ (level : ℕ) (sos : BidiClass) (types paired : List BidiClass) where
+-- the types of a sequence after each rule, at index k, given its explicit types, its types after N0 and what N0 does
+module _ (level : ℕ) (sos : BidiClass) (types paired : List BidiClass) (bracket : ℕ → BracketStep) where
   abbrev pub sequence_step : ℕ → NeutralStep → SequenceStep
   sequence_step k neutral = record {
     w1 = class_at (w1 sos types) k;
@@ -88,6 +90,7 @@ module _ (level : ℕ) (sos : BidiClass) (types paired : List BidiClass) where
     w6 = class_at (w6 (w5 (w4 (w3 (w2 sos (w1 sos types)))))) k;
     w7 = class_at (weak sos types) k;
     n0 = class_at paired k;
+    bracket = bracket k;
     neutral = neutral;
     level = implicit_level level neutral.class;
   }
@@ -96,7 +99,8 @@ module _ (level : ℕ) (sos : BidiClass) (types paired : List BidiClass) where
 abbrev pub sequence_steps : (ℕ → Option Bracket) → ℕ → BidiClass → BidiClass → List ℕ → List BidiClass → List SequenceStep
 sequence_steps bracket_of level sos eos characters types =
     let paired = brackets bracket_of (direction level) sos characters types (weak sos types) in
-    numbered (sequence_step level sos types paired) 0 (neutral_steps (direction level) sos eos paired)
+    let bracket = bracket_step bracket_of (direction level) sos characters types (weak sos types) in
+    numbered (sequence_step level sos types paired bracket) 0 (neutral_steps (direction level) sos eos paired)
 
 -- the levels after I1 and I2
 abbrev pub levels_in : List SequenceStep → List ℕ

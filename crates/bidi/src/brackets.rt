@@ -22,14 +22,14 @@ use std::alloc::{AllocError, Global};
 use ucd::BidiClass;
 
 /// The maximum number of open brackets on the stack (BD16).
-const MAX_OPENERS: usize = 63;
+pub(crate) const MAX_OPENERS: usize = 63;
 
 // An opening bracket on the stack: its index in the list of opening brackets, and the number of its bracket
 // type.
 #[derive(Clone, Copy, PartialEq, Eq)]
-struct Opener {
-    index: usize,
-    pair: u32,
+pub(crate) struct Opener {
+    pub index: usize,
+    pub pair: u32,
 }
 
 // The indices of an opening bracket and of its closing bracket in the sequence. For an unpaired bracket,
@@ -52,7 +52,7 @@ fn canonical(character: u32) -> u32
 }
 
 // Returns a character's bracket type in N0, where only characters of type ON are brackets.
-fn bracket_in(bracket: BracketType, class: BidiClass) -> BracketType
+pub(crate) fn bracket_in(bracket: BracketType, class: BidiClass) -> BracketType
     ensures { result ≡ (if is_other class then bracket else Other) }
 {
     match class {
@@ -63,7 +63,7 @@ fn bracket_in(bracket: BracketType, class: BidiClass) -> BracketType
 
 // Returns the position on the stack of the newest opening bracket that a closing bracket matches, if there is
 // one.
-fn matching(openers: &[Opener], closer: u32) -> Option<usize>
+pub(crate) fn matching(openers: &[Opener], closer: u32) -> Option<usize>
     ensures { result ≡ newest openers.now closer }
 {
     let wanted = canonical(closer);
@@ -194,7 +194,7 @@ fn find_pairs(
 
 // Returns the index of the first strong type in `from..limit` with a given direction: L if `left` is true, or
 // else R. If there is none, returns `limit`, or `from` if that is greater.
-fn next_toward(types: &[BidiClass], left: bool, from: usize, limit: usize) -> usize
+pub(crate) fn next_toward(types: &[BidiClass], left: bool, from: usize, limit: usize) -> usize
     requires from { from ≤ length types.now }
     requires limit { limit ≤ length types.now }
     ensures reached { from ≤ result }
@@ -312,7 +312,7 @@ fn pair_direction(
 
 // Returns the nearest strong type before an index, or `sos`. Called only for a pair that then becomes strong
 // itself, so the search for a later pair stops at that pair.
-fn strong_before(types: &[BidiClass], place: usize, sos: BidiClass) -> BidiClass
+pub(crate) fn strong_before(types: &[BidiClass], place: usize, sos: BidiClass) -> BidiClass
     requires { place ≤ length types.now }
     ensures { result ≡ context sos types.now place }
 {
@@ -326,25 +326,25 @@ fn strong_before(types: &[BidiClass], place: usize, sos: BidiClass) -> BidiClass
     sos
 }
 
-fn is_left(class: BidiClass) -> bool
+pub(crate) fn is_left(class: BidiClass) -> bool
     ensures { result ≡ is_left class }
 {
     matches!(class, BidiClass::L)
 }
 
-fn is_mark(class: BidiClass) -> bool
+pub(crate) fn is_mark(class: BidiClass) -> bool
     ensures { result ≡ is_mark class }
 {
     matches!(class, BidiClass::NSM)
 }
 
-fn is_other(class: BidiClass) -> bool
+pub(crate) fn is_other(class: BidiClass) -> bool
     ensures { result ≡ is_other class }
 {
     matches!(class, BidiClass::ON)
 }
 
-fn side(left: bool) -> BidiClass
+pub(crate) fn side(left: bool) -> BidiClass
     ensures { result ≡ side left }
 {
     if left { BidiClass::L } else { BidiClass::R }
@@ -361,7 +361,7 @@ fn is_direction(class: BidiClass) -> bool
 }
 
 // Sets the types of a pair, if it has a direction.
-fn set_pair(
+pub(crate) fn set_pair(
     types: &mut [BidiClass],
     explicit: &[BidiClass],
     place: usize,

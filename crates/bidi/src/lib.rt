@@ -13,6 +13,7 @@
 #![tactic(auto)]
 
 mod base;
+mod bracket_steps;
 mod bracket_type;
 mod brackets;
 mod classes;
@@ -42,6 +43,7 @@ mod weak_table;
 pub use base::{
     Base, base_level, base_level_by, base_level_in_text, base_level_of, first_strong_level,
 };
+pub use bracket_steps::{BracketCase, BracketStep};
 pub use bracket_type::BracketType;
 pub use cuts::{first_cut, is_cut, paragraphs_are_pieces};
 pub use doubling::doubling_keeps_levels;

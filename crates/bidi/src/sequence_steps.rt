@@ -1,6 +1,7 @@
 //! What the rules W1 to I2 (UAX #9) do with the types of one isolating run sequence, for callers that
 //! show how the algorithm arrives at a level. `sequence_levels` has the fast pass.
-ghost use Rattle.std.specs.Prelude.{◌≡◌, ℕ, ◌≤◌, length, IfOk, List, Option};
+ghost use Rattle.std.specs.Prelude.{◌≡◌, ℕ, ◌≤◌, length, map, IfOk, List, Option};
+ghost use Rattle.std.specs.List.{range_with_len};
 ghost use Rattle.ucd.specs.Classes.{class_at};
 ghost use Rattle.ucd.specs.declared.bracket.Bracket.{Bracket};
 ghost use Rattle.bidi.specs.BracketTypes.{bracket_types};
@@ -11,7 +12,9 @@ ghost use Rattle.bidi.specs.Reasons.{levels_in, numbered, sequence_step, sequenc
 ghost use Rattle.bidi.specs.SequenceSteps.{AreWeakSteps};
 ghost use Rattle.bidi.specs.Sequences.{direction};
 ghost use Rattle.ucd.specs.declared.bidi_class.BidiClass.{BidiClass};
+ghost use Rattle.bidi.specs.declared.bracket_steps.BracketStep.{BracketStep};
 
+use crate::bracket_steps::{BracketStep, bracket_steps};
 use crate::bracket_type::BracketType;
 use crate::brackets::Pairs;
 use crate::neutral_steps::{NeutralStep, neutral_steps};
@@ -32,6 +35,8 @@ pub struct SequenceStep {
     pub w6: BidiClass,
     pub w7: BidiClass,
     pub n0: BidiClass,
+    /// What N0 does, with indices in the sequence.
+    pub bracket: BracketStep,
     /// What N1 and N2 do, with indices in the sequence.
     pub neutral: NeutralStep,
     /// The level after I1 and I2.
@@ -123,11 +128,13 @@ fn sequence_step(
     paired: &[BidiClass],
     level: u8,
     k: usize,
+    bracket: BracketStep,
     neutral: NeutralStep,
 ) -> SequenceStep
     requires { level ≤ 125 }
-    ensures { (sos : BidiClass) (types : List BidiClass) → AreWeakSteps sos types weak.now
-        → result ≡ sequence_step level sos types paired.now k neutral }
+    ensures { (sos : BidiClass) (types : List BidiClass) (at : ℕ → BracketStep)
+        → AreWeakSteps sos types weak.now → bracket ≡ at k
+        → result ≡ sequence_step level sos types paired.now at k neutral }
 {
     SequenceStep {
         w1: class_at(&weak.w1, k),
@@ -138,6 +145,7 @@ fn sequence_step(
         w6: class_at(&weak.w6, k),
         w7: class_at(&weak.w7, k),
         n0: class_at(paired, k),
+        bracket,
         neutral,
         level: implicit_level(level, neutral.class),
     }
@@ -153,9 +161,10 @@ fn pair(
 ) -> Result<Vec<BidiClass>, AllocError>
     requires kinds { length kinds.now ≡ length types.now }
     requires explicit { length explicit.now ≡ length types.now }
-    ensures { IfOk result (λ paired. (look : ℕ → Option Bracket) (text : List ℕ) → kinds.now
+    ensures types { IfOk result (λ paired. (look : ℕ → Option Bracket) (text : List ℕ) → kinds.now
         ≡ bracket_types look text
         → paired.items ≡ brackets look (direction sides.level) sides.sos text explicit.now types.now) }
+    ensures size { IfOk result (λ paired. length paired.items ≡ length types.now) }
 {
     let mut paired = Vec::from_slice(alloc, types)?;
     let mut pairs = Pairs::new(alloc);
@@ -169,22 +178,25 @@ fn pair(
     Ok(paired)
 }
 
-// Returns the steps, given the types after each rule.
+// Returns the steps, given the types after each rule and what N0 does.
 fn gather_steps(
     alloc: Global,
     weak: &WeakSteps,
     paired: &[BidiClass],
     level: u8,
+    brackets: &[BracketStep],
     neutral: &[NeutralStep],
 ) -> Result<Vec<SequenceStep>, AllocError>
-    requires { level ≤ 125 }
-    ensures { IfOk result (λ list. (sos : BidiClass) (types : List BidiClass)
+    requires bounded { level ≤ 125 }
+    requires brackets { length brackets.now ≡ length neutral.now }
+    ensures { IfOk result (λ list. (sos : BidiClass) (types : List BidiClass) (at : ℕ → BracketStep)
         → AreWeakSteps sos types weak.now
-        → list.items ≡ numbered (sequence_step level sos types paired.now) 0 neutral.now) }
+        → brackets.now ≡ map at (range_with_len 0 (length neutral.now))
+        → list.items ≡ numbered (sequence_step level sos types paired.now at) 0 neutral.now) }
 {
     let mut list = Vec::with_capacity(alloc, neutral.len())?;
     for k in 0..neutral.len() {
-        list.push(sequence_step(weak, paired, level, k, neutral[k]))?;
+        list.push(sequence_step(weak, paired, level, k, brackets[k], neutral[k]))?;
     }
     Ok(list)
 }
@@ -208,7 +220,9 @@ pub fn sequence_steps(
 {
     let weak = weak_steps(alloc, sides.sos, types)?;
     let paired = pair(alloc, kinds, types, &weak.w7, sides)?;
-    let neutral = neutral_steps(alloc, direction(sides.level), sides.sos, sides.eos, &paired)?;
-    let list = gather_steps(alloc, &weak, &paired, sides.level, &neutral)?;
+    let embedding = direction(sides.level);
+    let brackets = bracket_steps(alloc, kinds, types, &weak.w7, embedding, sides.sos)?;
+    let neutral = neutral_steps(alloc, embedding, sides.sos, sides.eos, &paired)?;
+    let list = gather_steps(alloc, &weak, &paired, sides.level, &brackets, &neutral)?;
     Ok(list)
 }

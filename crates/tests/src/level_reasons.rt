@@ -1,7 +1,7 @@
 //! Tests how the algorithm arrives at the levels of worked examples. The tests must also pass if any one
 //! allocation fails.
 use crate::files::{FILES, read};
-use bidi::{Base, NeutralRule, ParagraphReasons, SequenceStep, reasons};
+use bidi::{Base, BracketCase, BracketStep, NeutralRule, ParagraphReasons, SequenceStep, reasons};
 use std::alloc::{AllocError, Global};
 use std::process::Abort;
 use std::test::Fail;
@@ -109,4 +109,281 @@ fn override_in_an_isolate_changes_the_class_of_a_letter(rt: HostRuntime) -> Resu
     let result = check_override(&rt, rt.alloc(), &tables);
     drop(tables);
     Ok(result?)
+}
+
+// What N0 does with a character that is no bracket.
+const NO_BRACKET: BracketStep = BracketStep {
+    case: None,
+    partner: None,
+    inside: None,
+};
+
+// What N0 does with a bracket of a pair in which a strong type decides.
+fn paired(case: BracketCase, partner: usize, inside: usize) -> BracketStep {
+    BracketStep {
+        case: Some(case),
+        partner: Some(partner),
+        inside: Some(inside),
+    }
+}
+
+// What N0 does with a bracket of a pair without a strong type inside.
+fn empty_pair(partner: usize) -> BracketStep {
+    BracketStep {
+        case: Some(BracketCase::D),
+        partner: Some(partner),
+        inside: None,
+    }
+}
+
+fn unpaired(case: BracketCase) -> BracketStep {
+    BracketStep {
+        case: Some(case),
+        partner: None,
+        inside: None,
+    }
+}
+
+// What N0 does with a mark whose type it sets with that of the bracket at an index.
+fn mark_of(bracket: usize) -> BracketStep {
+    BracketStep {
+        case: None,
+        partner: Some(bracket),
+        inside: None,
+    }
+}
+
+// Returns whether N0 does this with the characters of a sequence.
+fn are_brackets(steps: &[SequenceStep], expected: &[BracketStep]) -> bool {
+    if steps.len() != expected.len() {
+        return false;
+    }
+    for k in 0..steps.len() {
+        if steps[k].bracket != expected[k] {
+            return false;
+        }
+    }
+    true
+}
+
+// Returns whether N0 does this with the characters of the sequence with a given number.
+fn have_brackets(reasons: &ParagraphReasons, sequence: usize, expected: &[BracketStep]) -> bool {
+    match reasons.sequences.get(sequence) {
+        Some(sequence) => are_brackets(&sequence.steps, expected),
+        None => false,
+    }
+}
+
+fn check_brackets(
+    rt: &impl Abort,
+    tables: &Tables,
+    alloc: Global,
+    text: &[char],
+    sequence: usize,
+    expected: &[BracketStep],
+) -> Result<(), AllocError> {
+    let reasons = reasons_of(alloc, tables, text)?;
+    let are_right = have_brackets(&reasons, sequence, expected);
+    drop(reasons);
+    assert!(rt; are_right);
+    Ok(())
+}
+
+// Checks what N0 does with the characters of one sequence of a text.
+fn expect_brackets(
+    rt: &impl Abort,
+    alloc: Global,
+    text: &[char],
+    sequence: usize,
+    expected: &[BracketStep],
+) -> Result<(), Fail> {
+    let tables = read(alloc, &FILES)?;
+    let result = check_brackets(rt, &tables, alloc, text, sequence, expected);
+    drop(tables);
+    Ok(result?)
+}
+
+#[test]
+fn pair_with_the_embedding_direction_inside_is_case_b(rt: HostRuntime) -> Result<(), Fail> {
+    let text = ['a', '(', '\u{5D0}', 'b', ')'];
+    let expected = [
+        NO_BRACKET,
+        paired(BracketCase::B, 4, 3),
+        NO_BRACKET,
+        NO_BRACKET,
+        paired(BracketCase::B, 1, 3),
+    ];
+    expect_brackets(&rt, rt.alloc(), &text, 0, &expected)
+}
+
+#[test]
+fn pair_after_the_opposite_direction_is_case_c1(rt: HostRuntime) -> Result<(), Fail> {
+    let text = ['a', '\u{5D0}', '(', ' ', '1', '\u{5D1}', ')'];
+    let expected = [
+        NO_BRACKET,
+        NO_BRACKET,
+        paired(BracketCase::C1, 6, 4),
+        NO_BRACKET,
+        NO_BRACKET,
+        NO_BRACKET,
+        paired(BracketCase::C1, 2, 4),
+    ];
+    expect_brackets(&rt, rt.alloc(), &text, 0, &expected)
+}
+
+#[test]
+fn pair_after_the_embedding_direction_is_case_c2(rt: HostRuntime) -> Result<(), Fail> {
+    let text = ['a', '(', '\u{5D0}', ')'];
+    let expected = [
+        NO_BRACKET,
+        paired(BracketCase::C2, 3, 2),
+        NO_BRACKET,
+        paired(BracketCase::C2, 1, 2),
+    ];
+    expect_brackets(&rt, rt.alloc(), &text, 0, &expected)
+}
+
+// The inner pair has the outer one before it, which the letter at the end makes R.
+#[test]
+fn earlier_pair_is_the_context_of_a_later_one(rt: HostRuntime) -> Result<(), Fail> {
+    let text = ['\u{5D0}', 'a', '(', '[', 'a', ']', '\u{5D1}', ')'];
+    let expected = [
+        NO_BRACKET,
+        NO_BRACKET,
+        paired(BracketCase::B, 7, 6),
+        paired(BracketCase::C2, 5, 4),
+        NO_BRACKET,
+        paired(BracketCase::C2, 3, 4),
+        NO_BRACKET,
+        paired(BracketCase::B, 2, 6),
+    ];
+    expect_brackets(&rt, rt.alloc(), &text, 0, &expected)
+}
+
+#[test]
+fn pair_without_a_strong_type_inside_is_case_d(rt: HostRuntime) -> Result<(), Fail> {
+    let text = ['a', '(', ' ', ')', '\u{300}'];
+    let expected = [
+        NO_BRACKET,
+        empty_pair(3),
+        NO_BRACKET,
+        empty_pair(1),
+        NO_BRACKET,
+    ];
+    expect_brackets(&rt, rt.alloc(), &text, 0, &expected)
+}
+
+#[test]
+fn brackets_in_an_override_are_not_other_neutrals(rt: HostRuntime) -> Result<(), Fail> {
+    let text = ['a', '\u{202E}', '(', 'b', ')', '\u{202C}'];
+    let expected = [
+        unpaired(BracketCase::NotOther),
+        NO_BRACKET,
+        unpaired(BracketCase::NotOther),
+    ];
+    expect_brackets(&rt, rt.alloc(), &text, 1, &expected)
+}
+
+#[test]
+fn brackets_without_partners_have_no_match(rt: HostRuntime) -> Result<(), Fail> {
+    let text = [')', '(', '[', 'a', ')', ']', '('];
+    let expected = [
+        unpaired(BracketCase::NoMatch),
+        paired(BracketCase::B, 4, 3),
+        unpaired(BracketCase::NoMatch),
+        NO_BRACKET,
+        paired(BracketCase::B, 1, 3),
+        unpaired(BracketCase::NoMatch),
+        unpaired(BracketCase::NoMatch),
+    ];
+    expect_brackets(&rt, rt.alloc(), &text, 0, &expected)
+}
+
+#[test]
+fn sixty_three_opening_brackets_are_within_the_limit(rt: HostRuntime) -> Result<(), Fail> {
+    let text = ['('; 63];
+    let expected = [unpaired(BracketCase::NoMatch); 63];
+    expect_brackets(&rt, rt.alloc(), &text, 0, &expected)
+}
+
+#[test]
+fn sixty_fourth_opening_bracket_is_past_the_limit(rt: HostRuntime) -> Result<(), Fail> {
+    let text = ['('; 64];
+    let expected = [unpaired(BracketCase::PastLimit); 64];
+    expect_brackets(&rt, rt.alloc(), &text, 0, &expected)
+}
+
+// Two brackets before the 64 open ones form a pair, and the one after these matches the last of them.
+#[test]
+fn only_waiting_brackets_are_past_the_limit(rt: HostRuntime) -> Result<(), Fail> {
+    let mut text = ['('; 68];
+    text[1] = ')';
+    text[2] = ']';
+    text[67] = ')';
+    let mut expected = [unpaired(BracketCase::PastLimit); 68];
+    expected[0] = empty_pair(1);
+    expected[1] = empty_pair(0);
+    expected[2] = unpaired(BracketCase::NoMatch);
+    expect_brackets(&rt, rt.alloc(), &text, 0, &expected)
+}
+
+#[test]
+fn marks_have_the_bracket_before_them_as_partner(rt: HostRuntime) -> Result<(), Fail> {
+    let text = [
+        'a', '(', '\u{300}', 'b', '\u{300}', ')', '\u{301}', '\u{302}', 'c',
+    ];
+    let expected = [
+        NO_BRACKET,
+        paired(BracketCase::B, 5, 3),
+        mark_of(1),
+        NO_BRACKET,
+        NO_BRACKET,
+        paired(BracketCase::B, 1, 3),
+        mark_of(5),
+        mark_of(5),
+        NO_BRACKET,
+    ];
+    expect_brackets(&rt, rt.alloc(), &text, 0, &expected)
+}
+
+#[test]
+fn canonical_equivalents_are_partners(rt: HostRuntime) -> Result<(), Fail> {
+    let text = ['\u{2329}', 'a', '\u{3009}', '\u{3008}', 'a', '\u{232A}'];
+    let expected = [
+        paired(BracketCase::B, 2, 1),
+        NO_BRACKET,
+        paired(BracketCase::B, 0, 1),
+        paired(BracketCase::B, 5, 4),
+        NO_BRACKET,
+        paired(BracketCase::B, 3, 4),
+    ];
+    expect_brackets(&rt, rt.alloc(), &text, 0, &expected)
+}
+
+// A pair around an isolate whose brackets belong to another sequence.
+const AROUND_ISOLATE: [char; 9] = [
+    'a', '(', '\u{2067}', ')', '\u{5D0}', '(', '\u{2069}', 'b', ')',
+];
+
+#[test]
+fn pair_skips_the_brackets_of_an_isolate(rt: HostRuntime) -> Result<(), Fail> {
+    let expected = [
+        NO_BRACKET,
+        paired(BracketCase::B, 5, 4),
+        NO_BRACKET,
+        NO_BRACKET,
+        NO_BRACKET,
+        paired(BracketCase::B, 1, 4),
+    ];
+    expect_brackets(&rt, rt.alloc(), &AROUND_ISOLATE, 0, &expected)
+}
+
+#[test]
+fn brackets_of_an_isolate_match_none_outside(rt: HostRuntime) -> Result<(), Fail> {
+    let expected = [
+        unpaired(BracketCase::NoMatch),
+        NO_BRACKET,
+        unpaired(BracketCase::NoMatch),
+    ];
+    expect_brackets(&rt, rt.alloc(), &AROUND_ISOLATE, 1, &expected)
 }

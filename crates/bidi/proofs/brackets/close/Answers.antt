@@ -1,22 +1,11 @@
-use Rattle.std.proofs.Common.{◌≡◌, ◌==◌, ℕ, ◌<◌, List, length, get_or, set, sym, ap, ◌∙◌, Some, rules, arith}
+use Rattle.std.proofs.Common.{◌≡◌, ℕ, ◌<◌, List, length, get_or, set, sym, ap, ◌∙◌, Some, rules, arith}
 use Rattle.std.proofs.Math.ListN.{get_or-map}
-use Rattle.std.proofs.lemmas.List.{get_or_read}
 use Rattle.bidi.specs.declared.brackets.BracketPair.{BracketPair}
 use Rattle.bidi.specs.declared.brackets.Opener.{Opener}
-use Rattle.bidi.specs.Brackets.{canonical}
-use Rattle.bidi.specs.Closers.{closed_by, index_of, newest, opener_at, pair_of}
-use Rattle.bidi.proofs.PairLemmas.{greatest_found}
+use Rattle.bidi.specs.Closers.{closed_by, index_of, newest, opener_at}
+use Rattle.bidi.proofs.ClosersLemmas.{index_read, newest_within}
 use Rattle.bidi.proofs.brackets.close.Goals as goal
 use Rattle.bidi.proofs.brackets.close.Goals.{After-index}
-
--- the index of the opener found is below the number of openers
-newest_within : (openers : List Opener) (closer m : ℕ) → Some m ≡ newest openers closer → m < length openers
-newest_within openers closer m e = (greatest_found (λ i. canonical (pair_of openers i) == canonical closer) (length openers) m (sym e)).0
-
-read : (openers : List Opener) (m : ℕ) (opener : Opener) → m < length openers → opener ≡ get_or openers m opener → opener.index ≡ index_of openers m
-read openers m opener within is =
-    let none : Opener = record { index = 0; pair = 0 } in
-    ap (λ (o : Opener). o.index) (get_or_read openers m opener within is none) ∙ sym (get_or-map (λ (o : Opener). o.index) openers m none)
 
 closed : (openers : List Opener) (pairs : List BracketPair) (m i closer place : ℕ) → Some m ≡ newest openers closer → i ≡ index_of openers m
     → set pairs i (record { opener = (get_or pairs i (record { opener = 0; closer = 0 })).opener; closer = place })
@@ -32,7 +21,7 @@ known c =
     let openers = c.args.openers.now.items in
     let found : Some c.in-Some.held ≡ newest openers c.args.closer = rw c.deref.ensures.value at c.in-Some.ensures in
     let within = newest_within openers c.args.closer c.in-Some.held found in
-    let is = read openers c.in-Some.held c.index.result.now within c.index.ensures in
+    let is = index_read openers c.in-Some.held c.index.result.now within c.index.ensures in
     (within, is, omega (arith, is, c.requires c.in-Some.held within))
 
 pub index-requires : goal.index-requires
@@ -54,4 +43,4 @@ returns-in-Some-clause-pairs c =
     let found : Some c.in-Some.held ≡ newest openers c.args.closer = rw c.deref.ensures.value at c.in-Some.ensures in
     let within = newest_within openers c.args.closer c.in-Some.held found in
     closed openers c.args.pairs.now c.in-Some.held c.index.result.now.index c.args.closer c.args.place found
-    (read openers c.in-Some.held c.index.result.now within c.index.ensures)
+    (index_read openers c.in-Some.held c.index.result.now within c.index.ensures)

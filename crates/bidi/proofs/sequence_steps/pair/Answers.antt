@@ -3,8 +3,8 @@ use Rattle.std.proofs.lemmas.List.{with_items_is}
 use Rattle.bidi.specs.Brackets.{brackets}
 use Rattle.bidi.proofs.sequence_steps.pair.Goals as goal
 
-pub returns : goal.returns
-returns c look text are =
+pub returns-clause-types : goal.returns-clause-types
+returns-clause-types c look text are =
     let sides = c.args.sides in
     let explicit = c.args.explicit.now in
     with_items_is c.in_ok-paired.paired c.resolve.new.types (c.resolve.auto.types ∙ c.deref_mut.ensures.len)
