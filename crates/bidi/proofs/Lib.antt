@@ -5,6 +5,7 @@ mod BracketLemmas
 mod BracketTypeLemmas
 mod ClosersLemmas
 mod CutLemmas
+mod DepthLemmas
 mod DoublingBrackets
 mod DoublingCharacters
 mod DoublingExplicit
@@ -26,6 +27,7 @@ pub mod LastLemmas
 pub mod LeastLemmas
 pub mod LengthLemmas
 mod LevelLemmas
+mod LevelReasonLemmas
 mod MatchLemmas
 mod NeutralLemmas
 mod NeutralStepLemmas
