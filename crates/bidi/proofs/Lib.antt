@@ -6,6 +6,7 @@ mod BracketStepLemmas
 mod BracketTypeLemmas
 mod ClosersLemmas
 mod CutLemmas
+mod DepthLemmas
 mod DoublingBrackets
 mod DoublingCharacters
 mod DoublingExplicit
@@ -27,6 +28,7 @@ pub mod LastLemmas
 pub mod LeastLemmas
 pub mod LengthLemmas
 mod LevelLemmas
+mod LevelReasonLemmas
 mod MatchLemmas
 mod NeutralLemmas
 mod NeutralStepLemmas

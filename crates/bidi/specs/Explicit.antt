@@ -6,6 +6,7 @@ use Rattle.ucd.specs.declared.bidi_class.BidiClass.{BidiClass}
 use Rattle.ucd.specs.declared.bidi_class.BidiClass.TheVariants.{L, R, RLE, LRE, RLO, LRO, PDF, RLI, LRI, FSI, PDI}
 use Rattle.ucd.specs.Classes.{class_at, is_initiator, is_pdi, is_separator}
 use Rattle.bidi.specs.Base.{match_of, first_strong_level}
+use Rattle.bidi.specs.Brackets.{greatest}
 
 -- the classes between the initiator at k and its match, or all classes after it if it has no match
 abbrev pub span_of : List BidiClass → ℕ → List BidiClass
@@ -86,6 +87,20 @@ inside base (opener ∷ outer) = enter (inside base outer) opener
 -- The state that applies to the character at k. A PDI is outside the openers that it closes.
 abbrev pub inside_at : ℕ → List BidiClass → ℕ → Inside
 inside_at base classes k = inside base (open_chain classes (if is_pdi (class_at classes k) then k + 1 else k))
+
+-- the number of openers in a chain that do not overflow
+abbrev pub depth : ℕ → List BidiClass → ℕ
+depth base [] = 0
+depth base (opener ∷ outer) = if (inside base (opener ∷ outer)).is_void then depth base outer else depth base outer + 1
+
+-- The index of the innermost opener that is open before index k and does not overflow: the last index before k
+-- where fewer openers that do not overflow are open than at k.
+abbrev pub opener_before : ℕ → List BidiClass → ℕ → Option ℕ
+opener_before base classes k = greatest (λ i. nat_lt (depth base (open_chain classes i)) (depth base (open_chain classes k))) k
+
+-- the index of the opener whose level and override apply to the character at k, as in `inside_at`
+abbrev pub opener_at : ℕ → List BidiClass → ℕ → Option ℕ
+opener_at base classes k = opener_before base classes (if is_pdi (class_at classes k) then k + 1 else k)
 
 -- the explicit level of the character at k, which is the paragraph level for a separator
 abbrev pub level_at : ℕ → List BidiClass → ℕ → ℕ

@@ -9,6 +9,7 @@ pub mod Doubling
 pub mod Explicit
 pub mod Isolates
 pub mod KnownBrackets
+pub mod LevelReasons
 pub mod Levels
 pub mod Neighbours
 pub mod Neutral
@@ -16,6 +17,7 @@ pub mod Openers
 pub mod Paragraphs
 pub mod Pieces
 pub mod Plain
+pub mod ReasonParts
 pub mod Reasons
 pub mod Resolving
 pub mod Rows

@@ -1,12 +1,12 @@
 -- The openers that are open during the pass of X1 to X8, kept as a stack and counts. The stack has an entry
 -- for the paragraph and one for each opener that does not overflow.
-use Rattle.std.specs.Prelude.{◌≡◌, ℕ, ◌+◌, ◌==◌, ◌≤◌, ◌<◌, ◌^◌, Bool, true, false, ◌&&◌, not, List, [], ◌∷◌, ◌++◌, length, if◌then◌else◌}
+use Rattle.std.specs.Prelude.{◌≡◌, ℕ, ◌+◌, ◌==◌, ◌≤◌, ◌<◌, ◌^◌, nat_lt, Bool, true, false, ◌&&◌, not, List, [], ◌∷◌, ◌++◌, length, take, if◌then◌else◌}
 use Rattle.std.specs.List.{list_any}
 use Rattle.ucd.specs.declared.bidi_class.BidiClass.{BidiClass}
 use Rattle.bidi.specs.declared.explicit.Openers.{Openers}
 use Rattle.bidi.specs.declared.explicit.Status.{Status}
 use Rattle.ucd.specs.Classes.{is_initiator}
-use Rattle.bidi.specs.Explicit.{Inside, inside}
+use Rattle.bidi.specs.Explicit.{Inside, depth, inside}
 
 -- the stack entry for the state inside an opener
 abbrev pub entry_of : Inside → Bool → Status
@@ -54,6 +54,15 @@ module _ (base : ℕ) where
 -- for every chain that `openers` belongs to, `status` is the innermost entry
 abbrev pub IsInnermost : Openers → Status → Type 0
 IsInnermost openers status = (base : ℕ) (chain : List BidiClass) → Holds base openers chain → status ≡ innermost base chain
+
+-- for every chain that `openers` belongs to, `number` is the number of openers that do not overflow
+abbrev pub IsDepth : Openers → ℕ → Type 0
+IsDepth openers number = (base : ℕ) (chain : List BidiClass) → Holds base openers chain → number ≡ depth base chain
+
+-- the indices of the openers that do not overflow, the outermost first, after the character at k, given their
+-- number after it
+abbrev pub updated : List ℕ → ℕ → ℕ → List ℕ
+updated indices depth k = if nat_lt (length indices) depth then indices ++ k ∷ [] else take depth indices
 
 -- if the old state belongs to a chain, the new state belongs to that chain after the step
 abbrev pub Follows : Openers → Openers → (List BidiClass → List BidiClass) → Type 0

@@ -13,7 +13,7 @@ use Rattle.bidi.specs.declared.paragraph_reasons.ParagraphReasons.{ParagraphReas
 use Rattle.ucd.specs.declared.bracket.Bracket.{Bracket}
 use Rattle.bidi.specs.Brackets.{brackets}
 use Rattle.bidi.specs.BracketSteps.{bracket_step}
-use Rattle.bidi.specs.Explicit.{directed, inside_at, level_at, type_at}
+use Rattle.bidi.specs.Explicit.{directed, inside_at, level_at, opener_at, type_at}
 use Rattle.bidi.specs.Neighbours.{nearest}
 use Rattle.bidi.specs.Neutral.{agree, implicit_level, is_neutral, neutral_at}
 use Rattle.bidi.specs.Sequences.{direction, eos, first_of, sequences, sos, stayed}
@@ -26,12 +26,13 @@ use Rattle.bidi.specs.declared.neutral_steps.NeutralStep.{NeutralStep}
 use Rattle.bidi.specs.declared.sequence_reasons.SequenceReasons.{SequenceReasons}
 use Rattle.bidi.specs.declared.sequence_steps.SequenceStep.{SequenceStep}
 
--- X1 to X8 for the character at k: its explicit level and type, and the override that applies to it
+-- X1 to X8 for the character at k: its explicit level and type, and the override and opener that apply to it
 abbrev pub explicit_step : ℕ → List BidiClass → ℕ → ExplicitStep
 explicit_step base classes k = record {
   level = level_at base classes k;
   class = type_at base classes k;
   overriding = (inside_at base classes k).override;
+  opener = opener_at base classes k;
 }
 
 abbrev pub explicit_steps : ℕ → List BidiClass → List ExplicitStep

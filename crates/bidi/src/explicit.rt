@@ -3,7 +3,7 @@
 ghost use Rattle.std.specs.Prelude.{◌≡◌, ◌≤◌, ◌∷◌, [], ◌++◌, OnOk, unwrap_or, if◌then◌else◌};
 ghost use Rattle.ucd.specs.Classes.{is_pdi, is_separator};
 ghost use Rattle.bidi.specs.Explicit.{level_above, override_of, close_embedding, close_isolate, open_after};
-ghost use Rattle.bidi.specs.Openers.{Holds, IsInnermost, Follows, AreOpeners, ClosesIsolate};
+ghost use Rattle.bidi.specs.Openers.{Holds, IsDepth, IsInnermost, Follows, AreOpeners, ClosesIsolate};
 ghost use Rattle.bidi.specs.Stayed.{IsStayed};
 
 use crate::classes::{is_initiator, is_pdi, is_removed};
@@ -106,6 +106,14 @@ impl Openers {
     {
         let statuses = self.statuses.as_slice();
         statuses[statuses.len() - 1]
+    }
+
+    // Returns the number of open embeddings, overrides and isolates that did not overflow.
+    pub fn depth(&self) -> usize
+        requires { AreOpeners self.now }
+        ensures { IsDepth self.now result }
+    {
+        self.statuses.len() - 1
     }
 
     // Opens an embedding, an override or an isolate.

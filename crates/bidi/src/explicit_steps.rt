@@ -1,8 +1,9 @@
 //! The explicit level and type of each character of a paragraph (UAX #9, X1 to X8), for callers that
 //! show how the algorithm arrives at a level. `explicit` has the fast pass, which skips the characters
 //! that X9 removes.
-ghost use Rattle.std.specs.Prelude.{◌≡◌, ◌≤◌, unwrap_or, IfOk, if◌then◌else◌};
+ghost use Rattle.std.specs.Prelude.{◌≡◌, ◌-◌, ◌==◌, ◌≤◌, length, slice_index, unwrap_or, IfOk, OnOk, if◌then◌else◌};
 ghost use Rattle.ucd.specs.Classes.{is_separator};
+ghost use Rattle.bidi.specs.Openers.{updated};
 ghost use Rattle.bidi.specs.Reasons.{explicit_steps};
 
 use crate::explicit::{Openers, Status};
@@ -18,14 +19,18 @@ pub struct ExplicitStep {
     pub class: BidiClass,
     /// The direction of the override that the character is in, if it is directly in one.
     pub overriding: Option<BidiClass>,
+    /// The index of the innermost open embedding, override or isolate initiator that does not overflow. Its
+    /// level and override apply to the character. A paragraph separator still has the paragraph level.
+    pub opener: Option<usize>,
 }
 
-// Returns the step of a character, given the state inside the innermost opener that does not overflow.
-fn step_in(status: Status, class: BidiClass, base: u8) -> ExplicitStep
+// Returns the step of a character, given the innermost opener that does not overflow and the state inside it.
+fn step_in(status: Status, opener: Option<usize>, class: BidiClass, base: u8) -> ExplicitStep
     ensures level { result.level ≡ (if is_separator class then base else status.level) }
     ensures class { result.class ≡ (if is_separator class then class
         else unwrap_or status.overriding class) }
     ensures overriding { result.overriding ≡ status.overriding }
+    ensures opener { result.opener ≡ opener }
 {
     let overriding = status.overriding;
     match class {
@@ -33,13 +38,39 @@ fn step_in(status: Status, class: BidiClass, base: u8) -> ExplicitStep
             level: base,
             class,
             overriding,
+            opener,
         },
         _ => ExplicitStep {
             level: status.level,
             class: overriding.unwrap_or(class),
             overriding,
+            opener,
         },
     }
+}
+
+// Returns the last item.
+fn last(indices: &[usize]) -> Option<usize>
+    ensures { result ≡ (if length indices.now == 0 then None
+        else Some (slice_index indices.now (length indices.now - 1))) }
+{
+    match indices {
+        [] => None,
+        [.., index] => Some(*index),
+    }
+}
+
+// Updates the indices of the open openers that do not overflow, given their number after the character at
+// `k`. The character opens at most one.
+fn update(indices: &mut Vec<usize>, depth: usize, k: usize) -> Result<(), AllocError>
+    ensures { OnOk result (indices.new.items ≡ updated indices.old.items depth k) }
+{
+    if depth > indices.len() {
+        indices.push(k)?;
+    } else {
+        indices.truncate(depth);
+    }
+    Ok(())
 }
 
 /// Returns what X1 to X8 do with each character of a paragraph. In `classes`, each FSI must already be
@@ -54,11 +85,14 @@ pub fn explicit_steps(
 {
     let mut list = Vec::with_capacity(alloc, classes.len())?;
     let mut openers = Openers::new(base);
+    let mut indices = Vec::new(alloc);
     for k in 0..classes.len() {
         let class = classes[k];
         openers.reach(class);
-        list.push(step_in(openers.status(), class, base))?;
+        update(&mut indices, openers.depth(), k)?;
+        list.push(step_in(openers.status(), last(&indices), class, base))?;
         openers.pass(class);
+        update(&mut indices, openers.depth(), k)?;
     }
     Ok(list)
 }
