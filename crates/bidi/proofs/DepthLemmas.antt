@@ -13,6 +13,11 @@ use Rattle.bidi.specs.Explicit.{close_embedding, close_isolate, depth, inside, o
 use Rattle.bidi.specs.Openers.{innermost, statuses, updated}
 use Rattle.bidi.proofs.OpenersLemmas.{adds}
 
+-- no number is found by a test that fails for all of them
+pub greatest-none : (test : ℕ → ℕ → Bool) (k : ℕ) → ((i : ℕ) → test i 0 ≡ false) → greatest (λ i. test i 0) k ≡ None
+greatest-none test zero fails = refl
+greatest-none test (suc k) fails = cond-false (test k 0) (Some k) (greatest (λ i. test i 0) k) (fails k) ∙ greatest-none test k fails
+
 module _ (base : ℕ) where
   -- an opener adds at most one
   depth-cases : (opener : BidiClass) (outer : List BidiClass) → (depth base outer ≤ depth base (opener ∷ outer)) × (depth base (opener ∷ outer) ≤ depth base outer + 1)
@@ -35,7 +40,7 @@ module _ (base : ℕ) where
       ]
 
   -- closing openers adds none
-  depth-drop : (n : ℕ) (chain : List BidiClass) → depth base (drop n chain) ≤ depth base chain
+  pub depth-drop : (n : ℕ) (chain : List BidiClass) → depth base (drop n chain) ≤ depth base chain
   depth-drop zero chain = omega arith
   depth-drop (suc n) [] = omega arith
   depth-drop (suc n) (opener ∷ outer) = omega (arith, depth-drop n outer, (depth-cases opener outer).0)
@@ -68,7 +73,7 @@ module _ (base : ℕ) where
   depth-after chain PDI = omega (arith, depth-close_isolate chain)
   depth-after chain _ = omega arith
 
-  depth-next : (classes : List BidiClass) (k : ℕ) → k < length classes → depth base (open_chain classes (k + 1)) ≤ depth base (open_chain classes k) + 1
+  pub depth-next : (classes : List BidiClass) (k : ℕ) → k < length classes → depth base (open_chain classes (k + 1)) ≤ depth base (open_chain classes k) + 1
   depth-next classes k within = rw (fold_more open_after [] classes k ON within) (depth-after (open_chain classes k) (class_at classes k))
 
   -- The indices of the openers that are open before index k and do not overflow, the outermost first. The
@@ -79,10 +84,6 @@ module _ (base : ℕ) where
 
   pub no_indices : (classes : List BidiClass) → AreIndices classes 0 []
   no_indices classes = record { size = refl; each = λ n some few. absurd (omega arith) }
-
-  greatest-none : (test : ℕ → ℕ → Bool) (k : ℕ) → ((i : ℕ) → test i 0 ≡ false) → greatest (λ i. test i 0) k ≡ None
-  greatest-none test zero fails = refl
-  greatest-none test (suc k) fails = cond-false (test k 0) (Some k) (greatest (λ i. test i 0) k) (fails k) ∙ greatest-none test k fails
 
   -- the last of the indices is the innermost opener
   pub last_is : (classes : List BidiClass) (k : ℕ) (indices : List ℕ) → AreIndices classes k indices

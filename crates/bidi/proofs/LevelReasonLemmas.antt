@@ -10,12 +10,15 @@ use Rattle.std.proofs.Math.Seq.{drop-cons, drop-length}
 use Rattle.std.proofs.lemmas.Option.{same_Some}
 use Rattle.ucd.specs.declared.bidi_class.BidiClass.{BidiClass}
 use Rattle.ucd.specs.Classes.{class_at, is_initiator}
+use Rattle.ucd.specs.declared.tables.Tables.{Tables}
 use Rattle.bidi.specs.declared.level_reason.LevelReason.{LevelReason}
 use Rattle.bidi.specs.declared.level_reason.SequenceReason.{SequenceReason}
+use Rattle.bidi.specs.declared.base.Base.{Base}
 use Rattle.bidi.specs.Base.{is_balanced, match_of}
 use Rattle.bidi.specs.Isolates.{match_at, matches_of}
 use Rattle.bidi.proofs.LeastLemmas.{least_is_none, least_within}
-use Rattle.bidi.specs.LevelReasons.{index_of, level_reason, levels_in, matching, reason_in, resolved_in}
+use Rattle.bidi.specs.LevelReasons.{index_of, level_reason, level_reasons_of, levels_in, matching, reason_in, resolved_in}
+use Rattle.bidi.specs.Levels.{levels_of}
 use Rattle.bidi.specs.ReasonParts.{IsFilled}
 use Rattle.bidi.specs.Reasons.{index_from, Sequence}
 
@@ -142,3 +145,12 @@ pub levels_listed : (classes acting : List BidiClass) (base : ℕ) (sequences : 
 levels_listed classes acting base sequences levels n size =
     map-map (λ (r : LevelReason). r.level) (level_reason classes acting base sequences levels) (range_with_len 0 n)
     ∙ sym (fill_by_all (λ k. get_or levels k 0) levels n 0 size (λ k within. refl))
+
+-- a text without characters
+pub no_reasons : (tables : Tables) (text : List ℕ) (base : Base) → length text ≡ 0 → level_reasons_of tables text base ≡ []
+no_reasons tables [] base none = refl
+no_reasons tables (c ∷ text) base none = absurd (omega (arith, none))
+
+pub no_levels : (tables : Tables) (text : List ℕ) (base : Base) → length text ≡ 0 → levels_of tables text base ≡ []
+no_levels tables [] base none = refl
+no_levels tables (c ∷ text) base none = absurd (omega (arith, none))

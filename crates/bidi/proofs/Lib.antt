@@ -34,6 +34,7 @@ mod NeutralLemmas
 mod NeutralStepLemmas
 mod NeutralTableLemmas
 mod NoBracketLemmas
+mod OpenerLemmas
 mod OpenersLemmas
 pub mod PairLemmas
 pub mod PartLemmas

@@ -1,6 +1,6 @@
 -- The explicit level and type of each character of a paragraph, given the openers that are open at the
 -- character (UAX #9, X1 to X8). An opener is an embedding, an override or an isolate initiator.
-use Rattle.std.specs.Prelude.{ℕ, ◌+◌, ◌-◌, ◌%◌, ◌==◌, nat_lt, Bool, true, false, ◌||◌, not, List, [], ◌∷◌, length, take, drop, fold, map, slice_range, Option, Some, None, unwrap_or, if◌then◌else◌}
+use Rattle.std.specs.Prelude.{◌≡◌, ℕ, ◌+◌, ◌-◌, ◌%◌, ◌==◌, nat_lt, Bool, true, false, ◌||◌, not, List, [], ◌∷◌, length, take, drop, fold, map, slice_range, Option, Some, None, unwrap_or, if◌then◌else◌}
 use Rattle.std.specs.List.{list_any, prefix_len, range_with_len}
 use Rattle.ucd.specs.declared.bidi_class.BidiClass.{BidiClass}
 use Rattle.ucd.specs.declared.bidi_class.BidiClass.TheVariants.{L, R, RLE, LRE, RLO, LRO, PDF, RLI, LRI, FSI, PDI}
@@ -101,6 +101,13 @@ opener_before base classes k = greatest (λ i. nat_lt (depth base (open_chain cl
 -- the index of the opener whose level and override apply to the character at k, as in `inside_at`
 abbrev pub opener_at : ℕ → List BidiClass → ℕ → Option ℕ
 opener_at base classes k = opener_before base classes (if is_pdi (class_at classes k) then k + 1 else k)
+
+-- an opener, or None for the paragraph, has the level and override that apply to the character at k
+abbrev pub Applies : ℕ → List BidiClass → ℕ → Option ℕ → Type 0
+Applies base classes k None = ((inside_at base classes k).level ≡ base) × ((inside_at base classes k).override ≡ None)
+Applies base classes k (Some i) =
+    ((inside base (open_chain classes (i + 1))).level ≡ (inside_at base classes k).level)
+    × ((inside base (open_chain classes (i + 1))).override ≡ (inside_at base classes k).override)
 
 -- the explicit level of the character at k, which is the paragraph level for a separator
 abbrev pub level_at : ℕ → List BidiClass → ℕ → ℕ

@@ -1,8 +1,9 @@
 //! The explicit level and type of each character of a paragraph (UAX #9, X1 to X8), for callers that
 //! show how the algorithm arrives at a level. `explicit` has the fast pass, which skips the characters
 //! that X9 removes.
-ghost use Rattle.std.specs.Prelude.{◌≡◌, ◌-◌, ◌==◌, ◌≤◌, length, slice_index, unwrap_or, IfOk, OnOk, if◌then◌else◌};
+ghost use Rattle.std.specs.Prelude.{◌≡◌, ℕ, ◌-◌, ◌<◌, ◌≤◌, ◌==◌, length, slice_index, unwrap_or, IfOk, OnOk, if◌then◌else◌};
 ghost use Rattle.ucd.specs.Classes.{is_separator};
+ghost use Rattle.bidi.specs.Explicit.{opener_at, Applies};
 ghost use Rattle.bidi.specs.Openers.{updated};
 ghost use Rattle.bidi.specs.Reasons.{explicit_steps};
 
@@ -81,7 +82,9 @@ pub fn explicit_steps(
     base: u8,
 ) -> Result<Vec<ExplicitStep>, AllocError>
     requires { base ≤ 1 }
-    ensures { IfOk result (λ list. list.items ≡ explicit_steps base classes.now) }
+    ensures steps { IfOk result (λ list. list.items ≡ explicit_steps base classes.now) }
+    ensures openers { OnOk result ((k : ℕ) → k < length classes.now
+        → Applies base classes.now k (opener_at base classes.now k)) }
 {
     let mut list = Vec::with_capacity(alloc, classes.len())?;
     let mut openers = Openers::new(base);

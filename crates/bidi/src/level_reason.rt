@@ -1,6 +1,6 @@
 //! How the algorithm arrives at the level of each character (UAX #9), as a list with one item for each
 //! character of the paragraph and with positions in the paragraph.
-ghost use Rattle.std.specs.Prelude.{◌≡◌, ℕ, ◌<◌, List, length, map, not, option_map, slice_index, slice_index_or, IfOk, if◌then◌else◌};
+ghost use Rattle.std.specs.Prelude.{◌≡◌, ℕ, ◌<◌, List, length, map, not, option_map, slice_index, slice_index_or, IfOk, OnErr, if◌then◌else◌};
 ghost use Rattle.std.specs.List.{range_with_len};
 ghost use Rattle.std.specs.Option.{option_and_then};
 ghost use Rattle.ucd.specs.declared.bidi_class.BidiClass.{BidiClass};
@@ -303,7 +303,12 @@ pub fn level_reasons(
 ) -> Result<Vec<LevelReason>, AllocError>
     ensures reasons { IfOk result (λ list. list.items ≡ level_reasons_of tables.now text.now base) }
     ensures levels { IfOk result (λ list. levels_in list.items ≡ levels_of tables.now text.now base) }
+    ensures len { IfOk result (λ list. length list.items ≡ length text.now) }
+    ensures memory { OnErr result (0 < length text.now) }
 {
+    if text.is_empty() {
+        return Ok(Vec::new(alloc));
+    }
     let reasons = reasons(alloc, tables, text, base)?;
     let initiators = indices_of(alloc, &reasons.matches, text.len())?;
     let indices = indices_of(alloc, &reasons.kept, text.len())?;

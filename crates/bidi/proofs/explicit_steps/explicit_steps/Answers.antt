@@ -3,6 +3,7 @@ use Rattle.std.proofs.lemmas.List.{get_or_default}
 use Rattle.ucd.specs.declared.bidi_class.BidiClass.TheVariants.{L, ON}
 use Rattle.bidi.proofs.DepthLemmas.{no_indices}
 use Rattle.bidi.proofs.ExplicitStepLemmas.{are_openers, are_passed, are_reached, more_steps, passed_indices, passed_is, reached_indices, reached_is}
+use Rattle.bidi.proofs.OpenerLemmas.{opener_applies}
 use Rattle.bidi.proofs.explicit_steps.explicit_steps.Goals as goal
 
 pub loop-k-init : goal.loop-k-init
@@ -53,3 +54,6 @@ loop-k-preserved c =
     (more_steps c.loop-k.invariant c.loop-k-test.true at _ _ _ passed here after c.status.result (c.status.ensures _ _ reached) c.step_in.result
     c.step_in.ensures.level c.step_in.ensures.class c.step_in.ensures.overriding (c.step_in.ensures.opener ∙ c.last.ensures
     ∙ ap (λ l. if length l == 0 then None else Some (slice_index l (length l - 1))) c.deref.ensures.value))
+
+pub returns-clause-openers : goal.returns-clause-openers
+returns-clause-openers c = opener_applies c.args.base c.args.classes.now

@@ -1,9 +1,11 @@
 use Rattle.std.proofs.Common.{◌≡◌, List, length, map, refl, sym, ap, ap₂, ◌∙◌}
 use Rattle.std.specs.List.{range_with_len}
+use Rattle.std.proofs.lemmas.Bool.{eqb-true}
 use Rattle.std.proofs.lemmas.List.{length-map}
 use Rattle.std.proofs.lemmas.List.FromFn.{length-map-range_with_len}
 use Rattle.ucd.specs.declared.bidi_class.BidiClass.{BidiClass}
 use Rattle.ucd.specs.Tables.{bracket_of, class_of}
+use Rattle.bidi.specs.declared.level_reason.LevelReason.{LevelReason}
 use Rattle.bidi.specs.Base.{base_level_of}
 use Rattle.bidi.specs.Explicit.{directed}
 use Rattle.bidi.specs.Isolates.{match_at, matches_of}
@@ -12,7 +14,7 @@ use Rattle.bidi.specs.Levels.{levels_of}
 use Rattle.bidi.specs.Reasons.{explicit_step, explicit_steps, sequence_of, sequences_by}
 use Rattle.bidi.specs.Sequences.{stayed}
 use Rattle.bidi.proofs.LengthLemmas.{length-directed, length-levels_of}
-use Rattle.bidi.proofs.LevelReasonLemmas.{levels_listed}
+use Rattle.bidi.proofs.LevelReasonLemmas.{levels_listed, no_levels, no_reasons}
 use Rattle.bidi.proofs.level_reason.level_reasons.Goals as goal
 
 pub list_of-requires-clause-same : goal.list_of-requires-clause-same
@@ -76,3 +78,15 @@ returns-clause-levels c =
     let level = base_level_of classes c.args.base in
     ap levels_in (returns-clause-reasons c)
     ∙ levels_listed classes acting level (sequences_by (bracket_of tables) text acting level) (levels_of tables text c.args.base) (length text) (length-levels_of tables text c.args.base)
+
+pub returns-clause-len : goal.returns-clause-len
+returns-clause-len c =
+    sym (length-map c.in_ok-list.list.items (λ (reason : LevelReason). reason.level)) ∙ ap length (returns-clause-levels c) ∙ length-levels_of c.args.tables.now c.args.text.now c.args.base
+
+pub returns-then-is_empty-clause-reasons : goal.returns-then-is_empty-clause-reasons
+returns-then-is_empty-clause-reasons c =
+    c.new.ensures.items ∙ sym (no_reasons c.args.tables.now c.args.text.now c.args.base (eqb-true (length c.args.text.now) 0 (sym c.is_empty.ensures ∙ c.if-is_empty.true)))
+
+pub returns-then-is_empty-clause-levels : goal.returns-then-is_empty-clause-levels
+returns-then-is_empty-clause-levels c =
+    ap levels_in c.new.ensures.items ∙ sym (no_levels c.args.tables.now c.args.text.now c.args.base (eqb-true (length c.args.text.now) 0 (sym c.is_empty.ensures ∙ c.if-is_empty.true)))
