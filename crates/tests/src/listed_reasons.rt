@@ -7,9 +7,6 @@ use std::process::Abort;
 use std::test::Fail;
 use ucd::{BidiClass, Tables};
 
-    Ok(result?)
-}
-
 // What is expected of a list of reasons: an item for each character.
 #[derive(Clone, Copy)]
 struct Expected<'a> {
@@ -352,3 +349,6 @@ fn check_first_strong(rt: &impl Abort, alloc: Global, tables: &Tables) -> Result
 fn first_strong_isolate_keeps_its_class(rt: HostRuntime) -> Result<(), Fail> {
     let tables = read(rt.alloc(), &FILES)?;
     let result = check_first_strong(&rt, rt.alloc(), &tables);
+    drop(tables);
+    Ok(result?)
+}
