@@ -422,9 +422,10 @@ class ExplainedCharacter(NamedTuple):
     """A character of an `Explanation`.
 
     `position`: its index in the text. `character`, `code_point`, `name`: which it is, such as `"("`, `"U+0028"`, `"LEFT PARENTHESIS"`.
-    `mirror` to `bracket`: its properties, as in `Character`. `level`: its level before L1. `level_without_n0`: its level if no brackets
-    were paired (UAX #9, N0). `break_mark`: the break mark after it. `line`: its line. `line_level`: its level after L1. `visual`: its visual position in the line. These three are `None` if the
-    character is not shown.
+    `mirror` to `bracket`: its properties, as in `Character`. `level`: its level before L1. `break_mark`: the break mark after it. `line`:
+    its line. `line_level`: its level after L1. `visual`: its visual position in the line. These three are `None` if the character is
+    not shown. `why`: what rules of UAX #9 change at it, as sentences in the order of the rules. `break_why`: the rule of UAX #14 that
+    decides its break mark. `reason`, `break_reason`: what the sentences say, with positions in the text.
     """
 
     position: int
@@ -440,11 +441,14 @@ class ExplainedCharacter(NamedTuple):
     columns: int
     bracket: str
     level: int
-    level_without_n0: int
     break_mark: Break
     line: Optional[int]
     line_level: Optional[int]
     visual: Optional[int]
+    why: tuple[str, ...]
+    break_why: str
+    reason: Reason
+    break_reason: BreakReason
 
 
 class ExplainedParagraph(NamedTuple):
