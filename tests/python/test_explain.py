@@ -240,6 +240,14 @@ def test_all_values_are_those_of_the_library():
         assert one[6:12] == (its.is_mark, its.is_wide, its.bidi_class, its.line_class, its.columns, its.bracket)
 
 
+@pytest.mark.parametrize("options", [Options(0), Options.RTL, Options.WHOLE_NUMBERS, Options.LINE_SEPARATORS | Options.WEAK_RTL, Options.NOBREAK | Options.tab_width(8)])
+def test_reasons_have_the_levels_and_marks_of_the_layout(options):
+    for version in ("15.0", "17.0"):
+        explained = hordguli.explain(f"{TEXT}\n1/% \u05d0\x85\u05d0 (a)\u2029-1 .5", 5, options, tables=hordguli.default_tables(version))
+        assert [one.reason.level for one in explained.characters] == [one.level for one in explained.characters]
+        assert [one.break_reason.mark for one in explained.characters] == [one.break_mark for one in explained.characters]
+
+
 def test_all_are_records():
     explained = hordguli.explain(TEXT)
     assert isinstance(explained, hordguli.Explanation) and {type(one) for one in explained.lines} == {hordguli.Line}
