@@ -74,11 +74,11 @@ def explain(
     level_reasons, mark_reasons = _reasons(text, paragraphs, options, tables)
     whys = _whys(text, explained, level_reasons)
     characters = tuple(
-        ExplainedCharacter(
+        ExplainedCharacter._make((
             position, character, *known[character], levels[position], marks[position], *places[position],
             (*whys[position], *_whys_of_line(character, levels[position], places[position], lines)),
             break_sentence(text, mark_reasons, position), level_reasons[position], mark_reasons[position],
-        )
+        ))
         for position, character in enumerate(text)
     )  # fmt: skip
     return Explanation(tables.unicode_version, width, characters, lines, explained)

@@ -31,7 +31,8 @@ class Before(NamedTuple):
 
 def all_before(reasons: Sequence[Reason]) -> list[Before]:
     """Returns what is before each character."""
-    found, ends = [], {}
+    found: list[Before] = []
+    ends: dict[int, Before] = {}
     for at, reason in enumerate(reasons):
         if reason.sequence is None:
             found.append(Before())
@@ -228,7 +229,7 @@ def break_sentence(text: str, reasons: Sequence[BreakReason], at: int) -> str:
     both = f"two {before}s" if before == after else f"{_with_article(before)} and {_with_article(after)}"
     says = _RULES.get(reason.rule, "no break between {both}")
     behind = before
-    if reason.behind_spaces not in (None, reason.base):
+    if reason.behind_spaces is not None and reason.behind_spaces != reason.base:
         behind = f"{_noun(reasons[reason.behind_spaces].class_before, text[reason.behind_spaces])} with spaces"
     found = says if isinstance(says, str) else says[reason.mark > 0]
     return f"{reason.rule}: " + found.format(before=_with_article(before), after=_with_article(after), both=both, behind=_with_article(behind))

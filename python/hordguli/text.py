@@ -209,7 +209,7 @@ def reasons(
     layout = FORMATS[RawReason]
     found = _per_character(library.hordguli_reasons, tables or default_tables(), chosen, utf32(text), layout.size)
     return [
-        Reason(
+        Reason._make((
             *[None if one == _NO_POSITION else one for one in positions],
             tuple([_BIDI_CLASSES[one] for one in classes]),
             _BIDI_CLASSES[override],
@@ -219,7 +219,7 @@ def reasons(
             _BIDI_CLASSES[eos],
             BRACKET_CASES[case],
             NEUTRAL_RULES[neutral],
-        )
+        ))
         for *positions, classes, override, embedding, level, sos, eos, case, neutral in layout.iter_unpack(found)
     ]
 

@@ -82,13 +82,25 @@ def test_positions_of_reasons_count_in_the_text():
 OVERRIDE, ISOLATE = "\u202eab\u202c", "\u2067a\u2069"
 SENTENCES = {
     "P2": ("!a", 1, ["P2: decides the base level of paragraph 0"]),
-    "BD9 and X5a": (f"\u202a{ISOLATE}", 1, ["BD9: ends at the PDI at 3", "X5a: in the embedding from 0, so level 2", "N1: left-to-right on both sides (the start and the end), so left-to-right"]),
-    "BD9 without a PDI": ("a\u2066", 1, ["BD9: ends with the paragraph", "N1: left-to-right on both sides (position 0 and the end), so left-to-right"]),
-    "BD9 of a PDI": (f"a{ISOLATE}", 3, ["BD9: ends the isolate from 1", "N1: left-to-right on both sides (position 0 and the end), so left-to-right"]),
-    "BD9 without an initiator": ("a\u2069", 1, ["BD9: matches no isolate initiator", "N1: left-to-right on both sides (position 0 and the end), so left-to-right"]),
+    "BD9 and X5a": (f"\u202a{ISOLATE}", 1, [
+        "BD9: ends at the PDI at 3", "X5a: in the embedding from 0, so level 2", "N1: left-to-right on both sides (the start and the end), so left-to-right",
+    ]),
+    "BD9 without a PDI": ("a\u2066", 1, [
+        "BD9: ends with the paragraph", "N1: left-to-right on both sides (position 0 and the end), so left-to-right",
+    ]),
+    "BD9 of a PDI": (f"a{ISOLATE}", 3, [
+        "BD9: ends the isolate from 1", "N1: left-to-right on both sides (position 0 and the end), so left-to-right",
+    ]),
+    "BD9 without an initiator": ("a\u2069", 1, [
+        "BD9: matches no isolate initiator", "N1: left-to-right on both sides (position 0 and the end), so left-to-right",
+    ]),
     "X5b in an override": ("\u202e\u2066a", 1, ["BD9: ends with the paragraph", "X5b: in the override from 0, so level 1 and type R"]),
-    "X5c": ("\u2068\u05d0\u2069", 0, ["BD9: ends at the PDI at 2", "X5c: acts as RLI, by the first strong character inside", "N1: left-to-right on both sides (the start and the end), so left-to-right"]),
-    "X5c to the left": ("\u2068!\u2069", 0, ["BD9: ends at the PDI at 2", "X5c: acts as LRI", "N1: left-to-right on both sides (the start and the end), so left-to-right"]),
+    "X5c": ("\u2068\u05d0\u2069", 0, [
+        "BD9: ends at the PDI at 2", "X5c: acts as RLI, by the first strong character inside", "N1: left-to-right on both sides (the start and the end), so left-to-right",
+    ]),
+    "X5c to the left": ("\u2068!\u2069", 0, [
+        "BD9: ends at the PDI at 2", "X5c: acts as LRI", "N1: left-to-right on both sides (the start and the end), so left-to-right",
+    ]),
     "X5c in an override": ("\u202e\u2068a", 1, ["BD9: ends with the paragraph", "X5c: in the override from 0, so level 1 and type R"]),
     "X6": ("a\u202bb\u202c", 2, ["X6: in the embedding from 1, so level 1", "I2: left-to-right, so level 2"]),
     "X6 of an isolate": (f"a{ISOLATE}", 2, ["X6: in the isolate from 1, so level 1", "I2: left-to-right, so level 2"]),
@@ -100,41 +112,79 @@ SENTENCES = {
     "X9 at the start": ("\u202aa", 0, ["X9: removed, so it has the level of the paragraph"]),
     "W1": ("a\u05d0\u05b0", 2, ["W1: a mark after position 1, so R", "I1: right-to-left, so level 1"]),
     "W1 at the start": ("\u0300a", 0, ["W1: a mark at the start, so L"]),
-    "W1 after an isolate initiator": ("a\u2066\u2069\u0300", 3, ["W1: a mark after a PDI, so ON", "N1: left-to-right on both sides (position 0 and the end), so left-to-right"]),
+    "W1 after a PDI": ("a\u2066\u2069\u0300", 3, [
+        "W1: a mark after a PDI, so ON", "N1: left-to-right on both sides (position 0 and the end), so left-to-right",
+    ]),
     "W2": ("\u0627\u03001", 2, ["W2: a number after an Arabic letter (position 0), so AN", "I2: a number, so level 2"]),
     "W3": ("a\u0627", 1, ["W3: AL counts as R", "I1: right-to-left, so level 1"]),
     "W4": ("\u05d01,2", 2, ["W4: a separator between two numbers, so EN", "I2: a number, so level 2"]),
     "W4 of Arabic numbers": ("a\u0661,\u0661", 2, ["W4: a separator between two numbers, so AN", "I1: a number, so level 2"]),
     "W5": ("\u05d0$$1", 1, ["W5: a terminator next to a number, so EN", "I2: a number, so level 2"]),
     "W5 after a number": ("\u05d01%", 2, ["W5: a terminator next to a number, so EN", "I2: a number, so level 2"]),
-    "W6": ("\u05d0,\u05d0", 1, ["W6: a separator or terminator that joins no number, so ON", "N1: right-to-left on both sides (positions 0 and 2), so right-to-left"]),
+    "W6": ("\u05d0,\u05d0", 1, [
+        "W6: a separator or terminator that joins no number, so ON", "N1: right-to-left on both sides (positions 0 and 2), so right-to-left",
+    ]),
     "W7": ("a\u0300 1", 3, ["W7: a number after left-to-right text (position 0), so L"]),
     "W7 at the start": ("1", 0, ["W7: a number after left-to-right text (the start), so L"]),
     "neither W2 nor W7": ("\u05d01", 1, ["I2: a number, so level 2"]),
-    "N0 b": ("\u05d0(a)", 1, ["N0: pairs with position 3; only Latin inside (position 2), but right-to-left before (position 0), as the paragraph, so right-to-left", "L4: drawn as )"]),
-    "N0 b of the paragraph": ("a(\u05d0b)", 1, ["N0: pairs with position 4; Latin inside (position 3), as the paragraph, so left-to-right"]),
-    "N0 b of an embedding": ("a\u202b(\u05d0)\u202c", 2, ["X6: in the embedding from 1, so level 1", "N0: pairs with position 4; Hebrew inside (position 3), as the embedding from 1, so right-to-left", "L4: drawn as )"]),
-    "N0 b of a number": ("\u05d0(1)", 3, ["N0: pairs with position 1; a number inside (position 2, right-to-left for N0), as the paragraph, so right-to-left", "L4: drawn as ("]),
-    "N0 c1": ("a\u05d0(\u05d1)", 2, ["N0: pairs with position 4; only Hebrew inside (position 3), and right-to-left before (position 1), so right-to-left", "I1: right-to-left, so level 1", "L4: drawn as )"]),
-    "N0 c1 of its closing bracket": ("a\u05d0(\u05d1)", 4, ["N0: pairs with position 2; only Hebrew inside (position 3), and right-to-left before (position 1), so right-to-left", "I1: right-to-left, so level 1", "L4: drawn as ("]),
-    "N0 c1 after a number": ("a\u05d01(\u05d1)", 3, ["N0: pairs with position 5; only Hebrew inside (position 4), and right-to-left before (the number at 2), so right-to-left", "I1: right-to-left, so level 1", "L4: drawn as )"]),
-    "N0 c2": ("a(\u05d1)", 1, ["N0: pairs with position 3; only Hebrew inside (position 2), but left-to-right before (position 0), as the paragraph, so left-to-right"]),
-    "N0 c2 at the start": ("(\u0661)a", 2, ["N0: pairs with position 0; only a number inside (position 1, right-to-left for N0), but left-to-right before (the start), as the paragraph, so left-to-right"]),
-    "N0 d": ("a(!)b", 1, ["Pairs with position 3; no strong character inside, so N0 changes nothing", "N1: left-to-right on both sides (positions 0 and 4), so left-to-right"]),
-    "N0 d between directions": ("a(!)\u05d0", 3, ["Pairs with position 1; no strong character inside, so N0 changes nothing", "N2: different directions on its sides (positions 0 and 4), so left-to-right, as the paragraph"]),
+    "N0 c2 in a right-to-left paragraph": ("\u05d0(a)", 1, [
+        "N0: pairs with position 3; only Latin inside (position 2), but right-to-left before (position 0), as the paragraph, so right-to-left", "L4: drawn as )",
+    ]),
+    "N0 b": ("a(\u05d0b)", 1, ["N0: pairs with position 4; Latin inside (position 3), as the paragraph, so left-to-right"]),
+    "N0 b of an embedding": ("a\u202b(\u05d0)\u202c", 2, [
+        "X6: in the embedding from 1, so level 1", "N0: pairs with position 4; Hebrew inside (position 3), as the embedding from 1, so right-to-left", "L4: drawn as )",
+    ]),
+    "N0 b of a number": ("\u05d0(1)", 3, [
+        "N0: pairs with position 1; a number inside (position 2, right-to-left for N0), as the paragraph, so right-to-left", "L4: drawn as (",
+    ]),
+    "N0 c1": ("a\u05d0(\u05d1)", 2, [
+        "N0: pairs with position 4; only Hebrew inside (position 3), and right-to-left before (position 1), so right-to-left", "I1: right-to-left, so level 1", "L4: drawn as )",
+    ]),
+    "N0 c1 of its closing bracket": ("a\u05d0(\u05d1)", 4, [
+        "N0: pairs with position 2; only Hebrew inside (position 3), and right-to-left before (position 1), so right-to-left", "I1: right-to-left, so level 1", "L4: drawn as (",
+    ]),
+    "N0 c1 after a number": ("a\u05d01(\u05d1)", 3, [
+        "N0: pairs with position 5; only Hebrew inside (position 4), and right-to-left before (the number at 2), so right-to-left", "I1: right-to-left, so level 1", "L4: drawn as )",
+    ]),
+    "N0 c2": ("a(\u05d1)", 1, [
+        "N0: pairs with position 3; only Hebrew inside (position 2), but left-to-right before (position 0), as the paragraph, so left-to-right",
+    ]),
+    "N0 c2 at the start": ("(\u0661)a", 2, [
+        "N0: pairs with position 0; only a number inside (position 1, right-to-left for N0), but left-to-right before (the start), as the paragraph, so left-to-right",
+    ]),
+    "N0 d": ("a(!)b", 1, [
+        "Pairs with position 3; no strong character inside, so N0 changes nothing", "N1: left-to-right on both sides (positions 0 and 4), so left-to-right",
+    ]),
+    "N0 d between directions": ("a(!)\u05d0", 3, [
+        "Pairs with position 1; no strong character inside, so N0 changes nothing", "N2: different directions on its sides (positions 0 and 4), so left-to-right, as the paragraph",
+    ]),
     "N0 of a mark": ("a(b)\u0300", 4, ["W1: a mark after position 3, so ON", "N0: a mark after the bracket at 3, so L"]),
-    "unpaired, not ON": ("\u202e()\u202c", 1, ["X6: in the override from 0, so level 1 and type R", "Unpaired: its type is R, not ON", "L4: drawn as )"]),
-    "unpaired, no match": ("a(", 1, ["Unpaired: no bracket of its sequence matches", "N1: left-to-right on both sides (position 0 and the end), so left-to-right"]),
-    "unpaired, in another sequence": ("a(\u2066)\u2069", 1, ["Unpaired: no bracket of its sequence matches", "N1: left-to-right on both sides (position 0 and the end), so left-to-right"]),
-    "unpaired, past the limit": ("a" + "(" * 64 + ")", 65, ["Unpaired: pairing stopped at 63 open brackets (BD16)", "N1: left-to-right on both sides (position 0 and the end), so left-to-right"]),
+    "unpaired, not ON": ("\u202e()\u202c", 1, [
+        "X6: in the override from 0, so level 1 and type R", "Unpaired: its type is R, not ON", "L4: drawn as )",
+    ]),
+    "unpaired, no match": ("a(", 1, [
+        "Unpaired: no bracket of its sequence matches", "N1: left-to-right on both sides (position 0 and the end), so left-to-right",
+    ]),
+    "unpaired, in another sequence": ("a(\u2066)\u2069", 1, [
+        "Unpaired: no bracket of its sequence matches", "N1: left-to-right on both sides (position 0 and the end), so left-to-right",
+    ]),
+    "unpaired, past the limit": ("a" + "(" * 64 + ")", 65, [
+        "Unpaired: pairing stopped at 63 open brackets (BD16)", "N1: left-to-right on both sides (position 0 and the end), so left-to-right",
+    ]),
     "N1": ("a \u05d0 \u05d1", 3, ["N1: right-to-left on both sides (positions 2 and 4), so right-to-left", "I1: right-to-left, so level 1"]),
-    "N1 of a number": ("a \u05d0 1", 3, ["N1: right-to-left on both sides (position 2 and the number at 4), so right-to-left", "I1: right-to-left, so level 1"]),
+    "N1 of a number": ("a \u05d0 1", 3, [
+        "N1: right-to-left on both sides (position 2 and the number at 4), so right-to-left", "I1: right-to-left, so level 1",
+    ]),
     "N2": ("a \u05d0", 1, ["N2: different directions on its sides (positions 0 and 2), so left-to-right, as the paragraph"]),
-    "N2 in an isolate": ("a\u2067\u05d0 b\u2069", 3, ["X6: in the isolate from 1, so level 1", "N2: different directions on its sides (positions 2 and 4), so right-to-left, as the isolate from 1"]),
+    "N2 in an isolate": ("a\u2067\u05d0 b\u2069", 3, [
+        "X6: in the isolate from 1, so level 1", "N2: different directions on its sides (positions 2 and 4), so right-to-left, as the isolate from 1",
+    ]),
     "I1": ("a\u05d0", 1, ["I1: right-to-left, so level 1"]),
     "I1 of a number": ("a\u05d0 1", 3, ["I1: a number, so level 2"]),
     "I2": ("\u05d0a", 1, ["I2: left-to-right, so level 2"]),
-    "L1": (f"a {HEBREW}\t{HEBREW}", 5, ["N1: right-to-left on both sides (positions 4 and 6), so right-to-left", "I1: right-to-left, so level 1", "L1: level 1 becomes 0"]),
+    "L1": (f"a {HEBREW}\t{HEBREW}", 5, [
+        "N1: right-to-left on both sides (positions 4 and 6), so right-to-left", "I1: right-to-left, so level 1", "L1: level 1 becomes 0",
+    ]),
     "nothing": ("ab", 1, []),
 }  # fmt: skip
 

@@ -19,7 +19,10 @@ EVERY = 40  # of the cases of a test file of Unicode
 TEXTS = 1500
 # Characters of all bidi classes, brackets, and brackets that are canonically equivalent.
 CHARACTERS = [*reference.SAMPLES.values(), *"()[]\u2329\u232a\u3008\u3009"]
-THEMES = [CHARACTERS, "a\u05d0 ()[]", "a1\u05d0([)]\u0300\u2067\u2069", "1\u0661,+$\u0627a\u05d0 ", "\u202a\u202b\u202d\u202e\u202c\u2067\u2069a\u05d01(", "a\u05d0\u2068\u2066\u2067\u2069 \u0300\u2029"]
+THEMES = [
+    CHARACTERS, "a\u05d0 ()[]", "a1\u05d0([)]\u0300\u2067\u2069", "1\u0661,+$\u0627a\u05d0 ", "\u202a\u202b\u202d\u202e\u202c\u2067\u2069a\u05d01(",
+    "a\u05d0\u2068\u2066\u2067\u2069 \u0300\u2029",
+]  # fmt: skip
 
 
 def plain(record):
