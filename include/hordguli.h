@@ -1124,7 +1124,7 @@ hordguli_status hordguli_marks(hordguli_tables *tables, uint32_t options, const 
 #define HORDGULI_BRACKET_CASE_D 4           /* no strong type inside, so N0 does not change the pair */
 #define HORDGULI_BRACKET_CASE_NOT_OTHER 5   /* unpaired: before N0, its type is not ON */
 #define HORDGULI_BRACKET_CASE_NO_MATCH 6    /* unpaired: no bracket of its sequence matches */
-#define HORDGULI_BRACKET_CASE_PAST_LIMIT 7  /* unpaired: pairing stopped at 63 open brackets (BD16) */
+#define HORDGULI_BRACKET_CASE_PAST_LIMIT 7  /* unpaired: pairing stopped at 63 open ones (BD16) */
 
 /* The rule that decides the type of a neutral (UAX #9). */
 #define HORDGULI_NEUTRAL_N1 1

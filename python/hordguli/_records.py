@@ -108,7 +108,7 @@ class BracketCase(enum.IntEnum):
     `B`: the pair contains a strong type of the embedding direction. `C1`: it contains strong types of the opposite direction only,
     and the strong type before the pair has that direction. `C2`: likewise, but the one before the pair has the embedding direction.
     `D`: it contains no strong type. `NOT_OTHER`: before N0, the type is not ON. `NO_MATCH`: no bracket of the sequence matches.
-    `PAST_LIMIT`: pairing stopped after 63 open brackets (BD16).
+    `PAST_LIMIT`: pairing stopped at an opening bracket with 63 open ones before it (BD16), and this bracket was open or comes later.
     """
 
     # from hordguli.h: HORDGULI_BRACKET_CASE_*

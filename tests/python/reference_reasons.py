@@ -268,13 +268,14 @@ def canonical(code):
 
 
 def bracket_pairs(codes, types, brackets):
-    """BD16: returns the pairs of a sequence in the order of their openers, and whether there was no more space for an opener."""
+    """BD16: returns the pairs of a sequence in the order of their openers, and the places of brackets that may have no partner because
+    there was no more space for an opener: those on the stack, and all from that opener on."""
     pairs, stack = [], []
     for at, code in enumerate(codes):
         other, kind = brackets.get(code, (None, None)) if types[at] == "ON" else (None, None)
         if kind == "o":
             if len(stack) == MOST_OPENERS:
-                return sorted(pairs), True
+                return sorted(pairs), {*(place for _, place in stack), *range(at, len(codes))}
             stack.append((canonical(other), at))
         elif kind == "c":
             for place in range(len(stack) - 1, -1, -1):
@@ -282,7 +283,7 @@ def bracket_pairs(codes, types, brackets):
                     pairs.append((stack[place][1], at))
                     del stack[place:]
                     break
-    return sorted(pairs), False
+    return sorted(pairs), set()
 
 
 class Bracket(NamedTuple):
@@ -313,9 +314,9 @@ def case_of(opener, closer, types, embedding, sos):
 
 def n0(codes, explicit_types, types, brackets, embedding, sos):
     """Returns the types after N0, and what it does with each character."""
-    pairs, is_full = bracket_pairs(codes, types, brackets)
-    unpaired = "PAST_LIMIT" if is_full else "NO_MATCH"
-    found = [Bracket(unpaired if one == "ON" else "NOT_OTHER") if code in brackets else Bracket() for code, one in zip(codes, types)]
+    pairs, past = bracket_pairs(codes, types, brackets)
+    unpaired = ["NOT_OTHER" if one != "ON" else "PAST_LIMIT" if at in past else "NO_MATCH" for at, one in enumerate(types)]
+    found = [Bracket(case if code in brackets else None) for code, case in zip(codes, unpaired)]
     types = list(types)
     for opener, closer in pairs:
         case, new, inside = case_of(opener, closer, types, embedding, sos)
@@ -368,13 +369,14 @@ def implicit(level, one):
 # ---- The reasons ----
 
 
-def reasons(tables, text, base=None):
-    """Returns the reason of each character of a paragraph. `base` is 0 or 1, or None: then P2 and P3 decide, and it is 0 without a
-    strong character."""
+def reasons(tables, text, base=None, otherwise=0, line_separators=False):
+    """Returns the reason of each character of a paragraph. `base` is 0 or 1, or None: then P2 and P3 decide, and without a strong
+    character it is `otherwise`. With `line_separators`, only LF and CR have class B."""
     codes = list(map(ord, text))
-    originals = [tables.classes[code] for code in codes]
+    originals = ["S" if line_separators and tables.classes[code] == "B" and code not in (10, 13) else tables.classes[code] for code in codes]
     if base is None:
-        base = first_strong_level(originals) or 0
+        level = first_strong_level(originals)
+        base = otherwise if level is None else level
     classes = directed(originals)
     statuses, matching = explicit(classes, base), matches(classes)
     levels = [base if one == "B" else status.level for one, status in zip(classes, statuses)]

@@ -8,6 +8,7 @@ import sys
 import hordguli
 import pytest
 import reference_reasons as reference
+from conftest import DIRECTIONS
 from hordguli import BracketCase, Break, NeutralRule, Options
 
 sys.path.append(f"{reference.TOP}/tests/breaks")
@@ -35,14 +36,11 @@ def references():
     return {version: reference.Tables(reference.FOLDERS[version]) for version in VERSIONS}
 
 
-def differ(tables, text, direction=Options.WEAK_LTR, line_separators=False):
+def differ(tables, text, direction=Options.WEAK_LTR):
     """Returns the position and both records where the package and the reference differ, or None."""
-    version = tables.version
-    base = {Options.LTR: 0, Options.RTL: 1}.get(direction)
-    if direction == Options.WEAK_RTL:
-        base = hordguli.base_level(text, direction, tables=hordguli.default_tables(version))
-    wanted = [tuple(one) for one in reference.reasons(tables, text, base)]
-    found = [plain(one) for one in hordguli.reasons(text, direction, tables=hordguli.default_tables(version))]
+    base = 0 if Options.LTR in direction else 1 if Options.RTL in direction else None
+    wanted = reference.reasons(tables, text, base, int(Options.WEAK_RTL in direction), Options.LINE_SEPARATORS in direction)
+    found = [plain(one) for one in hordguli.reasons(text, direction, tables=hordguli.default_tables(tables.version))]
     return next(((text, at, one, other) for at, (one, other) in enumerate(itertools.zip_longest(wanted, found)) if one != other), None)
 
 
@@ -105,6 +103,7 @@ CASES = {
     "63": ("(" * 63 + "a" + ")" * 63, Options.LTR, " ".join(["B"] * 126)),
     "64": ("(" * 64 + "a" + ")" * 64, Options.LTR, " ".join(["PAST_LIMIT"] * 128)),
     "past a pair": ("(a)" + "(" * 64, Options.LTR, " ".join(["B"] * 2 + ["PAST_LIMIT"] * 64)),
+    "before the limit": (")([)" + "(" * 64 + ")", Options.LTR, " ".join(["NO_MATCH", "D", "NO_MATCH", "D"] + ["PAST_LIMIT"] * 65)),
     "another sequence is not past the limit": ("(" * 64 + "\u2067(a)\u2069", Options.LTR, " ".join(["PAST_LIMIT"] * 64 + ["C2"] * 2)),
 }
 
@@ -134,8 +133,7 @@ def test_reasons_of_levels_are_those_of_the_reference(references, version):
     for _ in range(TEXTS):
         theme = chance.choice(THEMES)
         text = "".join(chance.choice(theme) for _ in range(chance.randint(0, chance.choice((6, 12, 40)))))
-        direction = chance.choice((Options.WEAK_LTR, Options.WEAK_RTL, Options.LTR, Options.RTL))
-        assert differ(tables, text, direction) is None
+        assert differ(tables, text, chance.choice(DIRECTIONS) | chance.choice((Options(0), Options.LINE_SEPARATORS))) is None
     deep = "".join(chance.choice("([{)]}") for _ in range(400)) + "a"
     for text in (deep, "a" + "(" * 64 + "b)", "".join(chance.choice("\u202a\u202b\u202d\u2067") for _ in range(130)) + "a(\u05d01)\u202c\u2069b"):
         assert differ(tables, text) is None
