@@ -146,6 +146,10 @@ SENTENCES = {
     "N0 c1 after a number": ("a\u05d01(\u05d1)", 3, [
         "N0: pairs with position 5; only Hebrew inside (position 4), and right-to-left before (the number at 2), so right-to-left", "I1: right-to-left, so level 1", "L4: drawn as )",
     ]),
+    "N0 c1 after a mark": ("a\u05d0\u05b0(\u05d1)", 3, [
+        "N0: pairs with position 5; only Hebrew inside (position 4), and right-to-left before (position 1), so right-to-left", "I1: right-to-left, so level 1",
+        "L4: drawn as )",
+    ]),
     "N0 c2": ("a(\u05d1)", 1, [
         "N0: pairs with position 3; only Hebrew inside (position 2), but left-to-right before (position 0), as the paragraph, so left-to-right",
     ]),
