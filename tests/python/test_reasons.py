@@ -196,7 +196,7 @@ def test_each_rule_is_named(version):
 @pytest.mark.parametrize("version", VERSIONS)
 def test_reasons_of_breaks_are_those_of_the_reference(references, version):
     tables = references[version]
-    for codes in texts.random_code_points(tables.breaks, TEXTS, 4):
+    for codes in texts.random_code_points(tables.breaks, TEXTS // 3, 4):
         for options in (Options(0), Options.WHOLE_NUMBERS):
             assert breaks_differ(tables, "".join(map(chr, codes)), options) is None
     cases = itertools.islice(reference.lines(f"{reference.TOP}/ucd-tests/{version}/LineBreakTest.txt"), 0, None, EVERY // 4)
