@@ -210,7 +210,7 @@ _RULES = {
     "LB25": "no break inside a number",
     "LB26": "no break inside a Korean syllable",
     "LB28a": "no break inside an orthographic syllable",
-    "LB30a": ("no break inside a flag", "a break between two flags"),
+    "LB30a": "no break inside a flag",
     "LB31": "a break, since no other rule applies",
 }
 # Rules for either side, with the classes after the mark for which they say "before".
@@ -228,6 +228,8 @@ def break_sentence(text: str, reasons: Sequence[BreakReason], at: int) -> str:
         return f"{reason.rule}: {_ACTIONS[reason.mark > 0]} {f'before {_with_article(after)}' if is_before else f'after {_with_article(before)}'}"
     both = f"two {before}s" if before == after else f"{_with_article(before)} and {_with_article(after)}"
     says = _RULES.get(reason.rule, "no break between {both}")
+    if reason.rule == "LB31" and reason.class_before == reason.class_after == "RI":
+        return "LB31: a break between two flags, which LB30a does not join"
     behind = before
     if reason.behind_spaces is not None and reason.behind_spaces != reason.base:
         behind = f"{_noun(reasons[reason.behind_spaces].class_before, text[reason.behind_spaces])} with spaces"

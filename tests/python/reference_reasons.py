@@ -421,7 +421,9 @@ def reasons_in(tables, codes, types, level, sos, eos):
 
 
 def name_of(number):
-    """Returns the name of a rule by its number in LineBreakTest.html, such as LB30a for 30.13."""
+    """Returns the name of a rule by its number in LineBreakTest.html, such as LB30a for 30.11."""
+    if number == "30.13":  # RI ÷ RI, which the annex leaves to LB31
+        return "LB31"
     whole, _, rest = number.partition(".")
     if rest[0] == "0" or whole == "25":
         return f"LB{whole}"

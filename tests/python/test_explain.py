@@ -245,7 +245,7 @@ BREAKS = {
     "LB30": ("a(", 0, "LB30: no break between a letter and an opening parenthesis"),
     "LB30 of a bracket": ("]1", 0, "LB30: no break between a closing bracket and a digit"),
     "LB30a": ("\U0001f1e6\U0001f1e7\U0001f1e6", 0, "LB30a: no break inside a flag"),
-    "LB30a between flags": ("\U0001f1e6\U0001f1e7\U0001f1e6", 1, "LB30a: a break between two flags"),
+    "LB31 between flags": ("\U0001f1e6\U0001f1e7\U0001f1e6", 1, "LB31: a break between two flags, which LB30a does not join"),
     "LB30b": ("\u261d\U0001f3fb", 0, "LB30b: no break between an emoji and a skin tone"),
     "LB31": ("\u4e00\u4e00", 0, "LB31: a break, since no other rule applies"),
 }  # fmt: skip
