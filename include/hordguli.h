@@ -1153,7 +1153,8 @@ typedef struct hordguli_reason {
 
 /* Stores in `reasons` how the algorithm arrives at the level of each character. The levels are those of
  * `hordguli_levels`. NULL returns NO_ROOM, unless `count` is 0 (see BUFFERS).
- * Errors: NULL, OVERLAP, UNKNOWN_OPTION, CLOSED, NO_ROOM, NOT_A_CHARACTER, NO_MEMORY.
+ * Errors: NULL, OVERLAP, UNKNOWN_OPTION, CLOSED, NO_ROOM, OUT_OF_RANGE (`count` is UINT32_MAX or more),
+ * NOT_A_CHARACTER, NO_MEMORY.
  * Cost: time and memory proportional to `count`.
  * Since: 0.6. */
 hordguli_status hordguli_reasons(hordguli_tables *tables, uint32_t direction, const uint32_t *characters, size_t count,
@@ -1174,7 +1175,8 @@ typedef struct hordguli_break_reason {
 /* Stores in `reasons` which rule decides the break mark after each character. The rules are those of the tables'
  * version. `options` is 0 or HORDGULI_WHOLE_NUMBERS. NULL returns NO_ROOM, unless `count` is 0 (see BUFFERS). The marks
  * are those of `hordguli_marks`.
- * Errors: NULL, OVERLAP, UNKNOWN_OPTION, CLOSED, NO_ROOM, NOT_A_CHARACTER, NO_MEMORY.
+ * Errors: NULL, OVERLAP, UNKNOWN_OPTION, CLOSED, NO_ROOM, OUT_OF_RANGE (`count` is UINT32_MAX or more),
+ * NOT_A_CHARACTER, NO_MEMORY.
  * Cost: time and memory proportional to `count`.
  * Since: 0.6. */
 hordguli_status hordguli_break_reasons(hordguli_tables *tables, uint32_t options, const uint32_t *characters,

@@ -1432,7 +1432,8 @@ extern "C" {
     /// Stores in `reasons` how the algorithm arrives at the level of each character. The levels are those of
     /// `hordguli_levels`. NULL returns NO_ROOM, unless `count` is 0 (see BUFFERS).
     ///
-    /// Errors: NULL, OVERLAP, UNKNOWN_OPTION, CLOSED, NO_ROOM, NOT_A_CHARACTER, NO_MEMORY.
+    /// Errors: NULL, OVERLAP, UNKNOWN_OPTION, CLOSED, NO_ROOM, OUT_OF_RANGE (`count` is UINT32_MAX or more),
+    /// NOT_A_CHARACTER, NO_MEMORY.
     ///
     /// Cost: time and memory proportional to `count`.
     ///
@@ -1449,7 +1450,8 @@ extern "C" {
     /// version. `options` is 0 or HORDGULI_WHOLE_NUMBERS. NULL returns NO_ROOM, unless `count` is 0 (see BUFFERS). The marks
     /// are those of `hordguli_marks`.
     ///
-    /// Errors: NULL, OVERLAP, UNKNOWN_OPTION, CLOSED, NO_ROOM, NOT_A_CHARACTER, NO_MEMORY.
+    /// Errors: NULL, OVERLAP, UNKNOWN_OPTION, CLOSED, NO_ROOM, OUT_OF_RANGE (`count` is UINT32_MAX or more),
+    /// NOT_A_CHARACTER, NO_MEMORY.
     ///
     /// Cost: time and memory proportional to `count`.
     ///
