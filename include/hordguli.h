@@ -16,6 +16,7 @@
  *   - rows that the caller breaks, as in a terminal: `hordguli_decode`, `hordguli_base`, `hordguli_levels`,
  *     `hordguli_row`
  *   - levels, break marks or character properties: `hordguli_levels`, `hordguli_marks`, `hordguli_properties`
+ *   - why a character has its level or break mark: `hordguli_reasons`, `hordguli_break_reasons`
  *
  * UNITS
  *
@@ -92,7 +93,8 @@
  *     arrays that are NULL. If another array is too small, they return NO_ROOM. If all arrays are NULL, the call
  *     succeeds with any capacity. In both cases, `hordguli_line` and `hordguli_paragraph` store the size in `*info`,
  *     and `hordguli_decode` in `*count`.
- *   - `hordguli_levels` and `hordguli_marks` need an array of `count` elements. NULL is an error.
+ *   - `hordguli_levels`, `hordguli_marks`, `hordguli_reasons` and `hordguli_break_reasons` need an array of `count`
+ *     elements. NULL is an error.
  *
  * Call a function of the first kind in a loop, until the buffer is large enough. Start with a NULL buffer, and keep the
  * buffer and its capacity for the next call.
@@ -251,7 +253,7 @@ const char *hordguli_width_unicode_version(void);
 /* Ends paragraphs at LF, CR and CRLF only, as LSP, Git and most editors end lines: U+001C to U+001E, U+0085 and U+2029
  * have bidi class S (segment separator) where the tables give them B. U+0085 and U+2029 still end lines, not
  * paragraphs, as do VT, FF and U+2028. Each function with `options` or `direction` accepts this option. It does not
- * change the results of `hordguli_row` and `hordguli_marks`. Since 0.6. */
+ * change the results of `hordguli_row`, `hordguli_marks` and `hordguli_break_reasons`. Since 0.6. */
 #define HORDGULI_LINE_SEPARATORS UINT32_C(0x4000000)
 
 /* ---- Print flags ----
@@ -1087,9 +1089,9 @@ hordguli_status hordguli_row_runs(hordguli_tables *tables, uint32_t base, size_t
 
 /* ---- Levels and properties ----
  *
- * `hordguli_base`, `hordguli_levels` and `hordguli_marks` take one paragraph of `count` characters, and do not split it
- * at separators. `direction` is a base direction or 0, and can have HORDGULI_LINE_SEPARATORS. NO_ROOM means that
- * `capacity` is less than `count`.
+ * `hordguli_base`, `hordguli_levels`, `hordguli_marks`, `hordguli_reasons` and `hordguli_break_reasons` take one
+ * paragraph of `count` characters, and do not split it at separators. `direction` is a base direction or 0, and can
+ * have HORDGULI_LINE_SEPARATORS. NO_ROOM means that `capacity` is less than `count`.
  *
  * To lay out text with these functions, a caller must:
  *   - split the text into paragraphs (UAX #9, P1);
@@ -1114,6 +1116,71 @@ hordguli_status hordguli_levels(hordguli_tables *tables, uint32_t direction, con
  * Cost: time and memory proportional to `count`. */
 hordguli_status hordguli_marks(hordguli_tables *tables, uint32_t options, const uint32_t *characters, size_t count,
                                size_t capacity, uint8_t *marks);
+
+/* Which case of N0 (UAX #9) applies to a bracket, or why it is unpaired. Numbers count as strong types. */
+#define HORDGULI_BRACKET_CASE_B 1           /* a strong type of the embedding direction inside the pair */
+#define HORDGULI_BRACKET_CASE_C1 2          /* only the opposite direction inside, and also before the pair */
+#define HORDGULI_BRACKET_CASE_C2 3          /* only the opposite direction inside, but not before the pair */
+#define HORDGULI_BRACKET_CASE_D 4           /* no strong type inside, so N0 does not change the pair */
+#define HORDGULI_BRACKET_CASE_NOT_OTHER 5   /* unpaired: before N0, its type is not ON */
+#define HORDGULI_BRACKET_CASE_NO_MATCH 6    /* unpaired: no bracket of its sequence matches */
+#define HORDGULI_BRACKET_CASE_PAST_LIMIT 7  /* unpaired: pairing stopped at 63 open ones (BD16) */
+
+/* The rule that decides the type of a neutral (UAX #9). */
+#define HORDGULI_NEUTRAL_N1 1
+#define HORDGULI_NEUTRAL_N2 2
+
+/* How the algorithm arrives at the level of a character (UAX #9). A position that does not exist is UINT32_MAX, and a
+ * class that does not exist is 0xFF. A character that X9 removes has no `sequence`, `sos` and `eos`, no classes after
+ * the original one, and no case. */
+typedef struct hordguli_reason {
+    uint32_t opener;         /* the embedding, override or isolate initiator that sets its level */
+    uint32_t matching;       /* of an isolate initiator its PDI; of a PDI its initiator */
+    uint32_t sequence;       /* first character of its isolating run sequence */
+    uint32_t partner;        /* of a paired bracket the other one; of a mark that N0 changes, the bracket before it */
+    uint32_t inside;         /* in the cases B, C1 and C2: the first strong character inside that decides */
+    uint32_t left;           /* of a neutral the character before its run; if X9 removes it, that with its level */
+    uint32_t right;          /* of a neutral the character after its run */
+    uint8_t class_after[11]; /* HORDGULI_BIDI_CLASS_..: original, after X8, W1 to W7, N0 and N2 */
+    uint8_t override_class;  /* direction of the override that it is directly in, L or R */
+    uint8_t embedding_level; /* after X8 */
+    uint8_t level;           /* as `hordguli_levels` stores it */
+    uint8_t sos;             /* direction of the sequence's start, L or R */
+    uint8_t eos;             /* direction of its end */
+    uint8_t bracket_case;    /* HORDGULI_BRACKET_CASE_.., or 0 if it is no bracket */
+    uint8_t neutral;         /* HORDGULI_NEUTRAL_.., or 0 if its type after N0 is not neutral */
+} hordguli_reason;
+
+/* Stores in `reasons` how the algorithm arrives at the level of each character. The levels are those of
+ * `hordguli_levels`. NULL returns NO_ROOM, unless `count` is 0 (see BUFFERS).
+ * Errors: NULL, OVERLAP, UNKNOWN_OPTION, CLOSED, NO_ROOM, OUT_OF_RANGE (`count` is UINT32_MAX or more),
+ * NOT_A_CHARACTER, NO_MEMORY.
+ * Cost: time and memory proportional to `count`.
+ * Since: 0.6. */
+hordguli_status hordguli_reasons(hordguli_tables *tables, uint32_t direction, const uint32_t *characters, size_t count,
+                                 size_t capacity, hordguli_reason *reasons);
+
+/* The rule that decides a break mark (UAX #14), and what the rule reads. A base is a character and what LB9 attaches to
+ * it. A position that does not exist is UINT32_MAX. */
+typedef struct hordguli_break_reason {
+    uint32_t base;           /* where the base before the mark starts */
+    uint32_t behind_spaces;  /* where the nearest base that is not a space starts, which rules with `SP*` read */
+    uint8_t rule;            /* number of the first rule that applies, such as 8 of LB8a */
+    uint8_t letter;          /* its letter, such as 'a' of LB8a, or 0 */
+    uint8_t class_before;    /* HORDGULI_LINE_CLASS_.. of that base, after LB1 and LB10 */
+    uint8_t class_after;     /* that of the next base or, inside a base, character; 0xFF at the end */
+    uint8_t mark;            /* as `hordguli_marks` stores it */
+} hordguli_break_reason;
+
+/* Stores in `reasons` which rule decides the break mark after each character. The rules are those of the tables'
+ * version. `options` is 0 or HORDGULI_WHOLE_NUMBERS. NULL returns NO_ROOM, unless `count` is 0 (see BUFFERS). The marks
+ * are those of `hordguli_marks`.
+ * Errors: NULL, OVERLAP, UNKNOWN_OPTION, CLOSED, NO_ROOM, OUT_OF_RANGE (`count` is UINT32_MAX or more),
+ * NOT_A_CHARACTER, NO_MEMORY.
+ * Cost: time and memory proportional to `count`.
+ * Since: 0.6. */
+hordguli_status hordguli_break_reasons(hordguli_tables *tables, uint32_t options, const uint32_t *characters,
+                                       size_t count, size_t capacity, hordguli_break_reason *reasons);
 
 /* Bidi classes (UAX #9), by their short names. */
 #define HORDGULI_BIDI_CLASS_L 0

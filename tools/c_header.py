@@ -14,14 +14,20 @@ DEFINE = re.compile(r"#define (\w+(?:\(\w+\))?) ((?:(?!/\*).)+?)(?:  +/\* (.*) \
 
 
 class Variable(NamedTuple):
-    """A parameter or a member. An array has a type such as `const uint8_t []`."""
+    """A parameter or a member. A parameter that is an array has a type such as `const uint8_t []`, and a member such as `uint8_t [11]`."""
 
     type: str
     name: str
 
     @property
     def is_pointer(self):
-        return self.type.endswith(("*", "]"))
+        return self.type.endswith(("*", "[]"))
+
+    @property
+    def length(self):
+        """The type of the items and their number, if this is a member that is an array, or None."""
+        found = re.fullmatch(r"(\w+) \[(\d+)\]", self.type)
+        return found and (found[1], int(found[2]))
 
 
 class Function(NamedTuple):
@@ -95,4 +101,4 @@ class Header:
         return found and found[1]
 
     def members(self, name):
-        return list(map(variable, self.structs[name]))
+        return [variable(re.sub(r"(\w+) (\w+)\[(\d+)\]", r"\1 [\3] \2", one)) for one in self.structs[name]]

@@ -12,7 +12,7 @@ SCALARS = {"char": "c_char", "void": "c_void", "size_t": "usize", "int32_t": "i3
 # The types of constants, by the first pattern that matches. A constant has the type of the fields and parameters that have its value.
 TYPES = [
     (r"VERSION_\w+|UNICODE_\w+", "u32"),
-    (r"BREAK_\w+|BRACKET_(NONE|OPEN|CLOSE)|BIDI_CLASS_\w+|LINE_CLASS_\w+", "u8"),
+    (r"BREAK_\w+|BRACKET_(NONE|OPEN|CLOSE|CASE_\w+)|NEUTRAL_\w+|BIDI_CLASS_\w+|LINE_CLASS_\w+", "u8"),
     (r"TABLE_FILES|BIDI_CLASS|BIDI_BRACKETS|BIDI_MIRRORING|LINE_BREAK|GENERAL_CATEGORY|EAST_ASIAN_WIDTH|EMOJI_DATA|IMAGE|CAUSE_\w+", "usize"),
 ]
 MACROS = '''/// Sets a tab stop every `n` columns, from 1 to 255. Calls refuse a greater `n` as an unknown option.
@@ -43,7 +43,10 @@ def named(kind):
 
 
 def rust_type(kind):
-    """Returns the Rust type of a C type."""
+    """Returns the Rust type of a C type. A member can be an array of a fixed length."""
+    array = re.fullmatch(r"(\w+) \[(\d+)\]", kind)
+    if array:
+        return f"[{named(array[1])}; {array[2]}]"
     found = re.fullmatch(r"(const )?(\w+)( \*| \[\])?", kind) or fail(kind)
     return f"*{'const' if found[1] else 'mut'} {named(found[2])}" if found[3] else named(found[2])
 
@@ -90,7 +93,7 @@ def struct(header, name):
     is_handle = f"#define {name.upper()}_INIT " in header.text
     traits = ["Debug"] if is_handle else ["Clone", "Copy", "Debug"] + ["Default", "PartialEq", "Eq"] * (not any(one.is_pointer for one in members))
     body = re.search(rf"typedef struct {name} \{{(.*?)\}} {name};", header.text, re.S)[1]
-    comments = dict(re.findall(r"(\w+); +/\* (.*?) \*/", body))
+    comments = dict(re.findall(r"(\w+)(?:\[\d+\])?; +/\* (.*?) \*/", body))
     fields = "".join(f"    /// {comments.get(one.name)}\n" * (one.name in comments) + f"    pub {one.name}: {rust_type(one.type)},\n" for one in members)
     return f"{documentation(header, name)}#[derive({', '.join(traits)})]\n#[repr(C)]\npub struct {name} {{\n{fields}}}\n"
 

@@ -10,6 +10,7 @@
   `hordguli.harfbuzz.Measure` measures with font files.
 - `levels`, `base_level`, `breaks`, `clusters`, `row`, `row_runs`, `script_runs` and `properties` are for programs that lay out
   lines themselves.
+- `reasons` and `break_reasons` return which rules of the algorithms decide levels and break marks.
 - `explain` returns what decides a layout. `python3 -m hordguli explain TEXT` prints it, or writes a page.
 
 What to know before the first line:
@@ -26,9 +27,10 @@ What to know before the first line:
 Classes (`help(hordguli.Session)` and so on):
 
 - `Session`; `Tables`, character properties
-- `Options` and `Print`, flags; `Break`, `Side`, `Direction`, `Cause`, enumerations
+- `Options` and `Print`, flags; `Break`, `Side`, `Direction`, `Cause`, `BracketCase`, `NeutralRule`, enumerations
 - of a text and its lines: `Line`, `Piece`, `Paragraph`, `ParagraphText`, `Row`, `Run`, `ScriptRun`, `Character`, `Counts`, `Damage`,
   `ChangedLines`, `Work`
+- of rules: `Reason`, `BreakReason`
 - of an editor: `Caret`, `Edge`, `Hit`, `Place`, `Position`, `Span`, `Cluster`, `Word`
 - of `explain`: `Explanation`, `ExplainedCharacter`, `ExplainedParagraph`
 - exceptions: `ClosedError`, `NotMeasuredError`, `TableError`
@@ -60,7 +62,9 @@ from ._explain import explain
 from ._library import UNICODE_VERSION, WIDTH_UNICODE_VERSION
 from ._library import VERSION as __version__
 from ._records import (
+    BracketCase as BracketCase,
     Break as Break,
+    BreakReason as BreakReason,
     Caret as Caret,
     ChangedLines as ChangedLines,
     Character as Character,
@@ -74,6 +78,7 @@ from ._records import (
     Explanation as Explanation,
     Hit as Hit,
     Line as Line,
+    NeutralRule as NeutralRule,
     Options as Options,
     Paragraph as Paragraph,
     ParagraphText as ParagraphText,
@@ -81,6 +86,7 @@ from ._records import (
     Place as Place,
     Position as Position,
     Print as Print,
+    Reason as Reason,
     Row as Row,
     Run as Run,
     ScriptRun as ScriptRun,
@@ -92,7 +98,10 @@ from ._records import (
 from .session import Session as Session
 from .tables import TABLE_FILES, default_tables
 from .tables import Tables as Tables
-from .text import base_level, breaks, clusters, count_utf8, display, levels, properties, row, row_runs, script_runs, valid_utf8, wrap
+from .text import (
+    base_level, break_reasons, breaks, clusters, count_utf8, display, levels, properties, reasons, row, row_runs, script_runs, valid_utf8,
+    wrap,
+)  # fmt: skip
 
 # Only the functions and constants, so that help(hordguli) shows the functions and only names the classes.
 __all__ = [
@@ -101,6 +110,7 @@ __all__ = [
     "WIDTH_UNICODE_VERSION",
     "__version__",
     "base_level",
+    "break_reasons",
     "breaks",
     "clusters",
     "count_utf8",
@@ -109,6 +119,7 @@ __all__ = [
     "explain",
     "levels",
     "properties",
+    "reasons",
     "row",
     "row_runs",
     "script_runs",

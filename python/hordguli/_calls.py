@@ -16,7 +16,7 @@ from typing import Any, Callable, NoReturn, Optional, SupportsIndex, TypeVar
 from ._declarations import NO_ROOM, OK
 from ._errors import check
 from ._library import SIZE_MAX
-from ._records import FORMATS, Break, Direction, Options, ParagraphText, Print, Side
+from ._records import FORMATS, BracketCase, Break, Direction, NeutralRule, Options, ParagraphText, Print, Side
 
 Flags = TypeVar("Flags", Options, Print)
 Record = TypeVar("Record", bound=tuple[Any, ...])
@@ -25,6 +25,7 @@ Call = Callable[..., int]  # a function of the C library, or `Handle.call`
 Measure = Callable[[ParagraphText], Iterable[SupportsIndex]]
 _MOST_ADVANCES = 4_294_967_295  # of a paragraph, together
 _INT = frozenset({int})
+_ENUMERATIONS = Options, Print, Break, Side, Direction, BracketCase, NeutralRule
 _TAKES_FLOATS = sys.version_info < (3, 10)  # of arrays of integers
 _REFUSED = "a function `measure` must not use the session that calls it"
 
@@ -149,7 +150,7 @@ def flags(kind: type[Flags], given: Flags, name: str) -> Flags:
 
     Raises `TypeError` for such a member, and `ValueError` for a number that does not fit a `uint32_t`.
     """
-    if isinstance(given, (Options, Print, Break, Side, Direction)) and not isinstance(given, kind):
+    if isinstance(given, _ENUMERATIONS) and not isinstance(given, kind):
         raise TypeError(f"{name} must be {kind.__name__}, not {type(given).__name__}")
     return kind(uint32(given, name))
 

@@ -162,5 +162,9 @@ FUNCTIONS: dict[str, tuple[Any, dict[str, Any]]] = {
                                  "capacity": SIZE, "levels": POINTER}),
     "hordguli_marks": (STATUS, {"tables": POINTER, "options": NUMBER, "characters": POINTER, "count": SIZE,
                                 "capacity": SIZE, "marks": POINTER}),
+    "hordguli_reasons": (STATUS, {"tables": POINTER, "direction": NUMBER, "characters": POINTER, "count": SIZE,
+                                  "capacity": SIZE, "reasons": POINTER}),
+    "hordguli_break_reasons": (STATUS, {"tables": POINTER, "options": NUMBER, "characters": POINTER, "count": SIZE,
+                                        "capacity": SIZE, "reasons": POINTER}),
     "hordguli_properties": (STATUS, {"tables": POINTER, "count": SIZE, "characters": POINTER, "records": POINTER}),
 }

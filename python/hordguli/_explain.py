@@ -7,18 +7,18 @@ import unicodedata
 import zlib
 from collections.abc import Sequence
 from enum import Enum
-from typing import Any, NamedTuple, Optional
+from typing import Any, Optional
 
-from ._records import ExplainedCharacter, ExplainedParagraph, Explanation, Options, Paragraph, Run
+from ._records import BreakReason, ExplainedCharacter, ExplainedParagraph, Explanation, Line, Options, Paragraph, Reason, Run
+from ._sentences import all_before, break_sentence, level_sentences, unpaired_sentence
 from .session import Session
 from .tables import Tables, default_tables
-from .text import base_level, properties
-from .text import levels as levels_of
+from .text import base_level, break_reasons, properties, reasons
 
 WIDTHS = range(1, 121)  # of the layouts in a page
 _PAGE = os.path.join(os.path.dirname(os.path.abspath(__file__)), "_explain.html")
 _REORDERS = Options.REORDER_NSM | Options.REORDER_CLUSTERS  # (with these, a run may have another order than that of its level)
-# The columns of the table, and the fields of a character that they show.
+# The columns of the table, and the fields of a character that they show. `partner` is of its reason, `shown` of `_shown`.
 _COLUMNS = {
     "pos": "position",
     "char": "shown",
@@ -29,43 +29,41 @@ _COLUMNS = {
     "partner": "partner",
     "level": "level",
     "L1": "line_level",
-    "break": "break_mark",
     "line": "line",
     "visual": "visual",
     "name": "name",
+    "break": "break_mark",
+    "break rule": "break_why",
     "why": "why",
 }
 _CHARACTER_COLUMNS = 4  # of a terminal, for the column "char"
 _FIXED = Options.LTR, Options.RTL  # for each base level
-_NO_BRACKET = "!"  # (which has the class of brackets)
-
-
-class Reason(NamedTuple):
-    """Why a character has its level. The table and the page show it, if it is known.
-
-    `partner`: the position of the character that it is paired with, or `None`. `unpaired`: why a bracket has no partner, or `""`.
-    `sentences`: what a rule decided, in order, such as `"N0: pairs with position 17"`.
-    """
-
-    partner: Optional[int] = None
-    unpaired: str = ""
-    sentences: tuple[str, ...] = ()
+_POSITIONS = "opener", "matching", "sequence", "partner", "inside", "left", "right", "base", "behind_spaces"  # (fields of reasons)
+# What a page writes in the place of a character that has no glyph.
+_LABELS = {
+    "\t": "TAB", "\n": "LF", "\r": "CR", "\u061c": "ALM", "\u200b": "ZWSP", "\u200c": "ZWNJ", "\u200d": "ZWJ", "\u200e": "LRM",
+    "\u200f": "RLM", "\u202a": "LRE", "\u202b": "RLE", "\u202c": "PDF", "\u202d": "LRO", "\u202e": "RLO", "\u2060": "WJ", "\u2066": "LRI",
+    "\u2067": "RLI", "\u2068": "FSI", "\u2069": "PDI",
+}  # fmt: skip
 
 
 def explain(
     text: str, width: int = 80, options: Options = Options.WEAK_LTR, *, tables: Optional[Tables] = None
 ) -> Explanation:
-    """Returns what decides the layout of a text: properties, levels, break marks and places of its characters, lines, base levels.
+    """Returns what decides the layout of a text: properties, rules, levels, break marks and places of its characters, lines, base levels.
 
     Parameters and errors are those of `Session`.
 
-    >>> hordguli.explain("a\\u05d0").characters[1].name
-    'HEBREW LETTER ALEF'
+    >>> hordguli.explain("\\u05d0 (b)").characters[2].why[0]
+    'N0: pairs with position 4; only Latin inside (position 3), but right-to-left before (position 0), as the paragraph, so right-to-left'
     """
     tables = tables or default_tables()
     with Session(text, width, options, tables=tables) as session:
         paragraphs = [session.paragraph(index) for index in range(session.counts.paragraphs)]
         lines = tuple(session)
+    explained = tuple(
+        ExplainedParagraph(one.start, one.length, one.base_level, _decider(text, one, options, tables)) for one in paragraphs
+    )
     levels = [level for paragraph in paragraphs for level in paragraph.levels]
     marks = [mark for paragraph in paragraphs for mark in paragraph.breaks]
     places: list[tuple[Optional[int], Optional[int], Optional[int]]] = [(None, None, None)] * len(text)
@@ -73,16 +71,17 @@ def explain(
         for offset, (level, visual) in enumerate(zip(line.levels, line.logical_to_visual)):
             places[line.start + offset] = number, level, visual
     known = dict(zip(set(text), _described("".join(set(text)), tables)))
-    no_brackets = {ord(one): _NO_BRACKET for one, its in known.items() if its[-1]}
-    without_n0 = [level for one in paragraphs for level in _levels_without_n0(text, one, no_brackets, tables)]
+    level_reasons, mark_reasons = _reasons(text, paragraphs, options, tables)
+    whys = _whys(text, explained, level_reasons)
     characters = tuple(
-        ExplainedCharacter._make((position, character, *known[character], level, without, mark, *place))
-        for position, (character, level, without, mark, place) in enumerate(zip(text, levels, without_n0, marks, places))
-    )
-    explained = [
-        ExplainedParagraph(one.start, one.length, one.base_level, _decider(text, one, options, tables)) for one in paragraphs
-    ]
-    return Explanation(tables.unicode_version, width, characters, lines, tuple(explained))
+        ExplainedCharacter._make((
+            position, character, *known[character], levels[position], marks[position], *places[position],
+            (*whys[position], *_whys_of_line(character, levels[position], places[position], lines)),
+            break_sentence(text, mark_reasons, position), level_reasons[position], mark_reasons[position],
+        ))
+        for position, character in enumerate(text)
+    )  # fmt: skip
+    return Explanation(tables.unicode_version, width, characters, lines, explained)
 
 
 def _described(characters: str, tables: Tables) -> list[tuple[Any, ...]]:
@@ -93,11 +92,32 @@ def _described(characters: str, tables: Tables) -> list[tuple[Any, ...]]:
     ]
 
 
-def _levels_without_n0(text: str, paragraph: Paragraph, no_brackets: dict[int, str], tables: Tables) -> Sequence[int]:
-    """Returns the levels of a paragraph in which each bracket is replaced by another character of the same class."""
-    given = text[paragraph.start : paragraph.start + paragraph.length]
-    changed = given.translate(no_brackets)
-    return paragraph.levels if changed == given else levels_of(changed, _FIXED[paragraph.base_level], tables=tables)
+def _reasons(text: str, paragraphs: list[Paragraph], options: Options, tables: Tables) -> tuple[list[Reason], list[BreakReason]]:
+    """Returns the reasons for the levels and for the break marks of all characters, with positions in the text."""
+    level_reasons: list[Reason] = []
+    mark_reasons: list[BreakReason] = []
+    for one in paragraphs:
+        its = text[one.start : one.start + one.length]
+        direction = _FIXED[one.base_level] | options & Options.LINE_SEPARATORS
+        level_reasons += _moved(reasons(its, direction, tables=tables), one.start)
+        mark_reasons += _moved(break_reasons(its, options & Options.WHOLE_NUMBERS, tables=tables), one.start)
+    return level_reasons, mark_reasons
+
+
+def _moved(records: Any, start: int) -> Any:
+    """Returns the reasons of a paragraph with positions in the text."""
+    if start == 0 or not records:
+        return records
+    places = [at for at, field in enumerate(records[0]._fields) if field in _POSITIONS]
+
+    def moved(record: Any) -> Any:
+        values = list(record)
+        for at in places:
+            if values[at] is not None:
+                values[at] += start
+        return record._make(values)
+
+    return list(map(moved, records))
 
 
 def _code_point(character: str) -> str:
@@ -136,25 +156,43 @@ def plain(value: Any) -> Any:
     return value
 
 
+# ---- The sentences ----
+
+
+def _whys(text: str, paragraphs: Sequence[ExplainedParagraph], reasons: Sequence[Reason]) -> list[list[str]]:
+    """Returns what rules decide at each character, as sentences, without those that depend on the lines."""
+    befores = all_before(reasons)
+    found = [list(level_sentences(text, reasons, befores, at)) for at in range(len(text))]
+    for number, paragraph in enumerate(paragraphs):
+        if paragraph.decided_by is not None:
+            found[paragraph.decided_by].insert(0, f"P2: decides the base level of paragraph {number}")
+    return found
+
+
+def _whys_of_line(character: str, level: int, place: tuple[Optional[int], ...], lines: Sequence[Line]) -> list[str]:
+    """Returns what L1 and L4 change."""
+    line, line_level, visual = place
+    if line is None or visual is None:
+        return []
+    drawn = lines[line].text[visual]
+    found = [f"L1: level {level} becomes {line_level}"] if level != line_level else []
+    return found + [f"L4: drawn as {drawn}"] * (drawn != character)
+
+
 # ---- The table ----
 
 
-def table(explained: Explanation, reasons: Sequence[Reason] = ()) -> str:
-    """Returns an explanation as a table for a terminal: a row per character, the lines and paragraphs, the version.
-
-    `reasons` has an item for each character, or none.
-    """
-    columns = {name: field for name, field in _COLUMNS.items() if reasons or field != "partner"}
-    whys = _whys(explained, reasons)
+def table(explained: Explanation) -> str:
+    """Returns an explanation as a table for a terminal: a row per character, the lines and paragraphs, the version."""
     cells = [
-        {**plain(one), "shown": _shown(one), "partner": reasons[at].partner if reasons else None, "why": "; ".join(whys[at])}
-        for at, one in enumerate(explained.characters)
+        {**one._asdict(), "break_mark": plain(one.break_mark), "shown": _shown(one), "partner": _partner(one), "why": ". ".join(one.why)}
+        for one in explained.characters
     ]
-    rows = [["" if cell[field] is None else str(cell[field]) for field in columns.values()] for cell in cells]
-    widths = [max(map(len, column)) for column in zip(columns, *rows)]
+    rows = [["" if cell[field] is None else str(cell[field]) for field in _COLUMNS.values()] for cell in cells]
+    widths = [max(map(len, column)) for column in zip(_COLUMNS, *rows)]
     widths[1] = _CHARACTER_COLUMNS
     missing = [len(_shown(one)) - _columns_of(one) for one in explained.characters]  # (of a wide character, -1; of a mark, 1)
-    lines = [_joined(columns, widths, 0), *(_joined(row, widths, more) for row, more in zip(rows, missing))]
+    lines = [_joined(_COLUMNS, widths, 0), *(_joined(row, widths, more) for row, more in zip(rows, missing))]
     for number, line in enumerate(explained.lines):
         runs = "; ".join(f"{run.length} from {line.start + run.start} at level {run.level}" for run in line.runs)
         lines.append(f"line {number}: {line.length} from {line.start}, {line.width} columns; runs: {runs or 'none'}")
@@ -179,71 +217,48 @@ def _shown(one: ExplainedCharacter) -> str:
     return one.character if one.character.isprintable() and one.character != " " else ""
 
 
+def _partner(one: ExplainedCharacter) -> Optional[int]:
+    """Returns the position of the other bracket of a pair. (A mark after a bracket has a partner too.)"""
+    return one.reason.partner if one.bracket else None
+
+
 def _columns_of(one: ExplainedCharacter) -> int:
     return 1 if one.is_mark else one.columns if _shown(one) else 0
-
-
-def _whys(explained: Explanation, reasons: Sequence[Reason]) -> list[list[str]]:
-    """Returns what rules changed at each character, as sentences."""
-    found = _whys_of_paragraphs(explained, reasons)
-    for one in explained.characters:
-        if one.line is not None and one.visual is not None:
-            if one.level != one.line_level:
-                found[one.position].append(f"L1: level {one.level} becomes {one.line_level}")
-            drawn = explained.lines[one.line].text[one.visual]
-            if drawn != one.character:
-                found[one.position].append(f"L4: drawn as {drawn}")
-    return found
-
-
-def _whys_of_paragraphs(explained: Explanation, reasons: Sequence[Reason]) -> list[list[str]]:
-    """Returns those sentences that do not depend on the lines."""
-    found: list[list[str]] = [[] for _ in explained.characters]
-    for number, paragraph in enumerate(explained.paragraphs):
-        if paragraph.decided_by is not None:
-            found[paragraph.decided_by].append(f"P2: decides the base level of paragraph {number}")
-    for at, reason in enumerate(reasons):
-        found[at] += [*reason.sentences, *([f"unpaired: {reason.unpaired}"] if reason.unpaired else [])]
-    for one in explained.characters:
-        if one.level != one.level_without_n0:
-            found[one.position].append(f"N0: bracket pairs change level {one.level_without_n0} to {one.level}")
-    return found
 
 
 # ---- The page ----
 
 
-def page(
-    text: str,
-    width: int = 80,
-    options: Options = Options.WEAK_LTR,
-    *,
-    tables: Optional[Tables] = None,
-    reasons: Sequence[Reason] = (),
-) -> str:
-    """Returns an HTML page that shows what `explain` returns, for each width from 1 to 120. It needs no other file.
-
-    `reasons` has an item for each character, or none.
-    """
+def page(text: str, width: int = 80, options: Options = Options.WEAK_LTR, *, tables: Optional[Tables] = None) -> str:
+    """Returns an HTML page that shows what `explain` returns, for each width from 1 to 120. It needs no other file."""
     explained = explain(text, width, options, tables=tables)
-    layouts = _layouts(text, options, tables)
+    characters = explained.characters
+    break_whys = _Numbered()
     data = {
         "unicode": explained.unicode,
         "width": width,
         "text": text,
-        "properties": {one.character: {**plain(one), "shown": _shown(one)} for one in explained.characters},
-        "levels": [one.level for one in explained.characters],
-        "breaks": "".join(str(int(one.break_mark)) for one in explained.characters),
+        "properties": {one.character: _properties_in_page(one) for one in characters},
+        "levels": [one.level for one in characters],
+        "breaks": "".join(str(int(one.break_mark)) for one in characters),
         "paragraphs": explained.paragraphs,
-        **layouts,
-        "columns": {name: field for name, field in _COLUMNS.items() if reasons or field != "partner"},
-        "partners": [reason.partner for reason in reasons],
-        "unpaired": {at: reason.unpaired for at, reason in enumerate(reasons) if reason.unpaired},
-        "whys": {at: whys for at, whys in enumerate(_whys_of_paragraphs(explained, reasons)) if whys},
+        **_layouts(text, options, tables),
+        "columns": _COLUMNS,
+        "partners": [_partner(one) for one in characters],
+        "unpaired": [one.position for one in characters if unpaired_sentence(one.reason)],
+        "whys": [[why for why in one.why if not why.startswith(("L1:", "L4:"))] for one in characters],
+        "break_whys": [break_whys.number_of(one.break_why) for one in characters],
+        "break_sentences": break_whys.items,
     }
     packed = zlib.compress(json.dumps(data, separators=(",", ":")).encode())
     with open(_PAGE, encoding="utf-8") as template:
         return template.read().replace("{DATA}", base64.b64encode(packed).decode())
+
+
+def _properties_in_page(one: ExplainedCharacter) -> dict[str, Any]:
+    fields = "code_point", "name", "mirror", "bidi_class", "bracket"
+    shown = _shown(one)
+    return {**{field: getattr(one, field) for field in fields}, "shown": shown, "label": "" if shown else _LABELS.get(one.character, "")}
 
 
 def _layouts(text: str, options: Options, tables: Optional[Tables]) -> dict[str, list[Any]]:
@@ -280,13 +295,13 @@ class _Numbered:
 
     def __init__(self) -> None:
         self.items: list[Any] = []
-        self.numbers: dict[tuple[int, ...], int] = {}
+        self.numbers: dict[Any, int] = {}
 
-    def add(self, key: tuple[int, ...], item: Any) -> None:
+    def add(self, key: Any, item: Any) -> None:
         self.numbers[key] = len(self.items)
         self.items.append(item)
 
-    def number_of(self, item: tuple[int, ...]) -> int:
+    def number_of(self, item: Any) -> int:
         if item not in self.numbers:
             self.add(item, item)
         return self.numbers[item]

@@ -102,6 +102,33 @@ class Direction(enum.IntEnum):
     RIGHT = 1
 
 
+class BracketCase(enum.IntEnum):
+    """Which case of N0 (UAX #9) applies to a bracket, or why it has no pair. For N0, numbers are strong.
+
+    `B`: the pair contains a strong type of the embedding direction. `C1`: it contains strong types of the opposite direction only,
+    and the strong type before the pair has that direction. `C2`: likewise, but the one before the pair has the embedding direction.
+    `D`: it contains no strong type. `NOT_OTHER`: before N0, the type is not ON. `NO_MATCH`: no bracket of the sequence matches.
+    `PAST_LIMIT`: pairing stopped at an opening bracket with 63 open ones before it (BD16), and this bracket was open or comes later.
+    """
+
+    # from hordguli.h: HORDGULI_BRACKET_CASE_*
+    B = 1
+    C1 = 2
+    C2 = 3
+    D = 4
+    NOT_OTHER = 5
+    NO_MATCH = 6
+    PAST_LIMIT = 7
+
+
+class NeutralRule(enum.IntEnum):
+    """The rule that decides the type of a neutral (UAX #9)."""
+
+    # from hordguli.h: HORDGULI_NEUTRAL_*
+    N1 = 1
+    N2 = 2
+
+
 class Damage(NamedTuple):
     """What an edit replaced: `old_lines` lines from `first_line` on became `new_lines` lines; likewise for paragraphs."""
 
@@ -345,13 +372,60 @@ class Character(NamedTuple):
     bracket: str
 
 
+class Reason(NamedTuple):
+    """How the algorithm arrives at the level of a character (UAX #9). What does not exist is `None`.
+
+    `opener`: the embedding, override or isolate initiator that sets its level. `matching`: of an isolate initiator its PDI, of a PDI
+    its initiator. `sequence`: the first character of its isolating run sequence. `partner`: of a paired bracket the other one, of a
+    mark that N0 changes the bracket before it. `inside`: the strong character inside the pair that decides.
+    `left`, `right`: of a neutral, the characters before and after its run; for a character that X9 removes, `left` is the one whose
+    level it has. `class_after`: its bidi class, then the class after X8, W1 to W7, N0 and N2.
+    `override_class`: `"L"` or `"R"` directly in an override. `embedding_level`: after X8. `level`: as `levels` returns it.
+    `sos`, `eos`: the directions of the start and the end of the sequence. `neutral`: the rule that decides, if the type after N0 is
+    neutral. A character that X9 removes has no `sequence`.
+    """
+
+    opener: Optional[int]
+    matching: Optional[int]
+    sequence: Optional[int]
+    partner: Optional[int]
+    inside: Optional[int]
+    left: Optional[int]
+    right: Optional[int]
+    class_after: tuple[Optional[str], ...]
+    override_class: Optional[str]
+    embedding_level: int
+    level: int
+    sos: Optional[str]
+    eos: Optional[str]
+    bracket_case: Optional[BracketCase]
+    neutral: Optional[NeutralRule]
+
+
+class BreakReason(NamedTuple):
+    """The rule that decides a break mark (UAX #14), and what it reads. A base is a character and what LB9 attaches to it.
+
+    `base`: where the base before the mark starts. `behind_spaces`: where the nearest base that is not a space starts, which rules
+    with `SP*` read, or `None`. `rule`: the first rule that applies, such as `"LB8a"`. `class_before`: of that base, after LB1 and LB10.
+    `class_after`: of the next base or, inside a base, character; `None` at the end. `mark`: as `breaks` returns it.
+    """
+
+    base: int
+    behind_spaces: Optional[int]
+    rule: str
+    class_before: str
+    class_after: Optional[str]
+    mark: Break
+
+
 class ExplainedCharacter(NamedTuple):
     """A character of an `Explanation`.
 
     `position`: its index in the text. `character`, `code_point`, `name`: which it is, such as `"("`, `"U+0028"`, `"LEFT PARENTHESIS"`.
-    `mirror` to `bracket`: its properties, as in `Character`. `level`: its level before L1. `level_without_n0`: its level if no brackets
-    were paired (UAX #9, N0). `break_mark`: the break mark after it. `line`: its line. `line_level`: its level after L1. `visual`: its visual position in the line. These three are `None` if the
-    character is not shown.
+    `mirror` to `bracket`: its properties, as in `Character`. `level`: its level before L1. `break_mark`: the break mark after it. `line`:
+    its line. `line_level`: its level after L1. `visual`: its visual position in the line. These three are `None` if the character is
+    not shown. `why`: what rules of UAX #9 change at it, as sentences in the order of the rules. `break_why`: the rule of UAX #14 that
+    decides its break mark. `reason`, `break_reason`: what the sentences say, with positions in the text.
     """
 
     position: int
@@ -367,11 +441,14 @@ class ExplainedCharacter(NamedTuple):
     columns: int
     bracket: str
     level: int
-    level_without_n0: int
     break_mark: Break
     line: Optional[int]
     line_level: Optional[int]
     visual: Optional[int]
+    why: tuple[str, ...]
+    break_why: str
+    reason: Reason
+    break_reason: BreakReason
 
 
 class ExplainedParagraph(NamedTuple):
@@ -397,7 +474,10 @@ class Explanation(NamedTuple):
     paragraphs: tuple[ExplainedParagraph, ...]
 
 
-BREAKS = [Break.NEVER, Break.MAY, Break.MUST]  # the number of each is its index
+# The number of each is its index.
+BREAKS = [Break.NEVER, Break.MAY, Break.MUST]
+BRACKET_CASES = [None, *BracketCase]
+NEUTRAL_RULES = [None, *NeutralRule]
 BRACKETS = ["", "open", "close"]
 
 
@@ -446,7 +526,38 @@ class RawCharacter(NamedTuple):
     bracket: int
 
 
-# How C stores each record: N is a size_t, I a uint32_t, Q a uint64_t, B a uint8_t, and 4x the member `zero`.
+class RawReason(NamedTuple):
+    # from hordguli.h: hordguli_reason
+    opener: int
+    matching: int
+    sequence: int
+    partner: int
+    inside: int
+    left: int
+    right: int
+    class_after: bytes
+    override_class: int
+    embedding_level: int
+    level: int
+    sos: int
+    eos: int
+    bracket_case: int
+    neutral: int
+
+
+class RawBreakReason(NamedTuple):
+    # from hordguli.h: hordguli_break_reason
+    base: int
+    behind_spaces: int
+    rule: int
+    letter: int
+    class_before: int
+    class_after: int
+    mark: int
+
+
+# How C stores each record: N is a size_t, I a uint32_t, Q a uint64_t, B a uint8_t, 11s an array of these, and x is padding or in the
+# member `zero`.
 FORMATS: dict[Any, Struct] = {
     # from hordguli.h: the records
     Damage: Struct("6N"),
@@ -467,4 +578,6 @@ FORMATS: dict[Any, Struct] = {
     ParagraphInfo: Struct("2NI4x2N"),
     RawScriptRun: Struct("2NI4x"),
     RawCharacter: Struct("3I4B"),
+    RawReason: Struct("7I11s7B2x"),
+    RawBreakReason: Struct("2I5B3x"),
 }

@@ -11,7 +11,10 @@ from ._calls import Call, Measure, address, flags, get_array, get_records, get_s
 from ._declarations import BIDI_CLASSES, LINE_CLASSES, MARK, WIDE
 from ._errors import check
 from ._library import library, quick_base, quick_levels, quick_row
-from ._records import BRACKETS, BREAKS, FORMATS, Break, Character, Options, Print, RawCharacter, RawScriptRun, Row, Run, ScriptRun
+from ._records import (
+    BRACKET_CASES, BRACKETS, BREAKS, FORMATS, NEUTRAL_RULES, Break, BreakReason, Character, Options, Print, RawBreakReason, RawCharacter,
+    RawReason, RawScriptRun, Reason, Row, Run, ScriptRun,
+)  # fmt: skip
 from .session import Session
 from .tables import Buffers, Tables, default_tables
 
@@ -20,6 +23,8 @@ _BASE_DIRECTIONS = {None: 0, "L": 2, "R": 3, "AL": 3}  # (plain numbers, for spe
 _FIXED = (2, 3)  # the direction LTR or RTL for each base level
 _SEPARATORS = re.compile("(\r\n|[\n\r\x1c-\x1e\x85\u2029])")  # (UAX #9, P1)
 _HIGHEST_LEVEL = 126
+_NO_POSITION, _NO_CLASS = 0xFFFF_FFFF, 0xFF  # (as C stores what does not exist)
+_BIDI_CLASSES: dict[int, Optional[str]] = {**dict(enumerate(BIDI_CLASSES)), _NO_CLASS: None}
 
 # In private functions, characters are in UTF-32, 4 bytes each.
 
@@ -190,6 +195,59 @@ def breaks(text: str, options: Options = Options(0), *, tables: Optional[Tables]
     return list(map(BREAKS.__getitem__, marks))
 
 
+def reasons(
+    text: str, direction: Options = Options.WEAK_LTR, *, tables: Optional[Tables] = None
+) -> list[Reason]:
+    """Returns how the algorithm arrives at the level of each character of a paragraph (UAX #9). The text is not split at separators.
+
+    `direction` is a base direction of `Options`, which can have `Options.LINE_SEPARATORS`.
+
+    >>> [reason.partner for reason in hordguli.reasons("a(b)")]
+    [None, 3, None, 1]
+    """
+    chosen = flags(Options, direction, "direction")
+    layout = FORMATS[RawReason]
+    found = _per_character(library.hordguli_reasons, tables or default_tables(), chosen, utf32(text), layout.size)
+    return [
+        Reason._make((
+            *[None if one == _NO_POSITION else one for one in positions],
+            tuple([_BIDI_CLASSES[one] for one in classes]),
+            _BIDI_CLASSES[override],
+            embedding,
+            level,
+            _BIDI_CLASSES[sos],
+            _BIDI_CLASSES[eos],
+            BRACKET_CASES[case],
+            NEUTRAL_RULES[neutral],
+        ))
+        for *positions, classes, override, embedding, level, sos, eos, case, neutral in layout.iter_unpack(found)
+    ]
+
+
+def break_reasons(text: str, options: Options = Options(0), *, tables: Optional[Tables] = None) -> list[BreakReason]:
+    """Returns which rule decides the break mark after each character of a paragraph (UAX #14). The text is not split.
+
+    `options` is `Options(0)` or `Options.WHOLE_NUMBERS`.
+
+    >>> [reason.rule for reason in hordguli.break_reasons("a (")]
+    ['LB7', 'LB18', 'LB3']
+    """
+    chosen = flags(Options, options, "options")
+    layout = FORMATS[RawBreakReason]
+    found = _per_character(library.hordguli_break_reasons, tables or default_tables(), chosen, utf32(text), layout.size)
+    return [
+        BreakReason(
+            base,
+            None if behind_spaces == _NO_POSITION else behind_spaces,
+            f"LB{rule}{chr(letter) if letter else ''}",
+            LINE_CLASSES[before],
+            None if after == _NO_CLASS else LINE_CLASSES[after],
+            BREAKS[mark],
+        )
+        for base, behind_spaces, rule, letter, before, after, mark in layout.iter_unpack(found)
+    ]
+
+
 def row(
     text: str,
     levels: Iterable[int],
@@ -300,10 +358,10 @@ def _base(tables: Tables, direction: Options, characters: bytes) -> int:
     return result.value
 
 
-def _per_character(function: Call, tables: Tables, options: Options, characters: bytes) -> bytearray:
-    """Returns the levels or the break marks."""
+def _per_character(function: Call, tables: Tables, options: Options, characters: bytes, size: int = 1) -> bytearray:
+    """Returns what a function stores for each character, such as its level. `size` is that of one item, in bytes."""
     count = len(characters) // 4
-    result = bytearray(count)
+    result = bytearray(count * size)
     make_call(tables._handle.call, function, options, characters, count, count, address(result))
     return result
 

@@ -149,6 +149,10 @@ OPENING = {
     "display with a positional upper_is_rtl": (TypeError, lambda: hordguli.display("a", "utf-8", False)),
     "levels of a lone surrogate": (UnicodeEncodeError, lambda: hordguli.levels(LONE)),
     "levels with another option": (ValueError, lambda: hordguli.levels("a", Options.NOBREAK)),
+    "reasons of a lone surrogate": (UnicodeEncodeError, lambda: hordguli.reasons(LONE)),
+    "reasons with another option": (ValueError, lambda: hordguli.reasons("a", Options.WHOLE_NUMBERS)),
+    "break reasons of a lone surrogate": (UnicodeEncodeError, lambda: hordguli.break_reasons(LONE)),
+    "break reasons with a direction": (ValueError, lambda: hordguli.break_reasons("a", Options.RTL)),
     "a base level with another option": (ValueError, lambda: hordguli.base_level("a", Options.NOBREAK)),
     "breaks with a direction": (ValueError, lambda: hordguli.breaks("a", Options.RTL)),
     "a row with too few levels": (ValueError, lambda: hordguli.row("ab", [0])),
@@ -231,6 +235,7 @@ TAKING_A_DIRECTION = {
     "Session": lambda options: hordguli.Session(f"1. {HEBREW}\n.", 80, options).lines(),
     "wrap": lambda options: hordguli.wrap(f"1. {HEBREW}\n.", 80, options),
     "levels": lambda options: hordguli.levels("1.", options),
+    "reasons": lambda options: hordguli.reasons("1.", options),
     "base_level": lambda options: hordguli.base_level("1.", options),
     "display": lambda options: hordguli.display("1.\n", direction=options),
     "explain": lambda options: hordguli.explain("1.", 80, options),
@@ -238,6 +243,7 @@ TAKING_A_DIRECTION = {
 TAKING_OPTIONS = {
     **TAKING_A_DIRECTION,
     "breaks": lambda options: hordguli.breaks("1.", options),
+    "break_reasons": lambda options: hordguli.break_reasons("1.", options),
     "row": lambda options: hordguli.row("1.", [0, 0], 0, options),
 }
 TAKING_PRINT_FLAGS = {
@@ -261,7 +267,7 @@ def test_a_plain_number_is_a_direction(name):
     assert call(Options(0)) == call(Options.WEAK_LTR) and call(Options.LTR | Options.LTR) == call(Options.LTR)
 
 
-@pytest.mark.parametrize("name", ["breaks", "row"])
+@pytest.mark.parametrize("name", ["breaks", "break_reasons", "row"])
 def test_what_has_no_direction_refuses_each(name):
     assert TAKING_OPTIONS[name](0) == TAKING_OPTIONS[name](Options(0))
     for one in DIRECTIONS:
@@ -278,7 +284,7 @@ def test_unknown_bits_are_named(name, bit):
     assert f"not accepted: <Options: {1 << bit:#x}>" in str(caught.value)
 
 
-@pytest.mark.parametrize("wrong", [Print.LEVELS, Break.MAY, Side.AFTER, Direction.RIGHT])
+@pytest.mark.parametrize("wrong", [Print.LEVELS, Break.MAY, Side.AFTER, Direction.RIGHT, hordguli.BracketCase.C2, hordguli.NeutralRule.N2])
 @pytest.mark.parametrize("name", TAKING_OPTIONS)
 def test_only_options_are_options(name, wrong):
     with pytest.raises(TypeError) as caught:

@@ -252,6 +252,8 @@ FUNCTIONS = {
     # (after a long text, the tables keep no memory, so the second call allocates)
     "wrap": lambda: [hordguli.wrap(text, 5) for text in ("ab " * 30_000, f"ab {HEBREW} (1)")][1],
     "breaks": lambda: hordguli.breaks("a b"),
+    "reasons": lambda: hordguli.reasons(f"ab {HEBREW} (1)"),
+    "break_reasons": lambda: hordguli.break_reasons("a b"),
     "row": lambda: hordguli.row("a b", [0, 1, 0]),
     "row_runs": lambda: hordguli.row_runs("a b", [0, 1, 0]),
     "script_runs": lambda: hordguli.script_runs("a \u05d0"),

@@ -58,12 +58,13 @@ def test_functions_are_those_of_the_header():
 
 
 def test_records_are_those_of_the_header():
-    codes = {"size_t": "N", "uint32_t": "I", "uint64_t": "Q", "uint8_t": "B"}
+    codes = {"size_t": "N", "uint32_t": "I", "uint64_t": "Q", "uint8_t": "B", "uint8_t [11]": "11s"}
     structs = {name: HEADER.members(name) for name in HEADER.structs}
     for kind, layout in _records.FORMATS.items():
         name = re.sub(r"(?<=[a-z])(?=[A-Z])", "_", kind.__name__.removeprefix("Raw")).lower()
         fields = structs.pop(f"hordguli_{RENAMED.get(name, name)}")
         wanted = "".join("4x" if name == "zero" else codes[code] for code, name in fields)
+        wanted += {"reason": "2x", "break_reason": "3x"}.get(name, "")  # (padding, which the module struct does not add at the end)
         assert list(kind._fields) == [name for _, name in fields if name != "zero"], kind
         unrolled = re.sub(r"(\d+)([A-Z])", lambda m: int(m[1]) * m[2], layout.format)
         assert unrolled == wanted and layout.size == struct.calcsize(wanted), kind
@@ -77,6 +78,8 @@ def test_constants_are_those_of_the_header():
     assert {name.replace(".", "_"): number for name, number in _declarations.UNICODE_VERSIONS.items()} == constants("UNICODE_")
     assert {one.name: one.value for one in hordguli.Break} == constants("BREAK_")
     assert {one.name: one.value for one in hordguli.Cause if one} == constants("CAUSE_")
+    assert {one.name: one.value for one in hordguli.BracketCase} == constants("BRACKET_CASE_")
+    assert {one.name: one.value for one in hordguli.NeutralRule} == constants("NEUTRAL_")
     assert {name: int(value) for name, value in hordguli.Print.__members__.items() if name != "DEFAULT"} == constants("PRINT_")
     both = constants("")
     assert {name: both[name] for name in ("BEFORE", "AFTER")} == {one.name: one.value for one in hordguli.Side}

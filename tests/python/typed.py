@@ -22,10 +22,14 @@ version: str = hordguli.Tables(unicode="17.0").unicode_version
 
 marks: list[hordguli.Break] = hordguli.breaks("a")
 mark: hordguli.Break = text.paragraph(0).breaks[0]
+reason: hordguli.Reason = hordguli.reasons("a", DIRECTION)[0]
+case: Optional[hordguli.BracketCase] = reason.bracket_case
+rule: str = hordguli.break_reasons("a", Options.WHOLE_NUMBERS)[0].rule
 explanation: hordguli.Explanation = hordguli.explain("a")
 character: hordguli.ExplainedCharacter = explanation.characters[0]
 after: hordguli.Break = character.break_mark
 decider: Optional[int] = explanation.paragraphs[0].decided_by
+why: tuple[str, ...] = character.why
 joined: str = explanation.lines[0].logical_text
 
 measured: hordguli.Session = hordguli.Session.open_measured("a", 640, BOTH)
@@ -55,6 +59,8 @@ text.lines(show=BOTH)  # type: ignore[arg-type]
 hordguli.levels("a", SHOWN)  # type: ignore[arg-type]
 hordguli.base_level("a", SHOWN)  # type: ignore[arg-type]
 hordguli.breaks("a", SHOWN)  # type: ignore[arg-type]
+hordguli.reasons("a", SHOWN)  # type: ignore[arg-type]
+hordguli.break_reasons("a", SHOWN)  # type: ignore[arg-type]
 hordguli.row("a", [0], 0, SHOWN)  # type: ignore[arg-type]
 hordguli.display("a", direction=SHOWN)  # type: ignore[call-overload]
 hordguli.display("a", base_dir="rtl")  # type: ignore[call-overload]

@@ -97,6 +97,15 @@ pub const HORDGULI_LEFT: u32 = 0;
 pub const HORDGULI_RIGHT: u32 = 1;
 
 // Levels and properties
+pub const HORDGULI_BRACKET_CASE_B: u8 = 1; // a strong type of the embedding direction inside the pair
+pub const HORDGULI_BRACKET_CASE_C1: u8 = 2; // only the opposite direction inside, and also before the pair
+pub const HORDGULI_BRACKET_CASE_C2: u8 = 3; // only the opposite direction inside, but not before the pair
+pub const HORDGULI_BRACKET_CASE_D: u8 = 4; // no strong type inside, so N0 does not change the pair
+pub const HORDGULI_BRACKET_CASE_NOT_OTHER: u8 = 5; // unpaired: before N0, its type is not ON
+pub const HORDGULI_BRACKET_CASE_NO_MATCH: u8 = 6; // unpaired: no bracket of its sequence matches
+pub const HORDGULI_BRACKET_CASE_PAST_LIMIT: u8 = 7; // unpaired: pairing stopped at 63 open ones (BD16)
+pub const HORDGULI_NEUTRAL_N1: u8 = 1;
+pub const HORDGULI_NEUTRAL_N2: u8 = 2;
 pub const HORDGULI_BIDI_CLASS_L: u8 = 0;
 pub const HORDGULI_BIDI_CLASS_R: u8 = 1;
 pub const HORDGULI_BIDI_CLASS_AL: u8 = 2;
@@ -400,6 +409,65 @@ pub struct hordguli_script_run {
     pub script: u32,
     /// always 0
     pub zero: u32,
+}
+
+/// How the algorithm arrives at the level of a character (UAX #9). A position that does not exist is UINT32_MAX, and a
+/// class that does not exist is 0xFF. A character that X9 removes has no `sequence`, `sos` and `eos`, no classes after
+/// the original one, and no case.
+#[derive(Clone, Copy, Debug, Default, PartialEq, Eq)]
+#[repr(C)]
+pub struct hordguli_reason {
+    /// the embedding, override or isolate initiator that sets its level
+    pub opener: u32,
+    /// of an isolate initiator its PDI; of a PDI its initiator
+    pub matching: u32,
+    /// first character of its isolating run sequence
+    pub sequence: u32,
+    /// of a paired bracket the other one; of a mark that N0 changes, the bracket before it
+    pub partner: u32,
+    /// in the cases B, C1 and C2: the first strong character inside that decides
+    pub inside: u32,
+    /// of a neutral the character before its run; if X9 removes it, that with its level
+    pub left: u32,
+    /// of a neutral the character after its run
+    pub right: u32,
+    /// HORDGULI_BIDI_CLASS_..: original, after X8, W1 to W7, N0 and N2
+    pub class_after: [u8; 11],
+    /// direction of the override that it is directly in, L or R
+    pub override_class: u8,
+    /// after X8
+    pub embedding_level: u8,
+    /// as `hordguli_levels` stores it
+    pub level: u8,
+    /// direction of the sequence's start, L or R
+    pub sos: u8,
+    /// direction of its end
+    pub eos: u8,
+    /// HORDGULI_BRACKET_CASE_.., or 0 if it is no bracket
+    pub bracket_case: u8,
+    /// HORDGULI_NEUTRAL_.., or 0 if its type after N0 is not neutral
+    pub neutral: u8,
+}
+
+/// The rule that decides a break mark (UAX #14), and what the rule reads. A base is a character and what LB9 attaches to
+/// it. A position that does not exist is UINT32_MAX.
+#[derive(Clone, Copy, Debug, Default, PartialEq, Eq)]
+#[repr(C)]
+pub struct hordguli_break_reason {
+    /// where the base before the mark starts
+    pub base: u32,
+    /// where the nearest base that is not a space starts, which rules with `SP*` read
+    pub behind_spaces: u32,
+    /// number of the first rule that applies, such as 8 of LB8a
+    pub rule: u8,
+    /// its letter, such as 'a' of LB8a, or 0
+    pub letter: u8,
+    /// HORDGULI_LINE_CLASS_.. of that base, after LB1 and LB10
+    pub class_before: u8,
+    /// that of the next base or, inside a base, character; 0xFF at the end
+    pub class_after: u8,
+    /// as `hordguli_marks` stores it
+    pub mark: u8,
 }
 
 /// The properties of a character.
@@ -1360,6 +1428,41 @@ extern "C" {
         count: usize,
         capacity: usize,
         marks: *mut u8,
+    ) -> hordguli_status;
+    /// Stores in `reasons` how the algorithm arrives at the level of each character. The levels are those of
+    /// `hordguli_levels`. NULL returns NO_ROOM, unless `count` is 0 (see BUFFERS).
+    ///
+    /// Errors: NULL, OVERLAP, UNKNOWN_OPTION, CLOSED, NO_ROOM, OUT_OF_RANGE (`count` is UINT32_MAX or more),
+    /// NOT_A_CHARACTER, NO_MEMORY.
+    ///
+    /// Cost: time and memory proportional to `count`.
+    ///
+    /// Since: 0.6.
+    pub fn hordguli_reasons(
+        tables: *mut hordguli_tables,
+        direction: u32,
+        characters: *const u32,
+        count: usize,
+        capacity: usize,
+        reasons: *mut hordguli_reason,
+    ) -> hordguli_status;
+    /// Stores in `reasons` which rule decides the break mark after each character. The rules are those of the tables'
+    /// version. `options` is 0 or HORDGULI_WHOLE_NUMBERS. NULL returns NO_ROOM, unless `count` is 0 (see BUFFERS). The marks
+    /// are those of `hordguli_marks`.
+    ///
+    /// Errors: NULL, OVERLAP, UNKNOWN_OPTION, CLOSED, NO_ROOM, OUT_OF_RANGE (`count` is UINT32_MAX or more),
+    /// NOT_A_CHARACTER, NO_MEMORY.
+    ///
+    /// Cost: time and memory proportional to `count`.
+    ///
+    /// Since: 0.6.
+    pub fn hordguli_break_reasons(
+        tables: *mut hordguli_tables,
+        options: u32,
+        characters: *const u32,
+        count: usize,
+        capacity: usize,
+        reasons: *mut hordguli_break_reason,
     ) -> hordguli_status;
     /// Stores the properties of `count` characters in `records`, an array of `count` elements. All properties are from the
     /// tables, except the columns (see COLUMNS). A character that no table file names has line breaking class XX, and no
