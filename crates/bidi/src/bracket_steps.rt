@@ -206,8 +206,8 @@ fn opposite_case(types: &[BidiClass], left: bool, sos: BidiClass, opener: usize)
     }
 }
 
-// Returns the case of a pair, and the index of the strong type that decides. Pairs are nested at most 63 deep,
-// so all these searches together read each type at most 126 times.
+// Returns the case of a pair, and the index of the strong type that decides. Pairs are nested at most 63
+// deep, so all these searches together read each type at most 126 times.
 fn decide(
     types: &[BidiClass],
     left: bool,

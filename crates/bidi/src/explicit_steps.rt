@@ -1,7 +1,8 @@
 //! The explicit level and type of each character of a paragraph (UAX #9, X1 to X8), for callers that
 //! show how the algorithm arrives at a level. `explicit` has the fast pass, which skips the characters
 //! that X9 removes.
-ghost use Rattle.std.specs.Prelude.{◌≡◌, ℕ, ◌-◌, ◌<◌, ◌≤◌, ◌==◌, length, slice_index, unwrap_or, IfOk, OnOk, if◌then◌else◌};
+ghost use Rattle.std.specs.Prelude.{◌≡◌, ℕ, ◌-◌, ◌<◌, ◌≤◌, ◌==◌, length, slice_index, unwrap_or, IfOk};
+ghost use Rattle.std.specs.Prelude.{OnOk, if◌then◌else◌};
 ghost use Rattle.ucd.specs.Classes.{is_separator};
 ghost use Rattle.bidi.specs.Explicit.{opener_at, Applies};
 ghost use Rattle.bidi.specs.Openers.{updated};

@@ -1,6 +1,7 @@
 //! How the algorithm arrives at the level of each character (UAX #9), as a list with one item for each
 //! character of the paragraph and with positions in the paragraph.
-ghost use Rattle.std.specs.Prelude.{◌≡◌, ℕ, ◌<◌, List, length, map, not, option_map, slice_index, slice_index_or, IfOk, OnErr, if◌then◌else◌};
+ghost use Rattle.std.specs.Prelude.{◌≡◌, ℕ, ◌<◌, List, length, map, not, option_map, slice_index};
+ghost use Rattle.std.specs.Prelude.{slice_index_or, IfOk, OnErr, if◌then◌else◌};
 ghost use Rattle.std.specs.List.{range_with_len};
 ghost use Rattle.std.specs.Option.{option_and_then};
 ghost use Rattle.ucd.specs.declared.bidi_class.BidiClass.{BidiClass};
@@ -118,8 +119,8 @@ fn reason_in(kept: &[usize], sequence: &SequenceReasons, k: usize) -> Option<Seq
     })
 }
 
-// Writes what the rules do with each character of a sequence, at its index among the kept characters. If an index
-// occurs twice in the sequence, the first counts.
+// Writes what the rules do with each character of a sequence, at its index among the kept characters. If an
+// index occurs twice in the sequence, the first counts.
 fn put_reasons(
     kept: &[usize],
     sequence: &SequenceReasons,
@@ -175,9 +176,9 @@ fn resolved_in(
     Ok(list)
 }
 
-// Lists with an item for each character. In `classes`, each FSI is replaced by LRI or RLI. `initiators` has the
-// initiators that PDIs match, and `indices` the indices among the kept characters. `resolved` has an item for each
-// kept character only.
+// Lists with an item for each character. In `classes`, each FSI is replaced by LRI or RLI. `initiators` has
+// the initiators that PDIs match, and `indices` the indices among the kept characters. `resolved` has an
+// item for each kept character only.
 #[derive(Clone, Copy)]
 struct Parts<'a> {
     classes: &'a [BidiClass],
@@ -249,8 +250,8 @@ fn last_kept(class: BidiClass, before: Option<usize>, p: usize) -> Option<usize>
     if is_removed(class) { before } else { Some(p) }
 }
 
-// Returns the reason for the level of the character at `p`, which has the given class. `before` is the last kept
-// character before it.
+// Returns the reason for the level of the character at `p`, which has the given class. `before` is the last
+// kept character before it.
 fn level_reason(parts: &Parts<'_>, class: BidiClass, before: Option<usize>, p: usize) -> LevelReason
     requires sized { AreSized (length parts.now.classes.now) parts.now }
     requires within { p < length parts.now.classes.now }
@@ -293,8 +294,8 @@ fn list_of(
     Ok(list)
 }
 
-/// Returns the reasons for the levels of one paragraph, with one item for each character. The text need not be
-/// a paragraph: it may be any list of characters. The time is proportional to the length of the text.
+/// Returns the reasons for the levels of one paragraph, with one item for each character. The text need not
+/// be a paragraph: it may be any list of characters. The time is proportional to the length of the text.
 pub fn level_reasons(
     alloc: Global,
     tables: &Tables,

@@ -244,9 +244,9 @@ impl Engine {
         self.counts.written.get()
     }
 
-    /// Returns whether a paragraph has exactly one line and this line fits the width, so that it stays as it
-    /// is. If spaces at the end of lines are shown, the line must not hide a space that would fit, either. The
-    /// paragraph must have been laid out with this engine's tables and options.
+    /// Returns whether a paragraph has exactly one line and this line fits the width, so that it stays as
+    /// it is. If spaces at the end of lines are shown, the line must not hide a space that would fit,
+    /// either. The paragraph must have been laid out with this engine's tables and options.
     pub fn keeps_lines(&self, laid: &Laid, width: u32) -> bool
         ensures value { result ≡ keeps_lines (rules_of self.now) width laid.now }
         ensures lines { (advances : Option (List ℕ)) → IsTrue result

@@ -1,5 +1,5 @@
-//! Tests the reasons for the levels of worked examples, as a list with positions in the paragraph. The tests must
-//! also pass if any one allocation fails.
+//! Tests the reasons for the levels of worked examples, as a list with positions in the paragraph. The
+//! tests must also pass if any one allocation fails.
 use crate::files::{FILES, read};
 use bidi::{Base, LevelReason, level_reasons};
 use std::alloc::{AllocError, Global};
