@@ -1,6 +1,5 @@
 -- The results of the functions that return how levels and break marks come about.
-use Rattle.std.specs.Prelude.{◌≡◌, ℕ, ◌-◌, ◌^◌, ◌<◌, ◌≤◌, Bool, List, [], ◌∷◌, length, map, min, All, Option, Some, None}
-use Rattle.std.specs.List.{replicate}
+use Rattle.std.specs.Prelude.{◌≡◌, ℕ, ◌-◌, ◌^◌, ◌<◌, ◌≤◌, Bool, List, [], ◌∷◌, length, map, min, replicate, All, Option, Some, None}
 use Rattle.std.specs.Char.{IsScalar}
 use Rattle.ucd.specs.declared.bidi_class.BidiClass.{BidiClass}
 use Rattle.ucd.specs.declared.line_class.LineClass.{LineClass}
