@@ -39,15 +39,15 @@ static int is_removed(size_t k) { return reasons[k].sequence == NO_POSITION; }
 /* Returns whether a position exists and is below a bound. */
 static int is_below(uint32_t position, size_t bound) { return position != NO_POSITION && position < bound; }
 
-/* X1 to X8: the embedding, override or isolate that a character is in */
+/* X1 to X8: the embedding, override or isolate that a character is in. A separator in one has the base level. */
 static void opener_is_right(size_t k) {
     const hordguli_reason *reason = &reasons[k];
     uint8_t wanted = NO_CLASS;
-    if (reason->opener == NO_POSITION) {
-        HOLDS(reason->embedding_level == base);
-    } else if (HOLDS(reason->opener < k)) {
+    int is_at_base = reason->opener == NO_POSITION || reason->class_after[0] == BIDI(B);
+    if (is_at_base) HOLDS(reason->embedding_level == base);
+    if (reason->opener != NO_POSITION && HOLDS(reason->opener < k)) {
         uint8_t class = reasons[reason->opener].class_after[0];
-        HOLDS(is_opener(class) && reason->embedding_level > reasons[reason->opener].embedding_level);
+        HOLDS(is_opener(class) && (is_at_base || reason->embedding_level > reasons[reason->opener].embedding_level));
         wanted = class == BIDI(LRO) ? BIDI(L) : class == BIDI(RLO) ? BIDI(R) : NO_CLASS;
     }
     HOLDS(reason->override_class == wanted);
