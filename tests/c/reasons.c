@@ -2,7 +2,7 @@
  * the header says of each field. Usage: reasons TEXTS, for this many texts with the tables of each version. */
 #include "test.h"
 
-enum { MOST = 400, PIECES = 40, NO_CLASS = 0xFF, CLASSES = 11 };
+enum { MOST = 400, PIECES = 40, NO_CLASS = 0xFF, CLASSES = 11, OPEN = 63 };
 #define NO_POSITION UINT32_MAX
 #define OK(call) HOLDS((call) == HORDGULI_OK)
 #define BIDI(name) HORDGULI_BIDI_CLASS_##name
@@ -10,7 +10,7 @@ enum { MOST = 400, PIECES = 40, NO_CLASS = 0xFF, CLASSES = 11 };
 
 static hordguli_tables tables;
 static uint32_t text[MOST], base;
-static size_t count;
+static size_t length;
 static uint8_t levels[MOST], marks[MOST];
 static hordguli_character characters[MOST];
 static hordguli_reason reasons[MOST];
@@ -57,7 +57,7 @@ static void opener_is_right(size_t k) {
 static void match_is_right(size_t k) {
     const hordguli_reason *reason = &reasons[k];
     if (reason->matching == NO_POSITION) return;
-    if (!HOLDS(reason->matching < count && reasons[reason->matching].matching == k)) return;
+    if (!HOLDS(reason->matching < length && reasons[reason->matching].matching == k)) return;
     if (reason->matching > k)
         HOLDS(is_initiator(reason->class_after[0]) && reasons[reason->matching].class_after[0] == BIDI(PDI));
 }
@@ -108,14 +108,13 @@ static void pair_is_right(size_t k) {
     const hordguli_reason *reason = &reasons[k], *partner;
     uint8_t embedding = direction_of_level(reason->embedding_level);
     size_t opener, closer;
-    if (!HOLDS(reason->partner < count)) return;
+    if (!HOLDS(reason->partner < length)) return;
     partner = &reasons[reason->partner];
     opener = k < reason->partner ? k : reason->partner;
     closer = k < reason->partner ? reason->partner : k;
     HOLDS(partner->partner == k && partner->sequence == reason->sequence && partner->inside == reason->inside);
     HOLDS(partner->bracket_case == reason->bracket_case && partner->class_after[9] == reason->class_after[9]);
     HOLDS(characters[opener].bracket == HORDGULI_BRACKET_OPEN && characters[closer].bracket == HORDGULI_BRACKET_CLOSE);
-    HOLDS(characters[opener].pair == text[closer] || (text[opener] & ~UINT32_C(0xFF)) != (text[closer] & ~UINT32_C(0xFF)));
     HOLDS(reason->class_after[8] == BIDI(ON));
     if (reason->bracket_case == HORDGULI_BRACKET_CASE_D) {
         HOLDS(reason->inside == NO_POSITION && reason->class_after[9] == BIDI(ON));
@@ -130,6 +129,38 @@ static void pair_is_right(size_t k) {
             if (reasons[m].sequence == reason->sequence && is_strong(reasons[m].class_after[8]))
                 HOLDS(direction_of(reasons[m].class_after[8]) != inside);
     }
+}
+
+/* The characters U+2329 and U+3008 are canonically equivalent, and so are U+232A and U+3009. */
+static uint32_t canonical(uint32_t c) { return c == 0x2329 || c == 0x232A ? c - 0x2329 + 0x3008 : c; }
+
+/* BD16: the pairs of a sequence, and which brackets are past the limit */
+static void pairs_are_right(size_t first) {
+    size_t stack[OPEN], open = 0;
+    int is_full = 0;
+    for (size_t k = first; k < length; k++) {
+        const hordguli_reason *reason = &reasons[k];
+        size_t match = open;
+        if (reason->sequence != first || reason->bracket_case == 0 || reason->class_after[8] != BIDI(ON)) continue;
+        if (characters[k].bracket == HORDGULI_BRACKET_OPEN) {
+            is_full |= open == OPEN;
+            if (is_full) HOLDS(reason->bracket_case == HORDGULI_BRACKET_CASE_PAST_LIMIT);
+            else stack[open++] = k;
+            continue;
+        }
+        while (match > 0 && canonical(characters[stack[match - 1]].pair) != canonical(text[k])) match--;
+        if (is_full) {
+            HOLDS(reason->bracket_case == HORDGULI_BRACKET_CASE_PAST_LIMIT);
+        } else if (match == 0) {
+            HOLDS(reason->bracket_case == HORDGULI_BRACKET_CASE_NO_MATCH);
+        } else {
+            HOLDS(reason->partner == stack[match - 1]);
+            for (size_t m = match; m < open; m++) HOLDS(reasons[stack[m]].bracket_case == HORDGULI_BRACKET_CASE_NO_MATCH);
+            open = match - 1;
+        }
+    }
+    for (size_t m = 0; m < open; m++)
+        HOLDS(reasons[stack[m]].bracket_case == (is_full ? HORDGULI_BRACKET_CASE_PAST_LIMIT : HORDGULI_BRACKET_CASE_NO_MATCH));
 }
 
 static void bracket_is_right(size_t k) {
@@ -155,7 +186,7 @@ static void bracket_is_right(size_t k) {
 static void neutral_is_right(size_t k) {
     const hordguli_reason *reason = &reasons[k];
     uint8_t before = reason->sos, after = reason->eos;
-    size_t from = 0, to = count;
+    size_t from = 0, to = length;
     HOLDS((reason->neutral != 0) == !is_strong(reason->class_after[9]));
     if (reason->neutral == 0) {
         HOLDS(reason->left == NO_POSITION && reason->right == NO_POSITION);
@@ -167,7 +198,7 @@ static void neutral_is_right(size_t k) {
         before = direction_of(reasons[reason->left].class_after[9]);
         HOLDS(reasons[reason->left].sequence == reason->sequence && is_strong(reasons[reason->left].class_after[9]));
     }
-    if (reason->right != NO_POSITION && HOLDS(reason->right > k && reason->right < count)) {
+    if (reason->right != NO_POSITION && HOLDS(reason->right > k && reason->right < length)) {
         to = reason->right;
         after = direction_of(reasons[reason->right].class_after[9]);
         HOLDS(reasons[reason->right].sequence == reason->sequence && is_strong(reasons[reason->right].class_after[9]));
@@ -180,10 +211,10 @@ static void neutral_is_right(size_t k) {
 
 static void levels_have_reasons(uint32_t direction) {
     memset(reasons, 7, sizeof reasons);
-    OK(hordguli_base(&tables, direction, text, count, &base));
-    OK(hordguli_levels(&tables, direction, text, count, MOST, levels));
-    OK(hordguli_reasons(&tables, direction, text, count, MOST, reasons));
-    for (size_t k = 0; k < count; k++) {
+    OK(hordguli_base(&tables, direction, text, length, &base));
+    OK(hordguli_levels(&tables, direction, text, length, MOST, levels));
+    OK(hordguli_reasons(&tables, direction, text, length, MOST, reasons));
+    for (size_t k = 0; k < length; k++) {
         uint8_t class = characters[k].bidi_class;
         if ((direction & HORDGULI_LINE_SEPARATORS) != 0 && class == BIDI(B) && text[k] != '\n' && text[k] != '\r') class = BIDI(S);
         HOLDS(reasons[k].level == levels[k] && reasons[k].class_after[0] == class);
@@ -198,8 +229,9 @@ static void levels_have_reasons(uint32_t direction) {
         classes_are_right(k);
         bracket_is_right(k);
         neutral_is_right(k);
+        if (reasons[k].sequence == k) pairs_are_right(k);
     }
-    HOLDS(reasons[count].level == 7);
+    HOLDS(reasons[length].level == 7);
 }
 
 /* ---- Break marks ---- */
@@ -215,17 +247,17 @@ static uint32_t behind_spaces(size_t start) {
 
 static void break_is_right(size_t k) {
     const hordguli_break_reason *reason = &breaks[k];
-    int is_inside = k + 1 < count && breaks[k + 1].base != k + 1;
+    int is_inside = k + 1 < length && breaks[k + 1].base != k + 1;
     if (!HOLDS(is_below(reason->base, k + 1) && breaks[reason->base].base == reason->base)) return;
     HOLDS(reason->base == k || reason->base == breaks[k - 1].base);
     HOLDS(reason->class_before == breaks[reason->base].class_before && reason->class_before != NO_CLASS);
     HOLDS(reason->behind_spaces == behind_spaces(reason->base));
-    HOLDS((reason->rule == 3) == (k + 1 == count) && (reason->class_after == NO_CLASS) == (k + 1 == count));
+    HOLDS((reason->rule == 3) == (k + 1 == length) && (reason->class_after == NO_CLASS) == (k + 1 == length));
     if (reason->rule == 3) HOLDS(reason->mark == HORDGULI_BREAK_MUST);
     if (is_inside) {
         HOLDS(reason->mark == HORDGULI_BREAK_NEVER && (reason->class_after == LINE(CM) || reason->class_after == LINE(ZWJ)));
         HOLDS(text[k] == 0x200D ? reason->rule == 8 && reason->letter == 'a' : reason->rule == 9);
-    } else if (k + 1 < count) {
+    } else if (k + 1 < length) {
         HOLDS(reason->class_after == breaks[k + 1].class_before && reason->rule != 9);
     }
     HOLDS(reason->rule >= 3 && reason->rule != 10 && reason->rule <= 31);
@@ -237,18 +269,20 @@ static void break_is_right(size_t k) {
 
 static void breaks_have_reasons(uint32_t options) {
     memset(breaks, 7, sizeof breaks);
-    OK(hordguli_marks(&tables, options, text, count, MOST, marks));
-    OK(hordguli_break_reasons(&tables, options, text, count, MOST, breaks));
-    for (size_t k = 0; k < count; k++) {
+    OK(hordguli_marks(&tables, options, text, length, MOST, marks));
+    OK(hordguli_break_reasons(&tables, options, text, length, MOST, breaks));
+    for (size_t k = 0; k < length; k++) {
         HOLDS(breaks[k].mark == marks[k]);
         break_is_right(k);
     }
-    HOLDS(breaks[count].mark == 7);
+    HOLDS(breaks[length].mark == 7);
 }
 
 /* ---- Random texts ---- */
 
-static const char *const brackets[] = {"(", ")", "[", "]", "\u2329", "\u232a", "\u3008", "\u3009", "(\u0300", ")\u0301"};
+static const char *const brackets[] = {
+    "(", ")", "[", "]", "\u2329", "\u232a", "\u3008", "\u3009", "(\u0300", ")\u0301", "((((((((((((((((", "a", "\u05d0", "\u05d1", "1",
+};
 enum { BRACKETS = sizeof brackets / sizeof *brackets };
 static const char *const quotes[] = {"\u00ab", "\u00bb", "\u201c", "\u2019", ".", "!", "-", "/", "\ua9a7", "\u25cc"};
 enum { QUOTES = sizeof quotes / sizeof *quotes };
@@ -256,14 +290,14 @@ enum { QUOTES = sizeof quotes / sizeof *quotes };
 /* Puts pieces into `text`: of all kinds, and in part many brackets or quotation marks. */
 static void choose_text(void) {
     size_t theme = below(3), pieces = below(PIECES);
-    count = 0;
-    for (size_t n = 0; n < pieces && count < MOST - 20; n++) {
+    length = 0;
+    for (size_t n = 0; n < pieces && length < MOST - 20; n++) {
         const char *piece = text_pieces[below(TEXT_PIECES)];
-        if (theme == 1 && below(2) == 0) piece = brackets[below(BRACKETS)];
+        if (theme == 1 && below(8) > 0) piece = brackets[below(BRACKETS)];
         if (theme == 2 && below(2) == 0) piece = quotes[below(QUOTES)];
-        count += decoded(piece, text + count);
+        length += decoded(piece, text + length);
     }
-    OK(hordguli_properties(&tables, count, text, characters));
+    OK(hordguli_properties(&tables, length, text, characters));
 }
 
 int main(int words_count, char **words) {
