@@ -4,6 +4,7 @@
 
 #include <errno.h>
 #include <limits.h>
+#include <stddef.h>
 #include <sys/stat.h>
 #include <unistd.h>
 
@@ -1824,6 +1825,198 @@ static void without_session(void) {
     OK(hordguli_marks(&tables, 0, NULL, 0, 0, NULL));
 }
 
+/* ---- Reasons ---- */
+
+/* Bidi classes, `none` for a class or position that does not exist, and an array of equal classes */
+enum {
+    L = HORDGULI_BIDI_CLASS_L, R = HORDGULI_BIDI_CLASS_R, AL_ = HORDGULI_BIDI_CLASS_AL, EN = HORDGULI_BIDI_CLASS_EN,
+    ES = HORDGULI_BIDI_CLASS_ES, ET = HORDGULI_BIDI_CLASS_ET, AN = HORDGULI_BIDI_CLASS_AN, NSM = HORDGULI_BIDI_CLASS_NSM,
+    BN = HORDGULI_BIDI_CLASS_BN, ON = HORDGULI_BIDI_CLASS_ON, LRO = HORDGULI_BIDI_CLASS_LRO, RLE = HORDGULI_BIDI_CLASS_RLE,
+    RLO = HORDGULI_BIDI_CLASS_RLO, PDF = HORDGULI_BIDI_CLASS_PDF, RLI = HORDGULI_BIDI_CLASS_RLI, FSI = HORDGULI_BIDI_CLASS_FSI,
+    PDI = HORDGULI_BIDI_CLASS_PDI, NC = 0xFF
+};
+#define NP UINT32_MAX
+#define B_ HORDGULI_BRACKET_CASE_B
+#define C1 HORDGULI_BRACKET_CASE_C1
+#define C2 HORDGULI_BRACKET_CASE_C2
+#define D_ HORDGULI_BRACKET_CASE_D
+#define NOT_OTHER HORDGULI_BRACKET_CASE_NOT_OTHER
+#define NO_MATCH HORDGULI_BRACKET_CASE_NO_MATCH
+#define N1 HORDGULI_NEUTRAL_N1
+#define N2 HORDGULI_NEUTRAL_N2
+#define ALL(c) {c, c, c, c, c, c, c, c, c, c, c}
+#define TO_N0(c, n) {c, c, c, c, c, c, c, c, c, n, n}
+#define TO_N(c, n) {c, c, c, c, c, c, c, c, c, c, n}
+#define REMOVED(c) {c, NC, NC, NC, NC, NC, NC, NC, NC, NC, NC}
+
+/* A text, a direction, and the reason for the level of the character at `at`. The fields are in the order of the
+ * header: opener, matching, sequence, partner, inside, left, right, class_after, override_class, embedding_level, level,
+ * sos, eos, bracket_case, neutral. */
+static const struct {
+    const char *text;
+    uint32_t direction;
+    size_t at;
+    hordguli_reason wanted;
+} reason_rows[] = {
+    {"a(\u05d0)", 0, 0, {NP, NP, 0, NP, NP, NP, NP, ALL(L), NC, 0, 0, L, L, 0, 0}},
+    {"a(\u05d0)", 0, 1, {NP, NP, 0, 3, 2, NP, NP, TO_N0(ON, L), NC, 0, 0, L, L, C2, 0}},
+    {"a(\u05d0)", 0, 2, {NP, NP, 0, NP, NP, NP, NP, ALL(R), NC, 0, 1, L, L, 0, 0}},
+    {"a(\u05d0)", 0, 3, {NP, NP, 0, 1, 2, NP, NP, TO_N0(ON, L), NC, 0, 0, L, L, C2, 0}},
+    {"\u05d0(a)", HORDGULI_LTR, 1, {NP, NP, 0, 3, 2, NP, NP, TO_N0(ON, L), NC, 0, 0, L, L, B_, 0}},
+    {"\u05d0(\u05d1)", HORDGULI_LTR, 1, {NP, NP, 0, 3, 2, NP, NP, TO_N0(ON, R), NC, 0, 1, L, L, C1, 0}},
+    {"\u05d0(!)\u05d0", HORDGULI_LTR, 1, {NP, NP, 0, 3, NP, 0, 4, TO_N(ON, R), NC, 0, 1, L, L, D_, N1}},
+    {"\u05d0(!)\u05d0", HORDGULI_LTR, 2, {NP, NP, 0, NP, NP, 0, 4, TO_N(ON, R), NC, 0, 1, L, L, 0, N1}},
+    {")a", 0, 0, {NP, NP, 0, NP, NP, NP, 1, TO_N(ON, L), NC, 0, 0, L, L, NO_MATCH, N1}},
+    {"\u05d0!a", HORDGULI_LTR, 1, {NP, NP, 0, NP, NP, 0, 2, TO_N(ON, L), NC, 0, 0, L, L, 0, N2}},
+    /* X4 and X6: the override before the letter and the bracket applies to both. */
+    {"\u202ea(\u202c", 0, 0, {NP, NP, NP, NP, NP, NP, NP, REMOVED(RLO), NC, 0, 0, NC, NC, 0, 0}},
+    {"\u202ea(\u202c", 0, 1, {0, NP, 1, NP, NP, NP, NP, {L, R, R, R, R, R, R, R, R, R, R}, R, 1, 1, R, R, 0, 0}},
+    {"\u202ea(\u202c", 0, 2, {0, NP, 1, NP, NP, NP, NP, {ON, R, R, R, R, R, R, R, R, R, R}, R, 1, 1, R, R, NOT_OTHER, 0}},
+    {"\u202ea(\u202c", 0, 3, {0, NP, NP, NP, NP, 2, NP, REMOVED(PDF), R, 1, 1, NC, NC, 0, 0}},
+    {"\u202d\u05d0", HORDGULI_RTL, 1, {0, NP, 1, NP, NP, NP, NP, {R, L, L, L, L, L, L, L, L, L, L}, L, 2, 2, L, L, 0, 0}},
+    /* Positions count in the paragraph: the second sequence has the letter alone. */
+    {"\u2067a\u2069(b)", 0, 0, {NP, 2, 0, NP, NP, NP, 3, TO_N(RLI, L), NC, 0, 0, L, L, 0, N1}},
+    {"\u2067a\u2069(b)", 0, 1, {0, NP, 1, NP, NP, NP, NP, ALL(L), NC, 1, 2, R, R, 0, 0}},
+    {"\u2067a\u2069(b)", 0, 2, {NP, 0, 0, NP, NP, NP, 3, TO_N(PDI, L), NC, 0, 0, L, L, 0, N1}},
+    {"\u2067a\u2069(b)", 0, 5, {NP, NP, 0, 3, 4, NP, NP, TO_N0(ON, L), NC, 0, 0, L, L, B_, 0}},
+    {"\u2068\u05d0\u2069", 0, 0, {NP, 2, 0, NP, NP, NP, NP, {FSI, RLI, RLI, RLI, RLI, RLI, RLI, RLI, RLI, RLI, L}, NC, 0, 0, L, L, 0, N1}},
+    /* X9: a removed character has the level of the character before it, which can differ from its embedding level. */
+    {"\u202b\u05d0\u00ad", HORDGULI_LTR, 0, {NP, NP, NP, NP, NP, NP, NP, REMOVED(RLE), NC, 0, 0, NC, NC, 0, 0}},
+    {"\u202b\u05d0\u00ad", HORDGULI_LTR, 2, {0, NP, NP, NP, NP, 1, NP, REMOVED(BN), NC, 1, 1, NC, NC, 0, 0}},
+    {"\u2067\u202c\u2069", HORDGULI_LTR, 1, {0, NP, NP, NP, NP, 0, NP, REMOVED(PDF), NC, 1, 0, NC, NC, 0, 0}},
+    /* N0 sets a mark with the bracket before it. */
+    {"\u05d0(a)\u0300", HORDGULI_LTR, 4, {NP, NP, 0, 3, NP, NP, NP, {NSM, NSM, ON, ON, ON, ON, ON, ON, ON, L, L}, NC, 0, 0, L, L, 0, 0}},
+    /* W2 to W7, each at its index */
+    {"\u06271", 0, 1, {NP, NP, 0, NP, NP, NP, NP, {EN, EN, EN, AN, AN, AN, AN, AN, AN, AN, AN}, NC, 1, 2, R, R, 0, 0}},
+    {"\u0627", HORDGULI_LTR, 0, {NP, NP, 0, NP, NP, NP, NP, {AL_, AL_, AL_, AL_, R, R, R, R, R, R, R}, NC, 0, 1, L, L, 0, 0}},
+    {"1+2", HORDGULI_RTL, 1, {NP, NP, 0, NP, NP, NP, NP, {ES, ES, ES, ES, ES, EN, EN, EN, EN, EN, EN}, NC, 1, 2, R, R, 0, 0}},
+    {"$1", HORDGULI_RTL, 0, {NP, NP, 0, NP, NP, NP, NP, {ET, ET, ET, ET, ET, ET, EN, EN, EN, EN, EN}, NC, 1, 2, R, R, 0, 0}},
+    {"+", HORDGULI_RTL, 0, {NP, NP, 0, NP, NP, NP, NP, {ES, ES, ES, ES, ES, ES, ES, ON, ON, ON, R}, NC, 1, 1, R, R, 0, N1}},
+    {"a1", 0, 1, {NP, NP, 0, NP, NP, NP, NP, {EN, EN, EN, EN, EN, EN, EN, EN, L, L, L}, NC, 0, 0, L, L, 0, 0}},
+};
+
+/* Returns an address at which this program has no memory, for arrays that are too long to be read or written. */
+static void *far_away(uintptr_t number) { return (void *)(number << 40); }
+
+static void reasons(void) {
+    static const uint32_t characters[] = {'a', '(', 0x5D0, ')'}, no_character[] = {'a', 0xD800};
+    static const uint32_t separators[] = {0x5D0, 0x85};
+    enum { WITHOUT_PADDING = offsetof(hordguli_reason, neutral) + 1 };
+    hordguli_reason found[130];
+    uint32_t text_characters[130];
+    for (size_t k = 0; k < sizeof reason_rows / sizeof *reason_rows; k++) {
+        size_t count = decoded(reason_rows[k].text, text_characters);
+        memset(found, 77, sizeof found);
+        OK(hordguli_reasons(&tables, reason_rows[k].direction, text_characters, count, 130, found));
+        if (!HOLDS(memcmp(&found[reason_rows[k].at], &reason_rows[k].wanted, WITHOUT_PADDING) == 0))
+            fprintf(stderr, "calls.c: row %zu of the reasons\n", k);
+        HOLDS(found[count].opener == 0x4D4D4D4D && found[count].neutral == 77);
+    }
+    /* BD16: 63 open brackets are paired, and with 64 none is. */
+    for (size_t open = 63; open <= 64; open++) {
+        for (size_t k = 0; k < 2 * open; k++) text_characters[k] = k < open ? '(' : ')';
+        OK(hordguli_reasons(&tables, 0, text_characters, 2 * open, 130, found));
+        for (size_t k = 0; k < 2 * open; k++) {
+            HOLDS(found[k].bracket_case == (open == 63 ? D_ : HORDGULI_BRACKET_CASE_PAST_LIMIT));
+            HOLDS(found[k].partner == (open == 63 ? 125 - k : NP));
+        }
+    }
+    OK(hordguli_reasons(&tables, 0, separators, 2, 130, found));
+    HOLDS(found[1].class_after[0] == HORDGULI_BIDI_CLASS_B);
+    OK(hordguli_reasons(&tables, HORDGULI_LINE_SEPARATORS, separators, 2, 130, found));
+    HOLDS(found[1].class_after[0] == HORDGULI_BIDI_CLASS_S);
+
+    found[0].opener = 77;
+    IS(hordguli_reasons(NULL, 0, characters, 4, 4, found), NULL);
+    IS(hordguli_reasons(&tables, 0, NULL, 4, 4, found), NULL);
+    IS(hordguli_reasons(&tables, 0, characters, 4, 4, NULL), NULL);
+    IS(hordguli_reasons(&tables, 0, text_characters, 4, 1, (hordguli_reason *)text_characters), OVERLAP);
+    IS(hordguli_reasons(&tables, 0, characters, 4, 1, (hordguli_reason *)&tables), OVERLAP);
+    IS(hordguli_reasons(&tables, 0, characters, SIZE_MAX / 2, 4, found), OVERLAP);
+    IS(hordguli_reasons(&tables, HORDGULI_WHOLE_NUMBERS, characters, 4, 4, found), UNKNOWN_OPTION);
+    IS(hordguli_reasons(&tables, HORDGULI_LTR | HORDGULI_RTL, characters, 4, 4, found), UNKNOWN_OPTION);
+    IS(hordguli_reasons(&no_tables, 0, characters, 4, 4, found), CLOSED);
+    IS(hordguli_reasons(&tables, 0, characters, 4, 3, found), NO_ROOM);
+    IS(hordguli_reasons(&tables, 0, characters, 4, 0, NULL), NO_ROOM);
+    IS(hordguli_reasons(&tables, 0, no_character, 2, 4, found), NOT_A_CHARACTER);
+    IS(hordguli_reasons(&tables, 0, far_away(1), UINT32_MAX, UINT32_MAX, far_away(2)), OUT_OF_RANGE);
+    HOLDS(found[0].opener == 77);
+    OK(hordguli_reasons(&tables, 0, NULL, 0, 0, NULL));
+}
+
+/* A text, options, and the reason for the break mark after the character at `at`: base, behind_spaces, rule, letter,
+ * class_before, class_after, mark. */
+#define CLASS(c) HORDGULI_LINE_CLASS_##c
+static const struct {
+    uint32_t version;
+    const char *text;
+    uint32_t options;
+    size_t at;
+    hordguli_break_reason wanted;
+} break_reason_rows[] = {
+    {15, "a\u0301  (", 0, 0, {0, 0, 9, 0, CLASS(AL), CLASS(CM), HORDGULI_BREAK_NEVER}},
+    {15, "a\u0301  (", 0, 1, {0, 0, 7, 0, CLASS(AL), CLASS(SP), HORDGULI_BREAK_NEVER}},
+    {15, "a\u0301  (", 0, 2, {2, 0, 7, 0, CLASS(SP), CLASS(SP), HORDGULI_BREAK_NEVER}},
+    {15, "a\u0301  (", 0, 3, {3, 0, 18, 0, CLASS(SP), CLASS(OP), HORDGULI_BREAK_MAY}},
+    {15, "a\u0301  (", 0, 4, {4, 4, 3, 0, CLASS(OP), 0xFF, HORDGULI_BREAK_MUST}},
+    {15, " ", 0, 0, {0, NP, 3, 0, CLASS(SP), 0xFF, HORDGULI_BREAK_MUST}},
+    {15, "a(", 0, 0, {0, 0, 30, 0, CLASS(AL), CLASS(OP), HORDGULI_BREAK_NEVER}},
+    {15, "( a", 0, 1, {1, 0, 14, 0, CLASS(SP), CLASS(AL), HORDGULI_BREAK_NEVER}},
+    {15, "\u200da", 0, 0, {0, 0, 8, 'a', CLASS(AL), CLASS(AL), HORDGULI_BREAK_NEVER}},
+    {15, "a\u200d\u0301b", 0, 0, {0, 0, 9, 0, CLASS(AL), CLASS(ZWJ), HORDGULI_BREAK_NEVER}},
+    {15, "a\u200d\u0301b", 0, 1, {0, 0, 8, 'a', CLASS(AL), CLASS(CM), HORDGULI_BREAK_NEVER}},
+    {15, "a\u200d\u0301b", 0, 2, {0, 0, 28, 0, CLASS(AL), CLASS(AL), HORDGULI_BREAK_NEVER}},
+    {15, "\u4e00\u4e00", 0, 0, {0, 0, 31, 0, CLASS(ID), CLASS(ID), HORDGULI_BREAK_MAY}},
+    {15, "\u3041a", 0, 0, {0, 0, 31, 0, CLASS(NS), CLASS(AL), HORDGULI_BREAK_MAY}}, /* (LB1: CJ is NS) */
+    {15, "\u261d\U0001f3fb", 0, 0, {0, 0, 30, 'b', CLASS(EB), CLASS(EM), HORDGULI_BREAK_NEVER}},
+    {15, "1/%", 0, 1, {1, 1, 31, 0, CLASS(SY), CLASS(PO), HORDGULI_BREAK_MAY}},
+    {15, "1/%", HORDGULI_WHOLE_NUMBERS, 1, {1, 1, 25, 0, CLASS(SY), CLASS(PO), HORDGULI_BREAK_NEVER}},
+    {17, "1/%", 0, 1, {1, 1, 25, 0, CLASS(SY), CLASS(PO), HORDGULI_BREAK_NEVER}},
+    {15, "\u00aba", 0, 0, {0, 0, 19, 0, CLASS(QU), CLASS(AL), HORDGULI_BREAK_NEVER}},
+    {17, "\u00aba", 0, 0, {0, 0, 15, 'a', CLASS(QU), CLASS(AL), HORDGULI_BREAK_NEVER}},
+    {15, "'(", 0, 0, {0, 0, 15, 0, CLASS(QU), CLASS(OP), HORDGULI_BREAK_NEVER}},
+    {15, " \u00bb", 0, 0, {0, NP, 18, 0, CLASS(SP), CLASS(QU), HORDGULI_BREAK_MAY}},
+    {17, " \u00bb", 0, 0, {0, NP, 15, 'b', CLASS(SP), CLASS(QU), HORDGULI_BREAK_NEVER}},
+    {17, " .5", 0, 0, {0, NP, 15, 'c', CLASS(SP), CLASS(IS), HORDGULI_BREAK_MAY}},
+    {15, "a.", 0, 0, {0, 0, 13, 0, CLASS(AL), CLASS(IS), HORDGULI_BREAK_NEVER}},
+    {17, "a.", 0, 0, {0, 0, 15, 'd', CLASS(AL), CLASS(IS), HORDGULI_BREAK_NEVER}},
+};
+
+static void break_reasons(void) {
+    static const uint32_t characters[] = {'a', '(', 0x5D0, ')'}, no_character[] = {'a', 0x110000};
+    enum { WITHOUT_PADDING = offsetof(hordguli_break_reason, mark) + 1 };
+    hordguli_tables of_17 = HORDGULI_TABLES_INIT;
+    hordguli_break_reason found[8];
+    uint32_t text_characters[8];
+    OK(hordguli_tables_open_builtin_version(&of_17, HORDGULI_UNICODE_17_0));
+    for (size_t k = 0; k < sizeof break_reason_rows / sizeof *break_reason_rows; k++) {
+        size_t count = decoded(break_reason_rows[k].text, text_characters);
+        hordguli_tables *chosen = break_reason_rows[k].version == 17 ? &of_17 : &tables;
+        memset(found, 77, sizeof found);
+        OK(hordguli_break_reasons(chosen, break_reason_rows[k].options, text_characters, count, 8, found));
+        if (!HOLDS(memcmp(&found[break_reason_rows[k].at], &break_reason_rows[k].wanted, WITHOUT_PADDING) == 0))
+            fprintf(stderr, "calls.c: row %zu of the reasons of breaks\n", k);
+        HOLDS(found[count].base == 0x4D4D4D4D && found[count].mark == 77);
+    }
+    hordguli_tables_close(&of_17);
+
+    found[0].base = 77;
+    IS(hordguli_break_reasons(NULL, 0, characters, 4, 4, found), NULL);
+    IS(hordguli_break_reasons(&tables, 0, NULL, 4, 4, found), NULL);
+    IS(hordguli_break_reasons(&tables, 0, characters, 4, 4, NULL), NULL);
+    IS(hordguli_break_reasons(&tables, 0, text_characters, 4, 1, (hordguli_break_reason *)text_characters), OVERLAP);
+    IS(hordguli_break_reasons(&tables, 0, characters, 4, 1, (hordguli_break_reason *)&tables), OVERLAP);
+    IS(hordguli_break_reasons(&tables, 0, characters, SIZE_MAX / 2, 4, found), OVERLAP);
+    IS(hordguli_break_reasons(&tables, HORDGULI_LTR, characters, 4, 4, found), UNKNOWN_OPTION);
+    IS(hordguli_break_reasons(&no_tables, 0, characters, 4, 4, found), CLOSED);
+    IS(hordguli_break_reasons(&tables, 0, characters, 4, 3, found), NO_ROOM);
+    IS(hordguli_break_reasons(&tables, 0, characters, 4, 0, NULL), NO_ROOM);
+    IS(hordguli_break_reasons(&tables, 0, no_character, 2, 4, found), NOT_A_CHARACTER);
+    IS(hordguli_break_reasons(&tables, 0, far_away(1), UINT32_MAX, UINT32_MAX, far_away(2)), OUT_OF_RANGE);
+    HOLDS(found[0].base == 77);
+    OK(hordguli_break_reasons(&tables, 0, NULL, 0, 0, NULL));
+}
+
 static void properties(void) {
     static const uint32_t characters[] = {'a', '(', ')', '<', 0x5D0, 0x5B8, 0x4E00, 0x3008, '\t', 0x378};
     static const hordguli_character wanted[] = {
@@ -2076,8 +2269,12 @@ static void null_array_is_too_small(void) {
 #undef NOTHING
     IS(hordguli_levels(&tables, 0, characters, 2, 0, NULL), NO_ROOM);
     IS(hordguli_marks(&tables, 0, characters, 2, 0, NULL), NO_ROOM);
+    IS(hordguli_reasons(&tables, 0, characters, 2, 0, NULL), NO_ROOM);
+    IS(hordguli_break_reasons(&tables, 0, characters, 2, 0, NULL), NO_ROOM);
     OK(hordguli_levels(&tables, 0, NULL, 0, 0, NULL));
     OK(hordguli_marks(&tables, 0, NULL, 0, 0, NULL));
+    OK(hordguli_reasons(&tables, 0, NULL, 0, 0, NULL));
+    OK(hordguli_break_reasons(&tables, 0, NULL, 0, 0, NULL));
 }
 
 /* A function with several arrays skips those that are NULL. If all are NULL, any capacity is enough. */
@@ -2144,6 +2341,8 @@ int main(int count, char **words) {
     directions_are_one_or_refused();
     line_separators_alone_end_paragraphs();
     without_session();
+    reasons();
+    break_reasons();
     properties();
     widths_are_of_their_version();
     rows();

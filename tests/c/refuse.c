@@ -89,6 +89,8 @@ static const uint32_t characters[] = {0x5D0, '(', 'a', ')', 0x2067, '1', 0x2069,
 static const uint8_t levels_before[] = {1, 1, 2, 1, 1, 2, 1, 1, 2};
 static uint8_t found_levels[9], found_marks[9], found_row[9];
 static uint32_t found_visual[9];
+static hordguli_reason found_reasons[9];
+static hordguli_break_reason found_break_reasons[9];
 static hordguli_run found_runs[9];
 static uint32_t found_base;
 static hordguli_cluster found_cluster;
@@ -107,7 +109,7 @@ static hordguli_line_info found_info;
 
 enum {
     BUILTIN, OPEN_17, OPEN_TABLES, OPEN, OPEN_MEASURED, ADVANCES, JOIN, MEASURED_WIDTH, INSERT, REPLACE, WIDTH, CLUSTER, WORD, CARET, STEP, EDGE, NEAREST, CLUSTERS, DELETE, BASE, LEVELS,
-    MARKS, ROW, ROW_RUNS, TEXT_CLUSTERS, SCRIPT_RUNS, LAYOUT, LINES, TEXT, PAGE, STEPS
+    MARKS, REASONS, BREAK_REASONS, ROW, ROW_RUNS, TEXT_CLUSTERS, SCRIPT_RUNS, LAYOUT, LINES, TEXT, PAGE, STEPS
 };
 
 static const char start[] = "ab \u05d0\u05d1 12\nx\n";
@@ -155,6 +157,8 @@ static hordguli_status step(int k) {
         case BASE: return hordguli_base(&tables, 0, characters, 9, &found_base);
         case LEVELS: return hordguli_levels(&tables, 0, characters, 9, 9, found_levels);
         case MARKS: return hordguli_marks(&tables, 0, characters, 9, 9, found_marks);
+        case REASONS: return hordguli_reasons(&tables, 0, characters, 9, 9, found_reasons);
+        case BREAK_REASONS: return hordguli_break_reasons(&tables, 0, characters, 9, 9, found_break_reasons);
         case ROW:
             return hordguli_row(&tables, 0, 1, 9, characters, levels_before, 9, found_visual, found_row, NULL, NULL);
         case ROW_RUNS:
@@ -218,6 +222,7 @@ int main(int count, char **words) {
             memset(found_levels, 77, sizeof found_levels);
             memset(found_marks, 77, sizeof found_marks);
             memset(found_row, 77, sizeof found_row);
+            found_reasons[0].level = found_break_reasons[0].rule = 77;
             found_visual[0] = 77;
             found_runs[0].level = found_scripts[0].script = 77;
             found_base = 77;
@@ -235,6 +240,7 @@ int main(int count, char **words) {
             HOLDS(memcmp(&damage, &no_damage, sizeof damage) == 0 && found_base == 77);
             HOLDS(found_levels[0] == 77 && found_marks[0] == 77 && found_length == 77 && found_bytes[0] == '?');
             HOLDS(found_row[0] == 77 && found_visual[0] == 77 && found_runs[0].level == 77);
+            HOLDS(found_reasons[0].level == 77 && found_break_reasons[0].rule == 77);
             HOLDS(found_scripts[0].script == 77);
             HOLDS(found_edge.pos == 77 && found_caret.line == 77 && found_moved == 77 && found_ends[0] == 77);
             HOLDS(k != OPEN_TABLES || tables.at == NULL);

@@ -67,6 +67,9 @@ static void constants_have_their_numbers(void) {
     NUMBER(PRINT_LEVELS, 16), NUMBER(PRINT_PADDED, 32), NUMBER(PRINT_MIRRORED, 64), NUMBER(PRINT_DEFAULT, 97);
     NUMBER(BEFORE, 0), NUMBER(AFTER, 1), NUMBER(LEFT, 0), NUMBER(RIGHT, 1);
     NUMBER(BREAK_NEVER, 0), NUMBER(BREAK_MAY, 1), NUMBER(BREAK_MUST, 2);
+    NUMBER(BRACKET_CASE_B, 1), NUMBER(BRACKET_CASE_C1, 2), NUMBER(BRACKET_CASE_C2, 3), NUMBER(BRACKET_CASE_D, 4);
+    NUMBER(BRACKET_CASE_NOT_OTHER, 5), NUMBER(BRACKET_CASE_NO_MATCH, 6), NUMBER(BRACKET_CASE_PAST_LIMIT, 7);
+    NUMBER(NEUTRAL_N1, 1), NUMBER(NEUTRAL_N2, 2);
     NUMBER(MARK, 1), NUMBER(WIDE, 2), NUMBER(BRACKET_NONE, 0), NUMBER(BRACKET_OPEN, 1), NUMBER(BRACKET_CLOSE, 2);
     NUMBER(BIDI_CLASS_L, 0), NUMBER(BIDI_CLASS_B, 10), NUMBER(BIDI_CLASS_PDI, 22);
     NUMBER(LINE_CLASS_BK, 0), NUMBER(LINE_CLASS_B2, 10), NUMBER(LINE_CLASS_XX, 42), NUMBER(LINE_CLASS_VI, 48);
@@ -167,6 +170,30 @@ FIELD(line_info, padding, WORDS(4), size_t);
 FIELD(line_info, base, WORDS(5), uint32_t);
 FIELD(line_info, first, WORDS(5) + 4, uint32_t);
 SIZE(line_info, WORDS(5) + 8);
+FIELD(reason, opener, 0, uint32_t);
+FIELD(reason, matching, 4, uint32_t);
+FIELD(reason, sequence, 8, uint32_t);
+FIELD(reason, partner, 12, uint32_t);
+FIELD(reason, inside, 16, uint32_t);
+FIELD(reason, left, 20, uint32_t);
+FIELD(reason, right, 24, uint32_t);
+FIELD(reason, class_after, 28, uint8_t[11]);
+FIELD(reason, override_class, 39, uint8_t);
+FIELD(reason, embedding_level, 40, uint8_t);
+FIELD(reason, level, 41, uint8_t);
+FIELD(reason, sos, 42, uint8_t);
+FIELD(reason, eos, 43, uint8_t);
+FIELD(reason, bracket_case, 44, uint8_t);
+FIELD(reason, neutral, 45, uint8_t);
+SIZE(reason, 48);
+FIELD(break_reason, base, 0, uint32_t);
+FIELD(break_reason, behind_spaces, 4, uint32_t);
+FIELD(break_reason, rule, 8, uint8_t);
+FIELD(break_reason, letter, 9, uint8_t);
+FIELD(break_reason, class_before, 10, uint8_t);
+FIELD(break_reason, class_after, 11, uint8_t);
+FIELD(break_reason, mark, 12, uint8_t);
+SIZE(break_reason, 16);
 FIELD(character, mirror, 0, uint32_t);
 FIELD(character, pair, 4, uint32_t);
 FIELD(character, flags, 8, uint32_t);
@@ -483,6 +510,57 @@ static void paragraphs_have_each_value_in_its_field(void) {
     hordguli_session_close(&session);
 }
 
+static void is_reason(const hordguli_reason *reason, const uint32_t positions[7], const uint8_t classes[11],
+                      const uint8_t rest[7]) {
+    HOLDS(reason->opener == positions[0]), HOLDS(reason->matching == positions[1]);
+    HOLDS(reason->sequence == positions[2]), HOLDS(reason->partner == positions[3]);
+    HOLDS(reason->inside == positions[4]), HOLDS(reason->left == positions[5]), HOLDS(reason->right == positions[6]);
+    HOLDS(memcmp(reason->class_after, classes, 11) == 0);
+    HOLDS(reason->override_class == rest[0]), HOLDS(reason->embedding_level == rest[1]), HOLDS(reason->level == rest[2]);
+    HOLDS(reason->sos == rest[3]), HOLDS(reason->eos == rest[4]);
+    HOLDS(reason->bracket_case == rest[5]), HOLDS(reason->neutral == rest[6]);
+}
+
+/* Classes are numbers: L is 0, R is 1, ON is 13, RLI is 20, and 255 stands for none. */
+static void reasons_have_each_value_in_its_field(void) {
+    static const uint32_t in_isolate[] = {0x2067, 'a', '(', 0x5D0, ')', ' ', '[', ']', 'b', 0x2069};
+    static const uint32_t embedding[] = {0x5D0, 0x202A, 'a'}, override[] = {0x202E, 'a'};
+    static const uint32_t none = UINT32_MAX;
+    static const uint8_t pair[] = {13, 13, 13, 13, 13, 13, 13, 13, 13, 1, 1};
+    static const uint8_t neutrals[] = {13, 13, 13, 13, 13, 13, 13, 13, 13, 13, 1};
+    static const uint8_t initiator[] = {20, 20, 20, 20, 20, 20, 20, 20, 20, 20, 0};
+    static const uint8_t letter[] = {1, 1, 1, 1, 1, 1, 1, 1, 1, 1, 1};
+    static const uint8_t overridden[] = {0, 1, 1, 1, 1, 1, 1, 1, 1, 1, 1};
+    static const uint8_t removed[] = {14, 255, 255, 255, 255, 255, 255, 255, 255, 255, 255};
+    hordguli_reason found[10];
+    OK(hordguli_reasons(&tables, 2, in_isolate, 10, 10, found));
+    is_reason(&found[0], (const uint32_t[]){none, 9, 0, none, none, none, none}, initiator,
+              (const uint8_t[]){255, 0, 0, 0, 0, 0, 1});
+    is_reason(&found[2], (const uint32_t[]){0, none, 1, 4, 3, none, none}, pair, (const uint8_t[]){255, 1, 1, 1, 1, 1, 0});
+    is_reason(&found[6], (const uint32_t[]){0, none, 1, 7, none, 4, 8}, neutrals,
+              (const uint8_t[]){255, 1, 1, 1, 1, 4, 2});
+    OK(hordguli_reasons(&tables, 3, embedding, 3, 10, found));
+    is_reason(&found[0], (const uint32_t[]){none, none, 0, none, none, none, none}, letter,
+              (const uint8_t[]){255, 1, 1, 1, 0, 0, 0});
+    is_reason(&found[1], (const uint32_t[]){none, none, none, none, none, 0, none}, removed,
+              (const uint8_t[]){255, 1, 1, 255, 255, 0, 0});
+    OK(hordguli_reasons(&tables, 2, override, 2, 10, found));
+    is_reason(&found[1], (const uint32_t[]){0, none, 1, none, none, none, none}, overridden,
+              (const uint8_t[]){1, 1, 1, 1, 1, 0, 0});
+}
+
+/* SP is 6, ZWJ 9, AL 28 and ID 35. */
+static void break_reasons_have_each_value_in_its_field(void) {
+    static const uint32_t characters[] = {'(', 'a', ' ', ' ', 0x4E00, 0x200D, 'b'};
+    hordguli_break_reason found[7];
+    OK(hordguli_break_reasons(&tables, 0, characters, 7, 7, found));
+    HOLDS(found[3].base == 3), HOLDS(found[3].behind_spaces == 1), HOLDS(found[3].rule == 18), HOLDS(found[3].letter == 0);
+    HOLDS(found[3].class_before == 6), HOLDS(found[3].class_after == 35), HOLDS(found[3].mark == 1);
+    HOLDS(found[5].base == 4), HOLDS(found[5].behind_spaces == 4), HOLDS(found[5].rule == 8), HOLDS(found[5].letter == 'a');
+    HOLDS(found[5].class_before == 35), HOLDS(found[5].class_after == 28), HOLDS(found[5].mark == 0);
+    HOLDS(found[6].base == 6), HOLDS(found[6].class_after == 255), HOLDS(found[6].rule == 3), HOLDS(found[6].mark == 2);
+}
+
 /* In each call, parameters of the same type have different values, chosen so that swapping them changes the result. */
 static void parameters_are_not_exchanged(void) {
     hordguli_session session = HORDGULI_SESSION_INIT;
@@ -493,9 +571,13 @@ static void parameters_are_not_exchanged(void) {
     uint32_t both[4] = {77, 77, 77, 77}, maps[2][4] = {{77, 77, 77, 77}, {77, 77, 77, 77}};
     hordguli_run runs[4] = {{77, 77, 77, 77}};
     hordguli_script_run scripts[4] = {{77, 77, 77, 77}};
+    hordguli_reason reasons[4];
+    hordguli_break_reason break_reasons[4];
     static const uint32_t characters[] = {'a', ' ', 0x5D0, 'b'}, row[] = {'(', 0x5D0, '1', ' '};
     static const uint8_t row_levels[] = {1, 1, 2, 1};
     static const char printed[] = "12 \u05d5\u05b0\u05d4\u05b0\u05d3\nlast\n";
+    memset(reasons, 77, sizeof reasons);
+    memset(break_reasons, 77, sizeof break_reasons);
     reopen(&session, mixed, 8);
     OK(hordguli_lines_utf8(&session, 3, 2, 1, sizeof bytes, bytes, &length));
     HOLDS(length == sizeof printed - 1 && memcmp(bytes, printed, length) == 0);
@@ -524,6 +606,11 @@ static void parameters_are_not_exchanged(void) {
     HOLDS(found[0] == 2 && found[1] == 1 && found[2] == 1 && found[3] == 77);
     OK(hordguli_marks(&tables, 16, characters, 3, 4, found));
     HOLDS(found[0] == 0 && found[1] == 1 && found[2] == 2 && found[3] == 77);
+    /* direction 3, 3 characters and a capacity of 4 */
+    OK(hordguli_reasons(&tables, 3, characters, 3, 4, reasons));
+    HOLDS(reasons[0].level == 2 && reasons[2].level == 1 && reasons[3].level == 77);
+    OK(hordguli_break_reasons(&tables, 16, characters, 3, 4, break_reasons));
+    HOLDS(break_reasons[1].rule == 18 && break_reasons[2].mark == 2 && break_reasons[3].rule == 77);
     OK(hordguli_row(&tables, 8, 0, 4, row, row_levels, 4, both, found, maps[0], maps[1]));
     HOLDS(both[0] == '1' && both[1] == 0x5D0 && both[2] == ')' && both[3] == ' ');
     HOLDS(found[0] == 1 && found[1] == 1 && found[2] == 2 && found[3] == 0);
@@ -554,7 +641,7 @@ typedef struct memory {
     hordguli_bytes files[7];
     hordguli_table_fault fault;
     uint64_t out[8];
-    uint64_t arrays[5][ELEMENTS];
+    uint64_t arrays[5][6 * ELEMENTS]; /* an element has at most 48 bytes */
     uint32_t characters[ELEMENTS];
     uint8_t levels[ELEMENTS];
 } memory;
@@ -747,6 +834,11 @@ WAY(not_a_character, static const uint32_t wrong[] = {0xD800, 0xDFFF, 0x110000, 
     own.characters[which % 2 == 0 ? 0 : c->count - 1] = wrong[which / 2])
 WAY(level_above, own.levels[which % 2 == 0 ? 0 : c->count - 1] = which / 2 == 0 ? 127 : 255)
 WAY(base_above, a->base = which == 0 ? 2 : UINT32_MAX)
+/* The array is directly behind the characters, so they do not overlap. A refused call reads and writes neither. */
+WAY(many_positions, a->count = a->capacity = (size_t)UINT32_MAX + which;
+    a->arrays[0] = (void *)((uintptr_t)a->characters + 4 * a->count))
+WAY(many_positions_not_a_character, many_positions(a, c, which); own.characters[0] = 0xD800)
+WAY(many_positions_too_few, a->count = (size_t)UINT32_MAX + which)
 WAY(one_too_few, a->capacity = c->needed - 1)
 WAY(no_elements, a->capacity = 0)
 WAY(no_elements_null, a->capacity = 0; a->arrays[0] = NULL)
@@ -1045,6 +1137,15 @@ static const way of_elements[] = {
     END,
 };
 
+/* Records with positions in 32 bits */
+#define POSITIONS_FIT "OUT_OF_RANGE (`count` is UINT32_MAX or more)"
+static const way of_reasons[] = {
+    {POSITIONS_FIT, COUNT | CAPACITY | ARRAYS, many_positions, 0, 1},
+    {POSITIONS_FIT ", NOT_A_CHARACTER", NUMBERS | COUNT | CAPACITY | ARRAYS, many_positions_not_a_character, 0, 1},
+    {"NO_ROOM, " POSITIONS_FIT, COUNT, many_positions_too_few, 0, 1},
+    END,
+};
+
 static const way of_records[] = {
     {"NULL", ARRAYS, null_array, 0, 0},
     {"OVERLAP", ARRAYS | TABLES_IS, array_at_tables, 0, 0},
@@ -1227,6 +1328,8 @@ MAKE(layout, a->tables, a->flags, a->width, a->direction, a->text, a->length, a-
 MAKE(base, a->tables, a->flags, a->characters, a->count, a->out)
 MAKE(levels, a->tables, a->flags, a->characters, a->count, a->capacity, a->arrays[0])
 MAKE(marks, a->tables, a->flags, a->characters, a->count, a->capacity, a->arrays[0])
+MAKE(reasons, a->tables, a->flags, a->characters, a->count, a->capacity, a->arrays[0])
+MAKE(break_reasons, a->tables, a->flags, a->characters, a->count, a->capacity, a->arrays[0])
 MAKE(clusters, a->count, a->characters, a->capacity, a->arrays[0], a->out)
 MAKE(script_runs, a->tables, a->count, a->characters, a->capacity, a->arrays[0], a->out)
 MAKE(row, a->tables, a->flags, a->base, a->count, a->characters, a->levels, a->capacity, a->arrays[0], a->arrays[1],
@@ -1249,6 +1352,7 @@ MAKE(properties, a->tables, a->count, a->characters, a->arrays[0])
 #define READING "NULL, OVERLAP, CLOSED, OUT_OF_RANGE"
 #define ON_EDGE "NULL, OVERLAP, UNKNOWN_OPTION, CLOSED, OUT_OF_RANGE, NO_MEMORY"
 #define COMPUTING "NULL, OVERLAP, UNKNOWN_OPTION, CLOSED, NO_ROOM, NOT_A_CHARACTER, NO_MEMORY"
+#define REASONING "NULL, OVERLAP, UNKNOWN_OPTION, CLOSED, NO_ROOM, " POSITIONS_FIT ", NOT_A_CHARACTER, NO_MEMORY"
 
 /* The session has 18 characters, 3 lines and 3 paragraphs. */
 static const call calls[] = {
@@ -1364,6 +1468,8 @@ static const call calls[] = {
          .ways = {of_characters, of_base, of_direction}, .out_size = sizeof(uint32_t), .count = 5),
     CALL(levels, COMPUTING, .ways = {of_characters, of_elements, of_direction}, .count = 5, .needed = 5),
     CALL(marks, COMPUTING, .ways = {of_characters, of_elements, of_marks}, .count = 5, .needed = 5),
+    CALL(reasons, REASONING, .ways = {of_characters, of_elements, of_direction, of_reasons}, .count = 5, .needed = 5),
+    CALL(break_reasons, REASONING, .ways = {of_characters, of_elements, of_marks, of_reasons}, .count = 5, .needed = 5),
     CALL(row, "NULL, OVERLAP, UNKNOWN_OPTION, CLOSED, NO_ROOM, NOT_A_CHARACTER, OUT_OF_RANGE, NO_MEMORY",
          .ways = {of_characters, of_row_levels, of_row, of_row_options}, .count = 5, .needed = 5),
     CALL(row_runs, "NULL, OVERLAP, CLOSED, NOT_A_CHARACTER, OUT_OF_RANGE, NO_MEMORY, NO_ROOM",
@@ -1713,6 +1819,8 @@ int main(int count, char **arguments) {
     edges_have_each_value_in_their_field();
     lines_have_each_value_in_its_field();
     paragraphs_have_each_value_in_its_field();
+    reasons_have_each_value_in_its_field();
+    break_reasons_have_each_value_in_its_field();
     parameters_are_not_exchanged();
     errors_are_those_of_the_header(arguments[2]);
     pairs(arguments[1]);

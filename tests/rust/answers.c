@@ -218,6 +218,40 @@ static void text_answers(void) {
     if (succeeds("lines_utf8", hordguli_lines_utf8(&session, first, lines, print, BYTES, bytes, &length))) tell_bytes("byte", bytes, length);
 }
 
+/* Adds to the checksum how the levels and break marks of a text come about. */
+static void reason_answers(hordguli_tables *chosen, uint32_t options, uint32_t direction, const uint32_t *characters, size_t count) {
+    static hordguli_reason reasons[MOST];
+    static hordguli_break_reason breaks[MOST];
+    if (succeeds("reasons", hordguli_reasons(chosen, direction, characters, count, MOST, reasons)))
+        for (size_t k = 0; k < count; k++) {
+            tell("opener", reasons[k].opener);
+            tell("matching", reasons[k].matching);
+            tell("sequence", reasons[k].sequence);
+            tell("partner", reasons[k].partner);
+            tell("inside", reasons[k].inside);
+            tell("left", reasons[k].left);
+            tell("right", reasons[k].right);
+            TELL_ARRAY("class_after", reasons[k].class_after, 11);
+            tell("override_class", reasons[k].override_class);
+            tell("embedding_level", reasons[k].embedding_level);
+            tell("level", reasons[k].level);
+            tell("sos", reasons[k].sos);
+            tell("eos", reasons[k].eos);
+            tell("bracket_case", reasons[k].bracket_case);
+            tell("neutral", reasons[k].neutral);
+        }
+    if (succeeds("break_reasons", hordguli_break_reasons(chosen, options & HORDGULI_WHOLE_NUMBERS, characters, count, MOST, breaks)))
+        for (size_t k = 0; k < count; k++) {
+            tell("base", breaks[k].base);
+            tell("behind_spaces", breaks[k].behind_spaces);
+            tell("rule", breaks[k].rule);
+            tell("letter", breaks[k].letter);
+            tell("class_before", breaks[k].class_before);
+            tell("class_after", breaks[k].class_after);
+            tell("mark", breaks[k].mark);
+        }
+}
+
 /* Adds to the checksum what the calls without a session return for a text. */
 static void row_answers(hordguli_tables *chosen, uint32_t options, uint32_t direction, const uint32_t *characters, size_t count) {
     static uint32_t visual[MOST], ltov[MOST], vtol[MOST];
@@ -252,6 +286,7 @@ static void row_answers(hordguli_tables *chosen, uint32_t options, uint32_t dire
             tell("columns", records[k].columns);
             tell("bracket", records[k].bracket);
         }
+    reason_answers(chosen, options, direction, characters, count);
 }
 
 static void tell_damage(hordguli_status status, const hordguli_damage *damage) {

@@ -324,6 +324,42 @@ impl TablesHandle {
         Ok(marks)
     }
 
+    pub fn reasons(&self, direction: u32, chars: &[char]) -> Result<Vec<hordguli_reason>, Error> {
+        let mut reasons = defaults(chars.len())?;
+        // SAFETY: *handle*; `chars` is an input, and `reasons` an output of the same length.
+        check(unsafe {
+            hordguli_reasons(
+                self.at(),
+                direction,
+                chars.as_ptr().cast(),
+                chars.len(),
+                reasons.len(),
+                reasons.as_mut_ptr(),
+            )
+        })?;
+        Ok(reasons)
+    }
+
+    pub fn break_reasons(
+        &self,
+        options: u32,
+        chars: &[char],
+    ) -> Result<Vec<hordguli_break_reason>, Error> {
+        let mut reasons = defaults(chars.len())?;
+        // SAFETY: *handle*; `chars` is an input, and `reasons` an output of the same length.
+        check(unsafe {
+            hordguli_break_reasons(
+                self.at(),
+                options,
+                chars.as_ptr().cast(),
+                chars.len(),
+                reasons.len(),
+                reasons.as_mut_ptr(),
+            )
+        })?;
+        Ok(reasons)
+    }
+
     /// Panics if `chars` and `levels` have different lengths.
     pub fn row(
         &self,

@@ -9,6 +9,7 @@
 //! | [One string](#one-string) | [`wrap`], [`layout`], [`layout_into`] |
 //! | [A terminal row](#a-terminal-row) | [`base_level`], [`levels`], [`row`], [`row_runs`], [`script_runs`], [`breaks`], [`clusters`], [`properties`] |
 //! | [A document](#a-document) | [`Session`], [`Line`], [`Paragraph`] |
+//! | Why a character has its level or break mark | [`reasons`], [`break_reasons`] |
 //! | Text in any font | [`Session::open_measured`], [`Session::set_advances`] |
 //! | [An editor](#an-editor) | [`Session::insert`], [`Damage`], [`Edge`], [`Line::spans`] |
 //! | Programs that use `unicode-bidi` and `unicode-linebreak` | [`migration`] |
@@ -196,14 +197,15 @@ pub use numbers::{BidiClass, Cause, LineClass, UnicodeVersion, TABLE_FILES};
 pub use options::{BaseDirection, Options, Print};
 pub use position::{BytePos, CharPos, Position, TextRange, Utf16Pos};
 pub use records::{
-    Bracket, Break, Caret, ChangedLines, Character, Counts, Damage, Direction, Edge, Hit, Level,
-    Place, Row, Run, ScriptRun, Side, Span, Word, Work,
+    Bracket, BracketCase, Break, BreakReason, Caret, ChangedLines, Character, Counts, Damage,
+    Direction, Edge, Hit, Level, LineRule, NeutralRule, Place, Reason, Row, Run, ScriptRun, Side,
+    Span, Word, Work,
 };
 pub use session::Session;
 pub use tables::Tables;
 pub use text::{
-    base_level, breaks, clusters, count_utf8, decode, layout, layout_into, levels, properties, row,
-    row_runs, script_runs, valid_utf8, wrap,
+    base_level, break_reasons, breaks, clusters, count_utf8, decode, layout, layout_into, levels,
+    properties, reasons, row, row_runs, script_runs, valid_utf8, wrap,
 };
 
 /// Returns the version of the C library, such as `0.5.0`.

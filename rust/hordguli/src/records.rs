@@ -74,13 +74,18 @@ pub enum Break {
     Must,
 }
 
+impl Break {
+    pub(crate) fn of(mark: u8) -> Break {
+        match mark {
+            HORDGULI_BREAK_MUST => Break::Must,
+            HORDGULI_BREAK_MAY => Break::May,
+            _ => Break::Never,
+        }
+    }
+}
+
 pub(crate) fn breaks_of(marks: Vec<u8>) -> Vec<Break> {
-    let of = |mark| match mark {
-        HORDGULI_BREAK_MUST => Break::Must,
-        HORDGULI_BREAK_MAY => Break::May,
-        _ => Break::Never,
-    };
-    marks.into_iter().map(of).collect()
+    marks.into_iter().map(Break::of).collect()
 }
 
 /// What an edit replaced. All other lines and paragraphs are unchanged, except that those that follow are renumbered.
@@ -393,6 +398,183 @@ impl Character {
             columns: it.columns,
         }
     }
+}
+
+/// Which case of N0 applies to a bracket (UAX #9), or why it is unpaired. For N0, numbers are strong.
+#[derive(Clone, Copy, Debug, PartialEq, Eq, Hash)]
+pub enum BracketCase {
+    /// The pair contains a strong type of the embedding direction.
+    B,
+    /// The pair contains strong types of the opposite direction only, and the strong type before the pair has this direction.
+    C1,
+    /// The pair contains strong types of the opposite direction only, and the strong type before the pair has the embedding
+    /// direction.
+    C2,
+    /// The pair contains no strong type, so N0 does not change it.
+    D,
+    /// Unpaired: before N0, its type is not ON.
+    NotOther,
+    /// Unpaired: no bracket of its isolating run sequence matches.
+    NoMatch,
+    /// Unpaired: pairing stopped at an opening bracket with 63 open ones before it (BD16).
+    PastLimit,
+}
+
+impl BracketCase {
+    fn of(number: u8) -> Option<Self> {
+        match number {
+            HORDGULI_BRACKET_CASE_B => Some(BracketCase::B),
+            HORDGULI_BRACKET_CASE_C1 => Some(BracketCase::C1),
+            HORDGULI_BRACKET_CASE_C2 => Some(BracketCase::C2),
+            HORDGULI_BRACKET_CASE_D => Some(BracketCase::D),
+            HORDGULI_BRACKET_CASE_NOT_OTHER => Some(BracketCase::NotOther),
+            HORDGULI_BRACKET_CASE_NO_MATCH => Some(BracketCase::NoMatch),
+            HORDGULI_BRACKET_CASE_PAST_LIMIT => Some(BracketCase::PastLimit),
+            _ => None,
+        }
+    }
+}
+
+/// The rule that decides the type of a neutral (UAX #9).
+#[derive(Clone, Copy, Debug, PartialEq, Eq, Hash)]
+pub enum NeutralRule {
+    /// N1: both sides have the same direction.
+    N1,
+    /// N2: they do not, so the neutral gets the embedding direction.
+    N2,
+}
+
+impl NeutralRule {
+    fn of(number: u8) -> Option<Self> {
+        match number {
+            HORDGULI_NEUTRAL_N1 => Some(NeutralRule::N1),
+            HORDGULI_NEUTRAL_N2 => Some(NeutralRule::N2),
+            _ => None,
+        }
+    }
+}
+
+/// How the algorithm arrives at the level of a character (UAX #9). Positions are indexes of characters.
+///
+/// A character that X9 removes has no `sequence`, `sos` and `eos`, no classes after the original one, and no case.
+#[derive(Clone, Copy, Debug, PartialEq, Eq, Hash)]
+#[non_exhaustive]
+pub struct Reason {
+    /// The embedding, override or isolate initiator that sets its level.
+    pub opener: Option<usize>,
+    /// The PDI of an isolate initiator, or the initiator of a PDI.
+    pub matching: Option<usize>,
+    /// The first character of its isolating run sequence.
+    pub sequence: Option<usize>,
+    /// The other bracket of a pair, or the bracket before a mark that N0 changes.
+    pub partner: Option<usize>,
+    /// In the cases B, C1 and C2, the first strong character inside the pair that decides.
+    pub inside: Option<usize>,
+    /// The character before a run of neutrals. If X9 removes the character, the one whose level it has.
+    pub left: Option<usize>,
+    /// The character after a run of neutrals.
+    pub right: Option<usize>,
+    /// Its class, then its classes after X8, each of W1 to W7, N0, and N2.
+    pub class_after: [Option<BidiClass>; 11],
+    /// The direction of the override that it is directly in, `L` or `R`.
+    pub override_class: Option<BidiClass>,
+    /// Its level after X8.
+    pub embedding_level: Level,
+    /// Its level, as [`levels`](crate::levels) returns it.
+    pub level: Level,
+    /// The direction at the start of its sequence, `L` or `R`.
+    pub sos: Option<BidiClass>,
+    /// The direction at the end of its sequence.
+    pub eos: Option<BidiClass>,
+    /// What N0 does with a bracket.
+    pub bracket_case: Option<BracketCase>,
+    /// The rule that decides the type of a neutral.
+    pub neutral: Option<NeutralRule>,
+}
+
+impl Reason {
+    pub(crate) fn new(it: hordguli_reason) -> Self {
+        Reason {
+            opener: position(it.opener),
+            matching: position(it.matching),
+            sequence: position(it.sequence),
+            partner: position(it.partner),
+            inside: position(it.inside),
+            left: position(it.left),
+            right: position(it.right),
+            class_after: it.class_after.map(bidi_class),
+            override_class: bidi_class(it.override_class),
+            embedding_level: Level::of(it.embedding_level),
+            level: Level::of(it.level),
+            sos: bidi_class(it.sos),
+            eos: bidi_class(it.eos),
+            bracket_case: BracketCase::of(it.bracket_case),
+            neutral: NeutralRule::of(it.neutral),
+        }
+    }
+}
+
+/// A rule of UAX #14, such as LB8a.
+#[derive(Clone, Copy, Debug, PartialEq, Eq, PartialOrd, Ord, Hash)]
+pub struct LineRule {
+    /// Its number, such as 8.
+    pub number: u8,
+    /// Its letter, such as `a`.
+    pub letter: Option<char>,
+}
+
+impl fmt::Display for LineRule {
+    /// Writes the name, such as `LB8a`.
+    fn fmt(&self, f: &mut fmt::Formatter<'_>) -> fmt::Result {
+        write!(f, "LB{}", self.number)?;
+        self.letter.map_or(Ok(()), |letter| write!(f, "{letter}"))
+    }
+}
+
+/// The rule that decides a break mark (UAX #14), and what the rule reads. A base is a character and what LB9 attaches to it.
+/// Positions are indexes of characters.
+#[derive(Clone, Copy, Debug, PartialEq, Eq, Hash)]
+#[non_exhaustive]
+pub struct BreakReason {
+    /// Where the base before the mark starts.
+    pub base: usize,
+    /// Where the nearest base that is not a space starts, which rules with `SP*` read.
+    pub behind_spaces: Option<usize>,
+    /// The first rule that applies.
+    pub rule: LineRule,
+    /// The class of that base, after LB1 and LB10.
+    pub class_before: LineClass,
+    /// The class of the next base or, inside a base, of the next character. It is `None` at the end.
+    pub class_after: Option<LineClass>,
+    /// The mark, as [`breaks`](crate::breaks) returns it.
+    pub mark: Break,
+}
+
+impl BreakReason {
+    pub(crate) fn new(it: hordguli_break_reason) -> Self {
+        BreakReason {
+            base: it.base as usize,
+            behind_spaces: position(it.behind_spaces),
+            rule: LineRule {
+                number: it.rule,
+                letter: (it.letter != 0).then_some(it.letter.into()),
+            },
+            class_before: LineClass::new(it.class_before),
+            class_after: (it.class_after != NO_CLASS).then_some(LineClass::new(it.class_after)),
+            mark: Break::of(it.mark),
+        }
+    }
+}
+
+/// Stands for no class.
+const NO_CLASS: u8 = 0xFF;
+
+fn bidi_class(number: u8) -> Option<BidiClass> {
+    (number != NO_CLASS).then_some(BidiClass::new(number))
+}
+
+fn position(number: u32) -> Option<usize> {
+    (number != u32::MAX).then_some(number as usize)
 }
 
 macro_rules! class_names {

@@ -1,5 +1,8 @@
 use crate::records::{breaks_of, levels_of};
-use crate::{ffi, Break, Character, Error, Level, Options, Print, Row, Run, ScriptRun, Tables};
+use crate::{
+    ffi, Break, BreakReason, Character, Error, Level, Options, Print, Reason, Row, Run, ScriptRun,
+    Tables,
+};
 
 /// Lays out a text in lines of at most `width` columns, and returns what `print` selects for each line.
 ///
@@ -165,6 +168,79 @@ pub fn breaks(tables: &Tables, chars: &[char], options: Options) -> Result<Vec<B
         .map(breaks_of)
 }
 
+/// Returns how the algorithm arrives at the level of each character of a paragraph (UAX #9). The characters are not split at
+/// separators. `options` is as in [`base_level`].
+///
+/// ```
+/// use hordguli::{reasons, BaseDirection, BidiClass, BracketCase, Tables};
+///
+/// let tables = Tables::builtin()?;
+/// let found = reasons(&tables, &['a', '(', '\u{5d0}', ')'], BaseDirection::WeakLtr)?;
+/// assert_eq!((found[1].partner, found[1].inside), (Some(3), Some(2)));
+/// // the letters inside are right-to-left, and the one before is left-to-right
+/// assert_eq!(found[1].bracket_case, Some(BracketCase::C2));
+/// assert_eq!(found[1].class_after[8..10], [Some(BidiClass::ON), Some(BidiClass::L)]); // after W7 and N0
+/// # Ok::<(), hordguli::Error>(())
+/// ```
+///
+/// # Errors
+///
+/// [`Error::OutOfRange`] for more than 4,294,967,294 characters; [`Error::OutOfMemory`].
+///
+/// # Cost
+///
+/// Time and memory proportional to the number of characters.
+pub fn reasons(
+    tables: &Tables,
+    chars: &[char],
+    options: impl Into<Options>,
+) -> Result<Vec<Reason>, Error> {
+    let records = tables
+        .handle
+        .reasons(options.into().paragraph_bits(), chars)?;
+    converted(records, Reason::new)
+}
+
+/// Returns which rule decides the break mark after each character of a paragraph (UAX #14). The characters are not split at
+/// separators. Only [`Options::whole_numbers`] changes the result.
+///
+/// ```
+/// use hordguli::{break_reasons, Options, Tables};
+///
+/// let tables = Tables::builtin()?;
+/// let found = break_reasons(&tables, &['a', ' ', '('], Options::new())?;
+/// let rules: Vec<String> = found.iter().map(|reason| reason.rule.to_string()).collect();
+/// assert_eq!(rules, ["LB7", "LB18", "LB3"]);
+/// assert_eq!(found[1].behind_spaces, Some(0));
+/// # Ok::<(), hordguli::Error>(())
+/// ```
+///
+/// # Errors
+///
+/// As for [`reasons`].
+///
+/// # Cost
+///
+/// As for [`reasons`].
+pub fn break_reasons(
+    tables: &Tables,
+    chars: &[char],
+    options: Options,
+) -> Result<Vec<BreakReason>, Error> {
+    let records = tables.handle.break_reasons(options.break_bits(), chars)?;
+    converted(records, BreakReason::new)
+}
+
+/// Converts each record.
+fn converted<R, T>(records: Vec<R>, convert: fn(R) -> T) -> Result<Vec<T>, Error> {
+    let mut items = Vec::new();
+    items
+        .try_reserve_exact(records.len())
+        .map_err(|_| Error::OutOfMemory)?;
+    items.extend(records.into_iter().map(convert));
+    Ok(items)
+}
+
 /// Puts a row, whose start and end the caller has chosen, into visual order.
 ///
 /// `base` is the base level of its paragraph ([`base_level`]), and `levels` are the levels of the row's characters in
@@ -271,7 +347,7 @@ pub fn row_runs(
 /// Time and memory proportional to the number of characters.
 pub fn properties(tables: &Tables, chars: &[char]) -> Result<Vec<Character>, Error> {
     let records = tables.handle.properties(chars)?;
-    Ok(records.into_iter().map(Character::new).collect())
+    converted(records, Character::new)
 }
 
 /// Returns the number of characters in UTF-8 text.

@@ -1,8 +1,9 @@
 //! The functions that need no session.
 use hordguli::{
-    base_level, breaks, clusters, count_utf8, decode, layout, layout_into, levels, properties, row,
-    row_runs, script_runs, valid_utf8, wrap, BaseDirection, BidiClass, Bracket, Break, Error,
-    Level, LineClass, Options, Print, Run, ScriptRun, Session, Tables, UnicodeVersion,
+    base_level, break_reasons, breaks, clusters, count_utf8, decode, layout, layout_into, levels,
+    properties, reasons, row, row_runs, script_runs, valid_utf8, wrap, BaseDirection, BidiClass,
+    Bracket, BracketCase, Break, Error, Level, LineClass, LineRule, NeutralRule, Options, Print,
+    Reason, Run, ScriptRun, Session, Tables, UnicodeVersion,
 };
 
 const HEBREW: &str = "\u{5d0}\u{5d1}\u{5d2}";
@@ -189,6 +190,163 @@ fn breaks_follow_the_version() {
     let of_17 = marks(Tables::builtin_with_version(UnicodeVersion::V17_0).unwrap());
     assert_eq!(of_17[0], Break::May);
     assert_eq!(marks(tables())[0], Break::Never);
+}
+
+fn reasons_of(text: &str, direction: BaseDirection) -> Vec<Reason> {
+    reasons(&tables(), &chars(text), direction).unwrap()
+}
+
+fn classes(reason: &Reason) -> String {
+    let names = reason
+        .class_after
+        .iter()
+        .map(|class| class.map_or("-", BidiClass::name));
+    names.collect::<Vec<_>>().join(" ")
+}
+
+#[test]
+fn reasons_of_a_pair() {
+    let found = reasons_of("a(\u{5d0})", BaseDirection::WeakLtr);
+    let opener = found[1];
+    assert_eq!(
+        (opener.opener, opener.matching, opener.sequence),
+        (None, None, Some(0))
+    );
+    assert_eq!(
+        (opener.partner, opener.inside, opener.bracket_case),
+        (Some(3), Some(2), Some(BracketCase::C2))
+    );
+    assert_eq!(
+        (opener.left, opener.right, opener.neutral),
+        (None, None, None)
+    );
+    assert_eq!(classes(&opener), "ON ON ON ON ON ON ON ON ON L L");
+    assert_eq!(
+        (opener.sos, opener.eos),
+        (Some(BidiClass::L), Some(BidiClass::L))
+    );
+    assert_eq!((found[3].partner, found[3].inside), (Some(1), Some(2)));
+    let numbers: Vec<u8> = found.iter().map(|one| one.level.number()).collect();
+    assert_eq!(numbers, [0, 0, 1, 0]);
+}
+
+#[test]
+fn reasons_of_isolates_and_neutrals() {
+    let found = reasons_of("\u{2067}a\u{2069}!\u{5d0}", BaseDirection::Ltr);
+    let matching: Vec<_> = found.iter().map(|one| one.matching).collect();
+    assert_eq!(matching, [Some(2), None, Some(0), None, None]);
+    let sequences: Vec<_> = found.iter().map(|one| one.sequence).collect();
+    assert_eq!(sequences, [Some(0), Some(1), Some(0), Some(0), Some(0)]);
+    assert_eq!(
+        (found[1].opener, found[1].embedding_level, found[1].level),
+        (Some(0), Level::RTL, Level::new(2).unwrap())
+    );
+    assert_eq!(
+        (found[3].left, found[3].right, found[3].neutral),
+        (None, Some(4), Some(NeutralRule::N2))
+    );
+    let found = reasons_of("\u{5d0}!\u{5d1}", BaseDirection::Ltr);
+    assert_eq!(
+        (found[1].left, found[1].right, found[1].neutral),
+        (Some(0), Some(2), Some(NeutralRule::N1))
+    );
+}
+
+#[test]
+fn reasons_of_an_override_and_a_removed_character() {
+    let found = reasons_of("\u{202e}a\u{ad}", BaseDirection::Ltr);
+    assert_eq!(
+        (found[1].override_class, found[1].opener),
+        (Some(BidiClass::R), Some(0))
+    );
+    assert_eq!(classes(&found[1]), "L R R R R R R R R R R");
+    assert_eq!(classes(&found[2]), "BN - - - - - - - - - -");
+    assert_eq!(
+        (found[2].left, found[2].sequence, found[2].level),
+        (Some(1), None, Level::RTL)
+    );
+    assert_eq!((found[2].sos, found[2].eos), (None, None));
+    assert_eq!((found[0].left, found[0].override_class), (None, None));
+}
+
+#[test]
+fn each_case_of_n0_has_its_variant() {
+    let case = |text: &str, direction| {
+        let found = reasons_of(text, direction);
+        found.iter().find_map(|one| one.bracket_case)
+    };
+    let ltr = BaseDirection::Ltr;
+    assert_eq!(case("(a)", ltr), Some(BracketCase::B));
+    assert_eq!(case("\u{5d0}(\u{5d1})", ltr), Some(BracketCase::C1));
+    assert_eq!(case("(\u{5d1})", ltr), Some(BracketCase::C2));
+    assert_eq!(case("(!)", ltr), Some(BracketCase::D));
+    assert_eq!(case("\u{202d}()", ltr), Some(BracketCase::NotOther));
+    assert_eq!(case(")a", ltr), Some(BracketCase::NoMatch));
+    assert_eq!(case(&"(".repeat(64), ltr), Some(BracketCase::PastLimit));
+    assert_eq!(case("a", ltr), None);
+}
+
+#[test]
+fn reasons_follow_line_separators() {
+    let class = |options: Options| {
+        let found = reasons(&tables(), &['a', '\u{85}'], options).unwrap();
+        found[1].class_after[0]
+    };
+    assert_eq!(class(Options::new()), Some(BidiClass::B));
+    assert_eq!(
+        class(Options::new().line_separators(true)),
+        Some(BidiClass::S)
+    );
+    // other options have no effect
+    assert_eq!(
+        class(Options::new().whole_numbers(true).tab_width(8)),
+        Some(BidiClass::B)
+    );
+    assert_eq!(reasons(&tables(), &[], Options::new()), Ok(vec![]));
+}
+
+#[test]
+fn break_reasons_have_names() {
+    let found = break_reasons(
+        &tables(),
+        &chars("\u{200d}\u{2014} a\u{301}"),
+        Options::new(),
+    )
+    .unwrap();
+    let names: Vec<_> = found.iter().map(|one| one.rule.to_string()).collect();
+    assert_eq!(names, ["LB8a", "LB7", "LB18", "LB9", "LB3"]);
+    let letter = Some('a');
+    assert_eq!(found[0].rule, LineRule { number: 8, letter });
+    assert_eq!((found[2].base, found[2].behind_spaces), (2, Some(1)));
+    assert_eq!(
+        (found[2].class_before, found[2].class_after, found[2].mark),
+        (LineClass::SP, Some(LineClass::AL), Break::May)
+    );
+    assert_eq!(
+        (found[3].base, found[3].class_after, found[3].mark),
+        (3, Some(LineClass::CM), Break::Never)
+    );
+    assert_eq!(
+        (found[4].base, found[4].class_after, found[4].mark),
+        (3, None, Break::Must)
+    );
+    let space = break_reasons(&tables(), &[' '], Options::new()).unwrap();
+    assert_eq!(space[0].behind_spaces, None);
+    assert_eq!(break_reasons(&tables(), &[], Options::new()), Ok(vec![]));
+}
+
+#[test]
+fn break_reasons_follow_the_version_and_whole_numbers() {
+    let rule = |tables: &Tables, text, options| {
+        let found = break_reasons(tables, &chars(text), options).unwrap();
+        found[1].rule.to_string()
+    };
+    let of_17 = Tables::builtin_with_version(UnicodeVersion::V17_0).unwrap();
+    assert_eq!(rule(&tables(), " \u{ab}b", Options::new()), "LB19");
+    assert_eq!(rule(&of_17, " \u{ab}b", Options::new()), "LB15a");
+    assert_eq!(rule(&tables(), "1/%", Options::new()), "LB31");
+    let whole_numbers = Options::new().whole_numbers(true);
+    assert_eq!(rule(&tables(), "1/%", whole_numbers), "LB25");
 }
 
 #[test]

@@ -6,10 +6,10 @@ use std::fmt::Write;
 use std::ops::Range;
 
 use hordguli::{
-    base_level, breaks, clusters, count_utf8, decode, layout, levels, properties, row, row_runs,
-    script_runs, valid_utf8, BaseDirection, Bracket, Break, BytePos, Caret, CharPos, Damage,
-    Direction, Edge, Error, Level, Line, Options, Print, Row, Session, Side, Tables,
-    UnicodeVersion, Utf16Pos,
+    base_level, break_reasons, breaks, clusters, count_utf8, decode, layout, levels, properties,
+    reasons, row, row_runs, script_runs, valid_utf8, BaseDirection, BidiClass, Bracket,
+    BracketCase, Break, BytePos, Caret, CharPos, Damage, Direction, Edge, Error, Level, Line,
+    NeutralRule, Options, Print, Row, Session, Side, Tables, UnicodeVersion, Utf16Pos,
 };
 
 const ALPHABET: [char; 48] = [
@@ -151,6 +151,10 @@ values! {
     Utf16Pos: it => it.0,
     Level: it => it.number(),
     Break: it => match it { Break::Never => 0, Break::May => 1, Break::Must => 2 },
+    Option<usize>: it => it.unwrap_or(u32::MAX as usize),
+    Option<BidiClass>: it => it.map_or(0xFF, BidiClass::number),
+    Option<BracketCase>: it => it.map_or(0, |case| case as u8 + 1),
+    Option<NeutralRule>: it => it.map_or(0, |rule| rule as u8 + 1),
 }
 
 /// A random unit for positions.
@@ -468,6 +472,46 @@ impl Run<'_> {
             self.tell("line_class", it.line_class.number());
             self.tell("columns", it.columns);
             self.tell("bracket", bracket);
+        }
+        self.reasons(tables, options, chars);
+    }
+
+    fn reasons(&self, tables: &Tables, options: Options, chars: &[char]) {
+        let teller = &self.teller;
+        for it in teller
+            .told("reasons", reasons(tables, chars, options))
+            .unwrap()
+        {
+            self.tell("opener", it.opener);
+            self.tell("matching", it.matching);
+            self.tell("sequence", it.sequence);
+            self.tell("partner", it.partner);
+            self.tell("inside", it.inside);
+            self.tell("left", it.left);
+            self.tell("right", it.right);
+            teller.tell_all("class_after", it.class_after.into_iter());
+            self.tell("override_class", it.override_class);
+            self.tell("embedding_level", it.embedding_level);
+            self.tell("level", it.level);
+            self.tell("sos", it.sos);
+            self.tell("eos", it.eos);
+            self.tell("bracket_case", it.bracket_case);
+            self.tell("neutral", it.neutral);
+        }
+        for it in teller
+            .told("break_reasons", break_reasons(tables, chars, options))
+            .unwrap()
+        {
+            self.tell("base", it.base);
+            self.tell("behind_spaces", it.behind_spaces);
+            self.tell("rule", it.rule.number);
+            self.tell("letter", it.rule.letter.unwrap_or('\0'));
+            self.tell("class_before", it.class_before.number());
+            self.tell(
+                "class_after",
+                it.class_after.map_or(0xFF, |class| class.number()),
+            );
+            self.tell("mark", it.mark);
         }
     }
 

@@ -7,8 +7,8 @@ use std::os::raw::{c_char, c_long, c_void};
 use std::ptr::null_mut;
 
 use hordguli::{
-    base_level, breaks, layout_into, levels, row, row_runs, BaseDirection, CharPos, Direction,
-    Edge, Error, Level, Options, Print, Session, Tables, UnicodeVersion,
+    base_level, break_reasons, breaks, layout_into, levels, reasons, row, row_runs, BaseDirection,
+    CharPos, Direction, Edge, Error, Level, Options, Print, Session, Tables, UnicodeVersion,
 };
 
 extern "C" {
@@ -165,6 +165,8 @@ fn tables(counts: &mut Counts) {
     counts.each_of_tables("base_level", |it| base_level(it, &chars, direction));
     counts.each_of_tables("levels", |it| levels(it, &chars, direction));
     counts.each_of_tables("breaks", |it| breaks(it, &chars, options));
+    counts.each_of_tables("reasons", |it| reasons(it, &chars, direction));
+    counts.each_of_tables("break_reasons", |it| break_reasons(it, &chars, options));
     counts.each_of_tables("row", |it| row(it, &chars, &given, Level::LTR, options));
     counts.each_of_tables("row_runs", |it| {
         Ok(row_runs(it, &chars, &given, Level::LTR)?.len())
