@@ -4,6 +4,7 @@ import base64
 import json
 import os
 import random
+import re
 import subprocess
 import sys
 import time
@@ -207,7 +208,6 @@ def test_a_strong_character_inside_is_named_by_its_script(kind, inside):
 BREAKS = {
     "LB3": ("a", 0, "LB3: the line ends with the paragraph"),
     "LB4": ("\x0ba", 0, "LB4: the line ends after a line separator"),
-    "LB5": ("\x85a", 0, "LB5: the line ends after a next line character"),
     "LB5 between CR and LF": ("\r\n", 0, "LB5: no break between a carriage return and a line feed"),
     "LB6": ("a\n", 0, "LB6: no break before a line feed"),
     "LB7": ("a b", 0, "LB7: no break before a space"),
@@ -264,6 +264,11 @@ LATER_BREAKS = {
 def test_sentences_name_the_rule_of_a_break_mark(name):
     text, position, wanted = BREAKS[name]
     assert hordguli.explain(text).characters[position].break_why == wanted
+
+
+def test_next_line_character_inside_a_paragraph_is_lb5():
+    explained = hordguli.explain("\x85a", options=hordguli.Options.LINE_SEPARATORS)
+    assert explained.characters[0].break_why == "LB5: the line ends after a next line character"
 
 
 @pytest.mark.parametrize("name", LATER_BREAKS)
@@ -346,7 +351,8 @@ def test_json_has_the_fields_of_the_records():
 def test_the_table_has_a_row_for_each_character():
     lines = run("explain", "a(\u05d0)\u05b0 \t\u4e2d\n").stdout.decode().split("\n")
     assert lines[0].split() == "pos char code class bracket mirror partner level L1 line visual name break break rule why".split()
-    assert lines[3].startswith("2    \u05d0     U+05D0  R ") and lines[3].endswith(" LB13: no break before a closing parenthesis  I1: right-to-left, so level 1")
+    assert lines[3].startswith("2    \u05d0     U+05D0  R ")
+    assert re.split("  +", lines[3])[-2:] == ["LB13: no break before a closing parenthesis", "I1: right-to-left, so level 1"]
     assert lines[2].split()[:5] == ["1", "(", "U+0028", "ON", "open"] and lines[5].split()[:2] == ["4", "\u25cc\u05b0"]
     assert {line[5:11] for line in (lines[6], lines[7], lines[9])} == {" " * 6}  # (not printable)
     # (a mark needs one column and two characters, and a wide character two columns)
