@@ -18,6 +18,7 @@ pub mod PushLemmas
 pub mod RunLemmas
 pub mod PrefixLemmas
 pub mod SameStyles
+pub mod SearchLemmas
 pub mod StepLemmas
 pub mod TextLemmas
 pub mod WholeLemmas

@@ -81,7 +81,7 @@ refuse_one form k long e holds =
     let both = and_parts form.strict (nat_lt 1048576 k) (sym e ∙ holds) in
     (both.0, more_than k both.1)
 
-front_one : (is_cut : ℕ → ℕ → Bool) (text : List ℕ) (k : ℕ) → IsFirst is_cut k text → IsFront is_cut (take k text ∷ []) text (drop k text)
+pub front_one : (is_cut : ℕ → ℕ → Bool) (text : List ℕ) (k : ℕ) → IsFirst is_cut k text → IsFront is_cut (take k text ∷ []) text (drop k text)
 front_one is_cut text k first = record {
   whole = sym (take-append-drop k text) ∙ ap (λ t. t ++ drop k text) (sym (append-nil (take k text)));
   cuts = first.block;

@@ -99,7 +99,7 @@ end_text escapes started (x ∷ waiting) n len b =
     end_some escapes started (x ∷ waiting) (omega arith) b
     ∙ sym (ap (λ (b : Bool). if b then 0xFFFD ∷ [] else []) (lt-ltb 0 n (omega (arith, len))))
 
-end_few : (n : ℕ) → length (last_characters n) ≤ 1
+pub end_few : (n : ℕ) → length (last_characters n) ≤ 1
 end_few n = by_test (nat_lt 0 n)
   where
     by_test : (b : Bool) → length {A = ℕ} (if b then 0xFFFD ∷ [] else []) ≤ 1
@@ -532,7 +532,7 @@ module _ (rules : Rules) (form : Form) (is_last : Bool) (reader_old writer_old r
 
 -- ---- the start of a run
 
-Consumes-refl : (known : Option (List ℕ)) → Consumes known known []
+pub Consumes-refl : (known : Option (List ℕ)) → Consumes known known []
 Consumes-refl None = tt
 Consumes-refl (Some xs) = refl
 

@@ -1,5 +1,6 @@
 -- The base direction of a whole text.
-use Rattle.std.specs.Prelude.{◌≡◌, ℕ, ◌≤◌, ◌==◌, List, [], ◌∷◌, ◌++◌, length, map, take, drop, Bool, Option, Some, None, unwrap_or, if◌then◌else◌}
+use Rattle.std.specs.Prelude.{◌≡◌, ℕ, ◌≤◌, ◌==◌, List, [], ◌∷◌, ◌++◌, length, map, take, drop, Bool, not, Option, Some, None, is_some, unwrap_or, if◌then◌else◌}
+use Rattle.std.specs.List.{list_all}
 use Rattle.ucd.specs.Tables.{class_of}
 use Rattle.ucd.specs.declared.tables.Tables.{Tables}
 use Rattle.bidi.specs.Base.{first_strong_level}
@@ -25,6 +26,10 @@ first_level tables (paragraph ∷ following) = or_else (first_strong_level (map 
 -- the level of the first strong character among the paragraphs that a text shows
 unfoldable pub shown_level : Rules → List ℕ → Option ℕ
 shown_level rules text = first_level rules.tables (paragraphs (cut_by rules) (shown_text text))
+
+-- whether blocks show no strong character, each by itself
+abbrev pub are_weak : Rules → List (List ℕ) → Bool
+are_weak rules blocks = list_all (λ block. not (is_some (shown_level rules block))) blocks
 
 -- the base direction with this level; left-to-right if there is no strong character
 abbrev pub base_by : Option ℕ → Base

@@ -14,5 +14,7 @@ pub mod Plain
 pub mod Run
 pub mod RunState
 pub mod Prefixes
+pub mod Searches
+pub mod Starts
 pub mod Texts
 pub mod Whole

@@ -8,7 +8,7 @@ ghost use Rattle.terminal.specs.Decoding.{good_part, pictures, IsRead, Takes};
 ghost use Rattle.terminal.specs.Texts.{picture, without_mark};
 
 use crate::decoding::decode;
-use crate::form::{Escapes, Form};
+use crate::form::Escapes;
 use crate::text::picture;
 use device::Source;
 use std::alloc::{AllocError, Global};
@@ -59,32 +59,43 @@ impl Decoder {
         ensures ok { IfOk result (λ n.
             IsRead n self.old self.new (R.state reader.old) (R.state reader.new)) }
         ensures err { OnErr result (Fails (R.state reader.old) (R.state reader.new)) }
+        ensures waiting { self.new.waiting ≡ self.old.waiting }
     {
         read_to(reader, &mut self.chunk, self.waiting)
     }
 
-    /// Decodes the waiting bytes and `len` more bytes, and adds their characters to a text. With
-    /// `form.strict`, stops at the first invalid UTF-8, drops the rest, and returns whether there was any.
-    /// After a failed allocation, some characters may be missing.
+    /// Adds the `len` bytes that were read last to a list.
+    pub(crate) fn push_read(&self, len: usize, bytes: &mut Vec<u8>) -> Result<(), AllocError>
+        requires { self.now.waiting + len ≤ vec_len self.now.chunk }
+        ensures { OnOk result (bytes.new.items ≡ bytes.old.items
+            ++ drop self.now.waiting (take (self.now.waiting + len) self.now.chunk.items)) }
+    {
+        bytes.extend_from_slice(&self.chunk[self.waiting..self.waiting + len])
+    }
+
+    /// Decodes the waiting bytes and `len` more bytes, and adds their characters to a text. If `strict`, stops
+    /// at the first invalid UTF-8, drops the rest, and returns whether there was any. After a failed
+    /// allocation, some characters may be missing.
     pub(crate) fn decode(
         &mut self,
-        form: &Form,
+        strict: bool,
+        escapes: Escapes,
         len: usize,
         text: &mut Vec<char>,
     ) -> Result<bool, AllocError>
         requires room { self.old.waiting + len ≤ vec_len self.old.chunk }
         requires counted { self.old.decoded + (self.old.waiting + len) ≤ 2 ^ 64 - 1 }
-        ensures bad { IfOk result (λ stops. stops ≡ (form.now.strict
+        ensures bad { IfOk result (λ stops. stops ≡ (strict
             && is_bad (take (self.old.waiting + len) self.old.chunk.items))) }
-        ensures takes { OnOk result (Takes form.now.strict form.now.escapes
-            (good_part form.now.strict (take (self.old.waiting + len) self.old.chunk.items))
+        ensures takes { OnOk result (Takes strict escapes
+            (good_part strict (take (self.old.waiting + len) self.old.chunk.items))
             self.old self.new text.old.items text.new.items) }
     {
         let filled = self.waiting + len;
         let from = text.len();
-        let (n, stops) = decode(&self.chunk[..filled], form.strict, text)?;
+        let (n, stops) = decode(&self.chunk[..filled], strict, text)?;
         self.started = start(self.started, text, from);
-        show_pictures(form.escapes, text, from);
+        show_pictures(escapes, text, from);
         self.keep_bytes(n, end_of(stops, n, filled));
         Ok(stops)
     }

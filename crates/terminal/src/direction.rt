@@ -1,12 +1,14 @@
 //! Finds the base direction of a whole text from its beginning.
 ghost use Rattle.std.specs.Prelude.{◌≡◌, ◌≤◌, ◌<◌, ◌∷◌, ◌++◌, ℕ, List, [], Some, drop, length, map, take};
-ghost use Rattle.std.specs.Prelude.{IfOk, IfSome};
+ghost use Rattle.std.specs.Prelude.{IfErr, IfOk, IfSome};
 ghost use Rattle.ucd.specs.Tables.{class_of};
 ghost use Rattle.bidi.specs.Base.{base_level_of, first_strong_level};
 ghost use Rattle.bidi.specs.Cuts.{paragraphs};
 ghost use Rattle.lines.specs.Engine.{rules_of, SameRules};
-ghost use Rattle.lines.specs.Layouts.{cut_by};
+ghost use Rattle.lines.specs.Layouts.{cut_by, Rules};
 ghost use Rattle.terminal.specs.Directions.{base_by, direction_of, first_level, shown_level, StartsWith};
+ghost use Rattle.terminal.specs.Passed.{HasPassed};
+ghost use Rattle.terminal.specs.Searches.{text_direction, HasSearched, HasSearchedAll};
 
 use crate::decoder::{push_end, show_pictures, start};
 use crate::decoding::decode_lossy;
@@ -20,6 +22,39 @@ use std::alloc::{AllocError, Global};
 
 /// The number of characters, including sequences, that the direction of a text depends on.
 pub const FIRST_CHARACTERS: usize = 65_536;
+
+/// How far the beginning of a text was searched for the text's direction.
+#[derive(Clone, Copy)]
+pub(crate) struct Searched {
+    // The start of the first block that may show a strong character.
+    start: usize,
+    // No block ends before this index of the rest, whatever follows the text. If the character there is a CR,
+    // `passed` is how far the text after it was scanned.
+    scanned: usize,
+    passed: Passed,
+}
+
+impl Searched {
+    /// Nothing was searched yet.
+    pub(crate) fn nothing() -> Searched
+        ensures { (rules : Rules) (text : List ℕ) → HasSearched rules result text }
+    {
+        Searched::up_to(0)
+    }
+
+    // Nothing of the block that begins at `start` was searched yet.
+    fn up_to(start: usize) -> Searched
+        ensures start { result.start ≡ start }
+        ensures scanned { result.scanned ≡ 0 }
+        ensures passed { (text : List ℕ) → HasPassed result.passed text }
+    {
+        Searched {
+            start,
+            scanned: 0,
+            passed: Passed::nothing(),
+        }
+    }
+}
 
 // Returns the base level of a paragraph.
 fn level_by(engine: &mut Engine, base: Base, paragraph: &[char]) -> u8
@@ -86,25 +121,84 @@ fn shown_level(alloc: Global, engine: &mut Engine, text: &[char]) -> Result<Opti
     Ok(first_level(engine, &scanner.text.characters))
 }
 
-// Does the same as `shown_level` for a text that may continue. Considers only blocks that have ended. Returns
-// `None` if the level depends on what follows.
-fn known_level(alloc: Global, engine: &mut Engine, text: &[char]) -> Result<Option<u8>, AllocError>
-    ensures level { IfOk result (λ found. IfSome found (λ level. (more : List ℕ)
+// Does the same as `shown_level` for a text that may continue. Considers only blocks that have ended. If they
+// show no strong character, returns how far the text has been searched by now. Looks for the ends of blocks
+// only in text that was not searched yet.
+fn known_level(
+    alloc: Global,
+    engine: &mut Engine,
+    text: &[char],
+    searched: Searched,
+) -> Result<Result<u8, Searched>, AllocError>
+    requires searched { HasSearched (rules_of engine.old) searched text.now }
+    ensures level { IfOk result (λ found. IfOk found (λ level. (more : List ℕ)
         → shown_level (rules_of engine.old) (text.now ++ more) ≡ Some level)) }
+    ensures searched { IfOk result (λ found. IfErr found (λ now.
+        HasSearchedAll (rules_of engine.old) now text.now)) }
     ensures rules { SameRules engine.old engine.new }
 {
     paragraphs_are_pieces();
-    let mut rest = text;
+    let mut searched = searched;
     loop {
-        let FirstEnd::At(len) = first_end(engine, rest, 0, Passed::nothing()) else {
-            return Ok(None);
-        };
-        let (block, after) = rest.split_at(len);
-        match shown_level(alloc, engine, block)? {
-            Some(level) => return Ok(Some(level)),
-            None => rest = after,
+        let (_, rest) = text.split_at(searched.start);
+        match first_end(engine, rest, searched.scanned, searched.passed) {
+            FirstEnd::After(scanned, passed) => {
+                return Ok(Err(Searched {
+                    start: searched.start,
+                    scanned,
+                    passed,
+                }));
+            }
+            FirstEnd::At(len) => {
+                let (block, _) = rest.split_at(len);
+                match shown_level(alloc, engine, block)? {
+                    Some(level) => return Ok(Ok(level)),
+                    None => searched = Searched::up_to(searched.start + len),
+                }
+            }
         }
     }
+}
+
+/// Returns the base direction of a text that begins with these characters, of which there are at most
+/// `FIRST_CHARACTERS`. If it depends on what follows them, returns how far they have been searched by now.
+pub(crate) fn known_base(
+    alloc: Global,
+    engine: &mut Engine,
+    text: &[char],
+    searched: Searched,
+) -> Result<Result<Base, Searched>, AllocError>
+    requires few { length text.now ≤ FIRST_CHARACTERS }
+    requires searched { HasSearched (rules_of engine.old) searched text.now }
+    ensures base { IfOk result (λ found. IfOk found (λ base. (more : List ℕ)
+        → base ≡ text_direction (rules_of engine.old) (text.now ++ more))) }
+    ensures few { IfOk result (λ found. IfErr found (λ now. length text.now < FIRST_CHARACTERS)) }
+    ensures searched { IfOk result (λ found. IfErr found (λ now.
+        HasSearchedAll (rules_of engine.old) now text.now)) }
+    ensures rules { SameRules engine.old engine.new }
+{
+    if text.len() == FIRST_CHARACTERS {
+        return Ok(Ok(whole_base(alloc, engine, text, searched)?));
+    }
+    match known_level(alloc, engine, text, searched)? {
+        Ok(level) => Ok(Ok(base_by(Some(level)))),
+        Err(searched) => Ok(Err(searched)),
+    }
+}
+
+/// Returns the base direction of a text that has only these characters.
+pub(crate) fn whole_base(
+    alloc: Global,
+    engine: &mut Engine,
+    text: &[char],
+    searched: Searched,
+) -> Result<Base, AllocError>
+    requires searched { HasSearched (rules_of engine.old) searched text.now }
+    ensures base { IfOk result (λ base. base ≡ base_by (shown_level (rules_of engine.old) text.now)) }
+    ensures rules { SameRules engine.old engine.new }
+{
+    let (_, rest) = text.split_at(searched.start);
+    Ok(base_by(shown_level(alloc, engine, rest)?))
 }
 
 fn base_by(level: Option<u8>) -> Base
@@ -145,7 +239,7 @@ pub fn whole_direction(
     let n = decode_start(escapes, bytes, &mut text)?;
     push_end(bytes.len() - n, &mut text)?;
     text.truncate(FIRST_CHARACTERS);
-    Ok(base_by(shown_level(alloc, engine, &text)?))
+    whole_base(alloc, engine, &text, Searched::nothing())
 }
 
 /// Returns the base direction of a text that begins with these bytes, or `None` if it depends on what follows
@@ -162,12 +256,9 @@ pub fn known_direction(
 {
     let mut text = Vec::new(alloc);
     let _decoded = decode_start(escapes, bytes, &mut text)?;
-    if text.len() < FIRST_CHARACTERS {
-        let Some(level) = known_level(alloc, engine, &text)? else {
-            return Ok(None);
-        };
-        return Ok(Some(base_by(Some(level))));
-    }
     text.truncate(FIRST_CHARACTERS);
-    Ok(Some(base_by(shown_level(alloc, engine, &text)?)))
+    match known_base(alloc, engine, &text, Searched::nothing())? {
+        Ok(base) => Ok(Some(base)),
+        Err(_) => Ok(None),
+    }
 }

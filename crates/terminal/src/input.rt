@@ -92,7 +92,9 @@ impl Held {
             HasPassed self.new.passed (drop (self.new.scanned + 1) self.new.text.items)) }
         ensures rules { SameRules engine.old engine.new }
     {
-        let stops = self.decoder.decode(form, len, &mut self.text)?;
+        let stops = self
+            .decoder
+            .decode(form.strict, form.escapes, len, &mut self.text)?;
         let left = self
             .output
             .push_ended(alloc, engine, form, &self.text, self.scanned, self.passed)?;

@@ -22,6 +22,7 @@ mod paragraph;
 mod passed;
 mod pieces;
 mod prefix;
+mod start;
 mod text;
 mod whole;
 
@@ -30,5 +31,6 @@ pub use faults::Fault;
 pub use form::{Escapes, Form, Prefix};
 pub use input::run;
 pub use laws::{pages_end_in_newlines, prints_plain_lines, prints_without_prefix};
+pub use start::{Start, read_start};
 pub use text::{picture, push_text};
 pub use whole::shows_whole;

@@ -6,4 +6,6 @@ mod prefixes;
 #[cfg(test)]
 mod runs;
 #[cfg(test)]
+mod starts;
+#[cfg(test)]
 mod texts;

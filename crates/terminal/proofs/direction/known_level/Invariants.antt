@@ -1,13 +1,13 @@
-use Rattle.std.proofs.Common.{◌≡◌, ◌++◌, ℕ, List, length}
+use Rattle.std.proofs.Common.{◌≡◌, ◌-◌, length}
 use Rattle.lines.specs.Engine.{rules_of, SameRules}
-use Rattle.terminal.specs.Directions.{shown_level}
+use Rattle.terminal.specs.Searches.{HasSearched}
 use Rattle.terminal.proofs.direction.known_level.Given as goal
 
-abbrev pub invariant-loop-len : goal.invariant-loop-len
-invariant-loop-len l = record {
+abbrev pub invariant-loop-scanned : goal.invariant-loop-scanned
+invariant-loop-scanned l = record {
   rules : SameRules l.fn.engine l.engine;
-  passed : (more : List ℕ) → shown_level (rules_of l.fn.engine) (l.text ++ more) ≡ shown_level (rules_of l.fn.engine) (l.rest ++ more);
+  searched : HasSearched (rules_of l.fn.engine) l.searched l.text;
 }
 
-abbrev pub decreases-loop-len : goal.decreases-loop-len
-decreases-loop-len l = length l.rest
+abbrev pub decreases-loop-scanned : goal.decreases-loop-scanned
+decreases-loop-scanned l = length l.text - l.searched.start

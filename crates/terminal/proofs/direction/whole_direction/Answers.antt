@@ -1,4 +1,6 @@
-use Rattle.std.proofs.Common.{◌-◌, ◌∙◌, ap, length, refl, sym, take}
+use Rattle.std.specs.Prelude.{IfOk}
+use Rattle.std.proofs.Common.{◌≡◌, ◌-◌, ◌∙◌, ap, length, refl, subst, sym, take}
+use Rattle.bidi.specs.declared.base.Base.{Base}
 use Rattle.lines.specs.Engine.{rules_of}
 use Rattle.terminal.specs.Directions.{base_by, shown_level}
 use Rattle.terminal.specs.declared.direction.TheConstants.{FIRST_CHARACTERS}
@@ -9,6 +11,7 @@ pub returns-clause-base : goal.returns-clause-base
 returns-clause-base c =
     let bytes = c.args.bytes.now in
     let whole = whole_text c.args.escapes bytes c.decode_start.new.text.items c.in_ok-n.n (length bytes - c.in_ok-n.n) c.in_ok-n.ensures refl in
-    c.base_by.ensures
-    ∙ ap base_by (c.in_ok-shown_level.ensures.level
-    ∙ ap (shown_level (rules_of c.args.engine.now)) (c.deref.ensures.value ∙ c.truncate.ensures.items ∙ ap (take FIRST_CHARACTERS) (c.in_ok-push_end.ensures ∙ sym whole)))
+    subst (λ (b : Base). IfOk c.whole_base.result (λ base. base ≡ b))
+    (ap (λ t. base_by (shown_level (rules_of c.args.engine.now) t))
+    (c.deref.ensures.value ∙ c.truncate.ensures.items ∙ ap (take FIRST_CHARACTERS) (c.in_ok-push_end.ensures ∙ sym whole)))
+    c.whole_base.ensures.base
