@@ -50,15 +50,32 @@ class Costs(NamedTuple):
     kilobytes: int
 
 
-def measured(words, path, output_path, seconds):
-    """Runs the command on a file. Returns its status, its message, the time that passes and that of the processor, and the greatest resident set."""
+def measured(words, path, output_path, seconds, by_byte=False):
+    """Runs the command on a file. Returns its status, its message, the time that passes and that of the processor, and the greatest resident set.
+
+    With `by_byte`, the command reads the file from a pipe, one byte at a time.
+    """
     begun = time.monotonic()
-    with open(path, "rb") as source, open(output_path, "wb") as sink, tempfile.TemporaryFile() as messages:
+    with open(path, "rb") as file, open(output_path, "wb") as sink, tempfile.TemporaryFile() as messages:
+        source, target = os.pipe2(os.O_DIRECT | os.O_CLOEXEC) if by_byte else (os.dup(file.fileno()), None)
         child = subprocess.Popen([*PROGRAM, *TABLES, *words], stdin=source, stdout=sink, stderr=messages, env=environment(), preexec_fn=lambda: limit(seconds))
+        os.close(source)
+        if by_byte:
+            write_bytes(target, file.read())
         _, status, usage = os.wait4(child.pid, 0)
         child.returncode = os.waitstatus_to_exitcode(status)
         messages.seek(0)
         return child.returncode, messages.read().decode(errors="replace"), Costs(time.monotonic() - begun, usage.ru_utime + usage.ru_stime, usage.ru_maxrss)
+
+
+def write_bytes(target, data):
+    """Writes each byte to a pipe, and closes it. With O_DIRECT, a read returns no more than one write has written."""
+    try:
+        for at in range(len(data)):
+            os.write(target, data[at : at + 1])
+    except BrokenPipeError:
+        pass
+    os.close(target)
 
 
 def limit(seconds):

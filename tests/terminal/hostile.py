@@ -5,6 +5,7 @@ import command
 from command import Costs
 
 SECONDS = 10
+SECONDS_BY_BYTE = 2
 # A paragraph may need 40 bytes per character.
 KILOBYTES, KILOBYTES_OF_LONG_PARAGRAPHS = 100 * 1024, 10 * 1024 + 40 * 5_000_000 // 1024
 E = "\x1b"
@@ -67,6 +68,13 @@ AFTER_CR = [
     ("short strings", lambda n: "\r" + f"{E}]0;u\a" * (n // 6) + "\n"),
     ("dropped controls", lambda n: "\r" + "\0" * n + "\n"),
 ]
+# Each case has a name, and a text of n characters without a strong one. Its direction is known at its end.
+WITHOUT_DIRECTION = [
+    ("digits", lambda n: "1" * n),
+    ("short paragraphs", lambda n: "1\n" * (n // 2)),
+    ("a string after CR", lambda n: f"\r{E}]0;" + "u" * (n - 7) + f"{E}\\"),
+]
+LOOKED_AT_FOR_DIRECTION = 65_536
 # Arguments, and whether they allow a paragraph with this number of characters.
 WORDS = [([], True), (["-d", "file"], True), (["--strict"], False)]
 
@@ -87,6 +95,24 @@ def proportional(folder, told):
                 told(f"the status for {shown}", status == (not is_allowed), message[:300])
                 seconds.append(costs.processor_seconds)
             told(f"time in proportion for {name} after CR, {' '.join(words)}", seconds[1] <= 2.5 * seconds[0] + 0.3, f"{seconds[0]:.2f} s, {seconds[1]:.2f} s")
+
+
+def byte_by_byte(folder, told):
+    """Four times the characters, read one byte at a time, must not take much more than four times the processor's time."""
+    for name, text in WITHOUT_DIRECTION:
+        seconds = []
+        for n in (LOOKED_AT_FOR_DIRECTION // 4, LOOKED_AT_FOR_DIRECTION):
+            data = text(n - 2).encode() + b"\n\xd7\x90\n"
+            with open(f"{folder}/input", "wb") as file:
+                file.write(data)
+            status, message, costs = command.measured(["-d", "file"], f"{folder}/input", f"{folder}/output", SECONDS_BY_BYTE, by_byte=True)
+            with open(f"{folder}/output", "rb") as file:
+                output = file.read()
+            shown = f"{n} characters of {name}, read one byte at a time"
+            told(f"the output for {shown}", output == command.run(["-d", "rtl"], data).output, output[:60])
+            told(f"the status for {shown}", status == 0, message[:300])
+            seconds.append(costs.processor_seconds)
+        told(f"time in proportion for {name}, read one byte at a time", seconds[1] <= 6 * seconds[0] + 0.2, f"{seconds[0]:.2f} s, {seconds[1]:.2f} s")
 
 
 def checks(told):
@@ -112,6 +138,7 @@ def checks(told):
             most = KILOBYTES_OF_LONG_PARAGRAPHS if is_too_long else KILOBYTES
             told(f"the costs of {name}", within(costs, most), f"{costs.seconds:.1f} s, {costs.kilobytes} KB")
         proportional(folder, told)
+        byte_by_byte(folder, told)
 
 
 def within(costs: Costs, kilobytes):

@@ -1,5 +1,5 @@
 //! Shows the files, one after the other.
-use crate::direction::read_start;
+use crate::direction::set_direction;
 use crate::end::End;
 use crate::reports::{report, report_error};
 use crate::watched::Watched;
@@ -129,7 +129,7 @@ fn run_by_file<R: Read + Drop>(
     input: &mut Watched<R>,
     stdout: &mut Watched<Stdout>,
 ) -> Result<Result<bool, Fault>, End> {
-    let start = read_start(rt, engine, form.escapes, &mut *input)?;
+    let start = set_direction(rt, engine, form.escapes, &mut *input)?;
     let bytes = start.bytes.as_slice();
     if start.is_whole {
         return Ok(run_input(rt, engine, form, last, bytes, stdout));
