@@ -73,8 +73,8 @@ impl Decoder {
         bytes.extend_from_slice(&self.chunk[self.waiting..self.waiting + len])
     }
 
-    /// Decodes the waiting bytes and `len` more bytes, and adds their characters to a text. If `strict`, stops
-    /// at the first invalid UTF-8, drops the rest, and returns whether there was any. After a failed
+    /// Decodes the waiting bytes and `len` more bytes, and adds their characters to a text. If `strict`,
+    /// stops at the first invalid UTF-8, drops the rest, and returns whether there was any. After a failed
     /// allocation, some characters may be missing.
     pub(crate) fn decode(
         &mut self,

@@ -1,5 +1,6 @@
 //! Reads the start of a text, until the text's direction is known.
-ghost use Rattle.std.specs.Prelude.{◌≡◌, ◌+◌, ◌-◌, ◌^◌, ◌≤◌, ◌<◌, ◌++◌, [], None, false, drop, length, take, vec_len};
+ghost use Rattle.std.specs.Prelude.{◌≡◌, ◌+◌, ◌-◌, ◌^◌, ◌≤◌, ◌<◌, ◌++◌, [], None, false, drop, length};
+ghost use Rattle.std.specs.Prelude.{take, vec_len};
 ghost use Rattle.std.specs.Prelude.{IfOk, Ok, OnOk};
 ghost use Rattle.device.specs.Device.{Device};
 ghost use Rattle.lines.specs.Engine.{rules_of, SameRules};
