@@ -8,6 +8,7 @@ mod files;
 mod level_reasons;
 #[cfg(test)]
 mod levels;
+#[cfg(test)]
 mod listed_reasons;
 #[cfg(test)]
 mod marks;
