@@ -58,6 +58,7 @@ OPTIONS = --width 44 --basedir
 .PHONY: all program cross-compiler quick ucd ucd-17 ucd-tests image demo check tmux parallel linters test attack bench-program conformance-program conformance bench c fribidi fribidi-compare \
 	callers install uninstall python deb dist test-packages test-reproducible test-arm64 test-threads test-draw test-widget test-guide test-recipes test-pango test-programs test-python test-rust test-hosts release
 
+.DEFAULT_GOAL = all
 DIST = dist
 ARCH = amd64
 for_arm64 = $(if $(filter arm64,$(ARCH)),$(1))
