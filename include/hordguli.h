@@ -1134,7 +1134,7 @@ hordguli_status hordguli_marks(hordguli_tables *tables, uint32_t options, const 
  * class that does not exist is 0xFF. A character that X9 removes has no `sequence`, `sos` and `eos`, no classes after
  * the original one, and no case. */
 typedef struct hordguli_reason {
-    uint32_t opener;         /* innermost embedding, override or isolate initiator around it that does not overflow */
+    uint32_t opener;         /* innermost embedding, override or isolate around it that does not overflow */
     uint32_t matching;       /* of an isolate initiator its PDI; of a PDI its initiator */
     uint32_t sequence;       /* first character of its isolating run sequence */
     uint32_t partner;        /* of a paired bracket the other one; of a mark that N0 changes, the bracket before it */

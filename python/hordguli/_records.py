@@ -375,7 +375,7 @@ class Character(NamedTuple):
 class Reason(NamedTuple):
     """How the algorithm arrives at the level of a character (UAX #9). What does not exist is `None`.
 
-    `opener`: the embedding, override or isolate initiator that sets its level. `matching`: of an isolate initiator its PDI, of a PDI
+    `opener`: the innermost embedding, override or isolate around it that does not overflow. `matching`: of an isolate initiator its PDI, of a PDI
     its initiator. `sequence`: the first character of its isolating run sequence. `partner`: of a paired bracket the other one, of a
     mark that N0 changes the bracket before it. `inside`: the strong character inside the pair that decides.
     `left`, `right`: of a neutral, the characters before and after its run; for a character that X9 removes, `left` is the one whose

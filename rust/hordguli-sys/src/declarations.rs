@@ -417,7 +417,7 @@ pub struct hordguli_script_run {
 #[derive(Clone, Copy, Debug, Default, PartialEq, Eq)]
 #[repr(C)]
 pub struct hordguli_reason {
-    /// innermost embedding, override or isolate initiator around it that does not overflow
+    /// innermost embedding, override or isolate around it that does not overflow
     pub opener: u32,
     /// of an isolate initiator its PDI; of a PDI its initiator
     pub matching: u32,

@@ -460,7 +460,7 @@ impl NeutralRule {
 #[derive(Clone, Copy, Debug, PartialEq, Eq, Hash)]
 #[non_exhaustive]
 pub struct Reason {
-    /// The embedding, override or isolate initiator that sets its level.
+    /// The innermost embedding, override or isolate initiator around it that does not overflow.
     pub opener: Option<usize>,
     /// The PDI of an isolate initiator, or the initiator of a PDI.
     pub matching: Option<usize>,
