@@ -54,7 +54,7 @@ loaded block from room =
     get_or-chunk from 32 block k 0 inside ∙ ap (λ i. get_or block i 0) at
     ∙ sym (get_or-map f positions k 0 0 (omega (arith, inside, length-range_with_len 0 32)) ∙ ap f (get_or-range_with_len 0 32 k 0 inside ∙ first)))
 
--- the same value in each lane
+-- a vector with the same value in each lane has this value at each position
 pub splat : (y : ℕ) → replicate 32 y ≡ map (λ (k : ℕ). y) positions
 splat y = splat_is_map positions 32 y (length-range_with_len 0 32)
 

@@ -138,7 +138,7 @@ done-below run type = elim (completes run type) as (λ b. (if b then COMPLETES e
   | false ↦ elim (not (lengthens run type) && waits (row_after run type)) as (λ b. (if b then BEGINS else KEEPS) ≤ 2) [ true ↦ omega arith | false ↦ omega arith ]
 ]
 
--- the parts of an entry
+-- ---- the parts of an entry
 module _ (state : ℕ) (class : BidiClass) (next : ℕ) (is : next ≡ next_by state class) where
   abbrev type : BidiClass
   type = turned (strong_at state) class
@@ -187,7 +187,7 @@ starts-next Arabic CS start next at begins keeps = begins refl
 starts-next EuropeanTerminators ET start next at begins keeps = refl
 starts-next _ _ start next at begins keeps = refl
 
--- a type that completes nothing
+-- neither `BEGINS` nor `KEEPS` is `COMPLETES`
 not_completed : (begins : Bool) → (if begins then BEGINS else KEEPS) ≢ COMPLETES
 not_completed true e = absurd (omega (arith, e))
 not_completed false e = absurd (omega (arith, e))

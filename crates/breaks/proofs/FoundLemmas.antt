@@ -43,7 +43,7 @@ found_more done b rest n is attached =
     ∙ ap (parted c text) is
     ∙ sym (bases_from c text))
 
--- the last character of a base with attached characters
+-- the last character of a base with attached characters is the last attached one
 pub last_found : (c : Character) (attached : List Looked) (d : Looked) → 0 < length attached
     → last_of c (map character_in attached) ≡ character_in (get_or attached (length attached - 1) d)
 last_found c [] d some = absurd (omega (arith, some))

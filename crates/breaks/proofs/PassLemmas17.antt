@@ -307,7 +307,7 @@ module _ (befores : List (List Bool)) (by_row : List Mark) (after : Bool → ℕ
       let parts : ((not (may_have c false) || Gives false) ≡ true) × ((not (may_have c true) || Gives true) ≡ true) = both _ _ h in
       ap (λ m. not m || Gives true) (sym may) ∙ parts.1
 
-  -- for one example of the bases after the position, and one value of the bits
+  -- the entry is correct for each example of the bases after the position, and each value of the bits
   given_at_bits : (wide : Bool) (place index : ℕ) → may_have c wide ≡ true → gives_17 befores by_row after marks outcome is_unattached c ≡ true
       → place < kinds_after c → index < 16
       → gives_bits befores by_row after marks outcome is_unattached (asks c) wide (after wide place) (marks place) index ≡ true

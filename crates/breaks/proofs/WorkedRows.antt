@@ -33,7 +33,7 @@ marks_by classes = marks (map narrow classes)
 abbrev whole_marks_by : List LineClass → List Mark
 whole_marks_by classes = whole_marks (map narrow classes)
 
--- LB1: the resolved classes
+-- LB1 resolves the classes AI, SA, CJ and XX
 ambiguous : resolved AI true ≡ AL
 ambiguous = refl
 
@@ -239,7 +239,7 @@ two_hyphens : marks_by (HL ∷ HY ∷ HY ∷ HL ∷ []) ≡ Never ∷ Never ∷ 
 unfolding rules rows_before_numbers rows_of_numbers rows_after_numbers
 two_hyphens = refl
 
--- an empty text
+-- an empty text has no break marks
 nothing : marks [] ≡ []
 unfolding rules rows_before_numbers rows_of_numbers rows_after_numbers
 nothing = refl

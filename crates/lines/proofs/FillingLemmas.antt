@@ -33,7 +33,7 @@ greatest_skips p k (suc n) below fails =
 
 -- ---- sums
 
--- the first n characters before their tail
+-- the first n characters without their tail are the first n minus the tail's length
 shown_to : (rest : List CharInfo) (n : ℕ) → n ≤ length rest → before_tail (take n rest) ≡ take (n - suffix_len trails (take n rest)) rest
 shown_to rest n within =
     ap (λ m. take (m - suffix_len trails (take n rest)) (take n rest)) (length-take-le n rest within)

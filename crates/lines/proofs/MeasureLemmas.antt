@@ -25,7 +25,7 @@ advance_at [] (c ∷ text) (suc k) within = advance_at [] text k (omega (arith, 
 advance_at (size ∷ advances) (c ∷ text) zero within = refl
 advance_at (size ∷ advances) (c ∷ text) (suc k) within = advance_at advances text k (omega (arith, within))
 
--- the width of a character, given the widths before it
+-- the width of a character depends on its advance and on the sum of the widths before it
 pub width_measured : (n k : ℕ) (advances text : List ℕ) → k < length text
     → get_or (widths_of n (Some advances) text) k 0 ≡ width_from n (sum (take k (widths_of n (Some advances) text))) (get_or text k 0) (get_or advances k 0)
 width_measured n k advances text within =
@@ -76,7 +76,7 @@ pub next_written : (are written : List ℕ) (k width : ℕ) → k < length writt
 next_written are written k width below inside so_far is =
     take_more_set written k width below ∙ ap₂ (λ (xs : List ℕ) x. xs ++ x ∷ []) so_far is ∙ sym (take_more are k 0 inside)
 
--- the width of a character, given the known widths
+-- the width that is known for a character is its width
 pub known_width : (known : Option (List ℕ)) {line same : Visual} (k : ℕ) {v : ℕ} → line ≡ same → known_or known (widths_of same.tab_width None same.text) ≡ widths same
     → v ≡ get_or (known_or known (widths_of line.tab_width None line.text)) k 0 → v ≡ width_at same k
 known_width known {line} {same} k {v} e are is =

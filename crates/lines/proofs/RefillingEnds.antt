@@ -254,7 +254,7 @@ ends_by_next width s k ps is after candidate =
           ends_within width (s + suc (k - s)) (suc k) ps (omega (arith, after)) (ends_earlier width (suc (k - s)) s ps ends)
     ]
 
--- without line breaks but mandatory ones
+-- without line breaks except mandatory ones, the first line ends at the same place in both texts
 pub same_stop_end : (n : ℕ) (ps qs : List CharInfo) → take n ps ≡ take n qs → stop ps < n → suc (stop ps) < length ps → stop qs ≡ stop ps
 same_stop_end n ps qs same below within =
     elim (first_below (must_end ps) (length ps)) [

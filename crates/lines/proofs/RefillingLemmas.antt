@@ -136,7 +136,7 @@ module _ (width place k s : ℕ) (ps : List CharInfo) where
 
 -- ---- starts up to a line start
 
--- the same condition without the first character
+-- the condition also holds without the first character
 later_which : (place k s : ℕ) (p : CharInfo) (ps : List CharInfo) → (may_end (p ∷ ps) (suc k) ≡ true) ⊎ ((e : ℕ) → place + suc e ≡ s → may_end (p ∷ ps) e ≡ false)
     → (may_end ps k ≡ true) ⊎ ((e : ℕ) → suc place + suc e ≡ s → may_end ps e ≡ false)
 later_which place k s p ps (inl may) = inl may

@@ -50,7 +50,7 @@ module _ (tables : Tables) (options : Options) (margin : Option ℕ) (base : ℕ
       ap₂ (λ n parts. let part : Shown = record { len = n; columns = (shown_between margin infos s t).columns } in part ∷ parts)
       (levels_shown s t (omega (arith, rise.2.0)) (omega (arith, rise.2.1))) (shown_in_lines (suc s) (t ∷ starts) rise.2)
 
-  -- the k-th line with the given extents
+  -- the k-th line has the k-th start and the k-th shown part
   line_at : (starts : List ℕ) (parts : List Shown) (k : ℕ) → length parts ≡ length starts → k < length starts
       → slice_get (lines_shown tables options base text levels starts parts) k
       ≡ Some (line_showing tables options base text levels (slice_index_or parts k nothing_shown) (slice_index starts k) (end_of (length text) starts k))

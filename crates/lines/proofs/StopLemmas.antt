@@ -87,7 +87,7 @@ module _ (f : ℕ → ℕ) (i : ℕ) where
               ]
         ]
 
-  -- L2 for levels above that of i
+  -- reversing the intervals of levels above that of i does not change the sum before i
   kept : (levels : List ℕ) (low count : ℕ) (xs : List ℕ) → get_or levels i 0 < low → sum_before f i (reversed_from levels low count xs) ≡ sum_before f i xs
   kept levels low zero xs below = refl
   kept levels low (suc count) xs below =
@@ -237,7 +237,8 @@ module _ (ws levels : List ℕ) (i : ℕ) (within : i < length levels) where
   abbrev order : List ℕ
   order = order_of levels
 
-  -- the columns before a character at level 0 in the order of L2
+  -- in the order of L2, the columns before a character at level 0 are those of the characters before it in
+  -- the text
   pub at_zero : get_or levels i 0 ≡ 0 → sum_before (at ws) i order ≡ sum_by (at ws) (range_with_len 0 i)
   unfolding order_of
   at_zero level = go (lowest_odd levels) refl

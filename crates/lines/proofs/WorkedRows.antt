@@ -78,7 +78,7 @@ after_separator = refl
 no_tail : shown_lens (letter ∷ space ∷ letter ∷ []) ≡ 3 ∷ 3 ∷ 3 ∷ 3 ∷ 3 ∷ []
 no_tail = refl
 
--- spaces of no columns, and of two
+-- spaces may have no columns, or two
 shown_lens_of_zero : shown_lens (letter ∷ letter ∷ letter ∷ record space { columns = 0 } ∷ space ∷ []) ≡ 3 ∷ 5 ∷ 5 ∷ 4 ∷ 3 ∷ []
 shown_lens_of_zero = refl
 
@@ -144,7 +144,7 @@ tab_after_wide = refl
 tab_after_mark : columns (letter ∷ mark ∷ tab 4 ∷ letter ∷ []) ≡ 5
 tab_after_mark = refl
 
--- the least and the greatest tab width
+-- the tab width is at least 1 and at most 255
 tab_widths : columns (letter ∷ tab 1 ∷ tab 1 ∷ []) ∷ columns (letter ∷ tab 255 ∷ []) ∷ columns (tab 255 ∷ tab 255 ∷ letter ∷ []) ∷ [] ≡ 3 ∷ 255 ∷ 511 ∷ []
 tab_widths = refl
 
@@ -161,7 +161,7 @@ tab_last : starts 4 tabbed ≡ 0 ∷ 4 ∷ 9 ∷ []
 unfolding line_starts_of
 tab_last = refl
 
--- a tab that does not fit is wider than its line
+-- a tab that is wider than the width gets a line of its own
 tab_alone : starts 3 (letter ∷ letter ∷ letter ∷ tab 4 ∷ last ∷ []) ≡ 0 ∷ 3 ∷ 4 ∷ []
 unfolding line_starts_of
 tab_alone = refl

@@ -178,7 +178,7 @@ module _ (levels : List ℕ) where
       after zero b less = tt
       after (suc m) b less = (kept b less, after m (b + 1) (omega arith))
 
-  -- one more level
+  -- ---- one more level
   module _ (k c : ℕ) (inner : (a n : ℕ) → Sorted (IsLeftBy levels (turns (suc k))) (reversed_from levels (suc k) c (range_with_len a n))) where
     flipped : (a n : ℕ) → ((j : ℕ) → a ≤ j → j < a + n → k ≤ level_at j) → (x y : ℕ) → (a ≤ x) × (x < a + n) → (a ≤ y) × (y < a + n)
         → IsLeftBy levels (turns (suc k)) x y → IsLeftBy levels (turns k) y x

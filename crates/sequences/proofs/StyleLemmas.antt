@@ -20,7 +20,7 @@ last_split xs x some e =
     ∙ ap (λ y. take (length xs - 1) xs ++ y ∷ []) (sym e)
 
 module _ (links : List ℕ) where
-  -- the style after one more run
+  -- one more run sets the style from its start on
   style_at-push : (style : Style) (runs : List StyleRun) (run : StyleRun) (k : ℕ)
       → style_at links style (runs ++ run ∷ []) k ≡ (if nat_le run.start k then style_in links run else style_at links style runs k)
   style_at-push style [] run k = refl

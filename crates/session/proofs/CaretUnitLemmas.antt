@@ -334,7 +334,7 @@ module _ (line : Visual) (ordered : IsOrdered line) (start : ℕ) (cluster : Clu
         let has : 0 < width_at line j = omega (arith, found.3, found.4, between_more line (from_start k) j from size) in
         (j, member j from to (takes_if line j size has), found.3, found.4)
 
-    -- the rightmost of the unit's characters
+    -- one of the unit's characters is the rightmost
     rightmost : (m : ℕ) → IsMember line start cluster k m
         → (j : ℕ) × IsMember line start cluster k j × (next_at m ≤ next_at j) × (columns_left line (after (greatest is_of_unit (length line.vtol)) 0) ≡ next_at j)
     rightmost m own =

@@ -42,7 +42,7 @@ first_of (l ∷ ks) x is = elim (cases_lt 0 (length (visuals l))) [
       first_of ks x (sym (ap (λ vs. slice_get (vs ++ lines_in ks) 0) empty) ∙ is)
 ]
 
--- the lines before a paragraph, those of the paragraph, and those after it
+-- the lines of all paragraphs are those before a paragraph, its own, and those after it
 split : (ks : List Layout) (i : ℕ) (l : Layout) → i < length ks → get_or ks i l ≡ l → lines_in ks ≡ lines_in (take i ks) ++ (visuals l ++ lines_in (drop (i + 1) ks))
 split ks i l below item =
     ap lines_in (sym (take-append-drop i ks) ∙ ap (λ (r : List Layout). take i ks ++ r) (drop_more ks i l below ∙ ap (λ (x : Layout). x ∷ drop (i + 1) ks) item))

@@ -184,7 +184,7 @@ given_each : (is_measured : Bool) (list text : List ℕ) → (is_measured ≡ tr
 given_each false list text each = tt
 given_each true list text each = each refl
 
--- new layouts in the middle of a text
+-- splicing replaces the layouts in the middle of a text with the new ones
 spliced_layouts : (left mid right new : List Layout) (first last : ℕ) → first ≡ length left → last ≡ length left + length mid
     → splice (left ++ (mid ++ right)) first last new ≡ left ++ (new ++ right)
 spliced_layouts left mid right new first last first-is last-is =

@@ -247,7 +247,7 @@ module _ (engine : Engine) (width : ℕ) (kept : List Layout) (whole : IsWholeLa
         (le-ltb (length (text_of kept)) (pos + length new) range.within)
         ∙ ap (λ c. if c then None else Some ParagraphTooLong) room_is
 
-    -- the session after memory ran out
+    -- after an allocation failure, `SetsAdvancesNot` holds for the session
     pub SetsAdvancesNot-after : (next : Engine) → have_room region mid ≡ true → SameRules engine next → FillsAtMost (length (concat mid)) engine next
         → SetsAdvancesNot pos new (state_of engine width true kept) (state_of next width true kept) NoMemory
     SetsAdvancesNot-after next has same counts =

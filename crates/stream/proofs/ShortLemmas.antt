@@ -137,7 +137,7 @@ shuffled_small xs i (j ∷ js) all = (small_or_zero (zeroes 16 w8 j) _ (small_at
 abbrev wide : List ℕ → List ℕ
 wide xs = number_l 256 (chunk 0 4 xs) ∷ number_l 256 (chunk 4 4 xs) ∷ number_l 256 (chunk 8 4 xs) ∷ number_l 256 (chunk 12 4 xs) ∷ []
 
--- the numbers of four bytes each
+-- to base 2^32, the digits of the number with the given bytes are the numbers of four bytes each
 widened : (xs : List ℕ) → Each1 (λ x. x < 256) xs → digits_l (2 ^ 32) 4 (number_l 256 xs) ≡ wide xs
 widened xs all =
     let w : (j : ℕ) → j < 4 → get_or (digits_l (2 ^ 32) 4 (number_l 256 xs)) j 0 ≡ number_l 256 (chunk (4 * j) 4 xs) = λ j lt. get_or_wider 256 4 (2 ^ 32) 4 xs j refl all lt in
@@ -208,7 +208,7 @@ written at n out four post within few =
     let len : length (take at out) ≡ at = length-take-le at out within in
     ap (λ k. take (k + n) (take at out ++ (four ++ post))) (sym len) ∙ take-append-add (take at out) (four ++ post) n ∙ ap (λ t. take at out ++ t) (take-append-le n four post few)
 
--- the characters of the first four bytes
+-- the first decoded characters are those of the pairs in the first four bytes
 pub first_chars : (f : ℕ → ℕ) (pair decoded : List ℕ) (bytes : List ℕ) (marks : ℕ) → marks < 16 → length bytes ≡ 16 → take (length (pairs 4 marks bytes)) pair ≡ pairs 4 marks bytes
     → decoded ≡ map f pair → take (ones marks) decoded ≡ map f (pairs 4 marks bytes)
 first_chars f pair decoded bytes marks few long gathers is =

@@ -66,7 +66,7 @@ module _ (is_cut : ℕ → ℕ → Bool) where
   pub no_group : (shown : List (ℕ × Style)) → length shown ≡ 0 → styled_paragraphs is_cut shown ≡ []
   no_group shown none = ap (styled_paragraphs is_cut) (nil_from_length shown none)
 
--- the characters and the styles of a range
+-- the characters of a range are the characters in that range of the styled text
 pub range_text : (shown : List (ℕ × Style)) (characters own : List ℕ) (at end : ℕ) → characters_of shown ≡ characters → own ≡ slice_range characters at end
     → own ≡ characters_of (take (end - at) (drop at shown))
 range_text shown characters own at end c o =
@@ -83,14 +83,14 @@ module _ (rules : Rules) (form : Form) where
   abbrev pub pages : List (ℕ × Style) → List ℕ
   pages shown = flat_map (printed_pieces rules form) (styled_paragraphs (cut_by rules) shown)
 
-  -- the lines of a range, as those of a paragraph
+  -- the lines of a range are those of a paragraph with its characters and styles
   pub range_is : (shown : List (ℕ × Style)) (characters own : List ℕ) (styles own_styles : List Style) (at end : ℕ)
       → characters_of shown ≡ characters → styles_of shown ≡ styles → own ≡ slice_range characters at end → own_styles ≡ slice_range styles at end
       → printed_bytes rules form own own_styles ≡ printed_paragraph rules form (take (end - at) (drop at shown))
   range_is shown characters own styles own_styles at end c s o t =
       ap₂ (printed_bytes rules form) (range_text shown characters own at end c o) (range_styles shown styles own_styles at end s t)
 
-  -- one more paragraph of a block
+  -- ---- one more paragraph of a block
   pub next_group : (shown : List (ℕ × Style)) (at end : ℕ) (old new all : List ℕ)
       → styled_paragraphs (cut_by rules) (drop at shown) ≡ take (end - at) (drop at shown) ∷ styled_paragraphs (cut_by rules) (drop end shown)
       → new ≡ old ++ printed_pieces rules form (take (end - at) (drop at shown)) → old ++ pages (drop at shown) ≡ all → new ++ pages (drop end shown) ≡ all

@@ -96,7 +96,7 @@ takes strict stops escapes whole old new before mid started after from n d f s f
         by_cases [] len = not_less from (length mid) (omega (arith, len, f))
         by_cases (x ∷ xs) len = lt-ltb from (length mid) (omega (arith, len, f)) ∙ sym (lt-ltb 0 (length (x ∷ xs)) (omega arith))
 
--- replacing one more character
+-- setting the item after the front replaces this item alone
 set_front : (front rest : List ℕ) (c v k : ℕ) → length front ≡ k → slice_set (front ++ c ∷ rest) k v ≡ front ++ v ∷ rest
 set_front [] rest c v k len = ap (λ n. slice_set (c ∷ rest) n v) (sym len)
 set_front (x ∷ front) rest c v zero len = absurd (omega (arith, len))

@@ -100,7 +100,7 @@ module _ (is_cut : ℕ → ℕ → Bool) where
       only_block text some (λ j below. ap (λ n. ends_block is_cut (get_or text j 0) (drop n text)) (next_is j) ∙ none j below)
       ∙ ap₂ (λ (x : List ℕ) (xs : List ℕ). x ∷ blocks is_cut xs) (sym (take_all (length text) text (omega arith))) (sym (drop_all (length text) text (omega arith)))
 
--- the last character of a front
+-- the last character of the first k + 1 characters is the text's character at k
 pub read_front : (text front : List ℕ) (k x : ℕ) → front ≡ take (k + 1) text → k < length text → x ≡ get_or front k x → x ≡ get_or text k 0
 read_front text front k x f within e =
     e ∙ ap (λ xs. get_or xs k x) f ∙ get_or-take (k + 1) text k x (omega arith) ∙ get_or_default text k x 0 within

@@ -15,13 +15,13 @@ module _ (links : List ℕ) (runs : List StyleRun) where
   pub numbered-run : (n : ℕ) (d : StyleRun) → n < length runs → numbered links runs (suc n) ≡ style_in links (get_or runs n d)
   numbered-run n d within = ap (λ o. option_map_or (style_in links) o DEFAULT) (slice_get-get_or runs n d within)
 
-  -- the style at a position, given the numbers
+  -- the style at a position is the one with the number at this position
   pub numbered-on : (numbers : List ℕ) (k : ℕ) → style_on (map (numbered links runs) numbers) k ≡ numbered links runs (get_or numbers k 0)
   numbered-on [] k = refl
   numbered-on (n ∷ numbers) zero = refl
   numbered-on (n ∷ numbers) (suc k) = numbered-on numbers k
 
-  -- the style after one more run
+  -- one more run sets the style from its start on
   style_at-push : (style : Style) (rs : List StyleRun) (run : StyleRun) (k : ℕ)
       → style_at links style (rs ++ run ∷ []) k ≡ (if nat_le run.start k then style_in links run else style_at links style rs k)
   style_at-push style [] run k = refl

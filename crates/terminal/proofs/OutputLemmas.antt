@@ -35,7 +35,7 @@ HaveEnds is_cut [] = Unit {0}
 HaveEnds is_cut (b ∷ bs) = HasEnd is_cut b × HaveEnds is_cut bs
 
 module _ (is_cut : ℕ → ℕ → Bool) where
-  -- all blocks but the last one
+  -- all blocks except the last one have ends
   have_ends : (parts : List (List ℕ)) (text q : List ℕ) (qs : List (List ℕ)) → blocks is_cut text ≡ parts ++ q ∷ qs → HaveEnds is_cut parts
   unfolding HaveEnds
   have_ends [] text q qs e = tt

@@ -38,7 +38,7 @@ use Rattle.terminal.proofs.Devices.{Consumes-append, Consumes-kept, FailedLast-a
 
 -- ---- valid UTF-8
 
--- one more chunk
+-- `IsValidSoFar` still holds after one more chunk has been decoded
 valid_more : (escapes : Escapes) (bytes chunk waiting waiting_new text characters text_new : List ℕ) (started started_new : Bool) → IsValidSoFar escapes bytes waiting text started
     → IsValidText escapes (waiting ++ chunk) waiting_new characters started started_new → text_new ≡ text ++ characters → IsValidSoFar escapes (bytes ++ chunk) waiting_new text_new started_new
 valid_more escapes bytes chunk waiting waiting_new text characters text_new started started_new s t e =
@@ -132,14 +132,14 @@ module _ (rules : Rules) (form : Form) (bytes : List ℕ) (sent : List (List ℕ
       ∙ ap (λ t. (concat sent ++ text) ++ t) (ap (text_after form.escapes started) (append-nil waiting) ∙ end_text form.escapes started waiting n len fed.beginning) in
       ap (blocks (cut_by rules)) all ∙ fed.cuts (last_characters n)
 
-  -- and its lines
+  -- the page of the whole input is that of the sent blocks, followed by that of the remaining text
   pub fed_page : (n : ℕ) (pen : Pen) → length waiting ≡ n → pen ≡ pen_after_blocks START sent
       → input_page rules form bytes ≡ blocks_page rules form sent ++ text_page rules form pen (text ++ last_characters n)
   fed_page n pen len pen_is =
       ap (pages rules form START) (fed_blocks n len) ∙ pages-append rules form START sent (blocks (cut_by rules) (text ++ last_characters n))
       ∙ ap (λ (q : Pen). blocks_page rules form sent ++ text_page rules form q (text ++ last_characters n)) (sym pen_is)
 
-  -- the same before the waiting bytes
+  -- `IsFed` also holds for the bytes before the waiting ones
   pub fed_front : (v : IsValidSoFar form.escapes bytes waiting (concat sent ++ text) started) → IsFed rules form v.front sent [] text started
   fed_front v = record {
     decoded = v.decoded;
@@ -209,7 +209,7 @@ fed_read rules form bytes sent waiting text started fed chunk waiting_new all te
     same : (form.strict && is_bad (bytes ++ chunk)) ≡ (form.strict && is_bad (waiting ++ chunk))
     same = same_bad form.strict form.escapes bytes chunk waiting (concat sent ++ text) started fed.valid
 
--- the lines of some more blocks
+-- the page of some more blocks is appended to the page of the blocks before them
 pub more_page : (rules : Rules) (form : Form) (sent parts : List (List ℕ)) (pen : Pen) → pen ≡ pen_after_blocks START sent
     → blocks_page rules form (sent ++ parts) ≡ blocks_page rules form sent ++ pages rules form pen parts
 more_page rules form sent parts pen e = pages-append rules form START sent parts ∙ ap (λ (q : Pen). blocks_page rules form sent ++ pages rules form q parts) (sym e)
@@ -276,12 +276,12 @@ module _ (rules : Rules) (form : Form) (is_last : Bool) (reader_old writer_old r
       omega (arith, passed, s.is_at.read.1, length-append s.is_at.bytes chunk),
     )
 
-    -- an allocation failed
+    -- if an allocation fails, the run ends with `Memory`
     pub ends_memory : IsRun rules form is_last reader_old reader_new writer_old writer (Err f.Memory)
     unfolding first_by
     ends_memory = (s.is_at.bytes ++ chunk, has_read, (first_by chunk [] writer few took_sent, s.is_at.wrote))
 
-    -- the sink failed within some lines
+    -- if the sink fails within some lines, it has taken what was written before and a part of these lines
     took_part : (lines : List ℕ) (m : ℕ) (writer_new : Device) → StoppedAt m lines writer writer_new → Took writer_old writer_new (blocks_page rules form s.is_at.sent ++ take m lines)
     took_part lines m writer_new stopped = Took-append writer_old writer writer_new (blocks_page rules form s.is_at.sent) (take m lines) s.is_at.wrote.0 stopped.1
 

@@ -84,7 +84,7 @@ module _ (rules : Rules) (escapes : Escapes) (reader_old reader : Device) (searc
   here : StopsEarly rules escapes search.bytes.items
   here = record { early = search.bytes.items; late = []; parts = sym (append-nil search.bytes.items); chunk = omega arith; unknown = unknown }
 
-  -- the source failed
+  -- if the source fails, the base direction is that of the text read so far
   pub search_failed : (reader_new : Device) (bytes : List ℕ) (waiting_new : ℕ) (base : Base) → Fails reader reader_new → waiting_new ≡ search.decoder.waiting → bytes ≡ search.bytes.items
       → base ≡ text_direction rules (search.text.items ++ last_characters waiting_new) → IsStart rules escapes bytes base false reader_old reader_new
   search_failed reader_new bytes waiting_new base f w same b =

@@ -37,7 +37,7 @@ appends_spaces old mid new spaces before style some m n = λ more.
     ∙ ap (λ xs. old ++ xs) (append_assoc (between before style) spaces (written_after style more) ∙ sym (written-one before style spaces more some))
 
 module _ (visual : Visual) (styles : List Style) (more : List (ℕ × Style)) where
-  -- one more character of a line
+  -- ---- one more character of a line
   pub step_line : (chars vtol : List ℕ) (at : ℕ) (before style : Style) (old new all cells : List ℕ) → at < length chars → at < length vtol
       → style ≡ style_on styles (get_or vtol at 0) → cells ≡ line_cells visual (get_or chars at 0) (get_or vtol at 0) → 0 < length cells
       → new ≡ old ++ (between before style ++ cells)
@@ -71,7 +71,7 @@ module _ (visual : Visual) (styles : List Style) (more : List (ℕ × Style)) wh
       none_left (x ∷ xs) [] e = refl
       none_left (x ∷ xs) (y ∷ ys) e = absurd (omega (arith, e))
 
--- the padding and the characters of a line
+-- writing the padding and then the characters of a line writes the shown line
 pub shown_is : (width : ℕ) (print : Print) (visual : Visual) (styles : List Style) (old mid new : List ℕ) (before padded last : Style) (spaces : ℕ)
     → replicate spaces 32 ≡ padding width print visual → Appends old mid before padded (in_style DEFAULT (replicate spaces 32))
     → Appends mid new padded last (line_chars print visual styles) → Appends old new before last (shown_line width print visual styles)
@@ -80,7 +80,7 @@ shown_is width print visual styles old mid new before padded last spaces p first
     subst (λ (xs : List ℕ). Appends old new before last (in_style DEFAULT xs ++ chars)) p
     (appends_both old mid new before padded last (in_style DEFAULT (replicate spaces 32)) chars first second)
 
--- a whole line
+-- the bytes of a whole line are the shown line, the change back to the default style, and a newline
 pub line_is : (old shown reset all : List ℕ) (last : Style) (line : List (ℕ × Style)) → Appends old shown DEFAULT last line
     → reset ≡ shown ++ between last DEFAULT → all ≡ reset ++ 10 ∷ [] → all ≡ old ++ (written line ++ 10 ∷ [])
 unfolding written

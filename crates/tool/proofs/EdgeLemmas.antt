@@ -161,7 +161,7 @@ module _ (kept : List Layout) where
   before-by rules pos caret true within is = absurd (both_ways true within refl)
   before-by rules pos caret false within is = inside Before pos caret is
 
-  -- an edge of a character
+  -- the caret at an edge of a character fits
   pub edge-fits : (rules : Rules) (side : Side) (pos : ℕ) (caret : Caret) → (side ≡ Before → pos < length (text_of kept))
       → Some caret ≡ edge_caret_by rules kept side pos → Fits caret
   edge-fits rules Before pos caret within is =

@@ -236,7 +236,7 @@ module _ {V : Type 0} (form : Form V) where
     values = λ c is. same_value es sorted c moved (once 0 sorted c rising) ∙ ap (λ xs. value_at xs c) are ∙ value_lines lines c is;
   }
 
--- The values before the first entry.
+-- ---- the values before the first entry
 module _ {V : Type 0} where
   value_before : (low : ℕ) (es : List (Entry V)) (c : ℕ) → AreRisingFrom low es → c < low → value_at es c ≡ None
   value_before low es c rising lt = none_covering es c (none_before low es c rising lt)
