@@ -301,7 +301,7 @@ static void escape(void) {
     if ((modifiers & 1) == 0) anchor = caret;
 }
 
-/* Executes a key and stores its name in `name`. Returns 0 to quit. */
+/* Handles a key press, and stores the key's name in `name`. Returns 0 to quit. */
 static int obey(int byte, char *name) {
     int more = byte >= 0xF0 ? 3 : byte >= 0xE0 ? 2 : byte >= 0xC0 ? 1 : 0;
     size_t length = 1;

@@ -65,7 +65,7 @@ class Measure:
     A paragraph is shaped as a whole. If a line ends inside a kerned pair, a ligature or a word whose letters join, what is drawn
     can be wider or narrower than measured.
 
-    Raises `OSError` if a file cannot be read, and `ValueError` if it is no font, if no font is given, or if the size is not from 1/64
+    Raises `OSError` if a file cannot be read, and `ValueError` if it is not a font, if no font is given, or if the size is not from 1/64
     to 65,535. Several sessions and threads may share a `Measure`. It keeps the advances of up to 4,096 short runs and as many of their
     parts, so an edit shapes only what it changes and the runs next to that.
 

@@ -1263,7 +1263,7 @@ static void tab_stops(void) {
     LINE(0, 3, 2, 2, 0);
     LINE(1, 4, 4, 5, 0);
     CARET(6, BEFORE, 1, 4, 0);
-    /* a tab that does not fit is wider than its line */
+    /* a tab that is wider than the width gets a line of its own */
     show("abc\td", HORDGULI_TAB_WIDTH(4), 3);
     LINE(0, 3, 3, 3, 0);
     LINE(1, 1, 1, 4, 0);

@@ -178,7 +178,8 @@ impl Pad {
         last.map_or(true, |last| ENDS.contains(&last))
     }
 
-    /// Replaces characters. Moves the caret after the new text, or before what follows it.
+    /// Replaces characters, and puts the caret at the edge that `edge` returns for the end of the new text. If a
+    /// paragraph or line starts there, puts the caret before the character that follows.
     fn replace(&mut self, old: Range<CharPos>, text: &str, edge: fn(CharPos) -> Edge) {
         let end = old.start + text.chars().count();
         let is_selected = !self.selected().is_empty();
