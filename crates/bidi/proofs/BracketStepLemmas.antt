@@ -69,7 +69,7 @@ and-true : (a b : Bool) → b ≡ true → (a && b) ≡ a
 and-true true b e = e
 and-true false b e = refl
 
--- the bracket with which N0 sets the type of a mark, carried along
+-- carrying along the bracket with which N0 sets the type of a mark finds the same bracket as the definition
 pub holder-is : (sets : ℕ → Bool) (marks : List Bool) (k : ℕ) → k < length marks
     → greatest (λ p. sets p && is_set_with marks p k) k ≡ (if get_or marks k false then holder sets marks k else None)
 holder-is sets marks zero within = sym (if-same (get_or marks 0 false) None)

@@ -60,7 +60,7 @@ module _ {X : Type 0} (items : List ℕ) (value : ℕ → X) (old : List X) wher
       ];
     }
 
-    -- or nothing is written, if the list has no such index
+    -- if the list does not have the index, nothing is written
     pub same_filled : (j : ℕ) (new : List X) → j ≡ k + 1 → IsFilled items value old j new → length new ≤ get_or items k 0 → IsFilled items value old k new
     same_filled j new next filled past = record {
       size = filled.size;

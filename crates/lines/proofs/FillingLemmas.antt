@@ -211,7 +211,7 @@ misfits_here width rest n sum next within read e counts wide =
       wide,
     ))
 
--- one more character that fits and has no mandatory break after it
+-- `FitsUpTo` still holds after one more character that fits and has no mandatory break after it
 pub fits_more : (width : ℕ) (rest : List CharInfo) (n sum next : ℕ) → n < length rest → FitsUpTo width rest n sum → next ≡ advance sum (place_at rest n)
     → next ≤ sum + 4294967295 → fits_to width rest n ≡ true → must_end rest n ≡ false → FitsUpTo width rest (n + 1) next
 fits_more width rest n sum next within read e most fit must =
@@ -256,7 +256,7 @@ columns_group rest n m sum more piece forward is before total =
     ap (λ j. take j rest) (sym whole) ∙ take-add n (m - n) rest ∙ ap (λ (xs : List CharInfo). take n rest ++ xs) (sym is) in
     sym total ∙ ap (λ j. fold advance j piece) before ∙ sym (fold-append advance 0 (take n rest) piece) ∙ ap columns (sym joined)
 
--- a group of characters that fits and contains no mandatory break
+-- `FitsUpTo` still holds after a group of characters that fits and contains no mandatory break
 pub fits_group : (width : ℕ) (rest : List CharInfo) (n m sum more : ℕ) (piece : List CharInfo) → FitsUpTo width rest n sum → n ≤ m → m ≤ length rest
     → piece ≡ slice_range rest n m → fold advance sum piece ≡ sum + more → more ≤ 4294967295 * (m - n) → sum + more ≤ width → list_any (λ p. is_must p.mark) piece ≡ false
     → FitsUpTo width rest m (sum + more)

@@ -16,7 +16,8 @@ with_group P levels at n m end before group k below = elim (cases_lt k at) [
   | inr after ↦ in_group P levels at n k group after (omega (arith, below, end))
 ]
 
--- the levels before an index and those of a last group that begins at or before it
+-- if P holds for the levels before an index and for those of a last group that begins at or before it, it
+-- holds for all
 pub with_last : (P : ℕ → Type 0) (levels : List ℕ) (at from : ℕ) → from ≤ at → ((k : ℕ) → k < at → P (get_or levels k 0)) → ((j : ℕ) → P (get_or (take (length levels - from) (drop from levels)) j 0))
     → (k : ℕ) → P (get_or levels k 0)
 with_last P levels at from low before last k = elim (cases_lt k from) [

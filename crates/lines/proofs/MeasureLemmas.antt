@@ -159,13 +159,13 @@ pub all_written : (tab_width n : ℕ) (text advances widths : List ℕ) (lines :
 all_written tab_width n text advances widths lines so_far past =
     subst (AreWidthsOf tab_width text advances widths) (take_all n lines past) so_far.done
 
--- the widths that a paragraph keeps without tab stops
+-- without tab stops, a paragraph keeps the widths of its characters in the first part of its list
 pub kept_untabbed : (tab_width : ℕ) (text sizes : List ℕ) (lines : List Line) → tab_width ≡ 0 → length text ≤ length sizes → All (λ line. line.start + length line.levels ≤ length text) lines
     → AreWidthsOf tab_width text (take (length text) sizes) (kept_widths tab_width text sizes) lines
 kept_untabbed tab_width text sizes lines none within inside =
     rw none (untabbed_lines (take (length text) sizes) text lines (length-take-le (length text) sizes within) inside)
 
--- the widths that it keeps after the advances
+-- with tab stops, it keeps them after the advances
 pub kept_tabbed : (tab_width : ℕ) (text sizes advances widths rest : List ℕ) (lines : List Line) → 0 < tab_width → sizes ≡ advances ++ (widths ++ rest) → length advances ≡ length text
     → length widths ≡ length text → AreWidthsOf tab_width text advances widths lines
     → AreWidthsOf tab_width text (take (length text) sizes) (kept_widths tab_width text sizes) lines
@@ -184,7 +184,7 @@ line_inside n k lines line here inside =
     let p : Line → Type 0 = λ (l : Line). l.start + length l.levels ≤ n in
     subst p (get_or_from_slice_get lines k line line here) (All-get_or p lines k line (slice_get_within lines k line here) inside)
 
--- what a list holds after all its items are written
+-- after all its items have been written, a list holds the written items
 pub whole_items : (len : ℕ) (new old : List ℕ) → length new ≡ length old → len ≡ length old → take len (new ++ drop (length new) old) ≡ new
 whole_items len new old same size =
     ap (λ (xs : List ℕ). take len (new ++ xs)) (drop_all (length new) old (omega (arith, same))) ∙ ap (take len) (append-nil new) ∙ take_all len new (omega (arith, same, size))
@@ -199,7 +199,7 @@ sizes_kept tab_width text old new lines len room front size widths = record {
   widths = widths;
 }
 
--- the same, given the text and the list as they were read
+-- the same holds for the text and the list as they were read
 pub sizes_after : (tab_width len : ℕ) (text seen old found new : List ℕ) (lines : List Line) → seen ≡ text → found ≡ old → len ≡ length old
     → kept_len tab_width text ≤ length old → sum (take (length text) old) < 2 ^ 32
     → take (length seen) new ≡ take (length seen) found → length new ≡ length found

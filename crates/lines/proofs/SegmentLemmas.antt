@@ -64,7 +64,7 @@ module _ (p q : ℕ → Bool) (front : ℕ) where
       ap (λ m. after (least p m count) total) next
       ∙ end_shift total len count n (suc j) (omega (arith, sum)) (omega (arith, few)) more last same)
 
--- the same for lists: the ends of a text in three parts, and those of the part in the middle
+-- ---- the same for lists: the ends of a text in three parts, and those of the part in the middle
 module _ (front ends rest : List Bool) (j : ℕ) (within : j < length ends) where
   pub ends_same : (i : ℕ) → i < length ends → ends_at (front ++ (ends ++ rest)) (length front + i) ≡ ends_at ends i
   ends_same i below = get_or-append-add front (ends ++ rest) i false ∙ get_or_append_left ends rest false i below

@@ -261,12 +261,12 @@ module _ (rules : Rules) (text : List ℕ) where
               (end_here n (omega arith) in_first in_second));
         }
 
--- the same fact about equal extents and equal lines
+-- the fact also holds for equal extents and equal lines
 moved : {n : ℕ} (a b c d : LineExtents) (k i m j : ℕ) → a ≡ b → c ≡ d → k ≡ i → m ≡ j → HaveSamePlace n a c k m → HaveSamePlace n b d i j
 moved {n} a b c d k i m j first second left right same =
     subst (λ e. HaveSamePlace n e d i j) first (subst (λ e. HaveSamePlace n a e i j) second (subst (λ x. HaveSamePlace n a c x j) left (subst (λ x. HaveSamePlace n a c k x) right same)))
 
--- the lines of a layout that was found at some width, and those at another width
+-- ---- the lines of a layout that was found at some width, and those at another width
 module _ (layout : Layout) (old new : LineExtents) (n : ℕ) (old-is : old ≡ extents_in layout.lines) (in_old : n ≤ length old.starts) (in_new : n ≤ length new.starts) where
   module _ (rules : Rules) (width : ℕ) (laid : IsLaidOut rules layout) (is : new ≡ extents_of rules width layout.text) where
     was : old ≡ extents_of rules laid.width layout.text

@@ -69,7 +69,7 @@ width_is n k advances text within =
     let e : 0 + sum (take k (widths_from n 0 text sizes)) ≡ sum (take k (widths_from n 0 text sizes)) = omega arith in
     from_at n 0 k text sizes (length-sizes n advances text) within ∙ ap (λ m. width_from n m (get_or text k 0) (get_or sizes k 0)) e
 
--- the size of a character of a paragraph that is not measured
+-- the size of a character of a paragraph that is not measured depends only on this character
 pub size_is : (n k : ℕ) (text : List ℕ) → k < length text → get_or (sizes_of n None text) k 0 ≡ size_in n (get_or text k 0)
 size_is n k text within = get_or-map (size_in n) text k 0 0 within
 
@@ -176,7 +176,7 @@ advance_info t n column c mark ends =
       | inr other ↦ rw other (rw (stays (resolved (line_class_of t c) (is_mark_in t c))) refl)
     ]
 
--- the same, with an advance in place of the columns
+-- the same holds with an advance in place of the columns
 pub advance_measured : (t : Tables) (n column c size : ℕ) (mark : Mark) (ends : Bool)
     → advance column (record (info t n c mark ends) { columns = size }) ≡ column + width_from n column c size
 advance_measured t n column c size mark ends =

@@ -88,7 +88,7 @@ shown_lens_of_two = refl
 columns_shown : columns (shown (Some 4) (letter ∷ letter ∷ letter ∷ space ∷ last_space ∷ [])) ≡ 4
 columns_shown = refl
 
--- `a`, a space with a combining mark, and `b`: the line may end inside a cluster
+-- in `a`, a space with a combining mark, and `b`, the line may end inside a cluster
 inside : starts 1 (letter ∷ record last_space { ends_cluster = false } ∷ record letter { columns = 0 } ∷ last ∷ []) ≡ 0 ∷ 2 ∷ []
 unfolding line_starts_of
 inside = refl
@@ -128,7 +128,7 @@ tab n = record { columns = n; trailing = Tab; mark = May; ends_cluster = true }
 abbrev mark : CharInfo
 mark = record letter { columns = 0 }
 
--- a tab that starts a line, two tabs, and a tab at a tab stop
+-- a tab moves to the next tab stop
 tabs_alone : map (λ n. columns (replicate n (tab 4))) (0 ∷ 1 ∷ 2 ∷ 3 ∷ []) ≡ 0 ∷ 4 ∷ 8 ∷ 12 ∷ []
 tabs_alone = refl
 

@@ -164,7 +164,7 @@ module _ (levels : List ℕ) where
       let is : get_or (range_with_len a n) j d ≡ a + j = get_or-range_with_len a n j d short in
       (omega (arith, is), omega (arith, is, short))))
 
-  -- a range in which no level changes the order
+  -- a range in which no level changes the order is sorted
   ascending : (flips : ℕ → Bool) → ((s : ℕ) → flips (level_at s) ≡ false) → (a n : ℕ) → Sorted (IsLeftBy levels flips) (range_with_len a n)
   ascending flips none a zero = tt
   ascending flips none a (suc n) = (after n (a + 1) (omega arith), ascending flips none (a + 1) n)

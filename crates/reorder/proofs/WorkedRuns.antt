@@ -12,7 +12,8 @@ hebrew_in_latin : runs_of (0 ∷ 0 ∷ 0 ∷ 0 ∷ 1 ∷ 1 ∷ 1 ∷ 0 ∷ 0 ∷
 unfolding runs_of order_of
 hebrew_in_latin = refl
 
--- the same, right to left: the Hebrew letters are between the Latin words, the second of which is on the left
+-- the same text from right to left: the Hebrew letters are between the Latin words, and the second word is on
+-- the left
 right_to_left : runs_of (2 ∷ 2 ∷ 2 ∷ 1 ∷ 1 ∷ 1 ∷ 1 ∷ 1 ∷ 2 ∷ 2 ∷ 2 ∷ []) ≡ run 8 3 2 ∷ run 3 5 1 ∷ run 0 3 2 ∷ []
 unfolding runs_of order_of
 right_to_left = refl

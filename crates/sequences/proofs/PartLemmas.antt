@@ -30,7 +30,7 @@ module _ (separator : ℕ) where
   parts_after-first [] some = absurd (omega arith)
   parts_after-first (c ∷ text) some = split_first text
 
-  -- the parts that are left after the first one
+  -- the parts of the rest of a text are its parts without the first one
   pub parts_after_drop : (text : List ℕ) → parts_after separator (drop (first_len separator text) text) ≡ drop 1 (parts_after separator text)
   parts_after_drop [] = refl
   parts_after_drop (c ∷ text) = ap (drop 1) (sym (parts_after-first (c ∷ text) (omega arith)))

@@ -250,7 +250,7 @@ module _ (c : ℕ) (kept : is_dropped c ≡ false) (outer : is_inline c ≡ fals
       cond_both (x == 0x1B) _ _ (IsWithin (suc (length text))) (λ _. suc_within (length text) _ (len_after_escape_within one text))
       (λ _. cond_both (is_c1_introducer x) _ _ (IsWithin (suc (length text))) (λ _. len_after_escape_within one ((x - 0x40) ∷ text)) (λ _. tt))
 
-  -- what sequences do
+  -- ---- what sequences do
   take_whole : (one text : List ℕ) (n : ℕ) → n ≤ length text → take n (text ++ c ∷ one) ≡ take n text
   take_whole one text n le = take-append-le n text (c ∷ one) le
 

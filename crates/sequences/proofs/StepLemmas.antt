@@ -65,7 +65,7 @@ end_text pen shown all text at end e =
 pub end_pen : (pen last : Pen) (text : List ℕ) (at : ℕ) → length text ≤ at → pen_at_end pen (drop at text) ≡ last → pen ≡ last
 end_pen pen last text at end e = sym (pen_at_end-none pen) ∙ ap (pen_at_end pen) (sym (drop_of_length-le text end)) ∙ e
 
--- a character that nothing is struck over
+-- a character that nothing is struck over changes the pen as `plain_step` does
 after_first_part-plain : (pen : Pen) (c : ℕ) (text : List ℕ) → is_dropped c ≡ false → after_backspaces text ≡ [] → after_first_part pen c text ≡ plain_step pen
 after_first_part-plain pen c text e none =
     ap (after_part pen c text) (no_sequence c text e) ∙ cond-false (is_dropped c) pen (after_character pen c text) e

@@ -157,7 +157,7 @@ room-append list (p ∷ ps) qs =
 
 -- ---- the middle of a list of advances is replaced
 
--- paragraphs of a text on both sides of some that are replaced
+-- ---- paragraphs of a text on both sides of some that are replaced
 module _ (rules : Rules) (width : ℕ) (left mid right : List (List ℕ)) (new : List (List ℕ)) (front inner back fresh : List ℕ)
     (in_front : length front ≡ length (concat left)) (in_mid : length inner ≡ length (concat mid)) (in_new : length fresh ≡ length (concat new)) where
   abbrev old : List ℕ

@@ -279,7 +279,7 @@ module _ (line : Visual) (ordered : IsOrdered line) (start : ℕ) (cluster : Clu
         let ends = and_parts (nat_le (from_start k) j) (nat_lt j (to_end k)) parts.0 in
         member j (leb-true (from_start k) j ends.0) (ltb-true j (to_end k) ends.1) parts.1
 
-    -- the last character that belongs to the unit
+    -- the unit has a last character that takes columns
     pub last_member : (m : ℕ) × (k ≤ m) × IsLast (takes_columns line) (to_end k) m
     last_member = last_from (takes_columns line) (to_end k) k end_above held.takes
 
@@ -322,7 +322,7 @@ module _ (line : Visual) (ordered : IsOrdered line) (start : ℕ) (cluster : Clu
         between_same line (from_start k) (suc m) (to_end k) (omega (arith, start_first.to, after_k)) last.below (omega (arith, end_within, ordered.text))
         (λ c above under. last.fails c above under)
 
-    -- the character that covers column `o`, counted from the unit's leading edge
+    -- a character of the unit covers column `o`, counted from the unit's leading edge
     owner_of : (o : ℕ) → o < wide (to_end k) → (j : ℕ) × IsMember line start cluster k j × (wide j ≤ o) × (o < wide (suc j))
     owner_of o below =
         let at : from_start k + (to_end k - from_start k) ≡ to_end k = omega (arith, start_first.to, end_above) in

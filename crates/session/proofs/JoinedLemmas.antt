@@ -56,7 +56,7 @@ module _ (is_cut : ℕ → ℕ → Bool) where
       → is_within_limit is_cut text ≡ false
   long_first text first after split long = first_tested text first after split false (not-true _ long)
 
-  -- the paragraphs of a text whose first paragraph ends at a byte
+  -- if the first paragraph of a text ends at byte n, the others are the paragraphs of the text after byte n
   pub split_at_end : (text first after : List ℕ) (n : ℕ) → EndsAfter is_cut [] text n → first ≡ take n text → after ≡ drop n text
       → paragraphs is_cut (chars text) ≡ chars first ∷ paragraphs is_cut (chars after)
   split_at_end text first after n ends first-is after-is =

@@ -208,7 +208,7 @@ module _ (kept : List Layout) (laid : All IsLaid kept) where
     lines_before = refl;
   }
 
-  -- the layout that has a line
+  -- the layout that contains a line is laid out
   laid_item : (n : ℕ) (i : IsIn lines_of kept n) → IsLaid i.item
   laid_item n i =
       let read : slice_get kept (length i.before) ≡ Some i.item = sym (found_item lines_of kept n (found_in i.before i.rest) (lines_found n i)) in

@@ -32,7 +32,7 @@ clusters_past kept n past =
     let none : slice_get (line_starts kept) n ≡ None = slice_get_past (line_starts kept) n (omega (arith, past, length-lines_from 0 kept)) in
     sym (ap (option_and_then (λ start. option_map (λ (line : Visual). ends_in (ends_of_text kept) start line.len) (slice_get (lines_in kept) n))) none)
 
--- the length of a line, by where the lines of its paragraph start
+-- the length of a line is the distance from its start to its end, by the line starts of its paragraph
 visual_len : (l : Layout) (k : ℕ) → k < length l.lines
     → option_map (λ (line : Visual). line.len) (slice_get (visuals l) k) ≡ Some (end_of (length l.text) (map begins l.lines) k - get_or (map begins l.lines) k 0)
 visual_len l k within =

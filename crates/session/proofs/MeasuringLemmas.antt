@@ -165,7 +165,7 @@ made_all rules width pars list first end i from made m all =
     ∙ ap (λ ps. made ++ layouts_from rules width (Some (drop from list)) ps) (sym (slice_none pars i end all))
     ∙ m.laid_out
 
--- the text of the paragraph that was read at an index
+-- ---- the text of the paragraph that was read at an index
 module _ (kept : List Layout) (i : ℕ) (l : Layout) (read : Some l ≡ slice_get kept i) where
   pub read_text : get_or (pars_of kept) i [] ≡ l.text
   read_text = text_read kept i (Some l) read

@@ -140,7 +140,7 @@ pub counts_before : (encoding : Encoding) (size : Layout → ℕ) (kept : List L
 counts_before Utf8 size kept n found f counts = counts.bytes_before ∙ ap (sum_by (units_of Utf8)) (front_is size kept n found f)
 counts_before Utf16 size kept n found f counts = counts.utf16_before ∙ ap (sum_by (units_of Utf16)) (front_is size kept n found f)
 
--- the offset of a position, from the paragraph that the search finds
+-- ---- the offset of a position, from the paragraph that the search finds
 module _ (encoding : Encoding) (kept : List Layout) (pos : ℕ) (found : Found) (f : Finds chars_of chars_of lines_of kept pos found) (l : Layout)
     (read : Some l ≡ slice_get kept found.index) (counts : CountsBefore (units_of Utf8) (units_of Utf16) kept found) where
   pub front_within : found.rest ≤ length l.text
@@ -177,7 +177,7 @@ module _ (encoding : Encoding) (kept : List Layout) (pos : ℕ) (found : Found) 
       ) in
       offset_within encoding (text_of kept) pos within ∙ ap Some sum
 
--- the position of a unit, from its place in the paragraph that the search finds
+-- ---- the position of a unit, from its place in the paragraph that the search finds
 module _ (encoding : Encoding) (kept : List Layout) (offset : ℕ) (found : Found) (f : Finds (units_of encoding) chars_of lines_of kept offset found) (l : Layout)
     (read : Some l ≡ slice_get kept found.index) where
   pub unit_within : found.rest < units_of encoding l

@@ -113,7 +113,7 @@ module _ (law : ParagraphsArePieces) (is_cut : ℕ → ℕ → Bool) (text list 
       get_or-last (paragraphs is_cut (text ++ c ∷ [])) ∙ ap last_of (paragraphs-push is_cut text c) in
       ap₂ (λ n (p : List ℕ). sum (drop (n - length p) (list ++ a ∷ []))) size last ∙ sum_last-push starts c a ps list each_listed
 
-  -- the sum that the scan has before the character is added
+  -- the sum that the scan keeps, or 0 if the character starts a paragraph, is the sum before this character
   scan_before : (n : ℕ) → n ≡ (if starts_piece is_cut scan.last c then 0 else scan.sum) → have_room list ps ≡ true → n ≡ before
   unfolding before starts
   scan_before n n-is has =
@@ -179,7 +179,7 @@ pub joined_sum : (front back : List ℕ) (n : ℕ) → sum (front ++ (replicate 
 joined_sum front back n =
     omega (arith, sum_by-append (λ (x : ℕ). x) front (replicate n 0 ++ back), sum_by-append (λ (x : ℕ). x) (replicate n 0) back, zeros_sum n)
 
--- what a scan of the three parts finds
+-- a scan of the three parts finds whether their paragraphs are within the limit
 pub room_of_parts : (is_cut : ℕ → ℕ → Bool) (front piece back front_list zeros back_list : List ℕ) (scan : RoomScan)
     → HasSummed is_cut ([] ++ front ++ piece ++ back) ([] ++ front_list ++ zeros ++ back_list) scan
     → not scan.is_over ≡ have_room (front_list ++ (zeros ++ back_list)) (paragraphs is_cut (front ++ (piece ++ back)))

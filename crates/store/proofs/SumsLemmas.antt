@@ -73,7 +73,7 @@ module _ {P : Type 0} (G : Ghosts P) where
       each = λ (u : Counted). omega (arith, kept.each u, old.each u, new.each u, less u, more u, old_within u, sum_around_splice (measure G u) xs i j ys ordered);
     }
 
-  -- sums that fit, in each unit
+  -- sums fit if they fit in each unit
   pub fit_each : (items : List P) → sum_by G.chars items < 2 ^ 64 → sum_by G.lines items < 2 ^ 64 → sum_by G.bytes items < 2 ^ 64 → sum_by G.utf16 items < 2 ^ 64
       → SumsFit G items
   fit_each items chars lines bytes utf16 = record {

@@ -134,7 +134,7 @@ module _ {P : Type 0} (G : Ghosts P) where
         (subst (λ xs. AreSums G xs m.sums) (sym items_are)
         (new_are G items (y ∷ []) i (i + 1) (omega arith) n.sums less more rest m.sums s.summed.sums_are s.less_are s.more_are less_is more_is))
 
-    -- a subtree that stays the same
+    -- each subtree is like itself
     pub same_left : IsLike n.left n.left
     same_left = record { balanced = s.summed.balanced.0; height_is = refl; count_is = refl }
 

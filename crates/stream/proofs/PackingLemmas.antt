@@ -142,7 +142,7 @@ lowest : (b : Bool) (n : ℕ) → ((cond b 1 0 + 2 * n) % 2 ≡ cond b 1 0) × (
 lowest true n = omega arith
 lowest false n = omega arith
 
--- lanes that start with the bytes of the characters, with masks for how many bytes each has
+-- packing lanes that start with the bytes of the characters yields the UTF-8 of the characters
 pub packed-encoded : (word : ℕ → ℕ) (low high test : ℕ → Bool)
     → ((c : ℕ) → test c ≡ true → take (kept (cond (low c) 1 0) (cond (high c) 1 0)) (bytes_of (word c)) ≡ encode_utf8 c)
     → (cs : List ℕ) → list_all test cs ≡ true → packed (map word cs) (mask_l (map low cs)) (mask_l (map high cs)) ≡ encode_utf8_all cs

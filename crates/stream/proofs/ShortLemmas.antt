@@ -80,7 +80,7 @@ none_marked : (p : ℕ → Bool) (xs : List ℕ) → nat_eq (mask_l (map (λ x. 
 none_marked p [] = refl
 none_marked p (x ∷ xs) = one_more (p x) (mask_l (map (λ y. not (p y)) xs)) (list_all p xs) (none_marked p xs)
 
--- an empty mask of the lanes that are at least y, as a test of all lanes
+-- the mask of the lanes that are at least y is empty if and only if all lanes pass the test
 pub none_from : (p : ℕ → Bool) (y : ℕ) (v : List ℕ) → length v ≡ 16 → Each1 (Fits w8) v → agree_below (λ x. top 7 (at_most y x)) (λ x. not (p x)) 256 ≡ true
     → nat_eq (mask_l (map (top 7) (zip2 at_most (replicate 16 y) v)) % 2 ^ 64) 0 ≡ list_all p v
 none_from p y v long fits all =
@@ -101,7 +101,7 @@ spell n xs long =
     let many = length-map-range_with_len f 0 n in
     sym (ext_get_or 0 _ xs (many ∙ sym long) (λ i l. get_or-map-range_with_len f 0 n i i 0 (omega arith) (omega arith)))
 
--- what is computed in each lane
+-- each lane computes the character of its pair of bytes
 pub lane : (x : ℕ) → Fits w32 x → cond (top 31 (cond (ltb (bit_and x 255) 128) (2 ^ 32 - 1) 0)) (bit_and x 255) (((bit_and x 31 * 2 ^ 6) % 2 ^ 32 + bit_and (x / 2 ^ 8) 63) % 2 ^ 32) ≡ short_char x
 lane x fits =
     rw (and_mask x 8, and_mask x 5, and_mask (x / 2 ^ 8) 6)
@@ -202,7 +202,7 @@ take_map f zero xs = refl
 take_map f (suc n) [] = refl
 take_map f (suc n) (x ∷ xs) = ap (λ t. f x ∷ t) (take_map f n xs)
 
--- the first n of four items that were written to an index
+-- if four items were written to an index, the first n of them follow the items before the index
 pub written : (at n : ℕ) (out four post : List ℕ) → at ≤ length out → n ≤ length four → take (at + n) (take at out ++ (four ++ post)) ≡ take at out ++ take n four
 written at n out four post within few =
     let len : length (take at out) ≡ at = length-take-le at out within in

@@ -113,7 +113,7 @@ next_by rules now form e shown at end old new all split n h =
     (n ∙ ap (λ (r : Rules). old ++ printed_pieces r form (take (end - at) (drop at shown))) e) h
 
 module _ (rules : Rules) where
-  -- where the next paragraph ends
+  -- the next paragraph ends k characters after `at`
   pub group_ends : (shown : List (ℕ × Style)) (characters rest : List ℕ) (at k end : ℕ) → characters ≡ characters_of shown → rest ≡ drop at characters → end ≡ at + k
       → SplitsAt (cut_by rules) rest (Some k)
       → styled_paragraphs (cut_by rules) (drop at shown) ≡ take (end - at) (drop at shown) ∷ styled_paragraphs (cut_by rules) (drop end shown)

@@ -35,7 +35,7 @@ marked-append false (c ∷ xs) ys = split ∙ ap (λ (b : Bool). marked false (c
 not_less : (a b : ℕ) → b ≤ a → nat_lt a b ≡ false
 not_less a b le = grind (arith, nat_tests)
 
--- a part of a text that is decoded by itself
+-- a part of a text can be decoded by itself
 text_by : (escapes : Escapes) (old new : Bool) (bytes rest xs : List ℕ) → lossy bytes ≡ xs ++ lossy rest → new ≡ (old || nat_lt 0 (length xs))
     → text_after escapes old bytes ≡ pictures escapes (marked old xs) ++ text_after escapes new rest
 text_by escapes old new bytes rest xs e flag =

@@ -47,7 +47,7 @@ level-append tables (x ∷ xs) ys =
     let first = first_strong_level (map (class_of tables) x) in
     ap (or_else first) (level-append tables xs ys) ∙ sym (or_assoc first (first_level tables xs) (first_level tables ys))
 
--- what a text shows, as a scanner collects it
+-- what a scanner collects from a text has the level of what the text shows
 pub level_shown : (rules : Rules) (text characters : List ℕ) (collected : StyledText) (level : Option ℕ) → styled_of collected ≡ styled START text
     → characters ≡ collected.characters.items → level ≡ first_level rules.tables (paragraphs (cut_by rules) characters) → level ≡ shown_level rules text
 unfolding shown_level
@@ -216,7 +216,7 @@ whole_text escapes bytes text n waiting s w =
     ap (input_text escapes) (sym (append-nil bytes)) ∙ s.begins [] ∙ ap (λ t. text ++ text_after escapes s.started t) (append-nil (drop n bytes))
     ∙ ap (λ t. text ++ t) (end_text escapes s.started (drop n bytes) waiting (omega (arith, length-drop n bytes, w)) s.rest)
 
--- the direction of an input that goes on
+-- a direction that is known for the first characters is the direction of the input, whatever follows
 pub known_start : (rules : Rules) (escapes : Escapes) (bytes text cut : List ℕ) (n : ℕ) (base : Base) → StartsWith escapes bytes n text → cut ≡ take FIRST_CHARACTERS text
     → ((more : List ℕ) → base ≡ text_direction rules (cut ++ more)) → (more : List ℕ) → base ≡ direction_of rules escapes (bytes ++ more)
 known_start rules escapes bytes text cut n base s c known more =

@@ -125,7 +125,7 @@ decoded_text bytes rest before after new text at error d r p e =
           ∙ ap (λ t. (d.characters ++ chars text) ++ lossy (t ++ more)) (sym next);
     }
 
--- all that can be decoded
+-- if the rest of the bytes has no error, all that can be decoded has been decoded
 pub all_decoded : (bytes rest before after new text : List ℕ) (at : ℕ) (error : Option ℕ) → IsDecoded bytes at before after → rest ≡ drop at bytes
     → IsValidPrefix rest text error → new ≡ after ++ chars text → error ≡ None → IsAllDecoded bytes (at + length text) before new
 all_decoded bytes rest before after new text at error d r p e none =
@@ -159,7 +159,7 @@ decoded_error bytes rest before after new text last at n error d r p e is added 
           ∙ ap (λ x. (t.characters ++ 0xFFFD ∷ []) ++ lossy (x ++ more)) (drop-drop n k bytes);
     }
 
--- where an invalid sequence ends
+-- an invalid sequence is not empty, and ends at or before the end of the bytes
 pub error_bounds : (bytes rest text : List ℕ) (at n : ℕ) (error : Option ℕ) → at ≤ length bytes → rest ≡ drop at bytes → IsValidPrefix rest text error → error ≡ Some n
     → (0 < n) × (at + length text + n ≤ length bytes)
 error_bounds bytes rest text at n error within r p is =
@@ -242,7 +242,7 @@ front_decodes bad bytes text before new t b few e = record {
         subst (λ (x : List ℕ). IsAllDecoded x (length text) before new) (sym (good_front true bytes (sym b)))
         (front_decoded front text before new false text_is (whole_good front u) refl (λ _. omega (arith, utf8_valid_len-IsUtf8 front u)) e)
 
--- bytes with errors that are read as U+FFFD
+-- `Decodes` holds for bytes whose errors are read as U+FFFD
 pub lossy_decodes : (bytes before new : List ℕ) (n : ℕ) → IsAllDecoded bytes n before new → Decodes false bytes n false before new
 lossy_decodes bytes before new n all = record { all = all; stops_is = refl; within = all.decoded.within; valid = λ s. absurd cc }
 

@@ -97,14 +97,14 @@ module _ (rules : Rules) (form : Form) where
       ++ flat_map (printed_paragraph (in_direction rules (base_of rules (characters_of first))) form) rest) (take_all 1048576 shown short) none
       ∙ append-nil (printed_paragraph rules form shown)
 
-  -- the same for a paragraph whose characters and styles are given
+  -- the same holds for a paragraph whose characters and styles are given
   pub whole_piece : (text : List ℕ) (styles : List Style) (shown : List (ℕ × Style)) (old new : List ℕ) → text ≡ characters_of shown → styles_of shown ≡ styles → length text ≤ 1048576
       → new ≡ old ++ printed_bytes rules form text styles → new ≡ old ++ printed_pieces rules form shown
   whole_piece text styles shown old new same s short e =
       let count : length text ≡ length shown = ap length same ∙ length-map shown (λ (c : ℕ × Style). c.0) in
       e ∙ ap (λ t. old ++ t) (ap₂ (printed_bytes rules form) same (sym s) ∙ sym (pieces_short shown (omega (arith, count, short))))
 
-  -- the same for a paragraph that is over the limit
+  -- the same holds for a paragraph that is over the limit
   pub pieces_are : (now : Rules) (shown : List (ℕ × Style)) (first : List ℕ) (base : ℕ) (old mid new : List ℕ) → now ≡ rules → first ≡ characters_of (take 1048576 shown)
       → base ≡ base_of rules first → mid ≡ old ++ printed_paragraph rules form (take 1048576 shown)
       → new ≡ mid ++ printed_each (in_direction now base) form (drop 1048576 shown) → new ≡ old ++ printed_pieces rules form shown

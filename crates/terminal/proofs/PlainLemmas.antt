@@ -54,7 +54,7 @@ ltr_encoded : encode_utf8_all (codes "LTR\n") ≡ codes "LTR\n"
 unfolding encode_utf8
 ltr_encoded = refl
 
--- a choice between two texts that are their own bytes
+-- if two texts are their own UTF-8, so is a choice between them
 choice_encoded : (b : Bool) (xs ys : List ℕ) → encode_utf8_all xs ≡ xs → encode_utf8_all ys ≡ ys → encode_utf8_all (if b then xs else ys) ≡ (if b then xs else ys)
 choice_encoded true xs ys e f = e
 choice_encoded false xs ys e f = f

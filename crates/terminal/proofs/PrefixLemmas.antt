@@ -187,7 +187,7 @@ pub or_one-none : {A : Type 0} (a : A) (xs : List A) → length xs ≡ 0 → or_
 or_one-none a [] none = refl
 or_one-none a (x ∷ xs) none = absurd (omega (arith, none))
 
--- the styles of what follows a prefix
+-- the styles of what follows a prefix are the styles from the end of the prefix on
 pub after_some : (part own : Part) (start end : ℕ) → length part.numbers.now ≡ end → start < end → own.numbers.now ≡ slice_range part.numbers.now start end
     → own.text.now ≡ part.text.now → styles_in own ≡ or_one DEFAULT (drop start (styles_in part))
 after_some part own start end len more n t =

@@ -124,7 +124,7 @@ module _ (rules : Rules) (form : Form) (bytes : List ℕ) (sent : List (List ℕ
     permitted = fed.permitted;
   }
 
-  -- the blocks of the whole text, if nothing follows
+  -- if nothing follows, the blocks of the whole text are those that were sent and those of the rest
   pub fed_blocks : (n : ℕ) → length waiting ≡ n → blocks (cut_by rules) (input_text form.escapes bytes) ≡ sent ++ blocks (cut_by rules) (text ++ last_characters n)
   fed_blocks n len =
       let all : input_text form.escapes bytes ≡ (concat sent ++ text) ++ last_characters n =
@@ -224,7 +224,7 @@ stopped_after front lines m n old mid new wrote stopped n_is =
     )
 
 module _ (rules : Rules) (form : Form) (is_last : Bool) (reader_old writer_old reader writer : Device) (held : Held) (s : Stands rules form reader_old writer_old reader writer held) where
-  -- all blocks that had ended before some more bytes were written
+  -- what was written includes all blocks that had ended before the latest bytes were read
   first_by : (late more : List ℕ) (writer_new : Device) → length late ≤ CHUNK → Took writer_old writer_new (blocks_page rules form s.is_at.sent ++ more)
       → WritesFirst rules form (s.is_at.bytes ++ late) writer_old writer_new
   first_by late more writer_new few took = record {
@@ -244,7 +244,8 @@ module _ (rules : Rules) (form : Form) (is_last : Bool) (reader_old writer_old r
     took = took;
   }
 
-  -- paragraphs over the limit, in what was written and in more blocks
+  -- a paragraph in what was written or in more blocks is over the limit if and only if one in all these
+  -- blocks is
   all_over : (parts : List (List ℕ)) → (held.output.over || have_over rules (pen_of held.output.scanner) parts) ≡ have_over rules START (s.is_at.sent ++ parts)
   all_over parts =
       ap₂ (λ (b : Bool) (q : Pen). b || have_over rules q parts) s.is_at.over_is s.is_at.pen_is ∙ sym (over-append rules START s.is_at.sent parts)
@@ -330,7 +331,7 @@ module _ (rules : Rules) (form : Form) (is_last : Bool) (reader_old writer_old r
         ),
       )
 
-      -- it is not UTF-8
+      -- if the input is not UTF-8, the run ends with `NotUtf8`
       pub ends_bad : (writer_new : Device) (n upto : ℕ) → Wrote (pages rules form (pen_of held.output.scanner) parts) writer writer_new → form.strict ≡ true
           → is_bad (s.is_at.bytes ++ chunk) ≡ true → n ≡ utf8_valid_len (s.is_at.bytes ++ chunk) → IsLeft (cut_by rules) form.strict upto text_new
           → (form.strict ≡ true → length text_new ≡ 0 → length (s.is_at.sent ++ parts) ≡ 0)
@@ -464,7 +465,7 @@ module _ (rules : Rules) (form : Form) (is_last : Bool) (reader_old writer_old r
     pub finish_memory : IsRun rules form is_last reader_old reader_new writer_old writer (Err f.Memory)
     finish_memory = ends_memory reader_new [] consumed passed (omega arith)
 
-    -- the last blocks up to one that is too long
+    -- ---- the last blocks up to one that is too long
     module _ (parts others : List (List ℕ)) (first : List ℕ)
         (cuts : blocks (cut_by rules) (held.text.items ++ last_characters held.decoder.waiting) ≡ parts ++ first ∷ others) (strict : form.strict ≡ true) (within : are_within parts ≡ true)
         (long : 1048577 ≤ length first) where
@@ -545,7 +546,7 @@ fed_none rules form = record {
   valid = λ is. record { front = []; whole = refl; utf8 = ([], (refl, refl)); decoded = λ more. input_is form.escapes more };
 }
 
--- where no block has ended
+-- the position up to which no block has ended is at most the length of the text
 pub left_within : (rules : Rules) (holds : Bool) (n : ℕ) (text : List ℕ) → IsLeft (cut_by rules) holds n text → n ≤ length text
 left_within rules holds n text (inl o) = o.within
 left_within rules holds n text (inr (is, h)) = omega (arith, h.last)

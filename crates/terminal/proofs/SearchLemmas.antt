@@ -76,7 +76,7 @@ module _ (rules : Rules) (escapes : Escapes) (reader_old reader : Device) (searc
     few = omega (arith, s.few, ap length s.searched.searched.front.whole);
   }
 
-  -- the direction if nothing follows
+  -- if nothing follows, the direction is that of the collected text
   whole : text_direction rules (search.text.items ++ last_characters search.decoder.waiting) ≡ direction_of rules escapes search.bytes.items
   whole =
       ap (text_direction rules) (ap (λ t. search.text.items ++ t) (sym end_is) ∙ sym (s.decoded []) ∙ ap (input_text escapes) (append-nil search.bytes.items))

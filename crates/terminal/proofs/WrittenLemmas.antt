@@ -22,13 +22,13 @@ pub written-one : (before style : Style) (chars : List ℕ) (more : List (ℕ ×
 written-one before style [] more some = absurd (omega (arith, some))
 written-one before style (c ∷ chars) more some = ap (λ xs. between before style ++ c ∷ xs) (written-same style chars more)
 
--- characters that are appended one after the other
+-- appending characters and then others appends both, one after the other
 pub appends_both : (old mid new : List ℕ) (before style last : Style) (xs ys : List (ℕ × Style)) → Appends old mid before style xs → Appends mid new style last ys
     → Appends old new before last (xs ++ ys)
 appends_both old mid new before style last xs ys first second = λ more.
     second more ∙ first (ys ++ more) ∙ ap (λ zs. old ++ written_after before zs) (sym (append_assoc xs ys more))
 
--- spaces after what sets their style
+-- appending the change of style and then spaces appends spaces in this style
 pub appends_spaces : (old mid new spaces : List ℕ) (before style : Style) → 0 < length spaces → mid ≡ old ++ between before style → new ≡ mid ++ spaces
     → Appends old new before style (in_style style spaces)
 appends_spaces old mid new spaces before style some m n = λ more.

@@ -218,7 +218,7 @@ module _ {V : Type 0} (decode : ℕ → Option V) (value_of : ℕ → Option V) 
   points_next old new c None within is are same = rw same (points_same old c are is)
   points_next old new c (Some value) within is are adds = points_pair old new c value within are is adds
 
--- the same bytes, at numbers that are equal
+-- `Shows` also holds at equal numbers
 pub shows_at : (bytes : List ℕ) (at at' : ℕ) (part : List ℕ) (count count' : ℕ) → Shows bytes at part 0 count → at ≡ at' → count ≡ count' → Shows bytes at' part 0 count'
 shows_at bytes at at' part count count' shows same_at same_count = record { each = λ i j least most is. shows.each i j (omega arith) (omega arith) (omega arith) }
 

@@ -88,7 +88,7 @@ pages_again answers entries index place number before some is same =
     rw is ((rw (p, at) at known) ∙ same k lt) in
     block_more answers entries entries [] index place number before before.whole (omega arith) (omega arith) (rw is (before.within (place - 1) (omega arith))) (λ i lt. refl) here
 
--- a page that is written from a run on
+-- ---- a page that is written from a run on
 pub filled_more : (answers : ℕ → PropertyAnswers) (old new : List PropertyAnswers) (properties : PropertyAnswers) (start point stop : ℕ) → start ≤ point → point ≤ stop
     → ((i : ℕ) → i < point - start → get_or old i unnamed ≡ answers (start + i)) → ((c : ℕ) → point ≤ c → c < stop → answers c ≡ properties)
     → ((i : ℕ) → get_or new i unnamed ≡ (if nat_le (point - start) i && nat_lt i (stop - start) then properties else get_or old i unnamed))

@@ -203,7 +203,7 @@ no_dot b is dot = grind arith
 dot_word : (b : ℕ) → b ≡ 46 → IsWordByte b
 dot_word b is = record { above = omega (arith, is); ascii = omega (arith, is); no_comment = λ o. omega (arith, is, o); no_separator = λ o. omega (arith, is, o) }
 
--- a code point that does not begin a range
+-- a field with a single code point is the range from this code point to itself
 pub single_points : (x : List ℕ) (v : ℕ) → code_point x ≡ Some v → points_of true x ≡ Some (v, v)
 single_points x v is = ap (points_by true) (parts_one 46 x (λ k lt. no_dot _ (digit_at x v k is lt))) ∙ rw is refl
 

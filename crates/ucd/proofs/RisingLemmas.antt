@@ -136,8 +136,7 @@ module _ {V : Type 0} where
     apart = λ i e is c covered. apart_at low es i e rising is c (covered_from e c covered);
   }
 
--- The values that the lines of a file assign to a character, and how many lines list it, in terms of the lines'
--- entries.
+-- ---- the values that the lines of a file assign to a character, and how many lines list it
 module _ {V : Type 0} (form : Form V) where
   value_append : (xs ys : List (Entry V)) (c : ℕ) → value_at (xs ++ ys) c ≡ or_else form (value_at xs c) (value_at ys c)
   value_append [] ys c = refl
