@@ -1,10 +1,10 @@
-"""Measures text with font files, using HarfBuzz. Importing this module is an `ImportError` where none of these is installed:
+"""Measures text with font files, using HarfBuzz. Importing this module raises `ImportError` if none of these is installed:
 
 1. HarfBuzz's library `libharfbuzz.so.0`, from Debian's package `libharfbuzz0b`
 2. PyGObject with HarfBuzz: Debian's packages `python3-gi`, `gir1.2-harfbuzz-0.0` and `libharfbuzz-gobject0`
 3. the package `uharfbuzz`
 
-The first that is installed is used. All measure the same, the library fastest.
+The first that is installed is used. All return the same advances. The library is the fastest.
 
     >>> import hordguli
     >>> from hordguli.harfbuzz import UNITS, Measure
@@ -103,7 +103,7 @@ class Measure:
         return advances
 
     def parts(self, piece: Piece) -> list[Part]:
-        """Returns the parts of a piece of a line from left to right, for drawing. Tabs and other control characters are in no part."""
+        """Returns the parts of a piece of a line from left to right, for drawing. No part contains tabs or other control characters."""
         parts, left = [], piece.left
         split = self._split(piece.text, 0, len(piece.text))
         for first, end, font, script in split[::-1] if piece.level % 2 else split:

@@ -95,7 +95,7 @@ class Session:
     The session calls `measure` for each paragraph when it opens. Before an edit, it calls `measure` for each paragraph whose text
     the edit will change, with the new text. If `measure` raises an exception, the session is unchanged. Further exceptions:
 
-    - `ValueError` if `measure` returns the wrong number of advances, or one that is negative or no whole number, or if the
+    - `ValueError` if `measure` returns the wrong number of advances, or one that is negative or not a whole number, or if the
       advances of a paragraph add up to more than 4,294,967,295. A paragraph that joins others is also refused if their old
       advances add up to more.
     - `RuntimeError` if `measure` uses the session. Other threads that use it wait until the edit ends.
