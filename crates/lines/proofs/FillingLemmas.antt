@@ -247,7 +247,7 @@ none_at p xs k d none past =
       | inr after ↦ ap p (get_or_past xs k d after) ∙ past
     ]
 
--- the columns up to the end of a group of characters
+-- the columns of a group of characters, added to those before it, are the columns up to its end
 pub columns_group : (rest : List CharInfo) (n m sum more : ℕ) (piece : List CharInfo) → n ≤ m → piece ≡ slice_range rest n m → sum ≡ columns (take n rest)
     → fold advance sum piece ≡ sum + more → sum + more ≡ columns (take m rest)
 columns_group rest n m sum more piece forward is before total =
@@ -300,7 +300,7 @@ read_to_stop width rest test n sum within read fit must =
       | inr ne ↦ read.fits k (omega (arith, below, ne))
     ])
 
--- all characters fit
+-- if all characters fit, the greatest position that passes both tests is the greatest that passes `test`
 pub read_to_end : (width : ℕ) (rest : List CharInfo) (test : ℕ → Bool) (n sum : ℕ) → 0 < length rest → n ≡ length rest → FitsUpTo width rest n sum
     → greatest (λ k. test k && fits_to width rest k) (suc (stop rest)) ≡ greatest test n
 read_to_end width rest test n sum some e read =

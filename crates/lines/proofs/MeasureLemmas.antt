@@ -17,7 +17,7 @@ use Rattle.lines.proofs.WidthLemmas.{length-advances_on, length-widths_of, width
 
 -- ---- one line
 
--- the advance of a character
+-- the advances of the characters of a text are the items of the list at their indices
 pub advance_at : (advances text : List ℕ) (k : ℕ) → k < length text → get_or (advances_on advances text) k 0 ≡ get_or advances k 0
 advance_at advances [] k within = absurd (omega (arith, within))
 advance_at [] (c ∷ text) zero within = refl
@@ -70,7 +70,7 @@ untabbed_lines advances text (line ∷ lines) same within =
     All-cons p line lines (sym (untabbed (on_line line advances) (on_line line text) sizes))
     (untabbed_lines advances text lines same (All-tail (λ (l : Line). l.start + length l.levels ≤ length text) line lines within))
 
--- one more item of a list is written
+-- writing item k of a list after its first k items completes its first k + 1 items
 pub next_written : (are written : List ℕ) (k width : ℕ) → k < length written → k < length are → take k written ≡ take k are → width ≡ get_or are k 0
     → take (k + 1) (set written k width) ≡ take (k + 1) are
 next_written are written k width below inside so_far is =

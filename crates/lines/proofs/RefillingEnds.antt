@@ -62,8 +62,8 @@ greatest_least p (suc n) k below passed =
 
 -- ---- where the first line ends
 
--- A character before n that does not fit in the first line, or after which the line must end. So the line ends before n,
--- or there is no place at which it both may end and fits.
+-- A character before n that does not fit on the first line, or after which the line must end. So the line
+-- ends before n, or there is no place at which it both may end and fits.
 abbrev pub Ends : ℕ → ℕ → List CharInfo → Type 0
 Ends width n rest = (m : ℕ) × (m < n) × (m < length rest) × ((fits_to width rest m ≡ false) ⊎ (must_end rest m ≡ true))
 
@@ -71,7 +71,7 @@ Ends width n rest = (m : ℕ) × (m < n) × (m < length rest) × ((fits_to width
 abbrev last_of : (List CharInfo → ℕ → Bool) → ℕ → List CharInfo → Option ℕ
 last_of test width rest = greatest (λ k. test rest k && fits_to width rest k) (suc (stop rest))
 
--- both tests see one character
+-- whether a test of a position depends only on the character there
 abbrev IsLocal : (List CharInfo → ℕ → Bool) → Type 0
 IsLocal test = (ps qs : List CharInfo) (k : ℕ) → place_at ps k ≡ place_at qs k → test ps k ≡ test qs k
 
@@ -83,7 +83,7 @@ local_both test width n k ps qs local same below =
 same_must : (n k : ℕ) (ps qs : List CharInfo) → take n ps ≡ take n qs → k < n → must_end ps k ≡ must_end qs k
 same_must n k ps qs same below = ap (λ (p : CharInfo). must_end (p ∷ []) 0) (same_place n k ps qs same below)
 
--- the first mandatory break is before n
+-- if the first mandatory break is before n, it is at the same place in both texts
 same_stop : (n z : ℕ) (ps qs : List CharInfo) → take n ps ≡ take n qs → z < n → z < length ps → must_end ps z ≡ true → ((k : ℕ) → k < z → must_end ps k ≡ false)
     → (stop ps ≡ z) × (stop qs ≡ z)
 same_stop n z ps qs same below within here before = (

@@ -64,7 +64,7 @@ cut_range xs s e order =
           ]
     ]
 
--- the cluster ends of a whole paragraph
+-- a paragraph has at most as many cluster ends as characters
 pub length-ends_by : (options : Options) (text : List ℕ) → length (ends_by options text) ≤ length text
 length-ends_by options text =
     let size : Bool → ℕ = λ b. length (if b then cluster_ends text else []) in

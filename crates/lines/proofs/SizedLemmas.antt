@@ -126,7 +126,7 @@ sized_first_end advances ps =
     (ap (least (test (sized advances ps)) 0) (length-sized advances ps)
     ∙ least_same (test (sized advances ps)) (test ps) 0 (length ps) (λ k. ap (λ (p : CharInfo). is_break p.mark || p.ends_cluster) (sized_at advances ps k)))
 
--- the last break opportunity and the last cluster end among the first n characters
+-- sizes do not change the last break opportunity or the last cluster end among the first n characters
 pub sized_break : (advances : Option (List ℕ)) (ps : List CharInfo) (n : ℕ) → greatest (may_end (sized advances ps)) n ≡ greatest (may_end ps) n
 sized_break advances ps n =
     greatest_same (may_end (sized advances ps)) (may_end ps) n (λ k. ap (λ (p : CharInfo). is_break p.mark) (sized_at advances ps k))

@@ -88,7 +88,7 @@ end_low width rest some =
 may_at : (mark : Mark) → mark ≡ Must → is_break mark ≡ true
 may_at mark e = ap is_break e
 
--- if all characters fit in one line, and the line must end only after the last of them, it ends there
+-- if all characters fit on one line, and the line must end only after the last of them, it ends there
 pub end_whole : (width : ℕ) (rest : List CharInfo) (last : ℕ) → length rest ≡ suc last → (place_at rest last).mark ≡ Must → columns (before_tail rest) ≤ width → stop rest ≡ last
     → line_end width rest ≡ last
 end_whole width rest last size ends fit stops =

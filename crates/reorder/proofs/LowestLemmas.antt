@@ -176,7 +176,7 @@ module _ (levels : List ℕ) where
         odd = min_is true other.low one.low other.odd one.odd;
       })
 
-  -- x is before y, and z is before y but to its right
+  -- x is to the left of z if x is before y and to its left, and z is before y but to its right
   kept_turned : (x y z : ℕ) → IsKept levels is_odd x y → IsTurned levels is_odd y z → IsLeft levels x z
   kept_turned x y z one other =
       let h : x < y = one.before in
@@ -202,7 +202,7 @@ module _ (levels : List ℕ) where
             })
       ]
 
-  -- x is after y but to its left, and z is after y
+  -- x is to the left of z if x is after y but to its left, and z is after y and to its right
   turned_kept : (x y z : ℕ) → IsTurned levels is_odd x y → IsKept levels is_odd y z → IsLeft levels x z
   turned_kept x y z one other =
       let h : y < x = one.after in

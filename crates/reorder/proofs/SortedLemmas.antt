@@ -74,7 +74,7 @@ module _ (R : ℕ → ℕ → Type 0) where
             subst (λ (ys : List ℕ). Sorted R ys) (sym (cond-false (test x) (x ∷ filter test xs) (filter test xs) off)) (Sorted-filter test xs sorted.1)
       ]
 
-  -- a list of items with P, reversed
+  -- if reversing two items with P turns their order around, reversing a sorted list of such items sorts it
   pub Sorted-reverse : (S : ℕ → ℕ → Type 0) (P : ℕ → Type 0) → ((x y : ℕ) → P x → P y → R x y → S y x) → (xs : List ℕ) → EachOf P xs → Sorted R xs
       → Sorted S (reverse xs)
   Sorted-reverse S P follows [] each sorted = tt
@@ -197,7 +197,7 @@ module _ (levels : List ℕ) where
         let next : suc turned.low - k ≡ suc turned.low - suc k + 1 = omega (arith, least, turned.lowest.is) in
         inl (record { before = after; low = turned.low; lowest = turned.lowest; even = ap is_odd next ∙ odd_next (suc turned.low - suc k) turned.odd })
 
-    -- all characters of the range are reversed
+    -- reversing a range whose levels are all at least k sorts it
     whole : (a n : ℕ) → ((j : ℕ) → a ≤ j → j < a + n → k ≤ level_at j) → Sorted (IsLeftBy levels (turns k)) (reversed_from levels k (suc c) (range_with_len a n))
     whole a n high =
         let items : List ℕ = reversed_from levels (suc k) c (range_with_len a n) in

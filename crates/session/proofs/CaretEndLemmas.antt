@@ -144,7 +144,8 @@ module _ (rules : Rules) (kept : List Layout) (clusters : AllClusters kept) (car
       ap (λ l. caret_beside side place.line l (pos - place.offset) place.offset cluster) (sym same) ∙ held.2 in
       subst (λ (c : Caret). c.column ≤ line.columns) is (beside_within side place (pos - place.offset) cluster (omega arith))
 
-  -- the caret at the end of the text
+  -- the column of the caret at any position, including the end of the text, is at most the line's number of
+  -- columns
   at_within : (pos : ℕ) → caret_at rules kept pos ≡ Some caret → caret.column ≤ line.columns
   at_within pos drawn =
       let found = mapped (λ (place : Place). caret_on rules (slice_get (lines_in kept) place.line) place) (place_at rules kept pos) caret drawn in

@@ -169,7 +169,7 @@ module _ (line : Visual) (ordered : IsOrdered line) (start : ℕ) (cluster : Clu
           | inr other ↦ found.passes (omega arith)
         ]
 
-    -- where the unit ends
+    -- what is known about the end of the unit
     record Ends : Type 0 where
       above : k < to_end k
       within : to_end k ≤ last_shown
@@ -353,7 +353,7 @@ module _ (line : Visual) (ordered : IsOrdered line) (start : ℕ) (cluster : Clu
           ap (λ (o : Option ℕ). columns_left line (after o 0)) (greatest_is is_of_unit (length line.vtol) place last) ∙ sym there,
         )
 
-    -- the unit's characters are next to each other from left to right
+    -- ---- the unit's characters, if they are next to each other from left to right
     module _ (at : (j : ℕ) → IsMember line start cluster k j → left_at j ≡ left_at (from_start k) + wide j)
         (left_is : left_of (unit_of line start cluster k) ≡ left_at (from_start k))
         (right_is : right_of (unit_of line start cluster k) ≡ left_at (from_start k) + wide (to_end k)) where
@@ -408,7 +408,7 @@ module _ (line : Visual) (ordered : IsOrdered line) (start : ℕ) (cluster : Clu
           ∙ cond-true (is_odd (level_at line k)) (lead - wide (to_end k)) (lead + wide (to_end k)) odd
           ∙ ap (λ n. n - wide (to_end k)) (sym (cond-true (is_odd (level_at line k)) lead (unit_of line start cluster k).trailing odd))
 
-      -- from right to left: the first character is the rightmost one
+      -- ---- from right to left: the first character is the rightmost one
       module _ (adjoin : OddAdjoins line) where
         odd_at : (j : ℕ) → IsMember line start cluster k j → next_at j + wide j ≡ next_at (from_start k)
         odd_at j is = adjoin (from_start k) j (in_one_run j is) (ap is_odd start_level ∙ odd)
@@ -440,7 +440,7 @@ module _ (line : Visual) (ordered : IsOrdered line) (start : ℕ) (cluster : Clu
               (j, is, omega (arith, to, first_right, odd_at j is, found.3, has.0, has.1), omega (arith, to, first_right, odd_at j is, found.2));
         }
 
-      -- from left to right: its last character is the rightmost one
+      -- ---- from left to right: the last character is the rightmost one
       module _ (at : (j : ℕ) → IsMember line start cluster k j → left_at j ≡ left_at (from_start k) + wide j) where
         last_right : right_of (unit_of line start cluster k) ≡ left_at (from_start k) + wide (to_end k)
         last_right =

@@ -94,7 +94,7 @@ all_below_from_list_all y (x ∷ xs) all =
 
 -- ---- one character
 
--- a list of n numbers, written out
+-- a list of n numbers equals its items written out
 pub spell : (n : ℕ) (xs : List ℕ) → length xs ≡ n → xs ≡ listed (λ k. get_or xs k 0) n
 spell n xs long =
     let f = λ (k : ℕ). get_or xs k 0 in
@@ -180,7 +180,7 @@ gathered none bytes marks few long fits =
 abbrev Counts : List ℕ → ℕ → Type 0
 Counts bytes marks = ones marks ≡ length (pairs 4 marks bytes)
 
--- as many pairs as marks
+-- a mask has as many marks as the bytes have pairs
 pub counted : (bytes : List ℕ) (marks : ℕ) → marks < 16 → length bytes ≡ 16 → ones marks ≡ length (pairs 4 marks bytes)
 unfolding ones
 counted bytes marks few long =
@@ -216,7 +216,7 @@ first_chars f pair decoded bytes marks few long gathers is =
 
 -- ---- all pairs
 
--- the pairs of the first four bytes, and of the bytes after them
+-- the pairs of bytes are those of the first four bytes, and then those of the bytes after them
 pub pairs_after_4 : (n marks : ℕ) (w x y z : ℕ) (bytes : List ℕ)
     → pairs (suc (suc (suc (suc n)))) marks (w ∷ x ∷ y ∷ z ∷ bytes) ≡ pairs 4 (marks % 16) (w ∷ x ∷ y ∷ z ∷ bytes) ++ pairs n (marks / 16) bytes
 pairs_after_4 n marks w x y z bytes =
@@ -229,7 +229,7 @@ pairs_after_4 n marks w x y z bytes =
     (chain (marks % 2 == 1) (marks / 2 % 2 == 1) (marks / 2 / 2 % 2 == 1) (marks / 2 / 2 / 2 % 2 == 1)
     (w + 256 * x) (x + 256 * y) (y + 256 * z) (z + 256 * get_or bytes 0 0) (pairs n (marks / 2 / 2 / 2 / 2) bytes))
 
--- the pairs of 16 bytes, four bytes at a time
+-- the pairs of 16 bytes are those of each four bytes, one after another
 pub pairs_by_4 : (marks : ℕ) (f : ℕ → ℕ) → marks < 2 ^ 16
     → pairs 16 marks (listed f 16)
     ≡ pairs 4 (marks % 16) (listed f 16) ++ (pairs 4 (marks / 16 % 16) (drop 4 (listed f 16)) ++ (pairs 4 (marks / 256 % 16) (drop 8 (listed f 16)) ++ pairs 4 (marks / 4096) (drop 12 (listed f 16))))
@@ -247,7 +247,7 @@ map_append : (f : ℕ → ℕ) (xs ys : List ℕ) → map f (xs ++ ys) ≡ map f
 map_append f [] ys = refl
 map_append f (x ∷ xs) ys = ap (λ t. f x ∷ t) (map_append f xs ys)
 
--- four lists of characters, one after another
+-- decoding four lists one after another yields the characters of their concatenation
 pub joined : (f : ℕ → ℕ) (a b c d w x y z : List ℕ) → a ≡ map f w → b ≡ a ++ map f x → c ≡ b ++ map f y → d ≡ c ++ map f z → d ≡ map f (w ++ (x ++ (y ++ z)))
 joined f a b c d w x y z p q r s =
     s ∙ ap (λ t. t ++ map f z) (r ∙ ap (λ t. t ++ map f y) (q ∙ ap (λ t. t ++ map f x) p ∙ sym (map_append f w x)) ∙ sym (map_append f (w ++ x) y)) ∙ sym (map_append f ((w ++ x) ++ y) z)

@@ -159,7 +159,7 @@ ends_short text n utf8 within few last = IsCharBoundary-from_drop text (suc n) (
 pub shifted_one : (n : ℕ) → n ≤ 16 → (1 * 2 ^ n) % 2 ^ 64 ≡ 2 ^ n
 shifted_one n le = let most : 2 ^ n ≤ 2 ^ 16 = pow_mono le in omega (arith, most)
 
--- `marks % (1 << n)`
+-- `marks % (1 << n)` is below 2^16
 pub few_marks : (m n : ℕ) → n ≤ 16 → m % ((1 * 2 ^ n) % 2 ^ 64) < 2 ^ 16
 few_marks m n le =
     let most : 2 ^ n ≤ 2 ^ 16 = pow_mono le in

@@ -106,7 +106,7 @@ module _ (law : ParagraphsArePieces) (rules : Rules) where
             passed = p (drop (new.scanned + 1) (drop new.start text));
           }
 
-    -- no more blocks have ended
+    -- `HasSearchedAll` holds if no more blocks have ended
     pub searched_all : (new : Searched) (n : ℕ) → IsOpen (cut_by now) n rest → HasPassed new.passed (drop (n + 1) rest) → new.start ≡ old.start → new.scanned ≡ n → HasSearchedAll rules new text
     searched_all new n o p s z =
         let rest_is : drop old.start text ≡ drop new.start text = ap (λ k. drop k text) (sym s) in
@@ -145,7 +145,7 @@ pub rest_level : (rules : Rules) (searched : Searched) (text : List ℕ) → Has
 rest_level rules searched text h =
     ap (shown_level rules) (sym (append-nil (drop searched.start text))) ∙ sym (h.level []) ∙ ap (shown_level rules) (append-nil text)
 
--- more text follows
+-- `HasSearched` still holds when more text follows
 searched_append : (rules : Rules) (searched : Searched) (text more : List ℕ) → HasSearched rules searched text → HasSearched rules searched (text ++ more)
 searched_append rules searched text more h =
     let rest = drop searched.start text in

@@ -93,7 +93,7 @@ module _ (is_cut : ℕ → ℕ → Bool) where
       first_block text k within (λ j below. ap (λ n. ends_block is_cut (get_or text j 0) (drop n text)) (next_is j) ∙ none j below)
       (ap (λ n. ends_block is_cut (get_or text k 0) (drop n text)) (next_is k) ∙ here) ∙ ap (λ n. take n text ∷ blocks is_cut (drop n text)) (next_is k)
 
-  -- where none ends, the text is one block
+  -- if no block ends in a text, the text is one block
   pub block_last : (text : List ℕ) → 0 < length text → ((j : ℕ) → j < length text → ends_block is_cut (get_or text j 0) (drop (j + 1) text) ≡ false)
       → blocks is_cut text ≡ take (length text) text ∷ blocks is_cut (drop (length text) text)
   block_last text some none =

@@ -14,7 +14,7 @@ use Rattle.stream.specs.Utf8.{is_bad}
 use lib.Utf8.{encode}
 use Rattle.terminal.specs.Decoding.{Decodes, IsAllDecoded, IsBeginning, IsDecoded, IsValidPrefix, good_part, lossy}
 
--- text at the front stays as it is
+-- valid text at the front is decoded unchanged
 pub lossy_after : (a b : List ℕ) → IsUtf8 a → utf8_lossy (a ++ b) ≡ a ++ utf8_lossy b
 lossy_after a b u = ⊎_elim
     (λ (v : IsUtf8 b). utf8_lossy-IsUtf8 (a ++ b) (IsUtf8-append a b u v) ∙ ap (λ t. a ++ t) (sym (utf8_lossy-IsUtf8 b v)))
@@ -74,7 +74,7 @@ lossy_error x more n none e =
     ∙ ap₂ (λ v t. chars (take v (x ++ more) ++ (replacement_bytes ++ utf8_lossy t))) zero_is rest
     ∙ after_replacement (utf8_lossy (drop n x ++ more))
 
--- at the end, so is an incomplete character
+-- at the end of the bytes, an incomplete character is U+FFFD too
 pub lossy_beginning : (x : List ℕ) → 0 < length x → utf8_valid_len x ≡ 0 → utf8_error_len x ≡ None → lossy x ≡ 0xFFFD ∷ []
 lossy_beginning x some none e =
     let len : utf8_invalid_len x ≡ length x = ap (λ (o : Option ℕ). unwrap_or o (length x)) e in

@@ -149,7 +149,7 @@ module _ (rules : Rules) (form : Form) (bytes : List ℕ) (sent : List (List ℕ
     valid = λ is. record { front = v.front; whole = sym (append-nil v.front); utf8 = v.utf8; decoded = v.decoded };
   }
 
-  -- a chunk was decoded, and the first blocks of the text were taken
+  -- `IsFed` still holds after a chunk was decoded and the first blocks of the text were taken
   pub fed_more : (chunk waiting_new all text_new characters : List ℕ) (started_new : Bool) (parts : List (List ℕ))
       → ((more : List ℕ) → text_after form.escapes started ((waiting ++ chunk) ++ more) ≡ characters ++ text_after form.escapes started_new (waiting_new ++ more))
       → IsBeginning waiting_new → all ≡ text ++ characters → IsFront (cut_by rules) parts all text_new → ArePermitted form parts
@@ -214,7 +214,7 @@ pub more_page : (rules : Rules) (form : Form) (sent parts : List (List ℕ)) (pe
     → blocks_page rules form (sent ++ parts) ≡ blocks_page rules form sent ++ pages rules form pen parts
 more_page rules form sent parts pen e = pages-append rules form START sent parts ∙ ap (λ (q : Pen). blocks_page rules form sent ++ pages rules form q parts) (sym e)
 
--- the sink failed within some lines, after others were written
+-- if the sink failed within some lines, after others were written, it failed within all these lines
 pub stopped_after : (front lines : List ℕ) (m n : ℕ) (old mid new : Device) → Wrote front old mid → StoppedAt m lines mid new → n ≡ length front + m → StoppedAt n (front ++ lines) old new
 stopped_after front lines m n old mid new wrote stopped n_is =
     let taken : take n (front ++ lines) ≡ front ++ take m lines = ap (λ k. take k (front ++ lines)) n_is ∙ take-append-add front lines m in (
@@ -253,7 +253,7 @@ module _ (rules : Rules) (form : Form) (is_last : Bool) (reader_old writer_old r
   took_sent : Took writer_old writer (blocks_page rules form s.is_at.sent ++ [])
   took_sent = subst (Took writer_old writer) (sym (append-nil (blocks_page rules form s.is_at.sent))) s.is_at.wrote.0
 
-  -- a failed read
+  -- if a read fails, the run ends with `Read`
   pub ends_read : (reader_new : Device) → Fails reader reader_new → IsRun rules form is_last reader_old reader_new writer_old writer (Err f.Read)
   unfolding first_by
   ends_read reader_new fails = (
@@ -268,7 +268,7 @@ module _ (rules : Rules) (form : Form) (is_last : Bool) (reader_old writer_old r
     ),
   )
 
-  -- a chunk was read
+  -- ---- a chunk was read
   module _ (reader_new : Device) (chunk : List ℕ) (consumed : Consumes reader.bytes reader_new.bytes chunk) (passed : reader_new.passed ≡ reader.passed + length chunk)
       (few : length chunk ≤ CHUNK) where
     has_read : HasRead reader_old reader_new (s.is_at.bytes ++ chunk)

@@ -23,7 +23,7 @@ use Rattle.terminal.specs.declared.start.Search.{Search}
 use Rattle.terminal.proofs.Devices.{Consumes-append, Consumes-kept, FailedLast-after}
 use Rattle.terminal.proofs.RunLemmas.{Consumes-refl, end_few, end_text, input_is}
 
--- nothing was read yet
+-- `Searches` holds before anything is read
 pub searches_new : (rules : Rules) (escapes : Escapes) (reader : Device) (search : Search) → vec_len search.decoder.chunk ≡ CHUNK → search.decoder.waiting ≡ 0 → search.decoder.decoded ≡ 0
     → search.decoder.started ≡ false → search.bytes.items ≡ [] → search.text.items ≡ [] → HasSearched rules search.searched search.text.items → Searches rules escapes reader reader search
 searches_new rules escapes reader search room w d b bytes text h =
@@ -56,7 +56,7 @@ module _ (rules : Rules) (escapes : Escapes) (reader_old reader : Device) (searc
   abbrev waiting : List ℕ
   waiting = take search.decoder.waiting search.decoder.chunk.items
 
-  -- the characters of the waiting bytes at the end of an input
+  -- at the end of an input, the waiting bytes are decoded as the last characters
   end_is : text_after escapes search.decoder.started (waiting ++ []) ≡ last_characters search.decoder.waiting
   end_is = ap (text_after escapes search.decoder.started) (append-nil waiting) ∙ end_text escapes search.decoder.started waiting search.decoder.waiting s.waits s.beginning
 

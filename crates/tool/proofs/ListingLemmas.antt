@@ -98,7 +98,7 @@ runs_few levels =
       length-order levels,
     )
 
--- what holds for all items holds for the remaining ones
+-- a property that holds for all items holds for the remaining ones
 all-after : {A : Type 0} (P : A → Type 0) (done rest : List A) → All P (done ++ rest) → All P rest
 all-after P [] rest all = all
 all-after P (x ∷ done) rest all = all-after P done rest (All-tail P x (done ++ rest) all)

@@ -26,7 +26,7 @@ module _ (bytes : List ℕ) (at : ℕ) (part : List ℕ) (from count : ℕ) (sho
   pub shows_less : (less : ℕ) → less ≤ count → Shows bytes at part from less
   shows_less less le = record { each = λ i j least most is. shows.each i j least (omega arith) is }
 
--- the pairs that a part of an image holds
+-- ---- the pairs that a part of an image holds
 module _ {V : Type 0} (decode : ℕ → Option V) (bytes : List ℕ) (at : ℕ) (part : List ℕ) (from count : ℕ) (shows : Shows bytes at part from (8 * count)) where
   pub point_shown : (k : ℕ) → k < count → point_at decode bytes at k ≡ point_at decode part from k
   point_shown k lt = u32_shown bytes at part from (8 * count) shows (at + 8 * k) (from + 8 * k) (omega arith) (omega arith) (omega arith)
@@ -89,7 +89,7 @@ adds_16 old number =
       here = rw (first, second) (omega arith);
     }
 
--- the lower and the upper half of a number
+-- appending the lower and then the upper half appends a number of 32 bits
 pub adds_32 : (old mid new : List ℕ) (number : ℕ) → Adds16 old mid (number % 65536) → Adds16 mid new (number / 65536) → Adds32 old new number
 unfolding u32_at
 adds_32 old mid new number low high =
@@ -166,7 +166,7 @@ more_16 old new number k len adds = record {
   here = subst (λ i. u16_at new i ≡ number) len adds.here;
 }
 
--- the pairs of the code points below c
+-- ---- the pairs of the code points below c
 module _ {V : Type 0} (decode : ℕ → Option V) (value_of : ℕ → Option V) where
   pub record PointsBelow (bytes : List ℕ) (c : ℕ) : Type 0 where
     pub whole : length bytes % 8 ≡ 0
@@ -175,7 +175,7 @@ module _ {V : Type 0} (decode : ℕ → Option V) (value_of : ℕ → Option V) 
     pub below : (k : ℕ) → k < length bytes / 8 → point_at decode bytes 0 k < c
     pub values : (x : ℕ) → found decode bytes 0 (length bytes / 8) x ≡ (if nat_lt x c then value_of x else None)
 
-  -- no code point has a pair yet
+  -- `PointsBelow` holds before any pair is added
   pub points_none : PointsBelow [] 0
   unfolding found
   points_none = record {

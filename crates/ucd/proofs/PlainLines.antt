@@ -20,7 +20,7 @@ take_take l m h le within =
     ext_get_or 0 _ _ (one ∙ sym other)
     (λ i lt. let im : i < m = omega (arith, one) in get_or-take m (take h l) i 0 im ∙ get_or-take h l i 0 (omega arith) ∙ sym (get_or-take m l i 0 im))
 
--- a byte of a part, in the whole list
+-- a byte of a part is a byte of the whole list
 byte_at : (l : List ℕ) (a b m i : ℕ) → a + (b + i) < m → get_or (drop b (drop a (take m l))) i 0 ≡ get_or l (a + (b + i)) 0
 byte_at l a b m i lt = get_or-drop b (drop a (take m l)) i 0 ∙ get_or-drop a (take m l) (b + i) 0 ∙ get_or-take m l (a + (b + i)) 0 lt
 
