@@ -1,4 +1,5 @@
--- Isolates and base levels of a paragraph with a repeated character that is not an isolate initiator or a PDI.
+-- Isolates and base levels of a paragraph with a repeated character that is neither an isolate initiator nor a
+-- PDI.
 use Rattle.std.proofs.Common.{◌≡◌, ◌≢◌, ℕ, zero, suc, ◌+◌, ◌-◌, ◌<◌, ◌==◌, nat_lt, Bool, true, false, cond, ◌&&◌, not, if◌then◌else◌, List, [], ◌∷◌, length, map, slice_range, count_by, Option, Some, None, option_map, unwrap_or, refl, sym, ap, ◌∙◌, inl, inr, arith, zero-add}
 use Rattle.std.specs.List.{list_all, range_with_len}
 use Rattle.std.proofs.lemmas.Bool.{cases_Bool, cases_eq, cases_lt, both_ways, and_left, not_from_false}
