@@ -1147,7 +1147,7 @@ typedef struct hordguli_reason {
     uint8_t level;           /* as `hordguli_levels` stores it */
     uint8_t sos;             /* direction of the sequence's start, L or R */
     uint8_t eos;             /* direction of its end */
-    uint8_t bracket_case;    /* HORDGULI_BRACKET_CASE_.., or 0 if it is no bracket */
+    uint8_t bracket_case;    /* HORDGULI_BRACKET_CASE_.., or 0 if it is not a bracket */
     uint8_t neutral;         /* HORDGULI_NEUTRAL_.., or 0 if its type after N0 is not neutral */
 } hordguli_reason;
 
