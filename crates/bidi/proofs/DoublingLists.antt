@@ -59,7 +59,7 @@ shift-collapse zero (suc zero) other = absurd (other refl)
 shift-collapse zero (suc (suc j)) other = refl
 shift-collapse (suc k) (suc j) other = ap suc (shift-collapse k j (λ e. other (ap suc e)))
 
--- unless the item at j is the repeated one, the old index of j + 1 is one more than that of j
+-- unless the item at j is the first of the two equal items, the old index of j + 1 is one more than that of j
 pub collapse-more : (k j : ℕ) → j ≢ k → collapse k (suc j) ≡ suc (collapse k j)
 collapse-more zero zero other = absurd (other refl)
 collapse-more (suc k) zero other = refl

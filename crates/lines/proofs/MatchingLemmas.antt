@@ -50,8 +50,7 @@ module _ {A : Type 0} (xs ys : List A) where
       let j : length ys - 0 ≡ length ys = omega arith in
       ap (λ n. drop n xs) i ∙ drop-length xs ∙ sym (ap (λ n. drop n ys) j ∙ drop-length ys)
 
-  -- if the items before the last k are the same by numbers that equal the lengths, they are the same by the
-  -- lengths
+  -- in a comparison of the items before the last k, numbers that equal the lengths can replace the lengths
   pub read_as : (n m k : ℕ) → n ≡ length xs → m ≡ length ys → slice_get xs (n - k - 1) ≡ slice_get ys (m - k - 1)
       → slice_get xs (length xs - k - 1) ≡ slice_get ys (length ys - k - 1)
   read_as n m k n-is m-is same =

@@ -107,7 +107,7 @@ module _ (c : ℕ) (kept : is_dropped c ≡ false) (outer : is_inline c ≡ fals
   ended_same p one two text n m le e =
       ap (λ (d : ℕ). ended p d n) (index_same one two text n le) ∙ ap (λ (k : ℕ). ended p (slice_index (text ++ c ∷ two) k) k) e
 
-  -- a length after which the text up to `c` is not over
+  -- whether a length, if there is one, ends at or before `c`
   abbrev IsWithin : ℕ → Option ℕ → Type 0
   IsWithin n found = MatchOption found ⊤ (λ len. len ≤ n)
 

@@ -46,7 +46,7 @@ mode_characters Text shown = refl
 -- ---- paragraphs of a block
 
 module _ (is_cut : ℕ → ℕ → Bool) where
-  -- at a boundary, the first paragraph ends
+  -- the first paragraph ends at the first boundary
   pub first_group : (shown : List (ℕ × Style)) (characters : List ℕ) (k : ℕ) → characters ≡ characters_of shown → SplitsAt is_cut characters (Some k)
       → styled_paragraphs is_cut shown ≡ take k shown ∷ styled_paragraphs is_cut (drop k shown)
   first_group shown characters k same splits =
@@ -56,7 +56,7 @@ module _ (is_cut : ℕ → ℕ → Bool) where
       ∙ ap (λ n. take n shown ∷ regrouped (paragraphs is_cut (drop k characters)) (drop n shown)) len
       ∙ ap (λ cs. take k shown ∷ regrouped (paragraphs is_cut cs) (drop k shown)) back
 
-  -- without a boundary, there is one paragraph
+  -- if there is no boundary, there is one paragraph
   pub only_group : (shown : List (ℕ × Style)) (characters : List ℕ) → characters ≡ characters_of shown → 0 < length characters → SplitsAt is_cut characters None
       → styled_paragraphs is_cut shown ≡ shown ∷ []
   only_group shown characters same some splits =

@@ -80,7 +80,7 @@ module _ (law : ParagraphsArePieces) (rules : Rules) where
       block_is : take n (drop old.start text) ≡ block
       block_is = ap (take n) (sym r) ∙ sym b
 
-      -- the block decides, or else the text after it
+      -- the level is that of the block or, if that has none, that of the text after it
       pub level_found : (found : Option ℕ) → found ≡ shown_level now block → (more : List ℕ)
           → shown_level rules (text ++ more) ≡ or_else found (shown_level rules (drop n (drop old.start text) ++ more))
       level_found found f more =

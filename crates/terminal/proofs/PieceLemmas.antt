@@ -114,7 +114,7 @@ module _ (rules : Rules) (form : Form) where
       ap₂ in_direction n (b ∙ ap (base_of rules) f) in
       e ∙ ap₂ (λ (t : List ℕ) (r : Rules). t ++ printed_each r form (drop 1048576 shown)) m direction ∙ append_assoc old _ _
 
-  -- when no piece is left
+  -- if no piece is left, all pieces have been printed
   pub last_each : (shown : List (ℕ × Style)) (at : ℕ) (old all : List ℕ) → length shown ≤ at → old ++ printed_each rules form (drop at shown) ≡ all → old ≡ all
   last_each shown at old all end h =
       sym (append-nil old)
