@@ -199,7 +199,8 @@ no_break width ps plain =
           absurd (both_ways (may_end ps (line_end width ps)) plain (ap (may_end ps) is ∙ passed.0))
     ]
 
--- if a line ends at no break opportunity, and a cluster ends at k after it, `Ends` holds up to k + 1
+-- if a line ends at no break opportunity, and a line may end or a cluster ends at k after it, `Ends` holds up
+-- to k + 1
 pub ends_by_cluster : (width k : ℕ) (ps : List CharInfo) → line_end width ps < k → may_end ps (line_end width ps) ≡ false → is_candidate ps k ≡ true → Ends width (suc k) ps
 ends_by_cluster width k ps after plain candidate =
     let within : k < length ps = candidate_within ps k candidate in

@@ -163,8 +163,9 @@ starts_same nobreak width place (suc left) (suc n) (p ∷ ps) (q ∷ qs) i zero 
 starts_same nobreak width place (suc left) (suc n) (p ∷ ps) (q ∷ qs) i (suc k) s same within is after below candidate which =
     starts_same nobreak width (suc place) left n ps qs i k s (ap (drop 1) same) within is (omega (arith, after)) (omega (arith, below)) candidate (later_which place k s p ps which)
 
--- the line starts up to the i-th, s, are the same in both texts if a cluster ends at k, at or after s and
--- before n, and either the line may end at k or the line before s ends at no break opportunity
+-- the line starts up to the i-th, s, are the same in both texts if, at or after s and before n, a line may
+-- end or a cluster ends at k, and either the line may end at k or the line before s ends at no break
+-- opportunity
 stays_by : (nobreak : Bool) (width : ℕ) (ps qs : List CharInfo) (n i s k : ℕ) → take n ps ≡ take n qs → slice_get (line_starts_of nobreak width ps) i ≡ Some s → s ≤ k → k < n → is_candidate ps k ≡ true
     → (may_end ps k ≡ true) ⊎ (may_end ps (s - 1) ≡ false) → take (suc i) (line_starts_of nobreak width qs) ≡ take (suc i) (line_starts_of nobreak width ps)
 unfolding line_starts_of
